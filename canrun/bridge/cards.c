@@ -25,7 +25,7 @@ static void lose(struct card *card) {
 /* ---- what the server says ---- */
 
 static uint32_t state_of(const char *word) {
-    static const char *const words[] = {"active", "warning", "passive", "off"};
+    static const char *const words[] = {"active", "warning", "passive", "off", "down"};
     for (uint32_t i = 0; i < sizeof words / sizeof *words; i++) {
         if (!strcmp(word, words[i])) {
             return CAN_STATE_ERROR_ACTIVE + i;
@@ -38,6 +38,7 @@ static void set_state(struct card *card, uint32_t state) {
     bool had_carrier = link_has_carrier(&card->facts);
     card->facts.state = state;
     card->has_news |= link_has_carrier(&card->facts) != had_carrier;
+    card->was_down |= state == CAN_STATE_STOPPED;
     if (state != CAN_STATE_BUS_OFF) {
         card->restart_at = NEVER;
     } else if (card->facts.restart_ms && card->restart_at == NEVER) {
@@ -61,7 +62,10 @@ static void count(struct card *card, const struct canfd_frame *frame) {
     struct link_facts *facts = &card->facts;
     facts->bus_errors += (frame->can_id & CAN_ERR_BUSERROR) != 0;
     facts->lost_arbitrations += (frame->can_id & CAN_ERR_LOSTARB) != 0;
-    facts->restarts += (frame->can_id & CAN_ERR_RESTARTED) != 0;
+    if (frame->can_id & CAN_ERR_RESTARTED) {
+        facts->restarts += !card->was_down; /* To be set up is no restart. */
+        card->was_down = false;
+    }
     if (frame->can_id & (CAN_ERR_BUSOFF | CAN_ERR_RESTARTED | CAN_ERR_CRTL)) {
         uint32_t state = state_said(frame);
         bool is_worse = state > facts->state;
@@ -159,7 +163,8 @@ static struct card *refuse(struct link_reply *why, int error, const char *text) 
 
 /* Whether there are signs of errors before this session: they were not counted. */
 static bool had_errors(const struct link_facts *facts) {
-    return facts->state != CAN_STATE_ERROR_ACTIVE || facts->tec || facts->rec || facts->lost;
+    bool is_fresh = facts->state == CAN_STATE_ERROR_ACTIVE || facts->state == CAN_STATE_STOPPED;
+    return !is_fresh || facts->tec || facts->rec || facts->lost;
 }
 
 static struct card *open_card(const char *name, struct link_reply *why) {
@@ -209,16 +214,32 @@ void card_set_restart(struct card *card, uint32_t milliseconds) {
     set_state(card, card->facts.state);
 }
 
-/* An interface stays on the bus: the server has no command that takes it off. To set one down that is bus off restarts
- * it, as if it had been set up again. */
-int card_set_up(struct card *card, bool is_up, struct link_reply *why) {
-    if (is_up) {
-        return 0;
-    }
-    snprintf(why->text, sizeof why->text,
-             "an interface that is set down stays on the bus; one that is bus off restarts");
-    if (card->facts.state == CAN_STATE_BUS_OFF && !card_ask(card, "< restart >")) {
+/* Gives the server a command that changes the interface. Returns an errno, and why, or 0. */
+static int command(struct card *card, const char *text, struct link_reply *why) {
+    char refusal[sizeof why->text];
+    if (!card_ask(card, text)) {
         refuse(why, ETIMEDOUT, "the server does not reply");
+    } else if (*card->refusal) {
+        snprintf(refusal, sizeof refusal, "the server says: %s", card->refusal);
+        refuse(why, !strcmp(card->refusal, "record full") ? ENOSPC : EIO, refusal);
     }
     return why->error;
+}
+
+/* An older server has no command that takes an interface off the bus: there it stays on it. To set one down that is bus
+ * off restarts it, as if it had been set up again. */
+static int stay_up(struct card *card, struct link_reply *why) {
+    why->error = 0;
+    snprintf(why->text, sizeof why->text,
+             "an interface of an older server that is set down stays on the bus; one that is bus off restarts");
+    return card->facts.state == CAN_STATE_BUS_OFF ? command(card, "< restart >", why) : 0;
+}
+
+int card_set_up(struct card *card, bool is_up, struct link_reply *why) {
+    bool was_up = card->facts.state != CAN_STATE_STOPPED;
+    if (is_up == was_up) {
+        return 0;
+    }
+    int error = command(card, is_up ? "< restart >" : "< down >", why);
+    return strcmp(card->refusal, "unknown command") ? error : stay_up(card, why);
 }

@@ -15,6 +15,7 @@ struct card {
     struct link_facts facts;
     uint64_t restart_at; /* by the clock, or NEVER */
     bool is_answered;    /* what was asked last */
+    bool was_down;       /* since it was restarted last */
     bool has_news;       /* the state has changed, and watchers are to get an event */
     char refusal[128];   /* of the command that was given last */
     size_t have;
@@ -31,7 +32,7 @@ bool card_ask(struct card *card, const char *commands);
 /* Reads what the server says of itself. */
 void card_read(struct card *card);
 
-/* Sets an interface up or down. Returns an errno, and why, or 0. */
+/* Sets an interface up or down, whose state is known. Returns an errno, and why, or 0. */
 int card_set_up(struct card *card, bool is_up, struct link_reply *why);
 
 /* Has it restart so long after it went bus off, if that is not 0. */

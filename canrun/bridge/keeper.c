@@ -64,8 +64,11 @@ static int check_modes(const struct link_request *asked, struct link_reply *repl
     return off & CAN_CTRLMODE_FD ? refuse(reply, EOPNOTSUPP, "an interface of canbusd always carries FD frames") : 0;
 }
 
-/* As can_restart_now of the kernel. */
+/* As can_changelink and can_restart_now of the kernel. */
 static int restart(struct card *card, struct link_reply *reply) {
+    if (card->facts.state == CAN_STATE_STOPPED) {
+        return refuse(reply, EINVAL, "the interface is down");
+    }
     if (card->facts.restart_ms) {
         return refuse(reply, EINVAL, "restart-ms restarts the interface");
     }

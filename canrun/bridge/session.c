@@ -19,8 +19,9 @@ static int error_of(const char *reply) {
     static const struct {
         const char *text;
         int error;
-    } known[] = {{"no buffers", ENOBUFS},       {"bus off", ENETDOWN},         {"record full", ENOSPC},
-                 {"no such interface", ENODEV}, {"too many sessions", EUSERS}, {"no memory", ENOMEM}};
+    } known[] = {{"no buffers", ENOBUFS}, {"bus off", ENETDOWN},         {"interface down", ENETDOWN},
+                 {"record full", ENOSPC}, {"no such interface", ENODEV}, {"too many sessions", EUSERS},
+                 {"no memory", ENOMEM}};
     static char kept[sizeof((struct session *)0)->reply + 20];
     if (strncmp(reply, "error ", 6) != 0) {
         return 0;

@@ -11,6 +11,7 @@ import time
 
 import pytest
 
+from downs import has_downs, needs_downs
 from running import (
     FAST,
     SANITIZERS,
@@ -30,6 +31,8 @@ from test_run_kernel import KERNEL, boots, check_differences, probe, unlike
 LINKS = os.path.join(ROOT, "canrun", "tests", "links")
 #: The server of the cases; the cards are can2 and can3.
 CARDS = ("--bitrate", "500000", "can0,can1", "vcan0", "can2,can3")
+#: The cases of an interface that is down.
+DOWN = ("changes:down_is_down", "changes:events_of_down", "ip:ip_down")
 #: A frame of can0 is destroyed until its sender is bus off.
 ATTACK = f"can0,can1@{ROOT}/examples/bus_off_attack.script"
 
@@ -73,6 +76,7 @@ def cases_of(program):
     """The cases of links/."""
     listed = subprocess.run([program, "--list"], stdout=subprocess.PIPE, text=True, check=True).stdout.split()
     cases = [case for case in listed if os.path.exists(os.path.join(LINKS, f"{case.split(':')[0]}.c"))]
+    cases = [case for case in cases if has_downs() or case not in DOWN]
     assert len(cases) >= 120
     return cases
 
@@ -181,6 +185,49 @@ def test_monitor(tmp_path):
                 lines.append(monitor.stdout.readline())
                 assert len(lines) < 50 and lines[-1], lines
         os.killpg(monitor.pid, signal.SIGKILL)
+
+
+# ---- down and up ----
+
+
+@needs_downs
+@needs_gcc
+@needs_ip
+def test_down_and_up(tmp_path):
+    """an interface that is set down takes no part: it sends nothing, acknowledges nothing, and loses what waits"""
+    writer = compiled("send_one", str(tmp_path))
+    with bus(*FAST, "--ack", "peers", "can0,can1") as server, contextlib.closing(plain(server, "can1")) as other:
+        passes(server, IP, "link", "set", "can1", "down")
+        # Nobody acknowledges the frame of can0, which waits.
+        passes(server, writer, "can0")
+        comes_to(server, "ERROR-PASSIVE")
+        shown = passes(server, IP, "-details", "link", "show", "can1")
+        assert (
+            "<NOARP,ECHO>" in shown and "state DOWN" in shown and "can <FD> state STOPPED (berr-counter tx 0" in shown
+        )
+        refused = run(server, writer, "can1")
+        assert refused.returncode != 0 and "Network is down" in refused.stderr
+        refused = run(server, IP, "link", "set", "can1", "type", "can", "restart")
+        assert (refused.returncode, refused.stderr) == (2, "Error: the interface is down.\n")
+        # Once it is up it receives the frame.
+        passes(server, IP, "link", "set", "can1", "up")
+        assert other.frame()[0] == "123"
+        shown = passes(server, IP, "-details", "-statistics", "link", "show", "can1")
+        assert "<NOARP,UP,LOWER_UP,ECHO>" in shown and "state ERROR-ACTIVE (berr-counter tx 0 rx 0)" in shown
+        # To be set up is no restart of can_restart.
+        assert re.search(r"bus-off\n\s+0 +0 +0 +0 +0 +0 ", shown), shown
+
+
+@needs_downs
+@needs_ip
+def test_down_by_others():
+    """what a client of the server takes down is down, and is set up by netlink"""
+    with bus(*FAST, "can0,can1") as server, contextlib.closing(plain(server, "can0")) as client:
+        assert state_of(server)[0] == "ERROR-ACTIVE"
+        assert client.answer("< down >") == "< ok >"
+        assert state_of(server)[0] == "STOPPED"
+        passes(server, IP, "link", "set", "can0", "up")
+        assert client.answer("< status >") == "< status active 0 0 >"
 
 
 # ---- what it costs ----

@@ -1,6 +1,7 @@
 """Functions that the tests of buses and servers share, beside their fixtures."""
 
 import subprocess
+import sys
 from pathlib import Path
 
 import can
@@ -10,6 +11,10 @@ from canbusd._process.program import find_program
 
 PYTHON = Path(__file__).resolve().parents[1]
 WAIT = 20
+# What the tests of the clone share.
+sys.path.append(str(PYTHON.parent / "tests" / "helpers"))
+
+from downs import needs_downs as needs_downs  # noqa: E402
 
 
 def writes_live():

@@ -309,6 +309,8 @@ def test_no_server(tmp_path):
         ("dump", "can0"),
         ("status", "can0"),
         ("restart", "can0"),
+        ("down", "can0"),
+        ("up", "can0"),
         ("fault", "can0", "--left"),
     ):
         status, written, said = call(*words, "--address", str(tmp_path / "socket"))
@@ -497,7 +499,7 @@ def test_commands_and_their_help():
     names = re.findall(r"^  (\w+) +\w", written.split("commands:\n")[1].split("\n\n")[0], re.M)
     assert set(names) == {
         *("serve", "bench", "audit"),
-        *("dump", "send", "status", "watch", "fault", "restart"),
+        *("dump", "send", "status", "watch", "fault", "restart", "down", "up"),
         *("restbus", "convert", "extcap", "sweep", "report", "replay"),
     }
     for name in names:

@@ -133,9 +133,9 @@ def test_outages_and_restarts(tmp_path):
     """a node that goes bus off, and one that is restarted less often"""
     sent = cyclic("a", "100", 30) + cyclic("b", "200", 30, start=0.003)
     faults = Faults().next(32, sender="b", skip=10).destroyed()
-    one = run_at(tmp_path, "a", sent, auto_restart=2)
-    other = run_at(tmp_path, "b", sent, faults, auto_restart=2)
-    # The next frame is refused; the second attempt after bus off brings the node back.
+    # 600 attempts of 11 bits or more bring the node back, after its next frame was refused.
+    one = run_at(tmp_path, "a", sent, auto_restart=600)
+    other = run_at(tmp_path, "b", sent, faults, auto_restart=600)
     assert [(each.kind, each.words) for each in Comparison(one, other).differences] == [
         (
             "other outcome",
@@ -343,8 +343,15 @@ def test_bars_of_the_other_run_are_as_long_as_its_attempts(opened, tmp_path):  #
         [moment - moments[0] for moment in moments], abs=2e-6
     )
     assert all(50 * 2e-6 < ends[k] - starts[k] < 75 * 2e-6 for k in done)
-    [[iface, _, begin, _, end]] = shown.run("run.other.away")
+    [[iface, state, _, begin, _, end]] = shown.run(
+        "run.other.away.map(([iface, state, ...more]) => [iface, STATES[state], ...more])"
+    )
     off = next(attempt.timestamp for attempt in other.attempts if attempt.off)
     back = next(attempt.timestamp for attempt in other.attempts if attempt.restarted)
     first = moments[0] - (ends[done[0]] - starts[done[0]] - 6e-6)
-    assert (iface, begin, end) == (1, pytest.approx(off - first, abs=1e-4), pytest.approx(back - first, abs=1e-5))
+    assert (iface, state, begin, end) == (
+        1,
+        "off",
+        pytest.approx(off - first, abs=1e-4),
+        pytest.approx(back - first, abs=1e-5),
+    )

@@ -42,6 +42,8 @@ COMMANDS = {
     "fault": ["fault", "can0", "next", "1", "lastbit"],
     "faults left": ["fault", "--left", "can0"],
     "restart": ["restart", "can0"],
+    "down": ["down", "can0"],
+    "up": ["up", "can0"],
     "restbus": ["restbus", str(HERE / "rest.dbc"), "--for", "0.1"],
 }
 

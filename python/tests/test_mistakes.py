@@ -117,7 +117,7 @@ OF_A_SERVER = [
     (
         "server.expect_state('can0', 'bus off')",
         ValueError,
-        "state is one of active, warning, passive, off, not 'bus off'",
+        "state is one of active, warning, passive, off, down, not 'bus off'",
     ),
     ("server.bus_off('can0', within=1)", TypeError, "bus_off has no argument within (timeout?)"),
     ("server.bus_off('can0', timeout='x')", ValueError, "timeout is a number of seconds, 0 or more, not 'x'"),

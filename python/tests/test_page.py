@@ -7,6 +7,8 @@ import json
 
 import pytest
 from browser import PROGRAM, Browser
+from test_downs import EVENTS, replay_of
+from test_downs import NAMES as NAMES_OF_EVENTS
 from test_report import NAMES, bus_off, record_of
 
 from canbusd._page.report import page
@@ -221,6 +223,28 @@ def test_idle_attempts_are_a_step_and_a_node_that_is_off_is_hatched(shown):
     for key in ["End", "ArrowLeft", "+", "+", "+"]:
         shown.key(key)
     assert "2 idle" in shown.run(WRITTEN)
+
+
+def test_a_node_that_is_down(opened):
+    """It is hatched otherwise than one that is bus off, and its states say so."""
+    shown = opened(replay_of(EVENTS, 100), NAMES_OF_EVENTS)
+    down = "ecu goes down: it takes no part until it is up, and its transmit queue is empty."
+    assert [shown.run(f"sentence({step})") for step in (1, 8)] == [
+        down,
+        "No node on the bus had a frame to send. Down: ecu.",
+    ]
+    assert [shown.run(f"titleOf({step})") for step in (1, 2, 5)] == ["down", "attempt 1", "restart"]
+    assert "down" in shown.run(WRITTEN)
+    assert shown.run("stateWords(STATES[IS_DOWN])") == "down"
+    assert shown.run("String(HATCH.off) !== String(HATCH.down) && theme.off !== theme.down")
+    shown.run("choose(2)")
+    states = (
+        "[...document.querySelectorAll('#chosen tr')].map(row => row.textContent).filter(text => /^ecu/.test(text))"
+    )
+    assert any("down" in text for text in shown.run(states))
+    shown.run("showTab('tab-nodes')")
+    assert "down" in shown.run("at('ifaces').textContent")
+    show_each(shown, 1200, TABS)
 
 
 def test_sixteen_nodes_of_which_one_sends(opened):

@@ -122,7 +122,7 @@ def test_the_example_is_the_one_of_the_documents():
         (LIVE.replace("4294967294 1", "4294967294"), "line 2: bad line"),
         (LIVE.replace("4294967294 1", "4294967294 1000001"), "line 2: bad line"),
         (LIVE.replace("4294967294", "04294967294"), "line 2: bad line"),
-        (LIVE.replace("record 4", "record 6"), "bad version"),
+        (LIVE.replace("record 4", "record 7"), "bad version"),
         (LIVE.replace("record 4", "record 5"), "line 2: bad line"),
         (WITH_FLAGS, "ok 4 entries"),
         (WITH_FLAGS.replace("record 5", "record 4").replace("10 100 0", "10 4294967294 0"), "ok 4 entries"),

@@ -8,6 +8,7 @@ import signal
 import subprocess
 import sys
 import time
+from dataclasses import replace
 from pathlib import Path
 from xml.etree import ElementTree
 
@@ -18,6 +19,7 @@ from canbusd._process.program import find_program
 from canbusd._sweep.attempts import Attempted
 from canbusd._sweep.faults_given import Fault, parse_fault
 from canbusd._sweep.places import places_at
+from common import needs_downs
 
 pytest_plugins = ["pytester"]
 EXAMPLES = Path(__file__).resolve().parents[2] / "examples" / "sweep"
@@ -148,6 +150,75 @@ def test_a_frame_that_is_missed(sweep, pytester):
     unseen = PRESSES.replace("== 3", ">= 2")
     sweep(unseen, "--canbusd-sweep", "--canbusd-sweep-faults", "missed").stdout.fnmatch_lines(
         ["  not noticed: missed by ecu 123 from tester, 3 placements"]
+    )
+
+
+OUTAGES = """
+    @pytest.mark.canbusd("tester,ecu", bitrate=500_000)
+    @pytest.mark.canbusd_sweep(faults=["down", "noack"])
+    def test_all_is_well(canbusd):
+        with canbusd.bus("tester") as tester, canbusd.bus("ecu", error_frames=False) as ecu:
+            for _ in range(3):
+                tester.send(can.Message(arbitration_id=0x123, is_extended_id=False), timeout=1)
+            assert len([*iter(lambda: ecu.recv(0.05), None)]) == 3
+            assert tester.error_counters() == ("active", 0, 0)
+"""
+
+
+@needs_downs
+def test_interfaces_that_are_down(sweep, pytester):
+    """a sender loses what it has queued; a frame that nobody acknowledges is sent again, and counted"""
+    result = sweep(OUTAGES, "--canbusd-sweep", "--canbusd-sweep-check", "6")
+    result.stdout.fnmatch_lines(
+        [
+            "*::test_all_is_well: 3 attempts, 6 placements, 6 run, *",
+            "  down 123 from tester: 3 of 3 placements fail",
+            "  noack 123 from tester: 3 of 3 placements fail",
+        ]
+    )
+    said = {one["faults"][0].split()[0]: [] for one in found(pytester)["test_all_is_well"]["placements"]}
+    for one in found(pytester)["test_all_is_well"]["placements"]:
+        said[one["faults"][0].split()[0]].append(one["result"]["message"])
+    # It is still down after the last frame.
+    assert [re.search("assert ([0-9]+ == 3)", text)[1] for text in said["down"][:2]] == ["1 == 3", "2 == 3"]
+    assert "state='down'" in said["down"][2]
+    # 8 for the missing acknowledgement, and 1 less for each frame that is done then.
+    assert [re.search("tec=([0-9]+)", text)[1] for text in said["noack"]] == ["5", "6", "7"]
+
+
+RULES = """
+    @pytest.mark.canbusd("tester,ecu", bitrate=500_000, auto_restart=20)
+    @pytest.mark.canbusd_sweep(faults=["busoff"])
+    def test_no_rule_is_left(canbusd):
+        with canbusd.bus("tester") as tester:
+            for _ in range(3):
+                assert canbusd.rules_left() == 0
+                tester.send(can.Message(arbitration_id=0x123, is_extended_id=False), timeout=1)
+                time.sleep(0.05)
+            assert canbusd.rules_left() == 0
+            canbusd.inject("next 1 from ecu lastbit")
+            assert canbusd.rules_left() == 1
+
+    @pytest.mark.canbusd("a,b")
+    @pytest.mark.canbusd_sweep(faults=["busoff"])
+    def test_nor_of_a_bench(canbusd_bench):
+        a = canbusd_bench.bus("a")
+        for _ in range(3):
+            assert canbusd_bench.rules_left() == 0
+            if a.error_counters().state != "off":
+                a.send(0x123)
+            canbusd_bench.run()
+        canbusd_bench.inject("next 1 from b lastbit")
+        assert canbusd_bench.rules_left() == 1
+"""
+
+
+def test_the_rule_of_bus_off_is_hidden(sweep):
+    sweep("    import time\n" + RULES, "--canbusd-sweep").stdout.fnmatch_lines(
+        [
+            "*::test_no_rule_is_left: 3 attempts, 3 placements, 3 run, 0 failed",
+            "*::test_nor_of_a_bench: 3 attempts, 3 placements, 3 run, 0 failed",
+        ]
     )
 
 
@@ -540,6 +611,25 @@ def test_rules_of_placements():
         ("busoff", "next 32 from a skip 1 global bit", "next 32 from a skip 1 global bit"),
         ("busoff", "next 30 from b global bit", "next 30 from b global bit"),
     ]
+
+
+def test_outages_of_placements():
+    """a sender is down from right before the end of its frame; the others from right before its start"""
+    found = [
+        replace(attempt(0, "a", "123#"), moment="5.000130", began="5.000000"),
+        replace(attempt(1, "a", "123#", 1, 1), moment="6.000130", began="6.000000", is_alone=True),
+    ]
+    places = [(place.kind, str(place.faults[0]), place.as_rule()) for place in places_at(found, ["down", "noack"])]
+    assert places == [
+        ("down", "down a 5.000129 0.100000", ""),
+        ("down", "down a 6.000129 0.100000", ""),
+        ("noack", "noack a 4.999998 0.000133", ""),
+    ]
+    outage = parse_fault("noack a 4.999998 0.000133").outage
+    assert outage == ("noack", "a", 4.999998, 0.000133)
+    assert outage.among([("x", "y"), ("a", "b", "c")]) == ["b", "c"] and outage.among([("x", "y")]) == []
+    down = parse_fault("down b 4.999998 0.100000").outage
+    assert down.among([("x", "y"), ("a", "b", "c")]) == ["b"] and parse_fault("down b 4.999998 0.100000").lines == []
 
 
 def test_attempts_that_have_a_fault_get_none():

@@ -468,6 +468,10 @@ def test_what_is_short_and_what_is_late(tmp_path):
             )
             assert browser.run("busiest") == 100
             assert browser.run("at('facts').textContent").split(": ")[1].startswith("200 frames a second")
+            # The interface that has sent a frame may be known after one that got it.
+            browser.run("takeFrame(102, '7F0#', 2, '', -1, 0, null); takeFrame(102, '7F0#', 1, '', 0, 0, null)")
+            senders = "[frames[frames.length - 1], byIdentifier.get('7F0')].map(one => one.sender)"
+            assert browser.run(senders) == [0, 0]
             assert browser.faults == []
         finally:
             browser.close()

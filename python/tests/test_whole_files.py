@@ -58,6 +58,8 @@ TRIED = {
     "watch": (["watch", "--port", "0", "can0"], None),
     "fault": (["fault", "can0", "next 1 lastbit"], None),
     "restart": (["restart", "can0"], None),
+    "down": (["down", "can0"], None),
+    "up": (["up", "can0"], None),
     "restbus": (["restbus", str(HERE / "rest.dbc"), "--interface", "can0", "--for", "0.1"], None),
     "convert": (["convert", "run.log", "out.log"], "out.log"),
     "report": (["report", "run.rec"], None),

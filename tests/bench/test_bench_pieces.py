@@ -41,7 +41,8 @@ ATTEMPT = "  nothing may follow attempt: each line makes one attempt\n"
 NUMBER = "  a session is 1 to 64 without leading zeros, after one space\n"
 MISSING = "  no line before it starts session 3\n"
 WITH_CR = "  this line ends with CR and LF: lines end with only LF\n"
-OTHER = "  a line begins with at, session, feed, drain, end, fault or attempt; see canbusd help bench\n"
+OTHER = "  a line begins with at, session, feed, drain, end, fault, attempt, down or up; see canbusd help bench\n"
+CHANGE = "  down NAME or up NAME: one space comes before the name of an interface, as down can0\n"
 # A line that is refused, how it is shown, and what is reported of it.
 FAULTY = [
     ("at 10000000000.000000", "at 10000000000.000000", AT),
@@ -68,6 +69,11 @@ FAULTY = [
     ),
     ("end 3", "end 3", MISSING),
     ("fault", "fault", "  fault RULE: one space comes before RULE\n"),
+    ("down", "down", CHANGE),
+    ("up ", "up ", CHANGE),
+    ("down can2", "down can2", "  can2 is none of can0,can1\n"),
+    ("up can0", "up can0", "  can0 is neither bus off nor down\n"),
+    ("down can0\r", "down can0?", WITH_CR),
 ]
 
 

@@ -8,7 +8,7 @@ import random
 import re
 import subprocess
 import sys
-from collections.abc import Iterable, Sequence
+from collections.abc import Iterable, Iterator, Sequence
 
 import pytest
 
@@ -218,6 +218,40 @@ def test_restart_by_attempts(program: str) -> None:
     ]
 
 
+@pytest.mark.parametrize("nominal, restart", [(500_000, 128), (5_000, 1), (83_333, 7), (1_000_000, 1_000)])
+def test_restart_on_an_idle_bus(program: str, nominal: int, restart: int) -> None:
+    """A run makes the attempts that an interface waits for, each of 11 recessive bits, as attempts of the input are."""
+    rates, sent = Rates(nominal), Frame.read("123#")
+    over = 32 * rates.attempt_nanos(sent, Ending.AFTER_DATA)
+    ends = [moment(over + number * rates.idle_nanos()) for number in range(1, restart + 1)]
+    expected = [f"idle at {end}" for end in ends[:-1]] + [f"idle restarted can0 at {ends[-1]}"]
+    lines = ["fault next 32 global bit", f"feed 1 {send(sent)}", *32 * ["attempt"]]
+    options = [*rate_options(rates), "--auto-restart", str(restart)]
+    for made in (["run 9.000000"], restart * ["attempt"]):
+        written_lines = bench(program, options, ["can0", "can1"], [*lines, *made])
+        assert written_lines[31].startswith("tried can0 0 destroyed - can0 at ")
+        assert written_lines[32:] == expected
+
+
+def test_moments_of_idle_attempts_do_not_fall(program: str) -> None:
+    """A long FD frame that is destroyed after its data would have ended 19 bits after that attempt is over: the attempt of
+    11 bits that follows has the moment of its end.
+    """
+    rates, sent = Rates(1_000_000), Frame(0x123, False, bytes([0x55] * 64), is_fd=True)
+    step, length = rates.attempt_nanos(sent, Ending.AFTER_DATA), rates.frame_nanos(sent)
+    assert length - step == 19 * 1_000
+    end, over = 31 * step + length, 32 * step
+    lines = ["fault next 32 global bit", f"feed 1 {send(sent)}", *36 * ["attempt"]]
+    written_lines = bench(program, [*rate_options(rates), "--auto-restart", "3"], ["can0", "can1"], lines)
+    assert written_lines[31:] == [
+        f"tried can0 0 destroyed - can0 at {moment(end)}",
+        f"idle at {moment(end)}",
+        f"idle at {moment(over + 22_000)}",
+        f"idle restarted can0 at {moment(over + 33_000)}",
+        f"idle at {moment(over + 33_000)}",
+    ]
+
+
 def without_moments(output: bytes) -> bytes:
     """What a bench wrote, without the moments of attempts and of what was received, and without the load."""
     lines = re.sub(rb"^((?:tried|idle).*) at [0-9.]+$", rb"\1", output, flags=re.MULTILINE)
@@ -225,22 +259,44 @@ def without_moments(output: bytes) -> bytes:
     return re.sub(rb"(< (?:frame|fdframe|fdframex [0-3]|remote|error) [0-9A-F]+) [0-9]+\.[0-9]{6}", rb"\1", lines)
 
 
+# An attempt of a record: its verdict; the frame that it tried, how that ended, and who went bus off; who was restarted.
+ATTEMPT = re.compile(r"attempt \S+ (\S+) = (?:idle|tried \d+ \d+ (\S+) (\S+) \S+ (\S+))(?: restarted (\S+))?$")
+
+
+def attempts_in(record: str) -> Iterator[tuple[str, str | None, str | None, bool]]:
+    """The attempts of a record: verdict, frame, how that ended, and whether an interface waited for its restart."""
+    lines = record.splitlines()
+    restarts = lines[1].split(" ")[6:] not in ([], ["0"])
+    off = 0
+    for line in lines:
+        if by_hand := re.match(r"restart (\d+) \S+ = ok$", line):
+            off &= ~(1 << int(by_hand[1]))
+        elif attempt := ATTEMPT.match(line):
+            verdict, frame, kind, gone, back = attempt.groups()
+            yield verdict, frame, kind, restarts and off != 0
+            off = (off | int(gone or "0", 16)) & ~int(back or "0", 16)
+
+
 def moments_of(text: bytes, record: str, rates: Rates) -> list[str]:
-    """The moments of the attempts of an input, by the frames that its record has and what became of these."""
-    attempts = iter(re.findall(r"^attempt \S+ (\S+) = (\S+)(?: \d+ \d+ (\S+) (\S+))?", record, re.MULTILINE))
-    moments, now, free = [], 0, 0
+    """The moments of the attempts of an input, by the frames that its record has and what became of these. One that tries
+    no frame takes 11 bits while an interface waits for its restart, and no moment falls.
+    """
+    attempts = attempts_in(record)
+    moments, now, free, last = [], 0, 0, 0
     for line in text.split(b"\n"):
         if line.startswith(b"at "):
             now = int(line[3:].replace(b".", b"")) * MICRO
-        elif line == b"attempt":
-            verdict, tried, frame_text, kind = next(attempts, ("", "", "", ""))
-            begin = end = free = max(now, free)
-            if tried == "tried":
-                frame = Frame.read(frame_text)
-                end = min(begin + rates.frame_nanos(frame), LATEST)
-                free = min(begin + rates.attempt_nanos(frame, ending_of(kind, verdict)), LATEST)
-            if tried:
-                moments.append(moment(end))
+        elif line == b"attempt" and (attempt := next(attempts, None)):
+            verdict, tried, kind, waits = attempt
+            begin = max(now, free)
+            if tried and kind:
+                frame = Frame.read(tried)
+                lasts, takes = rates.frame_nanos(frame), rates.attempt_nanos(frame, ending_of(kind, verdict))
+            else:
+                lasts = takes = rates.idle_nanos() if waits else 0
+            free = min(begin + takes, LATEST)
+            last = max(last, min(begin + lasts, LATEST) // MICRO)
+            moments.append(moment(last * MICRO))
             now = free // MICRO * MICRO
     return moments
 
@@ -301,7 +357,12 @@ def test_bad_words(program: str, words: str, fault: str) -> None:
 @pytest.mark.parametrize(
     "words, lines, number, note",
     [
-        ("--bitrate 500000", "x\n", 1, "a line begins with at, session, feed, drain, end, fault, attempt or run; see "),
+        (
+            "--bitrate 500000",
+            "x\n",
+            1,
+            "a line begins with at, session, feed, drain, end, fault, attempt, down, up or run; see ",
+        ),
         ("", "run 0.000000\n", 1, "run needs --bitrate"),
         ("", "run 0.1\n", 1, "run SECONDS.MICROS: 1 to 10 digits, a point, 6 digits"),
         ("--bitrate 500000", "run 0.1\n", 1, "run SECONDS.MICROS: 1 to 10 digits, a point, 6 digits"),

@@ -315,6 +315,7 @@ REFUSED = {
     "fd frames off": ("", RAW + "feed 1 < sendfd 123 0 >"),
     "no buffers": ("--txqueue 1 ", RAW + "feed 1 < send 123 0 >< send 123 0 >"),
     "bus off": ("", RAW + "feed 1 < send 123 0 >\n" + "attempt\n" * 32 + "feed 1 < send 123 0 >"),
+    "interface down": ("", RAW + "feed 1 < down >< send 123 0 >"),
     "not bus off": ("", RAW + "feed 1 < restart >"),
     "record full": ("--limit 1 ", RAW + "feed 1 < close >"),
     "bad rule": ("", RAW + "feed 1 < fault next 0 good >"),

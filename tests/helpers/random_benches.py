@@ -272,7 +272,7 @@ class Maker:
             )
         if kind < 0.88:
             words = ["stats", "stats", "stats", "restart", "restart", "echo", "rawmode"]
-            return self.message(self.random.choice(words + ["load"] * self.has_newer))
+            return self.message(self.random.choice(words + ["load", "down"] * self.has_newer))
         if kind < 0.885:
             return self.message("close")
         if kind < 0.91:

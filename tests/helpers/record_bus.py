@@ -85,10 +85,15 @@ class Interface:
         self.sent = self.done = self.lost = self.refused = 0
         # How many attempts there were since it went bus off; None where it is not off.
         self.attempts_off: Optional[int] = None
+        self.is_down = False
 
     def is_off(self) -> bool:
         """Whether it is bus off."""
-        return self.tec >= OFF
+        return self.tec >= OFF and not self.is_down
+
+    def is_silent(self) -> bool:
+        """Whether it takes no part."""
+        return self.is_down or self.is_off()
 
     def is_passive(self) -> bool:
         """Whether it is error passive."""
@@ -99,9 +104,19 @@ class Interface:
         return severity(max(self.tec, self.rec))
 
     def restart(self) -> None:
-        """Back from bus off."""
+        """Back from bus off, or up."""
         self.tec = self.rec = 0
         self.attempts_off = None
+        self.is_down = False
+
+    def go_down(self) -> list[Pending]:
+        """Leaves the bus; returns the frames that it loses."""
+        lost = list(self.waiting)
+        self.lost += len(lost)
+        self.waiting.clear()
+        self.attempts_off = None
+        self.is_down = True
+        return lost
 
     def receive_error(self) -> None:
         """Counts a fault that it saw as a receiver."""

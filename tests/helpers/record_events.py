@@ -29,14 +29,14 @@ Counts = tuple[int, int]
 
 @dataclass
 class Step:
-    """A tried attempt or a restart; an attempt that restarts interfaces is followed by a step for each."""
+    """A tried attempt, a restart or a down; an attempt that restarts interfaces is followed by a step for each."""
 
-    #: done, lastbit, destroyed, noack or restart.
+    #: done, lastbit, destroyed, noack, restart or down.
     kind: str
     #: The number of its entry, and its moment there.
     entry: int
     moment: str
-    #: The winner, or the one that was restarted.
+    #: The winner, or the one that was restarted or went down.
     iface: int
     #: How many attempts were tried before, and how many were idle since the last step.
     attempt: int
@@ -67,9 +67,9 @@ class Replay:
         self.open_sockets: list[list[Socket]] = [[] for _ in self.ifaces]
         self.frames: dict[str, Frame] = {}
         self.steps: list[Step] = []
-        #: By the step the frames that bus off took out of a transmit queue.
+        #: By the step the frames that were taken out of a transmit queue, at bus off or down.
         self.lost: dict[int, list[Pending]] = {}
-        #: The last steps before sends were refused, by the interface and the reply, `no-buffers` or `bus-off`.
+        #: The last steps before sends were refused, by the interface and the reply: `no-buffers`, `bus-off` or `interface-down`.
         self.refused: dict[tuple[int, str], list[int]] = {}
         self.counts: tuple[Counts, ...] = ((0, 0),) * record.ifaces
         self.attempts = self.idle = 0
@@ -95,7 +95,7 @@ class Replay:
             legal: list[str] = calls[event[0]](self.entries, *event[1:])
             if legal != reply:
                 raise wrong(self.entries, f"wrong: `{' '.join(reply)}`; legal is `{' '.join(legal)}`")
-            if event[0] in ("attempt", "restart"):
+            if event[0] in ("attempt", "restart", "down"):
                 self.parts[self.entries] = self.parts_since(counts, lost)
             self.entries += 1
 
@@ -189,6 +189,8 @@ class Replay:
             return ["fd-off"]
         if iface.is_off():
             return self.refuse(socket.iface, "bus-off")
+        if iface.is_down:
+            return self.refuse(socket.iface, "interface-down")
         if len(iface.waiting) == self.record.tx_capacity:
             iface.refused += 1
             return self.refuse(socket.iface, "no-buffers")
@@ -215,9 +217,20 @@ class Replay:
         """An interface is restarted by hand."""
         if int(number) >= len(self.ifaces):
             return ["no-interface"]
-        if not self.ifaces[int(number)].is_off():
+        if not self.ifaces[int(number)].is_silent():
             return ["not-bus-off"]
         self.restart(entry, int(number), moment)
+        return ["ok"]
+
+    def on_down(self, entry: int, number: str, moment: str) -> list[str]:
+        """An interface goes down, which posts nothing."""
+        if int(number) >= len(self.ifaces):
+            return ["no-interface"]
+        step = self.begin("down", entry, moment, int(number))
+        lost = self.ifaces[int(number)].go_down()
+        if lost:
+            self.lost[len(self.steps)] = lost
+        self.end(step)
         return ["ok"]
 
     def restart(self, entry: int, number: int, moment: str) -> None:
@@ -250,7 +263,7 @@ class Replay:
 
     def attempt(self, entry: int, moment: str, verdict: str) -> list[str]:
         """The frame that wins arbitration is tried."""
-        contenders = [iface.waiting[0].contender for iface in self.ifaces if iface.waiting and not iface.is_off()]
+        contenders = [iface.waiting[0].contender for iface in self.ifaces if iface.waiting and not iface.is_silent()]
         if not contenders:
             self.idle += 1
             self.idle_since += 1
@@ -262,7 +275,7 @@ class Replay:
         step.number, step.text, step.contenders = sent.number, sent.frame.text, contenders
         step.verdict = verdict
         before = self.counts
-        receivers = [i for i, iface in enumerate(self.ifaces) if i != winner and not iface.is_off()]
+        receivers = [i for i, iface in enumerate(self.ifaces) if i != winner and not iface.is_silent()]
         self.judge(step, receivers)
         self.leave_queue(step)
         self.post_frame(step, sent)
@@ -396,7 +409,7 @@ class Replay:
         """Keeps a step that has happened."""
         step.counts = self.counts
         self.steps.append(step)
-        self.attempts += step.kind != "restart"
+        self.attempts += step.kind not in ("restart", "down")
 
 
 def wrong(entry: int, message: str) -> BadRecord:

@@ -49,9 +49,11 @@ MOST_ENTRIES, MOST_LIVE_ENTRIES = 1 << 24, (1 << 32) - 2
 class Version:
     """A version of the text: the line of its bus and its limits, and for each kind of event its words and its replies."""
 
-    def __init__(self, bus: str, fd: Optional[str] = None, limits: range = range(1, MOST_ENTRIES + 1)) -> None:
-        # FD frames as it spells them, if it has any.
-        self.bus, self.fd, self.limits = re.compile(bus), fd, limits
+    def __init__(
+        self, bus: str, fd: Optional[str] = None, limits: range = range(1, MOST_ENTRIES + 1), has_downs: bool = False
+    ) -> None:
+        # FD frames as it spells them, if it has any; whether interfaces go down.
+        self.bus, self.fd, self.limits, self.has_downs = re.compile(bus), fd, limits, has_downs
 
     def entries(self, restarts: bool) -> dict[str, re.Pattern[str]]:
         """Returns the entries' regular expressions, on a bus that restarts interfaces or one that does not."""
@@ -70,7 +72,8 @@ class Version:
             ("attempt", f"{MOMENT} {VERDICT}", attempted),
             ("restart", f"{IFACE} {MOMENT}", "ok"),
         ]
-        refusal = "|".join(REFUSALS)
+        lines += [("down", f"{IFACE} {MOMENT}", "ok")] if self.has_downs else []
+        refusal = "|".join([*REFUSALS, "interface-down"] if self.has_downs else REFUSALS)
         spelled = {kind: f"{kind} {event} = (?:{reply}|{refusal})" for kind, event, reply in lines}
         if self.fd:
             spelled["send"] += f"|send {SOCKET} {self.fd} = fd-off"
@@ -81,13 +84,17 @@ class Version:
 VERSION_3 = Version(f"{BUS} {NUMBER}", FD_FRAME)
 # Version 5 has flags of FD frames.
 VERSION_5 = Version(f"{BUS} {NUMBER}", FLAGGED_FRAME)
+# Version 6 has interfaces that go down, too.
+VERSION_6 = Version(f"{BUS} {NUMBER}", FLAGGED_FRAME, has_downs=True)
+LONG_LIMITS = range(MOST_ENTRIES + 1, MOST_LIVE_ENTRIES + 1)
 # By the first line. Version 4 is the text of the record of a long run, and of no other.
 VERSIONS = {
     "canbus record 1": Version(BUS),
     "canbus record 2": Version(f"{BUS} ([1-9][0-9]*)"),
     "canbus record 3": VERSION_3,
-    "canbus record 4": Version(f"{BUS} {NUMBER}", FLAGGED_FRAME, range(MOST_ENTRIES + 1, MOST_LIVE_ENTRIES + 1)),
+    "canbus record 4": Version(f"{BUS} {NUMBER}", FLAGGED_FRAME, LONG_LIMITS, has_downs=True),
     "canbus record 5": VERSION_5,
+    "canbus record 6": VERSION_6,
 }
 
 
@@ -223,6 +230,8 @@ class TextReader:
             raise BadRecord("version 3, with neither an FD frame nor the option for such", "bad version")
         if self._version is VERSION_5 and not any(map(has_flags, self.lines)):
             raise BadRecord("version 5, without a flag of an FD frame", "bad version")
+        if self._version is VERSION_6 and not any(map(has_down, self.lines)):
+            raise BadRecord("version 6, without an interface that goes down", "bad version")
         return self._bus
 
     def _text_after_the_end(self) -> BadRecord:
@@ -250,6 +259,11 @@ def needs_fd(line: str) -> bool:
 def has_flags(line: str) -> bool:
     """Whether the line has an FD frame with a flag."""
     return re.search("##[1-3]", line) is not None
+
+
+def has_down(line: str) -> bool:
+    """Whether the line takes an interface down, or says that one is down."""
+    return line.startswith("down ") or line.endswith(" = interface-down")
 
 
 def has_its_filters(line: str) -> bool:

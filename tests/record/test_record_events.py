@@ -8,8 +8,9 @@ model has.
 import subprocess
 
 import record_events
-from canbusd._run.steps import DROPPED, RESTART
+from canbusd._run.steps import DOWN, DROPPED, RESTART
 from canbusd.replay import Replay
+from downs import needs_downs
 from random_benches import Maker
 from record_events import events_of
 from record_text import BadRecord, parse_text
@@ -33,6 +34,43 @@ BUS_OFF = [
 ]
 AT_BUS_OFF = "; counts 0 256 0; counts 1 0 32; lost 0 2; put 0:20000040#0000000000000000"
 AT_RESTART = "; counts 0 0 0; put 0:20000100#0000000000000000"
+# An interface goes down, twice, and comes up; its entries, each with what it brought about.
+DOWNS = [
+    ("open 0 256 = socket 0", ""),
+    ("open 1 256 = socket 1", ""),
+    ("option 0 errmask 1FFFFFFF = ok", ""),
+    ("send 0 100# = number 0", ""),
+    ("send 0 101# = number 1", ""),
+    ("send 1 200# = number 0", ""),
+    ("attempt 0.000001 good = tried 0 0 100# done 0006 0000", "; put 1"),
+    ("down 0 0.000002 = ok", "; lost 0 1"),
+    ("down 3 0.000002 = no-interface", ""),
+    ("send 0 102# = interface-down", ""),
+    ("attempt 0.000003 local-crc:0005 = tried 1 0 200# destroyed 0000 0000", "; counts 1 8 0; counts 2 0 1"),
+    ("attempt 0.000004 good = tried 1 0 200# done 0004 0000", "; counts 1 7 0; counts 2 0 0"),
+    ("down 0 0.000005 = ok", ""),
+    ("restart 0 0.000006 = ok", "; put 0:20000100#0000000000000000"),
+    ("restart 0 0.000006 = not-bus-off", ""),
+    ("receive 0 = error 0 20000100#0000000000000000 0.000006", ""),
+    ("receive 0 = none", ""),
+    ("send 0 103# = number 2", ""),
+    ("attempt 0.000007 good = tried 0 2 103# done 0006 0000", "; put 1"),
+]
+BUS_OF_DOWNS = "bus 3 always 0000 10 100 0"
+# One that does not need the version of those.
+BUS_OFF_6 = "".join(f"{line}\n" for line in ["canbus record 6", *BUS_OFF[1:]]).encode()
+
+
+def with_downs():
+    """The record of these entries."""
+    lines = ["canbus record 6", BUS_OF_DOWNS, *(entry for entry, _ in DOWNS), f"end {len(DOWNS)}"]
+    return "".join(f"{line}\n" for line in lines).encode()
+
+
+def events_of_downs():
+    """What they brought about."""
+    lines = ["canbus events 1", BUS_OF_DOWNS, *map("".join, DOWNS), f"end {len(DOWNS)}"]
+    return "".join(f"{line}\n" for line in lines)
 
 
 def said(data, *options):
@@ -67,6 +105,27 @@ def test_the_model():
         BUS_OFF[39] + AT_RESTART,
         "end 38",
     ]
+
+
+def test_the_model_of_downs():
+    """its lines of a record by hand; and which version it needs"""
+    assert events_of(with_downs()) == events_of_downs()
+    others = {
+        with_downs().replace(b"record 6", b"record 5"): "line 10: bad line",
+        with_downs().replace(b"interface-down", b"bus-off"): "entry 9: wrong",
+        BUS_OFF_6: "bad version",
+    }
+    for data, fault in others.items():
+        assert record_events.audit(data) == f"canbusd: {fault}"
+
+
+@needs_downs
+def test_events_of_downs():
+    """the program's lines are those of the model, and so is what it says of other records"""
+    assert said(with_downs(), "--events") == (events_of_downs(), 0, "")
+    for data in (with_downs().replace(b"record 6", b"record 5"), with_downs().replace(b"interface-down", b"bus-off")):
+        assert said(data)[2].splitlines()[0] == record_events.audit(data)
+    assert said(BUS_OFF_6)[2].splitlines()[0] == "canbusd: bad version"
 
 
 def test_events_of_random_runs(request, cases, tmp_path):
@@ -124,7 +183,16 @@ def step_of(step):
 def bus_of(run, text=lambda frame: frame):
     """The interfaces and sockets of a run at its end, the frames that were lost, and the sends that were refused."""
     ifaces = [
-        ([*map(text, one.waiting)], one.sent, one.done, one.lost, one.refused, one.tec, one.rec, one.state())
+        (
+            [*map(text, one.waiting)],
+            one.sent,
+            one.done,
+            one.lost,
+            one.refused,
+            one.tec,
+            one.rec,
+            one.is_down or one.state(),
+        )
         for one in run.ifaces
     ]
     sockets = [
@@ -160,12 +228,13 @@ def test_the_times_that_the_package_reads(request, rng, cases, tmp_path):
         columns = zip(steps.frame_nanos, steps.busy_nanos, steps.nominal_bits, steps.fast_bits)
         read = {entry: times for entry, times in zip(steps.entries, columns) if any(times)}
         assert read == times_in(lines[2:]), data
-        assert len(read) == run.attempts == len(steps) - len(steps.places_of(RESTART)), data
+        others = len(steps.places_of(RESTART)) + len(steps.places_of(DOWN))
+        assert len(read) == run.attempts == len(steps) - others, data
 
 
 def test_what_the_package_reads(request, cases, tmp_path):
-    """random runs: steps, items, lost frames, and the bus at the end"""
-    for data in records(request.config.getoption("seed"), cases // 4, tmp_path):
+    """random runs, and one by hand: steps, items, lost frames, and the bus at the end"""
+    for data in [with_downs(), *records(request.config.getoption("seed"), cases // 4, tmp_path)]:
         run, model = Replay(), record_events.Replay(parse_text(data))
         run.take(events_of(data).splitlines())
         assert [step_of(step) for step in run.steps] == [step_of(step) for step in model.steps], data

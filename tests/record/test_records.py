@@ -18,7 +18,8 @@ end 7
 """
 VERSION = (
     "the first line of a record is canbus record 1 or 2, or, with an FD frame or the option fd, canbus record 3, or, "
-    "of a long run, canbus record 4, or, with a flag of an FD frame, canbus record 5"
+    "of a long run, canbus record 4, or, with a flag of an FD frame, canbus record 5, or, with an interface that goes "
+    "down, canbus record 6"
 )
 LINE = "a line is EVENT = REPLY, and the last is end COUNT; each ends with LF"
 # What is put in place of what, the fault, the line where it is and how that is shown, and what is said of it.
@@ -43,7 +44,7 @@ DAMAGED = [
         "bus 17",
         "line 2: bad line",
         "2: bus 17 always 0000 10 100",
-        "the second line is bus IFACES ACK REPORTING TXCAPACITY LIMIT, followed by RESTART in versions 2 to 5",
+        "the second line is bus IFACES ACK REPORTING TXCAPACITY LIMIT, followed by RESTART in versions 2 to 6",
     ),
     (
         "send 0 123#01FF",

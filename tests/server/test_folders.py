@@ -4,6 +4,7 @@ followed to a plain file.
 
 import itertools
 import os
+import stat
 import subprocess
 
 import pytest
@@ -126,3 +127,42 @@ def test_a_link_to_a_device_is_written_to(when, tmp_path):
     (tmp_path / "can0.log").symlink_to("/dev/null")
     assert start(tmp_path, "--record", when, "can0")[0] == 0
     assert os.readlink(tmp_path / "can0.log") == "/dev/null"
+
+
+def mode_of(path):
+    """The mode of a file that is no link."""
+    return stat.S_IMODE(os.lstat(path).st_mode)
+
+
+def test_the_lock_file_of_a_folder(tmp_path):
+    """is for its user only, and goes with its server"""
+    with serving_alone("can0", out=tmp_path) as server:
+        assert mode_of(tmp_path / ".canbusd.lock") == 0o600
+        server.end()
+    assert not os.path.lexists(tmp_path / ".canbusd.lock")
+
+
+def test_a_link_is_no_lock_file_of_a_folder(tmp_path):
+    """a link to nothing makes no file"""
+    folder = tmp_path / "out"
+    folder.mkdir()
+    (folder / ".canbusd.lock").symlink_to(tmp_path / "other")
+    status, said, errors = start(folder, "can0")
+    assert (status, said) == (1, "") and errors.endswith(": its lock file is a link\n"), errors
+    assert not os.path.lexists(tmp_path / "other")
+
+
+def test_the_lock_file_of_a_path(tmp_path):
+    """is for its user only, and no link: a link to nothing makes no file"""
+    path, lock = tmp_path / "bus", tmp_path / "bus.lock"
+    words = (program(), "serve", "--until-eof", "--listen", str(path), "can0")
+    lock.symlink_to(tmp_path / "other")
+    status, said, errors = call(*words)
+    assert (status, said) == (1, "") and errors.endswith(": its lock file is a link\n"), errors
+    assert not os.path.lexists(tmp_path / "other")
+    lock.unlink()
+    with subprocess.Popen(words, stdin=subprocess.PIPE, stdout=subprocess.PIPE) as child:
+        assert child.stdout.readline().startswith(b"listening ")
+        assert mode_of(lock) == 0o600
+        child.stdin.close()
+        assert child.wait() == 0

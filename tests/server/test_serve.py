@@ -74,6 +74,25 @@ def test_verbose():
         ], server.said()
 
 
+def test_down_and_up():
+    """an interface that is down says so, sends and receives nothing, and comes up by a restart; both are reported"""
+    with serving("--verbose", "--pace", "0", "can0,can1") as server:
+        can0, can1 = plain(server, "can0"), plain(server, "can1")
+        replies = [can0.answer(f"< {words} >") for words in ("down", "status", "send 123 0")]
+        assert replies == ["< ok >", "< status down 0 0 >", "< error interface down >"], replies
+        assert come_true(lambda: said_in_turn(server)[-1:] == ["can0: down"]), server.said()
+        can1.write("< send 100 0 >")
+        assert come_true(lambda: can1.answer("< stats >").split()[6] == "1"), can1.answer("< stats >")
+        replies = [can0.answer(f"< {words} >") for words in ("restart", "status", "restart")]
+        assert replies == ["< ok >", "< status active 0 0 >", "< error not bus off >"], replies
+        assert come_true(lambda: said_in_turn(server)[-1:] == ["can0: restarted"]), server.said()
+        can1.write("< send 101 0 >")
+        assert can0.frame() == ("101", b""), "not the frame after it came up"
+        assert said_in_turn(server).count("can0: down") == 1, server.said()
+        assert server.finish()[0] == 0
+        assert server.audited("can0.rec") > 0, "the audit"
+
+
 def said_in_turn(server):
     """What a server with --verbose has said, without the moments."""
     return [re.sub(r"^\d{10}\.\d{6} ", "", line) for line in server.said().splitlines()]
@@ -194,9 +213,9 @@ def has_ended(client):
 
 
 @pytest.mark.parametrize("pieces", ["whole", "byte by byte"])
-@pytest.mark.parametrize("method", ["GET", "HEAD", "POST", "PUT", "DELETE", "CONNECT", "OPTIONS", "TRACE", "PATCH"])
+@pytest.mark.parametrize("method", ["GET", "POST", "PATCH", "patch", "FOO", "x", "\r\n\r\nGET", " GET"])
 def test_web_page(method, pieces):
-    """a request of HTTP puts no frame on a bus: its connection is closed, and that is reported"""
+    """a request of any method puts no frame on a bus: its connection is closed, and that is reported"""
     body = "< open can0 >< rawmode >< send 123 0 >"
     request = f"{method} / HTTP/1.1\r\nHost: 127.0.0.1\r\nContent-Length: {len(body)}\r\n\r\n{body}"
     with serving("--verbose", "can0,can1") as server:
@@ -215,7 +234,7 @@ def test_web_page(method, pieces):
             0,
             [
                 f"session 1: came from 127.0.0.1:{port}",
-                "session 1: closed, a request of HTTP",
+                "session 1: closed, not a client of canbusd",
                 "session 1: gone, 0 frames refused, 0 dropped",
             ],
         ), server.said()
@@ -223,9 +242,9 @@ def test_web_page(method, pieces):
         assert server.audited("can0.rec") == 0, "the audit"
 
 
-@pytest.mark.parametrize("first", ["G", "GET", "GETS ", "POST", "OPTIONS", "get ", " GET ", "PUTS"])
+@pytest.mark.parametrize("first", ["G", "GET", " GET", "get", " ", "\t\r\n", "x>"])
 def test_no_web_page(first):
-    """a client that begins as a request may, or nearly so, goes on"""
+    """a client that begins as a request may, and has no blank after its first word, goes on"""
     with serving("can0,can1") as server:
         near, other = Plain(server), plain(server, "can1")
         assert near.text() == "< hi >"

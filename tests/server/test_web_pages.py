@@ -1,12 +1,13 @@
-"""A page in a browser can't put frames on a bus: what it sends to the server's port is a request of HTTP.
+"""A page in a browser can't put frames on a bus: what it sends to the server's port begins as no client does.
 
-The page is served on another port, so it is of another site. `fetch` with mode `no-cors` needs nobody's leave to send, and
-may not read what comes back: that is all that a page needs to send messages.
+A page of another site needs nobody's leave to send by `fetch` with mode `no-cors`, and may not read what comes back: that is
+all that it needs to send messages. After DNS rebinding a page is of the server's own site, and may choose any method.
 """
 
 import contextlib
 import http.server
 import json
+import shutil
 import socket
 import subprocess
 import threading
@@ -41,19 +42,22 @@ tries();
 
 
 class Pages(http.server.ThreadingHTTPServer):
-    """Serves the page, and learns when its script has done all it can."""
+    """Serves the page, and learns when its script runs, and when it has done all it can."""
 
     daemon_threads = True
 
     def __init__(self, page):
         super().__init__(("127.0.0.1", 0), Request)
-        self.page, self.done = page.encode(), threading.Event()
+        self.page, self.asked, self.done, self.is_there = page.encode(), threading.Event(), threading.Event(), False
 
 
 class Request(http.server.BaseHTTPRequestHandler):
     def do_GET(self):
-        self.send_response(200)
+        if self.path == "/here":
+            self.server.asked.set()
+        self.send_response(404 if self.path == "/is-there" and not self.server.is_there else 200)
         self.send_header("Content-Type", "text/html")
+        self.send_header("Access-Control-Allow-Origin", "*")
         self.end_headers()
         self.wfile.write(self.server.page)
 
@@ -78,15 +82,18 @@ def page_of(text):
             thread.join(WAIT)
 
 
-def visit(pages, folder):
-    """Opens the page in a browser until its script has ended."""
+@contextlib.contextmanager
+def browsing(port, folder):
+    """Opens the page that is served at this port in a browser."""
     words = ["--headless=new", "--no-sandbox", "--disable-gpu", "--no-first-run", f"--user-data-dir={folder}"]
-    address = f"http://127.0.0.1:{pages.server_address[1]}/"
     browser = subprocess.Popen(
-        [BROWSER, *words, address], stdin=subprocess.DEVNULL, stdout=subprocess.DEVNULL, stderr=subprocess.DEVNULL
+        [BROWSER, *words, f"http://127.0.0.1:{port}/"],
+        stdin=subprocess.DEVNULL,
+        stdout=subprocess.DEVNULL,
+        stderr=subprocess.DEVNULL,
     )
     try:
-        assert pages.done.wait(PATIENCE), "the page's script did not end"
+        yield
     finally:
         browser.terminate()
         browser.wait(WAIT)
@@ -104,44 +111,123 @@ def sent(server):
 @pytest.mark.browser
 def test_a_page_sends_no_frames(server, tmp_path):
     text = PAGE.replace("ADDRESS", server.address).replace("TEXT", json.dumps(MESSAGES))
-    with page_of(text) as pages:
-        visit(pages, tmp_path)
+    with page_of(text) as pages, browsing(pages.server_address[1], tmp_path):
+        assert pages.done.wait(PATIENCE), "the page's script did not end"
     assert sent(server) == 0
 
 
-REQUESTS = [
-    "GET / HTTP/1.1",
-    "POST / HTTP/1.1",
-    "OPTIONS / HTTP/1.1",
-    "PUT / HTTP/1.1",
-    "HEAD / HTTP/1.0",
-    "DELETE / HTTP/1.1",
-]
+# A page whose origin the server takes over, as after DNS rebinding: then requests of any method need nobody's leave.
+REBOUND = """<!DOCTYPE html>
+<script>
+async function is_said(address) {
+    return fetch(address).then((response) => response.ok, () => false);
+}
+async function tries() {
+    while (await is_said("/here")) {}
+    while (!(await is_said("OTHER/is-there"))) {}
+    for (const method of ["FOO", "patch", "POST", "x"]) {
+        const stopped = AbortSignal.timeout(3000);
+        await fetch("/", { method, body: TEXT, signal: stopped }).catch(() => {});
+    }
+    await fetch("OTHER/done", { method: "POST" });
+}
+tries();
+</script>
+"""
 
 
-@pytest.mark.parametrize("cut", [False, True], ids=["whole", "cut"])
-@pytest.mark.parametrize("request_line", REQUESTS)
-def test_a_request_ends_the_connection(server, request_line, cut):
-    """without an answer to what is in it, whole or byte by byte; and others are served as before"""
-    request = f"{request_line}\r\nHost: {server.address}\r\nContent-Length: {len(MESSAGES)}\r\n\r\n{MESSAGES}".encode()
+@pytest.mark.browser
+def test_a_page_of_the_same_origin_sends_no_frames(tmp_path):
+    with page_of("") as other:
+        text = REBOUND.replace("OTHER", f"http://127.0.0.1:{other.server_address[1]}").replace(
+            "TEXT", json.dumps(MESSAGES)
+        )
+        with page_of(text) as pages, browsing(pages.server_address[1], tmp_path):
+            assert pages.asked.wait(PATIENCE), "the page was not opened"
+            pages.shutdown()
+            pages.server_close()
+            with serving("can0,can1", address=f"127.0.0.1:{pages.server_address[1]}") as server:
+                other.is_there = True
+                assert other.done.wait(PATIENCE), "the page's script did not end"
+                assert sent(server) == 0
+
+
+METHODS = ("GET", "POST", "OPTIONS", "PUT", "HEAD", "DELETE", "PATCH", "CONNECT", "TRACE", "get", "patch", "FOO", "x")
+# The first bytes of others than clients, up to where the messages begin.
+STRANGERS = {
+    **{f"{method} of HTTP": f"{method} / HTTP/1.1\r\nHost: x\r\n\r\n".encode() for method in METHODS},
+    "HTTP after blank lines": b"\r\n\r\nGET / HTTP/1.1\r\n\r\n",
+    "HTTP with a tab": b"GET\t/ HTTP/1.1\r\n\r\n",
+    "HTTP/0.9": b"GET /\r\n",
+    "HTTP/2": b"PRI * HTTP/2.0\r\n\r\nSM\r\n\r\n",
+    "RTSP": b"DESCRIBE rtsp://localhost/ RTSP/1.0\r\nCSeq: 1\r\n\r\n",
+    "TLS": bytes.fromhex("16 03 01 00 a1 01 00 00 9d 03 03"),
+    "STUN": bytes.fromhex("00 01 00 00 21 12 a4 42"),
+    "SSH": b"SSH-2.0-OpenSSH_9.2p1 Debian-2\r\n",
+    "SMTP": b"EHLO localhost\r\n",
+    "Redis": b"*1\r\n$4\r\nPING\r\n",
+    "a word and a line feed": b"x\n",
+    "NUL": b"\0",
+    "DEL": b"\x7f",
+}
+
+
+def heard_after(server, pieces):
+    """All that a connection gets that sends these pieces, up to its end or the first reply."""
+    heard = b""
     with socket.create_connection((server.host, server.port), WAIT) as connection:
         connection.setsockopt(socket.IPPROTO_TCP, socket.TCP_NODELAY, 1)
         with contextlib.suppress(ConnectionError):
-            for start in range(0, len(request), 1 if cut else len(request)):
-                connection.sendall(request[start : start + (1 if cut else len(request))])
-        heard = b""
+            for piece in pieces:
+                connection.sendall(piece)
         with contextlib.suppress(ConnectionError):
-            while b"< ok >" not in heard:
-                piece = connection.recv(4096)
-                if not piece:
-                    break
+            while b"< ok >" not in heard and (piece := connection.recv(4096)):
                 heard += piece
+    return heard
+
+
+@pytest.mark.parametrize("size", [4096, 1], ids=["whole", "cut"])
+@pytest.mark.parametrize("first", STRANGERS.values(), ids=STRANGERS)
+def test_a_stranger_is_not_heard(server, first, size):
+    """its connection ends without a reply to any message in it; and others are served as before"""
+    text = first + MESSAGES.encode()
+    heard = heard_after(server, [text[start : start + size] for start in range(0, len(text), size)])
     assert heard in (b"", b"< hi >")
     assert sent(server) == 0
 
 
-def test_messages_that_begin_with_a_word_are_messages(server):
-    """What is outside < and > is skipped, also a word of letters that is no request."""
+# The first bytes of clients, up to where the messages begin: what is no message is skipped.
+CLIENTS = {
+    "at once": b"",
+    "after a blank": b" ",
+    "after blank lines": b"\n\r\n\t",
+    "after a word": b"x",
+    "after a word and marks": b"x>y>",
+    "after UTF-8": "\u00e9".encode(),
+}
+
+
+@pytest.mark.parametrize("size", [4096, 1], ids=["whole", "cut"])
+@pytest.mark.parametrize("first", CLIENTS.values(), ids=CLIENTS)
+def test_a_client_is_heard(server, first, size):
+    """also if blanks and control bytes come after its first message"""
+    text = first + b"< open can0 > GET / \0 < rawmode >< send 123 1 11 >"
     with socket.create_connection((server.host, server.port), WAIT) as connection:
-        connection.sendall(b"GETTING nearer < open can0 >< rawmode >< send 123 1 11 >")
+        for start in range(0, len(text), size):
+            connection.sendall(text[start : start + size])
         assert come_true(lambda: sent(server) == 1)
+
+
+def test_curl_and_openssl_are_not_heard(server):
+    """requests and handshakes as these programs make them, where they are installed"""
+    address = f"{server.host}:{server.port}"
+    commands = [
+        ["curl", "-s", "-m", "10", "-X", word, "-d", MESSAGES, f"http://{address}/"] for word in ("POST", "get", "FOO")
+    ]
+    commands.append(["curl", "-s", "-k", "-m", "10", f"https://{address}/"])
+    commands.append(["openssl", "s_client", "-connect", address])
+    for command in commands:
+        if shutil.which(command[0]):
+            done = subprocess.run(command, input=MESSAGES.encode(), capture_output=True, timeout=WAIT, check=False)
+            assert done.returncode != 0, command
+    assert sent(server) == 0

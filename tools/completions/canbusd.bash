@@ -5,7 +5,7 @@ _canbusd() {
     # The value of an option follows a blank or `=`, at which bash parts words unless COMP_WORDBREAKS lacks it.
     [ "$before" != = ] || before=${COMP_WORDS[COMP_CWORD - 2]}
     case $text in --*=*) before=${text%%=*} ;; esac
-    local package="dump send status watch fault restart restbus convert extcap sweep report replay"
+    local package="dump send status watch fault restart down up restbus convert extcap sweep report replay"
     local options="--ack --report --txqueue --rxqueue --limit --auto-restart --bitrate --dbitrate --help"
     case $COMP_CWORD,$before,${COMP_WORDS[1]} in
     # A file follows a redirection.

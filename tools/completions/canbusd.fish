@@ -10,7 +10,7 @@ function __canbusd_scripts
     end
 end
 
-set -l package dump send status watch fault restart restbus convert extcap sweep report replay
+set -l package dump send status watch fault restart down up restbus convert extcap sweep report replay
 set -l commands bench serve audit $package help
 set -l first "not __fish_seen_subcommand_from $commands"
 set -l runs "__fish_seen_subcommand_from bench serve"
@@ -24,6 +24,8 @@ complete -c canbusd -n $first -a status -d "Print the state and the counts of in
 complete -c canbusd -n $first -a watch -d "Show a running server in the browser"
 complete -c canbusd -n $first -a fault -d "Give a running bus a rule of faults"
 complete -c canbusd -n $first -a restart -d "Bring interfaces back from bus off"
+complete -c canbusd -n $first -a down -d "Take interfaces off the bus"
+complete -c canbusd -n $first -a up -d "Bring interfaces up"
 complete -c canbusd -n $first -a restbus -d "Send what the other nodes of a DBC file send"
 complete -c canbusd -n $first -a convert -d "Make an ASC, BLF, pcapng or candump log"
 complete -c canbusd -n $first -a extcap -d "Show the interfaces of a server in Wireshark"

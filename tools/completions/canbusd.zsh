@@ -22,6 +22,8 @@ _canbusd() {
             watch\:"show a running server in the browser"
             fault\:"give a running bus a rule of faults"
             restart\:"bring interfaces back from bus off"
+            down\:"take interfaces off the bus"
+            up\:"bring interfaces up"
             restbus\:"send what the other nodes of a DBC file send"
             convert\:"make an ASC, BLF, pcapng or candump log"
             extcap\:"show the interfaces of a server in Wireshark"
@@ -78,7 +80,7 @@ _canbusd() {
     dump) _arguments '--pcapng=[write a capture for Wireshark]:file:_files' '--dbc=[names of signals]:file:_files' ;;
     extcap) _arguments '--install[install it for this user]' ;;
     restbus | convert | sweep | report | replay) _arguments '*:file:_files' ;;
-    help) _arguments '1:command:(bench serve audit dump send status watch fault restart restbus convert extcap sweep report replay)' ;;
+    help) _arguments '1:command:(bench serve audit dump send status watch fault restart down up restbus convert extcap sweep report replay)' ;;
     esac
 }
 

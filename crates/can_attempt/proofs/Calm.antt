@@ -1,6 +1,6 @@
 use Rattle.std.proofs.Common.{◌≡◌, ◌==◌, ℕ, zero, suc, ◌<◌, ◌≤◌, ◌+◌, ◌-◌, ◌%◌, ◌^◌, nat_lt, Bool, true, false, not, List, [], ◌∷◌, filter, length, All, IsTrue, bit_or, bit_xor, max, refl, ap, sym, ◌∙◌, inl, inr, arith, if◌then◌else◌}
 use Rattle.std.specs.Prelude.{◌&&◌, ◌||◌}
-use Rattle.std.specs.Int.{bit_at}
+use Rattle.std.specs.Int.{bit_at, from_bool}
 use Rattle.std.specs.List.{list_any}
 use Rattle.std.proofs.lemmas.Bool.{cases_eq, cases_lt, false≢true}
 use Rattle.std.proofs.lemmas.Grind.{common_steps}
@@ -8,7 +8,7 @@ use Rattle.std.proofs.lemmas.List.FromFn.{fill_by_all}
 use Rattle.std.proofs.lemmas.Nat.{or_comm}
 use Rattle.std.proofs.lemmas.Nat.Bits.{bit_at_ones, bit_at_ones_above, bit_at_or, bit_at_xor, bit_at-zero, bit_at-pow_same, bit_at-pow_other, same_from_bits}
 use Rattle.can_frame.specs.Sets.{bits_where, set_where, no_ifaces}
-use Rattle.can_confine.specs.Confinement.{ErrorCounts, all_stepped, at_start, is_off, is_passive, state_of}
+use Rattle.can_confine.specs.Confinement.{ErrorCounts, all_stepped, at_start, is_off, is_passive, is_silent, state_of}
 use Rattle.can_confine.specs.declared.state.State.{State}
 use Rattle.can_fault.specs.declared.verdict.Verdict.{Verdict}
 use Rattle.can_fault.specs.declared.verdict.Verdict.TheVariants as verdict
@@ -25,8 +25,8 @@ use Rattle.can_attempt.proofs.Standing.{bit_at-bits_where}
 
 -- Of frames that go over the bus without a fault, where all counts are 0.
 
-abbrev counts_of : ℕ → ℕ → ErrorCounts
-counts_of t r = record { tec = t; rec = r }
+abbrev counts_of : ℕ → ℕ → Bool → ErrorCounts
+counts_of t r d = record { tec = t; rec = r; down = d }
 
 -- numbers whose bits together are 0 are 0
 pub zero_of_or : (a b : ℕ) → bit_or a b ≡ 0 → a ≡ 0
@@ -34,12 +34,20 @@ zero_of_or a b none = same_from_bits a 0 (λ i.
     let most : max (bit_at a i) (bit_at b i) ≡ 0 = sym (bit_at_or a b i) ∙ ap (λ n. bit_at n i) none ∙ bit_at-zero i in
     omega (arith, most) ∙ sym (bit_at-zero i))
 
--- counts whose bits together are 0 are those at the start
-pub zero_counts : (c : ErrorCounts) (t r : ℕ) → t ≡ c.tec → r ≡ c.rec → bit_or t r ≡ 0 → c ≡ at_start
-zero_counts c t r tec rec none =
-    let transmit : c.tec ≡ 0 = sym tec ∙ zero_of_or t r none in
-    let receive : c.rec ≡ 0 = sym rec ∙ zero_of_or r t (or_comm r t ∙ none) in
-    ap (λ (n : ℕ). counts_of n c.rec) transmit ∙ ap (counts_of 0) receive
+-- counts whose bits together are 0, with the bit of an interface that is down, are those at the start
+pub zero_counts : (c : ErrorCounts) (t r d : ℕ) → t ≡ c.tec → r ≡ c.rec → d ≡ from_bool c.down → bit_or (bit_or t r) d ≡ 0 → c ≡ at_start
+zero_counts c t r d tec rec down none =
+    let counts : bit_or t r ≡ 0 = zero_of_or (bit_or t r) d none in
+    let flag : d ≡ 0 = zero_of_or d (bit_or t r) (or_comm d (bit_or t r) ∙ none) in
+    let transmit : c.tec ≡ 0 = sym tec ∙ zero_of_or t r counts in
+    let receive : c.rec ≡ 0 = sym rec ∙ zero_of_or r t (or_comm r t ∙ counts) in
+    ap (λ (n : ℕ). counts_of n c.rec c.down) transmit
+    ∙ ap (λ (n : ℕ). counts_of 0 n c.down) receive
+    ∙ ap (counts_of 0 0) (up c.down (sym down ∙ flag))
+  where
+    up : (b : Bool) → from_bool b ≡ 0 → b ≡ false
+    up false none = refl
+    up true none = absurd (omega (arith, none))
 
 stays : (s : State) (wins hears named : Bool) → named ≡ false → all_stepped at_start (if wins then winner_step class.Done s else if hears then receiver_step class.Done named else []) ≡ at_start
 stays s true hears named plain = refl
@@ -105,7 +113,7 @@ module _ (nodes : Nodes) (w : ℕ) (zeros : All (λ c. c ≡ at_start) nodes.cou
   ]
 
   hears_others : (a : AckMode) (i : ℕ) → can_hear (attempt_between nodes w verdict.Good a) i ≡ not (i == w)
-  hears_others a i = ap (λ (k : ErrorCounts). not (i == w) && not (is_off (state_of k))) (zero_at i) ∙ and_true (not (i == w))
+  hears_others a i = ap (λ (k : ErrorCounts). not (i == w) && not (is_silent (state_of k))) (zero_at i) ∙ and_true (not (i == w))
 
   unhurt_others : (a : AckMode) (i : ℕ) → is_among i (unhurt (attempt_between nodes w verdict.Good a)) ≡ (not (i == w) && nat_lt i nodes.count)
   unhurt_others a i = is_among-unhurt (attempt_between nodes w verdict.Good a) i ∙ ap (λ (b : Bool). b && nat_lt i nodes.count) (hears_others a i)

@@ -2,7 +2,7 @@ use Rattle.std.proofs.Common.{◌≡◌, ℕ, ◌<◌, List, [], ◌∷◌, map,
 use Rattle.std.specs.List.{range_with_len}
 use Rattle.std.proofs.lemmas.List.FromFn.{fill_by_all, length-map-range_with_len, get_or-map-range_with_len}
 use Rattle.can_frame.specs.declared.iface.IfaceSet.{IfaceSet}
-use Rattle.can_confine.specs.Confinement.{ErrorCounts, at_start, is_off, state_of}
+use Rattle.can_confine.specs.Confinement.{ErrorCounts, at_start, is_off, is_silent, state_of}
 use Rattle.can_attempt.specs.declared.class.Class.{Class}
 use Rattle.can_attempt.specs.declared.class.Class.TheVariants as class
 use Rattle.can_attempt.specs.declared.judgement.Judgement.{Judgement}
@@ -30,7 +30,7 @@ same_to_the_live t u s = record {
   winner = s.winner;
   verdict = s.verdict;
   ack = s.ack;
-  off = λ i below. ap (λ (k : ErrorCounts). is_off (state_of k)) (s.counts i (omega (arith, below, s.within)));
+  silent = λ i below. ap (λ (k : ErrorCounts). is_silent (state_of k)) (s.counts i (omega (arith, below, s.within)));
   live = λ i below live. s.counts i (omega (arith, below, s.within));
 }
 

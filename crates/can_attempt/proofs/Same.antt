@@ -1,6 +1,6 @@
 use Rattle.std.proofs.Common.{◌≡◌, ℕ, ◌<◌, Bool, true, false, not, nat_lt, ◌&&◌, ◌||◌, ◌==◌, List, [], if◌then◌else◌, filter, length, ap, sym, arith, refl, ◌∙◌}
 use Rattle.std.specs.List.{list_any, range_with_len}
-use Rattle.can_confine.specs.Confinement.{ErrorCounts, all_stepped, is_off, is_passive, state_of}
+use Rattle.can_confine.specs.Confinement.{ErrorCounts, all_stepped, is_passive, is_silent, state_of}
 use Rattle.can_fault.specs.declared.verdict.Verdict.{Verdict}
 use Rattle.can_attempt.specs.declared.class.Class.{Class}
 use Rattle.can_attempt.specs.declared.ack_mode.AckMode.{AckMode}
@@ -12,7 +12,7 @@ use Rattle.can_attempt.proofs.Places.{any_same, filter_same, below_among, is_amo
 pub same_receivers : (t u : Transmission) → SameToTheLive t u → receivers t ≡ receivers u
 same_receivers t u s =
     filter_same (can_hear t) (can_hear u) (range_with_len 0 t.count)
-    (λ i among. ap (λ (w : ℕ). not (i == w) && not (is_off (state_at t i))) s.winner ∙ ap (λ (b : Bool). not (i == u.winner) && not b) (s.off i (below_among i t.count among)))
+    (λ i among. ap (λ (w : ℕ). not (i == w) && not (is_silent (state_at t i))) s.winner ∙ ap (λ (b : Bool). not (i == u.winner) && not b) (s.silent i (below_among i t.count among)))
     ∙ ap (λ (n : ℕ). filter (can_hear u) (range_with_len 0 n)) s.count
 
 pub same_hit : (t u : Transmission) → SameToTheLive t u → hit t ≡ hit u
@@ -36,7 +36,7 @@ same_class t u s =
     any_same (λ i. not (is_passive (state_at t i))) (λ i. not (is_passive (state_at u i))) (hit t)
     (λ i among. ap (λ (k : ErrorCounts). not (is_passive (state_of k)))
     (let struck_there : (is_struck t.verdict i && (can_hear t i && nat_lt i t.count)) ≡ true = sym (is_among-hit t i) ∙ among in
-    s.live i (hit_below (is_struck t.verdict i) (can_hear t i) i t.count struck_there) (live_hit (is_struck t.verdict i) (is_off (state_at t i)) (not (i == t.winner)) (nat_lt i t.count) struck_there))) in
+    s.live i (hit_below (is_struck t.verdict i) (can_hear t i) i t.count struck_there) (live_hit (is_struck t.verdict i) (is_silent (state_at t i)) (not (i == t.winner)) (nat_lt i t.count) struck_there))) in
     let destroyed : is_destroyed t ≡ is_destroyed u =
     ap (λ (b : Bool). is_global t.verdict || b) (active ∙ ap (list_any (λ i. not (is_passive (state_at u i)))) struck)
     ∙ ap (λ (v : Verdict). is_global v || list_any (λ i. not (is_passive (state_at u i))) (hit u)) s.verdict in

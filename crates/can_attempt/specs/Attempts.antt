@@ -3,7 +3,8 @@ use Rattle.std.specs.Prelude.{length, filter, map, slice_index_or, nat_lt, All, 
 use Rattle.std.specs.List.{list_any, range_with_len}
 use Rattle.can_frame.specs.Sets.{is_in, set_where}
 use Rattle.can_frame.specs.declared.iface.IfaceSet.{IfaceSet}
-use Rattle.can_confine.specs.Confinement.{ErrorCounts, Step, all_stepped, at_start, state_of, is_off, is_passive}
+use Rattle.can_confine.specs.Confinement.{ErrorCounts, Step, all_stepped, at_start, state_of}
+use Rattle.can_confine.specs.Confinement.{is_off, is_passive, is_silent}
 use Rattle.can_confine.specs.Confinement.Step.{TransmitError, ReceiveError, GoodTransmission, GoodReception}
 use Rattle.can_confine.specs.declared.state.State.{State}
 use Rattle.can_fault.specs.declared.verdict.Verdict.{Verdict}
@@ -39,9 +40,9 @@ pub record Transmission : Type 0 where
 abbrev pub state_at : Transmission → ℕ → State
 state_at t i = state_of (t.counts i)
 
--- another interface than the winner, and not bus off
+-- another interface than the winner, and neither bus off nor down
 abbrev pub can_hear : Transmission → ℕ → Bool
-can_hear t i = not (i == t.winner) && not (is_off (state_at t i))
+can_hear t i = not (i == t.winner) && not (is_silent (state_at t i))
 
 -- the receivers: the live others
 abbrev pub receivers : Transmission → List ℕ
@@ -152,14 +153,14 @@ counts_after t i = all_stepped (t.counts i) (steps_at i t)
 abbrev pub off_after : Transmission → List ℕ
 off_after t = if is_off (state_of (counts_after t t.winner)) then t.winner ∷ [] else []
 
--- two attempts on one bus that differ at most in the counts of interfaces that are bus off in both
+-- two attempts on one bus that differ at most in the counts of interfaces that are silent in both: bus off or down
 pub record SameToTheLive (t u : Transmission) : Type 0 where
   pub count : t.count ≡ u.count
   pub winner : t.winner ≡ u.winner
   pub verdict : t.verdict ≡ u.verdict
   pub ack : t.ack ≡ u.ack
-  pub off : (i : ℕ) → i < t.count → is_off (state_at t i) ≡ is_off (state_at u i)
-  pub live : (i : ℕ) → i < t.count → is_off (state_at t i) ≡ false → t.counts i ≡ u.counts i
+  pub silent : (i : ℕ) → i < t.count → is_silent (state_at t i) ≡ is_silent (state_at u i)
+  pub live : (i : ℕ) → i < t.count → is_silent (state_at t i) ≡ false → t.counts i ≡ u.counts i
 
 -- two attempts that differ at most in counts from place 16 on, where no interface is
 pub record SameToSixteen (t u : Transmission) : Type 0 where

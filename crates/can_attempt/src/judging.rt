@@ -1,7 +1,7 @@
 ghost use Rattle.std.specs.Prelude.{◌≡◌, ◌==◌, ◌<◌, ◌≤◌, ◌||◌, [], ◌∷◌, map, false, not, if◌then◌else◌, IsTrue};
 ghost use Rattle.std.specs.List.{range_with_len};
 ghost use Rattle.can_frame.specs.Sets.{set_where};
-ghost use Rattle.can_confine.specs.Confinement.{all_stepped, is_off, state_of};
+ghost use Rattle.can_confine.specs.Confinement.{all_stepped, is_off, is_silent, state_of};
 ghost use Rattle.can_attempt.specs.Attempts.{IsFaultFree, IsCalmJudgement, Transmission, accepted_in, attempt_between, class_when, counts_in, counts_at, is_always, is_global, is_last_bit, judged, set_of, unhurt, winner_step, receiver_step};
 ghost use Rattle.can_attempt.specs.declared.ack_mode.AckMode.{AckMode};
 
@@ -162,7 +162,7 @@ fn judge_fault_free(nodes: &Nodes, winner: Iface) -> Judgement
 fn judge_each(nodes: &Nodes, winner: Iface, verdict: Verdict, ack: AckMode) -> Judgement
     requires count { nodes.now.count ≤ 16 }
     requires there { winner < nodes.now.count }
-    requires live { is_off (state_of (counts_at nodes.now winner)) ≡ false }
+    requires live { is_silent (state_of (counts_at nodes.now winner)) ≡ false }
     ensures { result ≡ judged (attempt_between nodes.now winner verdict ack) }
 {
     let seen = survey_of(nodes, winner, verdict);
@@ -179,11 +179,11 @@ fn judge_each(nodes: &Nodes, winner: Iface, verdict: Verdict, ack: AckMode) -> J
 
 /// Judges an attempt of the winner to send a frame: what becomes of it, who accepts it and who was hit, the
 /// error counters after it, and whether the winner went off the bus. The winner is below `count`, which is
-/// 1 to 16, and is not bus off. It looks at each interface three times at most and takes no memory.
+/// 1 to 16, and is neither bus off nor down. It looks at each interface three times at most and takes no memory.
 pub fn judge(nodes: &Nodes, winner: Iface, verdict: Verdict, ack: AckMode) -> Judgement
     requires count { nodes.now.count ≤ 16 }
     requires there { winner < nodes.now.count }
-    requires live { is_off (state_of (counts_at nodes.now winner)) ≡ false }
+    requires live { is_silent (state_of (counts_at nodes.now winner)) ≡ false }
     ensures { result ≡ judged (attempt_between nodes.now winner verdict ack) }
 {
     let is_fault_free = is_fault_free(nodes, verdict, ack);
@@ -200,7 +200,7 @@ pub fn judge_known(
 ) -> Judgement
     requires count { nodes.now.count ≤ 16 }
     requires there { winner < nodes.now.count }
-    requires live { is_off (state_of (counts_at nodes.now winner)) ≡ false }
+    requires live { is_silent (state_of (counts_at nodes.now winner)) ≡ false }
     requires calm { IsTrue is_fault_free → IsFaultFree nodes.now verdict ack }
     ensures { result ≡ judged (attempt_between nodes.now winner verdict ack) }
 {

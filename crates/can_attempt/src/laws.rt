@@ -1,6 +1,6 @@
 ghost use Rattle.std.specs.Prelude.{◌≡◌, ◌≢◌, ◌<◌, ℕ, List, length, true, false};
 ghost use Rattle.can_frame.specs.Sets.{is_in};
-ghost use Rattle.can_confine.specs.Confinement.{is_off, is_passive, state_of};
+ghost use Rattle.can_confine.specs.Confinement.{is_off, is_passive, is_silent, state_of};
 ghost use Rattle.can_attempt.specs.Attempts.{Transmission, SameToSixteen, SameToTheLive, is_among, set_of, state_at, receivers, hit, is_global, class_of, accepted_in, counts_after, judged};
 ghost use Rattle.can_attempt.specs.declared.ack_mode.AckMode.TheVariants.{Peers};
 ghost use Rattle.can_attempt.specs.declared.class.Class.TheVariants.{Done, LastBit, Destroyed, NoAck};
@@ -30,12 +30,12 @@ pub fn passive_transmitter_waits()
         counts_after t t.winner ≡ t.counts t.winner }
 {}
 
-/// Interfaces that are bus off have no say: their counts change nothing for the others.
-pub fn off_interfaces_have_no_say()
+/// Interfaces that are bus off or down have no say: their counts change nothing for the others.
+pub fn silent_interfaces_have_no_say()
     ensures class { (t u : Transmission) → SameToTheLive t u → class_of t ≡ class_of u }
     ensures receivers { (t u : Transmission) → SameToTheLive t u → receivers t ≡ receivers u }
     ensures counts { (t u : Transmission) → SameToTheLive t u → (i : ℕ) →
-        i < t.count → is_off (state_at t i) ≡ false → counts_after t i ≡ counts_after u i }
+        i < t.count → is_silent (state_at t i) ≡ false → counts_after t i ≡ counts_after u i }
 {}
 
 /// Who accepts the frame was not hit, and the winner is neither.

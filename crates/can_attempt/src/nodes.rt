@@ -13,7 +13,7 @@ pub struct Nodes {
 
 impl Nodes {
     ghost use Rattle.std.specs.Prelude.{◌≡◌, All, IsTrue};
-    ghost use Rattle.can_confine.specs.Confinement.{at_start, is_off, state_of};
+    ghost use Rattle.can_confine.specs.Confinement.{at_start, is_silent, state_of};
     ghost use Rattle.can_attempt.specs.Attempts.{counts_at};
 
     /// The error counters of an interface.
@@ -23,20 +23,20 @@ impl Nodes {
         self.counters[iface.number() as usize]
     }
 
-    /// Whether an interface is bus off.
-    pub fn is_off(&self, iface: Iface) -> bool
-        ensures { result ≡ is_off (state_of (counts_at self.now iface)) }
+    /// Whether an interface is bus off or down, so that it takes no part.
+    pub fn is_silent(&self, iface: Iface) -> bool
+        ensures { result ≡ is_silent (state_of (counts_at self.now iface)) }
     {
-        self.counters_of(iface).state().is_off()
+        self.counters_of(iface).state().is_silent()
     }
 
-    /// Whether all counts are 0, as on a bus without faults. There is no branch for each interface.
+    /// Whether all counts are 0 and no interface is down, as on a bus without faults. There is no branch for each interface.
     pub fn are_at_start(&self) -> bool
         ensures { IsTrue result → All (λ c. c ≡ at_start) self.now.counters }
     {
         let mut bits = 0;
         for one in &self.counters {
-            bits |= one.tec() | one.rec();
+            bits |= one.tec() | one.rec() | u16::from(one.is_down());
         }
         bits == 0
     }

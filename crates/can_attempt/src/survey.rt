@@ -20,12 +20,12 @@ pub(crate) struct Survey {
     pub is_heard: bool,
 }
 
-/// Whether the interface is a receiver: not the winner, and not bus off.
+/// Whether the interface is a receiver: not the winner, and neither bus off nor down.
 pub(crate) fn can_hear(nodes: &Nodes, winner: Iface, iface: Iface) -> bool
     ensures { (v : _) → (a : AckMode) →
         result ≡ can_hear (attempt_between nodes.now winner v a) iface }
 {
-    iface != winner && !nodes.is_off(iface)
+    iface != winner && !nodes.is_silent(iface)
 }
 
 /// Whether a local fault of the verdict strikes the interface.

@@ -8,7 +8,7 @@ use Rattle.std.proofs.lemmas.List.FromFn.{length-range_with_len}
 use Rattle.can_frame.specs.Frames.{CanFrame}
 use Rattle.can_frame.specs.Sets.{is_in}
 use Rattle.can_frame.specs.declared.iface.IfaceSet.{IfaceSet}
-use Rattle.can_confine.specs.Confinement.{ErrorCounts, Step, all_stepped, at_start, state_of, is_off}
+use Rattle.can_confine.specs.Confinement.{ErrorCounts, Step, all_stepped, at_start, state_of, is_off, is_silent}
 use Rattle.can_fault.specs.declared.verdict.Verdict.{Verdict}
 use Rattle.can_attempt.specs.Attempts.{Transmission, attempt_between, counts_at, judged, set_of, is_among, off_after, counts_after, steps_at, is_done}
 use Rattle.can_attempt.proofs.Standing.{is_in-of}
@@ -41,8 +41,9 @@ use Rattle.can_bus.proofs.InterfaceFacts.{IsInterface, IsInterface-at, kept_inte
 use Rattle.can_bus.proofs.Lists.{slice_get-drop, list_any_there}
 use Rattle.can_bus.proofs.Lawful.{taken_from-le-queued}
 use Rattle.can_bus.proofs.LeftFacts.{CountsOn, due-kept, left-counted, left-never, left-off}
-use Rattle.can_bus.proofs.NodeFacts.{counts_at-kept, is_off_at-kept, index-map}
+use Rattle.can_bus.proofs.NodeFacts.{counts_at-kept, is_silent_at-kept, index-map}
 use Rattle.can_bus.proofs.OffFacts.{all_stepped-append, head-below, counts-beyond, off-no-head, winner-contends}
+use Rattle.can_bus.proofs.Silence.{live-not-off}
 use Rattle.can_bus.proofs.Winning.{winner-is, idle-is, holds_key}
 
 abbrev pub entry : ℕ → Verdict → Attempt → Entry
@@ -139,7 +140,7 @@ interface-other c past m v t w j f is ne =
     let d = done-other c past m v t w j f is ne in
     cc
 
-drop-all : {X : Type 0} (xs : List X) → drop (length xs) xs ≡ []
+pub drop-all : {X : Type 0} (xs : List X) → drop (length xs) xs ≡ []
 drop-all [] = refl
 drop-all (x ∷ xs) = drop-all xs
 
@@ -244,7 +245,7 @@ left-tried c past m v t w l p legal few is = when (is_in w t.off) refl
     named = ap (λ (u : Tried). u.restarted) is.tried_is
 
     stays : is_in w t.restarted ≡ false
-    stays = ap (is_in w) named ∙ live-restarted-not c past legal w (winner-contends c past w is.won).live
+    stays = ap (is_in w) named ∙ live-restarted-not c past legal w (live-not-off (state_at c past w) (winner-contends c past w is.won).live)
 
     others : (i : ℕ) → i ≢ w → CountsOn c past (entry m v (attempt.Tried t)) i
     others i ne = on-tried c past m v t i named (not-off c past m v t w i p.frame is.tried_is ne)
@@ -389,7 +390,7 @@ kept-ready c past legal few w k at =
     record {
       there = omega (arith, below, length-kept_interfaces c past);
       counted = omega (arith, below, count-kept c past);
-      live = is_off_at-kept c past w has.few ∙ not_true (is_off (state_at c past w)) (λ off. let none = off-no-head c past legal few w off in clash has.pending (head_of past w) has.head none);
+      live = is_silent_at-kept c past w has.few ∙ not_true (is_silent (state_at c past w)) (λ silent. let none = off-no-head c past legal few w silent in clash has.pending (head_of past w) has.head none);
       has_head = λ l at_w.
           let interface = IsInterface-at c past (kept_interfaces c past) w l refl at_w in
           ap (λ (x : InterfaceState). is_some (slice_get x.waiting 0)) interface.left ∙ ap (λ (q : Option Pending). is_some q) (slice_get-drop (gone_count past w) (sent_by past w) ∙ has.head);
@@ -405,6 +406,11 @@ kept-ready c past legal few w k at =
 -- each interface with a key is there, is live, and has a frame to send
 pub ready : (j : Kept) (parts : Parts) → IsKept j parts → AreReady parts
 ready j parts kept = subst AreReady (sym kept.of_parts) (kept-ready j.config j.history kept.legal kept.proper.few_ifaces)
+
+-- there are no fewer interfaces than nodes
+pub nodes_there : (j : Kept) (parts : Parts) → IsKept j parts → parts.nodes.count ≤ length parts.interfaces
+nodes_there j parts kept =
+    omega (arith, ap (λ (q : Parts). q.nodes.count) kept.of_parts ∙ count-kept j.config j.history, ap (λ (q : Parts). length q.interfaces) kept.of_parts ∙ length-kept_interfaces j.config j.history)
 
 -- where no interface restarts by itself none counts
 pub never_left : (j : Kept) (parts : Parts) (c : BusConfig) → IsKept j parts → c ≡ j.config → c.auto_restart ≡ 0 → parts.left ≡ replicate 16 0

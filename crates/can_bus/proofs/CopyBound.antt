@@ -3,8 +3,8 @@ use Rattle.std.proofs.lemmas.Bool.{eqb-true, eq-eqb, ne_eqb, cases_eq, and_parts
 use Rattle.std.proofs.lemmas.List.Sums.{sum_by-append}
 use Rattle.std.proofs.lemmas.Option.{slice_get_within}
 use Rattle.can_frame.specs.Sets.{is_in}
-use Rattle.can_confine.specs.Confinement.{ErrorCounts, all_stepped, at_start, state_of, is_off, is_passive}
-use Rattle.can_confine.specs.Confinement.Step.{TransmitError}
+use Rattle.can_confine.specs.Confinement.{ErrorCounts, all_stepped, at_start, state_of, is_passive, is_silent}
+use Rattle.can_confine.specs.Confinement.Step.{TransmitError, TakenDown}
 use Rattle.can_confine.specs.declared.state.State.{State}
 use Rattle.can_fault.specs.declared.verdict.Verdict.{Verdict}
 use Rattle.can_attempt.specs.declared.class.Class.{Class}
@@ -13,7 +13,7 @@ use Rattle.can_attempt.specs.Attempts.{Transmission, is_among, is_struck, receiv
 use Rattle.can_attempt.specs.Attempts as attempts
 use Rattle.can_event.specs.declared.entry.Entry.{Entry}
 use Rattle.can_event.specs.declared.event.Event.{Event}
-use Rattle.can_event.specs.declared.event.Event.TheVariants.{Open, Close, SetFilters, SetOption, Send, Receive, Attempt, Restart}
+use Rattle.can_event.specs.declared.event.Event.TheVariants.{Open, Close, SetFilters, SetOption, Send, Receive, Attempt, Restart, Down}
 use Rattle.can_event.specs.declared.reply.Reply.{Reply}
 use Rattle.can_event.specs.declared.reply.Reply.TheVariants as reply
 use Rattle.can_event.specs.declared.refusal.Refusal.TheVariants as refusal
@@ -29,7 +29,8 @@ use Rattle.can_bus.specs.Legal.{legal_reply, IsLegal}
 use Rattle.can_bus.proofs.CountingFacts.{live-restarted-not, idle-restarts}
 use Rattle.can_bus.proofs.Lawful.{WasTried, by_attempt, tried_by, sent_by-step, gone-le-sent}
 use Rattle.can_bus.proofs.OffFacts.{all_stepped-append, winner-contends, off-all-gone}
-use Rattle.can_bus.proofs.TurnFacts.{Facts, facts, here, copied, comes-over, gone-grows-if, count-numbers}
+use Rattle.can_bus.proofs.TurnFacts.{Facts, facts, here, copied, comes-over, gone-grows, count-numbers}
+use Rattle.can_bus.proofs.Silence.{live-not-off}
 
 -- A frame is tried again only while it is at the head of its queue. There each fault in the last bit adds 8 to the transmit
 -- error count, which nothing lowers, and at 256 the interface is bus off and the frame lost: so 32 such faults are the most.
@@ -37,8 +38,8 @@ use Rattle.can_bus.proofs.TurnFacts.{Facts, facts, here, copied, comes-over, gon
 abbrev sent_count : List Entry → ℕ → ℕ
 sent_count past i = length (sent_by past i)
 
-abbrev gone_then : List Entry → ℕ → Reply → ℕ
-gone_then past i r = gone_after r i (sent_count past i) (gone_count past i)
+abbrev gone_then : List Entry → ℕ → Event → Reply → ℕ
+gone_then past i e r = gone_after e r i (sent_count past i) (gone_count past i)
 
 abbrev count_after : BusConfig → List Entry → ℕ → Event → Reply → ℕ
 count_after c past i e r = (all_stepped at_start (steps_after c e r (counts_of c past) i (steps_of c past i))).tec
@@ -70,7 +71,7 @@ last_bit-step t failed =
     let steps : steps_at t.winner t ≡ TransmitError ∷ [] = rw mine (ap (λ (k : Class). winner_step k (attempts.state_at t t.winner)) failed) in
     ap (λ ss. (all_stepped (t.counts t.winner) ss).tec) steps
 
-below-off : (x : ErrorCounts) → is_off (state_of x) ≡ false → x.tec < 256
+below-off : (x : ErrorCounts) → is_silent (state_of x) ≡ false → x.tec < 256
 below-off x live = grind (arith, live)
 
 count-tried : (c : BusConfig) (past : List Entry) (i m : ℕ) (v : Verdict) (t : Tried) → is_in i t.restarted ≡ false → count_after c past i (Attempt m v) (reply.Attempted (attempt.Tried t)) ≡ (counts_after (transmission c past t.winner v) i).tec
@@ -82,8 +83,8 @@ pub class-is : (c : BusConfig) (past : List Entry) (m : ℕ) (v : Verdict) (t : 
 class-is c past m v t w = subst (λ (u : Tried). u.class ≡ class_of (transmission c past u.winner v)) (sym w.is) refl
 
 -- an attempt restarts no interface that is live before it
-not-restarted : (c : BusConfig) (past : List Entry) (m : ℕ) (v : Verdict) (t : Tried) (i : ℕ) → IsLegal c past → WasTried c past m v t → is_off (state_at c past i) ≡ false → is_in i t.restarted ≡ false
-not-restarted c past m v t i legal w live = ap (λ (u : Tried). is_in i u.restarted) w.is ∙ live-restarted-not c past legal i live
+not-restarted : (c : BusConfig) (past : List Entry) (m : ℕ) (v : Verdict) (t : Tried) (i : ℕ) → IsLegal c past → WasTried c past m v t → is_silent (state_at c past i) ≡ false → is_in i t.restarted ≡ false
+not-restarted c past m v t i legal w live = ap (λ (u : Tried). is_in i u.restarted) w.is ∙ live-restarted-not c past legal i (live-not-off (state_at c past i) live)
 
 -- ---- each fault in the last bit adds 8
 
@@ -91,7 +92,7 @@ last_bit-step-of : (c : BusConfig) (past : List Entry) (e : Event) (t : Tried) �
 last_bit-step-of c past e t legal law failed =
     by_attempt (λ k. count_after c past t.winner k (reply.Attempted (attempt.Tried t)) ≡ transmit_count c past t.winner + 8) c past e t law
     (λ m v w.
-    let live = subst (λ k. is_off (state_at c past k) ≡ false) (sym (ap (λ (u : Tried). u.winner) w.is)) (winner-contends c past w.place w.won).live in
+    let live = subst (λ k. is_silent (state_at c past k) ≡ false) (sym (ap (λ (u : Tried). u.winner) w.is)) (winner-contends c past w.place w.won).live in
     count-tried c past t.winner m v t (not-restarted c past m v t t.winner legal w live) ∙ last_bit-step (transmission c past t.winner v) (sym (class-is c past m v t w) ∙ failed))
 
 last_bit-adds-at : (c : BusConfig) (past : List Entry) (e : Event) (r : Reply) → IsLegal c past → r ≡ legal_reply c past e → (t : Tried) → r ≡ reply.Attempted (attempt.Tried t) → t.class ≡ class.LastBit → count_after c past t.winner e r ≡ transmit_count c past t.winner + 8
@@ -111,14 +112,14 @@ same-other : (i j : ℕ) → (i == j) ≡ (j == i)
 same-other i j = grind arith
 
 -- an interface with a frame that waits is live
-waits-live : (c : BusConfig) (past : List Entry) (i : ℕ) → IsLegal c past → c.ifaces ≤ 16 → gone_count past i < sent_count past i → is_off (state_at c past i) ≡ false
-waits-live c past i legal few waits = when (is_off (state_at c past i)) refl
+waits-live : (c : BusConfig) (past : List Entry) (i : ℕ) → IsLegal c past → c.ifaces ≤ 16 → gone_count past i < sent_count past i → is_silent (state_at c past i) ≡ false
+waits-live c past i legal few waits = when (is_silent (state_at c past i)) refl
   where
-    when : (b : Bool) → is_off (state_at c past i) ≡ b → b ≡ false
+    when : (b : Bool) → is_silent (state_at c past i) ≡ b → b ≡ false
     when false is = refl
     when true is = let gone = off-all-gone c past legal few i is in absurd (omega (arith, gone, waits))
 
-rises-tried : (c : BusConfig) (past : List Entry) (i m : ℕ) (v : Verdict) (t : Tried) → IsLegal c past → c.ifaces ≤ 16 → WasTried c past m v t → gone_count past i < sent_count past i → gone_then past i (reply.Attempted (attempt.Tried t)) ≡ gone_count past i → transmit_count c past i ≤ count_after c past i (Attempt m v) (reply.Attempted (attempt.Tried t))
+rises-tried : (c : BusConfig) (past : List Entry) (i m : ℕ) (v : Verdict) (t : Tried) → IsLegal c past → c.ifaces ≤ 16 → WasTried c past m v t → gone_count past i < sent_count past i → gone_then past i (Attempt m v) (reply.Attempted (attempt.Tried t)) ≡ gone_count past i → transmit_count c past i ≤ count_after c past i (Attempt m v) (reply.Attempted (attempt.Tried t))
 rises-tried c past i m v t legal few w waits same =
     let tr = transmission c past t.winner v in
     let stays : ((t.winner == i) && is_done t.class) ≡ false = not-gone (sent_count past i) (gone_count past i) (is_in i t.off) ((t.winner == i) && is_done t.class) waits same in
@@ -126,26 +127,31 @@ rises-tried c past i m v t legal few w waits same =
     let le : transmit_count c past i ≤ (counts_after tr i).tec = not-lowered (i == t.winner) (is_among i (receivers tr)) (is_struck tr.verdict i) (class_of tr) (attempts.state_at tr i) (counts_of c past i) stays' in
     subst (λ n. transmit_count c past i ≤ n) (sym (count-tried c past i m v t (not-restarted c past m v t i legal w (waits-live c past i legal few waits)))) le
 
-was-off : (b off : Bool) → reply.Done ≡ (if b then reply.Refused refusal.NoInterface else if off then reply.Done else reply.Refused refusal.NotBusOff) → off ≡ true
-was-off true off law = cc
-was-off false true law = refl
-was-off false false law = cc
+was-silent : (b silent : Bool) → reply.Done ≡ (if b then reply.Refused refusal.NoInterface else if silent then reply.Done else reply.Refused refusal.NotBusOff) → silent ≡ true
+was-silent true silent law = cc
+was-silent false true law = refl
+was-silent false false law = cc
 
-rises-step : (c : BusConfig) (past : List Entry) (i : ℕ) (e : Event) (r : Reply) → IsLegal c past → c.ifaces ≤ 16 → r ≡ legal_reply c past e → gone_count past i < sent_count past i → gone_then past i r ≡ gone_count past i → transmit_count c past i ≤ count_after c past i e r
+rises-step : (c : BusConfig) (past : List Entry) (i : ℕ) (e : Event) (r : Reply) → IsLegal c past → c.ifaces ≤ 16 → r ≡ legal_reply c past e → gone_count past i < sent_count past i → gone_then past i e r ≡ gone_count past i → transmit_count c past i ≤ count_after c past i e r
 rises-step c past i e (reply.Attempted (attempt.Tried t)) legal few law waits same =
-    by_attempt (λ k. transmit_count c past i ≤ count_after c past i k (reply.Attempted (attempt.Tried t))) c past e t law (λ m v w. rises-tried c past i m v t legal few w waits same)
+    by_attempt (λ k. gone_then past i k (reply.Attempted (attempt.Tried t)) ≡ gone_count past i → transmit_count c past i ≤ count_after c past i k (reply.Attempted (attempt.Tried t))) c past e t law (λ m v w still. rises-tried c past i m v t legal few w waits still) same
 rises-step c past i (Restart k m) reply.Done legal few law waits same = when (k == i) refl
   where
-    off : is_off (state_at c past k) ≡ true
-    off = was-off (nat_le c.ifaces k) (is_off (state_at c past k)) law
+    silent : is_silent (state_at c past k) ≡ true
+    silent = was-silent (nat_le c.ifaces k) (is_silent (state_at c past k)) law
 
     when : (b : Bool) → (k == i) ≡ b → transmit_count c past i ≤ (all_stepped at_start (if b then [] else steps_of c past i)).tec
     when true is =
-        let gone : gone_count past i ≡ sent_count past i = off-all-gone c past legal few i (subst (λ j. is_off (state_at c past j) ≡ true) (eqb-true k i is) off) in
+        let gone : gone_count past i ≡ sent_count past i = off-all-gone c past legal few i (subst (λ j. is_silent (state_at c past j) ≡ true) (eqb-true k i is) silent) in
         absurd (omega (arith, gone, waits))
     when false is = omega arith
+rises-step c past i (Down k m) reply.Done legal few law waits same = when (k == i) same
+  where
+    when : (b : Bool) → (if b then sent_count past i else gone_count past i) ≡ gone_count past i → transmit_count c past i ≤ (all_stepped at_start (if b then steps_of c past i ++ TakenDown ∷ [] else steps_of c past i)).tec
+    when true gone = absurd (omega (arith, gone, waits))
+    when false gone = omega arith
 rises-step c past i (Attempt m v) (reply.Attempted (attempt.Idle restarted)) legal few law waits same =
-    let stays : is_in i restarted ≡ false = ap (is_in i) (idle-restarts c past m v restarted law) ∙ live-restarted-not c past legal i (waits-live c past i legal few waits) in
+    let stays : is_in i restarted ≡ false = ap (is_in i) (idle-restarts c past m v restarted law) ∙ live-restarted-not c past legal i (live-not-off (state_at c past i) (waits-live c past i legal few waits)) in
     subst (λ b. transmit_count c past i ≤ (all_stepped at_start (if b then [] else steps_of c past i)).tec) (sym stays) (omega arith)
 rises-step c past i (Open j n) _ legal few law waits same = omega arith
 rises-step c past i (Close s) _ legal few law waits same = omega arith
@@ -155,6 +161,7 @@ rises-step c past i (Send s f) _ legal few law waits same = omega arith
 rises-step c past i (Receive s) _ legal few law waits same = omega arith
 rises-step c past i (Attempt m v) _ legal few law waits same = omega arith
 rises-step c past i (Restart k m) _ legal few law waits same = omega arith
+rises-step c past i (Down k m) _ legal few law waits same = omega arith
 
 pub rises-at-head : (c : BusConfig) (past : List Entry) (e : Entry) → IsLegal c (e ∷ past) → c.ifaces ≤ 16 → RisesAtTheHead c e past
 rises-at-head c past e legal few i p head same = rises-step c past i e.event e.reply legal.2 few legal.1 (slice_get_within (sent_by past i) (gone_count past i) p head) same
@@ -224,16 +231,12 @@ copies_of n ts = count_by (λ (t : Tried). t.number == n) ts
 copies-push : (n : ℕ) (ts : List Tried) (t : Tried) → copies_of n (ts ++ t ∷ []) ≡ copies_of n ts + one_if (t.number == n)
 copies-push n ts t = sum_by-append (λ (x : Tried). one_if (x.number == n)) ts (t ∷ []) ∙ omega arith
 
-gone-grows : (past : List Entry) (i : ℕ) (r : Reply) → gone_count past i ≤ sent_count past i → gone_count past i ≤ gone_then past i r
-gone-grows past i (reply.Attempted (attempt.Tried t)) le = gone-grows-if (sent_count past i) (gone_count past i) (is_in i t.off) ((t.winner == i) && is_done t.class) le
-gone-grows past i _ le = omega arith
-
 -- these attempts fit a history, and the same history with one entry more
 abbrev FitsNow : BusConfig → List Entry → ℕ → List Tried → Type 0
 FitsNow c past i ts = Fits (λ n. copies_of n ts) (gone_count past i) (sent_count past i) (transmit_count c past i)
 
 abbrev FitsThen : BusConfig → List Entry → ℕ → Event → Reply → List Tried → Type 0
-FitsThen c past i e r ts = Fits (λ n. copies_of n ts) (gone_then past i r) (length (sent_after past i e r (sent_by past i))) (count_after c past i e r)
+FitsThen c past i e r ts = Fits (λ n. copies_of n ts) (gone_then past i e r) (length (sent_after past i e r (sent_by past i))) (count_after c past i e r)
 
 -- the frame that was tried went over, and was not done
 was-last_bit : (k : Class) → went_over k ≡ true → is_done k ≡ false → k ≡ class.LastBit
@@ -247,7 +250,7 @@ record IsCopy (c : BusConfig) (past : List Entry) (i : ℕ) (e : Event) (t : Tri
   pub number : t.number ≡ gone_count past i
   pub waits : gone_count past i < sent_count past i
   pub live : transmit_count c past i < 256
-  pub adds : gone_then past i (reply.Attempted (attempt.Tried t)) ≡ gone_count past i → transmit_count c past i + 8 ≤ count_after c past i e (reply.Attempted (attempt.Tried t))
+  pub adds : gone_then past i e (reply.Attempted (attempt.Tried t)) ≡ gone_count past i → transmit_count c past i + 8 ≤ count_after c past i e (reply.Attempted (attempt.Tried t))
 
 is_copy : (c : BusConfig) (past : List Entry) (i s : ℕ) (e : Event) (t : Tried) → IsLegal c past → reply.Attempted (attempt.Tried t) ≡ legal_reply c past e → here c past i s t ≡ true → IsCopy c past i e t
 is_copy c past i s e t legal law is = tried_by c past e t law (λ m v w.
@@ -257,7 +260,7 @@ is_copy c past i s e t legal law is = tried_by c past e t law (λ m v w.
     record {
       number = f.number;
       waits = f.waits;
-      live = below-off (counts_of c past i) (subst (λ k. is_off (state_at c past k) ≡ false) who (winner-contends c past w.place w.won).live);
+      live = below-off (counts_of c past i) (subst (λ k. is_silent (state_at c past k) ≡ false) who (winner-contends c past w.place w.won).live);
       adds = λ same. eight over (not-gone (sent_count past i) (gone_count past i) (is_in i t.off) ((t.winner == i) && is_done t.class) f.waits same);
     })
   where
@@ -278,13 +281,13 @@ is_copy c past i s e t legal law is = tried_by c past e t law (λ m v w.
 fits-unchanged : (c : BusConfig) (past : List Entry) (i : ℕ) (e : Event) (r : Reply) (ts : List Tried) → IsLegal c past → c.ifaces ≤ 16 → r ≡ legal_reply c past e → FitsNow c past i ts → FitsThen c past i e r ts
 fits-unchanged c past i e r ts legal few law before =
     fits-none (λ n. copies_of n ts) (gone_count past i) (sent_count past i) (transmit_count c past i) _ _ _ before
-    (gone-grows past i r (gone-le-sent c past legal i)) (sent_by-step past i e r (sent_by past i)) (rises-step c past i e r legal few law)
+    (gone-grows past i e r (gone-le-sent c past legal i)) (sent_by-step past i e r (sent_by past i)) (rises-step c past i e r legal few law)
 
 -- an attempt that copies one
 fits-copied : (c : BusConfig) (past : List Entry) (i : ℕ) (e : Event) (t : Tried) (ts : List Tried) → IsLegal c past → IsCopy c past i e t → FitsNow c past i ts → FitsThen c past i e (reply.Attempted (attempt.Tried t)) (ts ++ t ∷ [])
 fits-copied c past i e t ts legal k before =
     fits-one (λ n. copies_of n ts) (λ n. copies_of n (ts ++ t ∷ [])) (gone_count past i) (sent_count past i) (transmit_count c past i) _ _ _ before k.waits k.live
-    (gone-grows past i (reply.Attempted (attempt.Tried t)) (gone-le-sent c past legal i)) (sent_by-step past i e (reply.Attempted (attempt.Tried t)) (sent_by past i)) k.adds
+    (gone-grows past i e (reply.Attempted (attempt.Tried t)) (gone-le-sent c past legal i)) (sent_by-step past i e (reply.Attempted (attempt.Tried t)) (sent_by past i)) k.adds
     (λ n. copies-push n ts t ∙ ap (λ j. copies_of n ts + one_if (j == n)) k.number)
 
 fits-step : (c : BusConfig) (past : List Entry) (i s : ℕ) (e : Event) (r : Reply) → IsLegal c past → c.ifaces ≤ 16 → r ≡ legal_reply c past e → FitsNow c past i (copying c past i s) → FitsThen c past i e r (copying_after c past i s r (copying c past i s))

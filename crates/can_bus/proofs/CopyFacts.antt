@@ -12,7 +12,7 @@ use Rattle.can_attempt.specs.Attempts.{Transmission, counts_after}
 use Rattle.can_errframe.specs.ErrorMessages.{state_message, restart_message}
 use Rattle.can_event.specs.declared.entry.Entry.{Entry}
 use Rattle.can_event.specs.declared.event.Event.{Event}
-use Rattle.can_event.specs.declared.event.Event.TheVariants.{Open, Close, SetFilters, SetOption, Send, Receive, Attempt, Restart}
+use Rattle.can_event.specs.declared.event.Event.TheVariants.{Open, Close, SetFilters, SetOption, Send, Receive, Attempt, Restart, Down}
 use Rattle.can_event.specs.declared.reply.Reply.{Reply}
 use Rattle.can_event.specs.declared.reply.Reply.TheVariants as reply
 use Rattle.can_event.specs.declared.bus_config.BusConfig.{BusConfig}
@@ -181,6 +181,7 @@ adds c past i s (Send x1 x2) r law = adds-none c past i s (Send x1 x2) r (added-
 adds c past i s (Receive x1) r law = adds-none c past i s (Receive x1) r (added-errors c past i s (Receive x1) r tt)
 adds c past i s (Attempt x1 x2) r law = adds-none c past i s (Attempt x1 x2) r (added-errors c past i s (Attempt x1 x2) r tt)
 adds c past i s (Restart x1 x2) r law = adds-none c past i s (Restart x1 x2) r (added-errors c past i s (Restart x1 x2) r tt)
+adds c past i s (Down x1 x2) r law = adds-none c past i s (Down x1 x2) r (added-errors c past i s (Down x1 x2) r tt)
 
 -- the data frames of an interface that a socket got are the copies that its attempts made
 pub received-copies : (c : BusConfig) (past : List Entry) → IsLegal c past → (i s : ℕ) → received_from c past i s ≡ map copy_of (copying c past i s)

@@ -4,7 +4,8 @@ use Rattle.std.specs.Option.{option_map}
 use Rattle.std.proofs.lemmas.Bool.{eqb-true, and_parts}
 use Rattle.can_frame.specs.Sets.{is_in}
 use Rattle.can_frame.specs.declared.iface.IfaceSet.{IfaceSet}
-use Rattle.can_confine.specs.Confinement.{ErrorCounts, all_stepped, at_start, state_of, is_off}
+use Rattle.can_confine.specs.Confinement.{ErrorCounts, all_stepped, at_start, state_of, is_down, is_off}
+use Rattle.can_confine.specs.Confinement.Step.{TakenDown}
 use Rattle.can_fault.specs.declared.verdict.Verdict.{Verdict}
 use Rattle.can_attempt.specs.Attempts.{Transmission, is_among, set_of, steps_at, counts_after, off_after}
 use Rattle.can_attempt.proofs.Places.{is_among-filter}
@@ -12,7 +13,7 @@ use Rattle.can_attempt.proofs.Standing.{is_in-of}
 use Rattle.can_event.specs.declared.bus_config.BusConfig.{BusConfig}
 use Rattle.can_event.specs.declared.entry.Entry.{Entry}
 use Rattle.can_event.specs.declared.event.Event.{Event}
-use Rattle.can_event.specs.declared.event.Event.TheVariants.{Open, Close, SetFilters, SetOption, Send, Receive, Attempt, Restart}
+use Rattle.can_event.specs.declared.event.Event.TheVariants.{Open, Close, SetFilters, SetOption, Send, Receive, Attempt, Restart, Down}
 use Rattle.can_event.specs.declared.reply.Reply.{Reply}
 use Rattle.can_event.specs.declared.reply.Reply.TheVariants as reply
 use Rattle.can_event.specs.declared.attempt.Tried.{Tried}
@@ -26,6 +27,7 @@ use Rattle.can_bus.specs.Legal.{legal_reply, IsLegal}
 use Rattle.can_bus.proofs.Lawful.{WasTried, by_attempt}
 use Rattle.can_bus.proofs.OffFacts.{all_stepped-append, counts-beyond}
 use Rattle.can_bus.proofs.SilentFacts.{steps-stay}
+use Rattle.can_bus.proofs.Silence.{off-silent, down-not-off}
 
 -- An interface that counts the attempts until its restart is bus off.
 
@@ -73,7 +75,7 @@ counting-tried c past i m v t law w before = when (is_in i t.restarted) (is_in i
     when false true r o h = ap (λ (x : ErrorCounts). is_off (state_of x)) (all_stepped-append at_start (steps_of c past i) (steps_at i (transmission c past t.winner v))) ∙ off-here o
     when false false r o h =
         let was = before (still-some (attempts_off past i) h) in
-        let same = steps-stay c past i (Attempt m v) (reply.Attempted (attempt.Tried t)) law was r in
+        let same = steps-stay c past i (Attempt m v) (reply.Attempted (attempt.Tried t)) law (off-silent (state_at c past i) was) r refl in
         ap (λ b. is_off (state_of (all_stepped at_start (if b then [] else steps_of c past i ++ steps_at i (transmission c past t.winner v))))) (sym r)
         ∙ ap (λ ss. is_off (state_of (all_stepped at_start ss))) same
         ∙ was
@@ -91,6 +93,8 @@ neutral-steps c past i (Attempt m v) (reply.Attempted (attempt.Tried t)) h = cc
 neutral-steps c past i (Attempt m v) _ h = refl
 neutral-steps c past i (Restart k m) reply.Done h = cc
 neutral-steps c past i (Restart k m) _ h = refl
+neutral-steps c past i (Down k m) reply.Done h = cc
+neutral-steps c past i (Down k m) _ h = refl
 neutral-steps c past i (Open j n) _ h = refl
 neutral-steps c past i (Close s) _ h = refl
 neutral-steps c past i (SetFilters s f) _ h = refl
@@ -129,14 +133,20 @@ counting-step c past i e (reply.Attempted (attempt.Idle restarted)) law before =
     elsewhere (Send s f) h = before (kept (is_in i restarted) h)
     elsewhere (Receive s) h = before (kept (is_in i restarted) h)
     elsewhere (Restart k m) h = before (kept (is_in i restarted) h)
+    elsewhere (Down k m) h = before (kept (is_in i restarted) h)
 counting-step c past i e reply.Done law before = elsewhere e
   where
     when : (b : Bool) → is_some (if b then None else attempts_off past i) ≡ true → is_off (state_of (all_stepped at_start (if b then [] else steps_of c past i))) ≡ true
     when true h = cc
     when false h = before h
 
+    unless-down : (b : Bool) → is_some (if b then None else attempts_off past i) ≡ true → is_off (state_of (all_stepped at_start (if b then steps_of c past i ++ TakenDown ∷ [] else steps_of c past i))) ≡ true
+    unless-down true h = cc
+    unless-down false h = before h
+
     elsewhere : (k : Event) → OffThen c past i k reply.Done
     elsewhere (Restart k m) h = when (k == i) h
+    elsewhere (Down k m) h = unless-down (k == i) h
     elsewhere (Attempt m v) h = before h
     elsewhere (Open j n) h = before h
     elsewhere (Close s) h = before h
@@ -184,6 +194,10 @@ live-restarted-not c past legal i live = when (is_in i (restarted_next c past)) 
     when true is =
         let clash : true ≡ false = sym (restarted-off c past legal i is) ∙ live in
         cc
+
+-- nor is one that is down
+pub down-restarted-not : (c : BusConfig) (past : List Entry) → IsLegal c past → (i : ℕ) → is_down (state_at c past i) ≡ true → is_in i (restarted_next c past) ≡ false
+down-restarted-not c past legal i down = live-restarted-not c past legal i (down-not-off (state_at c past i) down)
 
 -- an idle attempt names those that are due
 pub idle-restarts : (c : BusConfig) (past : List Entry) (m : ℕ) (v : Verdict) (restarted : IfaceSet) → reply.Attempted (attempt.Idle restarted) ≡ legal_reply c past (Attempt m v) → restarted ≡ restarted_next c past

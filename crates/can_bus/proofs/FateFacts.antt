@@ -10,6 +10,7 @@ use Rattle.can_fault.specs.declared.verdict.Verdict.{Verdict}
 use Rattle.can_attempt.proofs.Places.{range_more}
 use Rattle.can_event.specs.declared.entry.Entry.{Entry}
 use Rattle.can_event.specs.declared.event.Event.{Event}
+use Rattle.can_event.specs.declared.event.Event.TheVariants.{Attempt}
 use Rattle.can_event.specs.declared.reply.Reply.{Reply}
 use Rattle.can_event.specs.declared.reply.Reply.TheVariants as reply
 use Rattle.can_event.specs.declared.bus_config.BusConfig.{BusConfig}
@@ -22,7 +23,7 @@ use Rattle.can_bus.specs.Legal.{legal_reply, IsLegal}
 use Rattle.can_bus.specs.Fates.{Fate, is_fate, was_done, fate_of, frames_with}
 use Rattle.can_bus.specs.Fates.Fate.{Waiting, Done, Lost}
 use Rattle.can_bus.proofs.Lawful.{WasTried, tried_by, gone-le-sent, done-le-gone}
-use Rattle.can_bus.proofs.TurnFacts.{Facts, facts, after-le, gone-grows-if}
+use Rattle.can_bus.proofs.TurnFacts.{Facts, facts, after-le, gone-grows-if, gone-grows}
 
 -- ---- how many numbers below m pass
 
@@ -114,14 +115,14 @@ or-cases : {P : Type 0} (x y : Bool) → (x || y) ≡ true → (x ≡ true → P
 or-cases true y h a b = a refl
 or-cases false y h a b = b h
 
-gone-tried : (c : BusConfig) (past : List Entry) (m : ℕ) (v : Verdict) (t : Tried) (i : ℕ) → WasTried c past m v t → t.winner ≡ i → is_done t.class ≡ true → t.number < gone_after (reply.Attempted (attempt.Tried t)) i (length (sent_by past i)) (gone_count past i)
+gone-tried : (c : BusConfig) (past : List Entry) (m : ℕ) (v : Verdict) (t : Tried) (i : ℕ) → WasTried c past m v t → t.winner ≡ i → is_done t.class ≡ true → t.number < gone_after (Attempt m v) (reply.Attempted (attempt.Tried t)) i (length (sent_by past i)) (gone_count past i)
 gone-tried c past m v t i w mine done =
     let f : Facts past i t = facts c past m v t i w mine in
     let le = after-le t.number (length (sent_by past i)) (gone_count past i) (is_in i t.off) (t.winner == i) (is_done t.class) f.number f.waits (eq-eqb t.winner i mine) in
     let next : (if is_done t.class then t.number + 1 else t.number) ≡ t.number + 1 = ap (λ b. if b then t.number + 1 else t.number) done in
     omega (arith, le, next)
 
-done-gone-tried : (c : BusConfig) (past : List Entry) (m : ℕ) (v : Verdict) (t : Tried) (i n : ℕ) → WasTried c past m v t → gone_count past i ≤ length (sent_by past i) → (was_done past i n ≡ true → n < gone_count past i) → list_any (does i n) (tape past ++ t ∷ []) ≡ true → n < gone_after (reply.Attempted (attempt.Tried t)) i (length (sent_by past i)) (gone_count past i)
+done-gone-tried : (c : BusConfig) (past : List Entry) (m : ℕ) (v : Verdict) (t : Tried) (i n : ℕ) → WasTried c past m v t → gone_count past i ≤ length (sent_by past i) → (was_done past i n ≡ true → n < gone_count past i) → list_any (does i n) (tape past ++ t ∷ []) ≡ true → n < gone_after (Attempt m v) (reply.Attempted (attempt.Tried t)) i (length (sent_by past i)) (gone_count past i)
 done-gone-tried c past m v t i n w le before h =
     or-cases (was_done past i n) (does i n t) (sym (was_done-more past t i n) ∙ h)
     (λ was. let grows = gone-grows-if (length (sent_by past i)) (gone_count past i) (is_in i t.off) ((t.winner == i) && is_done t.class) le in let lt = before was in omega (arith, grows, lt))
@@ -132,9 +133,9 @@ done-gone-tried c past m v t i n w le before h =
     let same = eqb-true t.number n b.1 in
     omega (arith, lt, same))
 
-done-gone-step : (c : BusConfig) (past : List Entry) (i n : ℕ) (e : Event) (r : Reply) → r ≡ legal_reply c past e → gone_count past i ≤ length (sent_by past i) → (was_done past i n ≡ true → n < gone_count past i) → list_any (does i n) (tape_after r (tape past)) ≡ true → n < gone_after r i (length (sent_by past i)) (gone_count past i)
+done-gone-step : (c : BusConfig) (past : List Entry) (i n : ℕ) (e : Event) (r : Reply) → r ≡ legal_reply c past e → gone_count past i ≤ length (sent_by past i) → (was_done past i n ≡ true → n < gone_count past i) → list_any (does i n) (tape_after r (tape past)) ≡ true → n < gone_after e r i (length (sent_by past i)) (gone_count past i)
 done-gone-step c past i n e (reply.Attempted (attempt.Tried t)) law le before h = tried_by c past e t law (λ m v w. done-gone-tried c past m v t i n w le before h)
-done-gone-step c past i n e _ law le before h = before h
+done-gone-step c past i n e r law le before h = let grows = gone-grows past i e r le in let lt = before h in omega (arith, grows, lt)
 
 -- a frame that was done is gone
 pub done-gone : (c : BusConfig) (past : List Entry) → IsLegal c past → (i n : ℕ) → was_done past i n ≡ true → n < gone_count past i
@@ -155,7 +156,7 @@ does-not true true e h = cc
 does-not true false e h = refl
 does-not false d e h = refl
 
-count-tried : (c : BusConfig) (past : List Entry) (mo : ℕ) (v : Verdict) (t : Tried) (i m : ℕ) → IsLegal c past → WasTried c past mo v t → gone_after (reply.Attempted (attempt.Tried t)) i (length (sent_by past i)) (gone_count past i) ≤ m → below (was_done past i) m ≡ done_count past i → below (λ n. list_any (does i n) (tape past ++ t ∷ [])) m ≡ done_after (reply.Attempted (attempt.Tried t)) i (done_count past i)
+count-tried : (c : BusConfig) (past : List Entry) (mo : ℕ) (v : Verdict) (t : Tried) (i m : ℕ) → IsLegal c past → WasTried c past mo v t → gone_after (Attempt mo v) (reply.Attempted (attempt.Tried t)) i (length (sent_by past i)) (gone_count past i) ≤ m → below (was_done past i) m ≡ done_count past i → below (λ n. list_any (does i n) (tape past ++ t ∷ [])) m ≡ done_after (reply.Attempted (attempt.Tried t)) i (done_count past i)
 count-tried c past mo v t i m legal w le before = choose ((t.winner == i) && is_done t.class) refl
   where
     after : ℕ → Bool
@@ -173,12 +174,12 @@ count-tried c past mo v t i m legal w le before = choose ((t.winner == i) && is_
     choose false is =
         below-same after (was_done past i) m (λ n small. was_done-more past t i n ∙ ap (λ b. was_done past i n || b) (does-not (t.winner == i) (is_done t.class) (t.number == n) is) ∙ or-false (was_done past i n)) ∙ before
 
-count-step : (c : BusConfig) (past : List Entry) (i m : ℕ) (e : Event) (r : Reply) → IsLegal c past → r ≡ legal_reply c past e → gone_after r i (length (sent_by past i)) (gone_count past i) ≤ m → (gone_count past i ≤ m → below (was_done past i) m ≡ done_count past i) → below (λ n. list_any (does i n) (tape_after r (tape past))) m ≡ done_after r i (done_count past i)
+count-step : (c : BusConfig) (past : List Entry) (i m : ℕ) (e : Event) (r : Reply) → IsLegal c past → r ≡ legal_reply c past e → gone_after e r i (length (sent_by past i)) (gone_count past i) ≤ m → (gone_count past i ≤ m → below (was_done past i) m ≡ done_count past i) → below (λ n. list_any (does i n) (tape_after r (tape past))) m ≡ done_after r i (done_count past i)
 count-step c past i m e (reply.Attempted (attempt.Tried t)) legal law le before =
     let sent = gone-le-sent c past legal i in
     let grows = gone-grows-if (length (sent_by past i)) (gone_count past i) (is_in i t.off) ((t.winner == i) && is_done t.class) sent in
     tried_by c past e t law (λ mo v w. count-tried c past mo v t i m legal w le (before (omega (arith, grows, le))))
-count-step c past i m e _ legal law le before = before le
+count-step c past i m e r legal law le before = let grows = gone-grows past i e r (gone-le-sent c past legal i) in before (omega (arith, grows, le))
 
 count-done : (c : BusConfig) (past : List Entry) → IsLegal c past → (i m : ℕ) → gone_count past i ≤ m → below (was_done past i) m ≡ done_count past i
 count-done c [] legal i m le = below-none (was_done [] i) m (λ n. refl)

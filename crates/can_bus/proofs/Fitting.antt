@@ -8,14 +8,14 @@ use Rattle.can_frame.specs.declared.iface.IfaceSet.{IfaceSet}
 use Rattle.can_filter.specs.Filters.{CanFilter}
 use Rattle.can_filter.specs.Passing.{wants}
 use Rattle.can_filter.specs.declared.options.Options.{Options}
-use Rattle.can_confine.specs.Confinement.{is_off}
+use Rattle.can_confine.specs.Confinement.{is_down, is_off, is_silent}
 use Rattle.can_fault.specs.declared.verdict.Verdict.{Verdict}
 use Rattle.can_attempt.specs.Attempts.{Transmission, counts_after, set_of}
 use Rattle.can_errframe.specs.ErrorMessages.{state_message, restart_message}
 use Rattle.can_event.specs.declared.bus_config.BusConfig.{BusConfig}
 use Rattle.can_event.specs.declared.entry.Entry.{Entry}
 use Rattle.can_event.specs.declared.event.Event.{Event}
-use Rattle.can_event.specs.declared.event.Event.TheVariants.{Open, Close, SetFilters, SetOption, Send, Receive, Attempt, Restart}
+use Rattle.can_event.specs.declared.event.Event.TheVariants.{Open, Close, SetFilters, SetOption, Send, Receive, Attempt, Restart, Down}
 use Rattle.can_event.specs.declared.pending.Pending.{Pending}
 use Rattle.can_event.specs.declared.received.Received.{Received}
 use Rattle.can_event.specs.declared.reply.Reply.{Reply}
@@ -129,11 +129,12 @@ legal-fits c past (Send s f) =
     let i = iface_of past s.0 in
     let full : Bool = length (sent_by past i) - gone_count past i == c.tx_capacity in
     if-holds (FitsReply (Send s f)) (is_open past s.0) _ _
-    (if-told (FitsReply (Send s f)) (lacks_fd f (options_of past s.0)) _ _ (asks-fd f (options_of past s.0)) (if-holds (FitsReply (Send s f)) (is_off (state_at c past i)) _ _ refl (if-holds (FitsReply (Send s f)) full _ _ refl tt)))
+    (if-told (FitsReply (Send s f)) (lacks_fd f (options_of past s.0)) _ _ (asks-fd f (options_of past s.0)) (if-holds (FitsReply (Send s f)) (is_off (state_at c past i)) _ _ refl (if-holds (FitsReply (Send s f)) (is_down (state_at c past i)) _ _ refl (if-holds (FitsReply (Send s f)) full _ _ refl tt))))
     refl
 legal-fits c past (Receive s) = if-holds (FitsReply (Receive s)) (is_open past s.0) _ _ (given-numbered (queued_to c past s.0) (length (taken_from past s.0)) (queued-numbered c past s.0)) refl
 legal-fits c past (Attempt m v) = attempt-fits c past m v (winner c past)
-legal-fits c past (Restart i m) = if-holds (FitsReply (Restart i m)) (nat_le c.ifaces i) _ _ refl (if-holds (FitsReply (Restart i m)) (is_off (state_at c past i)) _ _ tt refl)
+legal-fits c past (Restart i m) = if-holds (FitsReply (Restart i m)) (nat_le c.ifaces i) _ _ refl (if-holds (FitsReply (Restart i m)) (is_silent (state_at c past i)) _ _ tt refl)
+legal-fits c past (Down i m) = if-holds (FitsReply (Down i m)) (nat_le c.ifaces i) _ _ refl tt
 
 -- an entry with the legal reply has a line
 pub legal_is_spelled : (c : BusConfig) (past : List Entry) (e : Event) (r : Reply) → r ≡ legal_reply c past e → FitsReply e r
@@ -181,10 +182,11 @@ legal-restarts c past (SetOption s o) never = none-if (is_open past s.0) _ _ ref
 legal-restarts c past (Send s f) never =
     let i = iface_of past s.0 in
     let full : Bool = length (sent_by past i) - gone_count past i == c.tx_capacity in
-    none-if (is_open past s.0) _ _ (none-if (lacks_fd f (options_of past s.0)) _ _ refl (none-if (is_off (state_at c past i)) _ _ refl (none-if full _ _ refl refl))) refl
+    none-if (is_open past s.0) _ _ (none-if (lacks_fd f (options_of past s.0)) _ _ refl (none-if (is_off (state_at c past i)) _ _ refl (none-if (is_down (state_at c past i)) _ _ refl (none-if full _ _ refl refl)))) refl
 legal-restarts c past (Receive s) never = none-if (is_open past s.0) _ _ refl refl
 legal-restarts c past (Attempt m v) never = attempt-restarts c past m v (winner c past) never
-legal-restarts c past (Restart i m) never = none-if (nat_le c.ifaces i) _ _ refl (none-if (is_off (state_at c past i)) _ _ refl refl)
+legal-restarts c past (Restart i m) never = none-if (nat_le c.ifaces i) _ _ refl (none-if (is_silent (state_at c past i)) _ _ refl refl)
+legal-restarts c past (Down i m) never = none-if (nat_le c.ifaces i) _ _ refl refl
 
 -- an entry with the legal reply has a line in the text of a record of its configuration
 pub legal_has_line : (c : BusConfig) (past : List Entry) (e : Event) (r : Reply) → r ≡ legal_reply c past e → IsSpelled c (record { event = e; reply = r })

@@ -3,7 +3,7 @@ use Rattle.can_attempt.specs.declared.nodes.Nodes.{Nodes}
 use Rattle.can_event.specs.declared.bus_config.BusConfig.{BusConfig}
 use Rattle.can_event.specs.declared.entry.Entry.{Entry}
 use Rattle.can_event.specs.declared.event.Event.{Event}
-use Rattle.can_event.specs.declared.event.Event.TheVariants.{Open, Close, SetFilters, SetOption, Send, Receive, Attempt, Restart}
+use Rattle.can_event.specs.declared.event.Event.TheVariants.{Open, Close, SetFilters, SetOption, Send, Receive, Attempt, Restart, Down}
 use Rattle.can_event.specs.declared.reply.Reply.{Reply}
 use Rattle.can_event.specs.declared.reply.Reply.TheVariants as reply
 use Rattle.can_event.specs.declared.refusal.Refusal.{Refusal}
@@ -137,6 +137,7 @@ refused-quiet c past (Send s f) why = record { of_places = refl; of_open = refl;
 refused-quiet c past (Receive s) why = record { of_places = refl; of_open = refl; of_filters = λ o. refl; of_options = λ o. refl; of_taken = λ o. refl; of_posts = λ o. refl }
 refused-quiet c past (Attempt m v) why = record { of_places = refl; of_open = refl; of_filters = λ o. refl; of_options = λ o. refl; of_taken = λ o. refl; of_posts = λ o. refl }
 refused-quiet c past (Restart i m) why = record { of_places = refl; of_open = refl; of_filters = λ o. refl; of_options = λ o. refl; of_taken = λ o. refl; of_posts = λ o. refl }
+refused-quiet c past (Down i m) why = record { of_places = refl; of_open = refl; of_filters = λ o. refl; of_options = λ o. refl; of_taken = λ o. refl; of_posts = λ o. refl }
 
 -- an entry that concerns no interface
 pub record IsStill (c : BusConfig) (past : List Entry) (e : Entry) : Type 0 where
@@ -161,6 +162,7 @@ refused-still c past (Send s f) _ u = record { of_interfaces = refl; of_keys = r
 refused-still c past (Receive s) why u = record { of_interfaces = refl; of_keys = refl; of_nodes = refl; of_left = refl }
 refused-still c past (Attempt m v) why u = record { of_interfaces = refl; of_keys = refl; of_nodes = refl; of_left = refl }
 refused-still c past (Restart i m) why u = record { of_interfaces = refl; of_keys = refl; of_nodes = refl; of_left = refl }
+refused-still c past (Down i m) why u = record { of_interfaces = refl; of_keys = refl; of_nodes = refl; of_left = refl }
 
 -- a refusal that counts nothing changes nothing
 pub follows_refused : (c : BusConfig) (past : List Entry) (event : Event) (why : Refusal) (new : Parts) → IsUncounted event why → new ≡ kept_parts c past → reply.Refused why ≡ legal_reply c past event → Follows c past (refused event why) new

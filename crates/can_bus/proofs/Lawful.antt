@@ -8,13 +8,13 @@ use Rattle.can_frame.specs.declared.iface.IfaceSet.{IfaceSet}
 use Rattle.can_filter.specs.Filters.{CanFilter}
 use Rattle.can_filter.specs.declared.options.Options.{Options}
 use Rattle.can_filter.specs.Passing.{wants}
-use Rattle.can_confine.specs.Confinement.{is_off}
+use Rattle.can_confine.specs.Confinement.{is_down, is_off, is_silent}
 use Rattle.can_fault.specs.declared.verdict.Verdict.{Verdict}
 use Rattle.can_attempt.specs.Attempts.{Transmission, counts_after, is_done}
 use Rattle.can_errframe.specs.ErrorMessages.{state_message, restart_message}
 use Rattle.can_event.specs.declared.entry.Entry.{Entry}
 use Rattle.can_event.specs.declared.event.Event.{Event}
-use Rattle.can_event.specs.declared.event.Event.TheVariants.{Open, Close, SetFilters, SetOption, Send, Receive, Attempt, Restart}
+use Rattle.can_event.specs.declared.event.Event.TheVariants.{Open, Close, SetFilters, SetOption, Send, Receive, Attempt, Restart, Down}
 use Rattle.can_event.specs.declared.reply.Reply.{Reply}
 use Rattle.can_event.specs.declared.reply.Reply.TheVariants as reply
 use Rattle.can_event.specs.declared.refusal.Refusal.TheVariants as refusal
@@ -103,9 +103,10 @@ by_attempt P c past (SetOption s o) t law k = never t _ law (untried-if (is_open
 by_attempt P c past (Send s f) t law k =
     let i = iface_of past s.0 in
     let full : Bool = length (sent_by past i) - gone_count past i == c.tx_capacity in
-    never t _ law (untried-if (is_open past s.0) _ _ (untried-if (lacks_fd f (options_of past s.0)) _ _ refl (untried-if (is_off (state_at c past i)) _ _ refl (untried-if full _ _ refl refl))) refl)
+    never t _ law (untried-if (is_open past s.0) _ _ (untried-if (lacks_fd f (options_of past s.0)) _ _ refl (untried-if (is_off (state_at c past i)) _ _ refl (untried-if (is_down (state_at c past i)) _ _ refl (untried-if full _ _ refl refl)))) refl)
 by_attempt P c past (Receive s) t law k = never t _ law (untried-if (is_open past s.0) _ _ refl refl)
-by_attempt P c past (Restart i m) t law k = never t _ law (untried-if (nat_le c.ifaces i) _ _ refl (untried-if (is_off (state_at c past i)) _ _ refl refl))
+by_attempt P c past (Restart i m) t law k = never t _ law (untried-if (nat_le c.ifaces i) _ _ refl (untried-if (is_silent (state_at c past i)) _ _ refl refl))
+by_attempt P c past (Down i m) t law k = never t _ law (untried-if (nat_le c.ifaces i) _ _ refl refl)
 
 pub tried_by : {P : Type 0} (c : BusConfig) (past : List Entry) (e : Event) (t : Tried) → reply.Attempted (attempt.Tried t) ≡ legal_reply c past e → ((m : ℕ) (v : Verdict) → WasTried c past m v t → P) → P
 tried_by {P = P} c past e t law k = by_attempt (λ f. P) c past e t law k
@@ -126,13 +127,23 @@ done-step sent gone done false false le le' lt = le'
 had-head : (c : BusConfig) (past : List Entry) (m : ℕ) (v : Verdict) (t : Tried) (i : ℕ) → WasTried c past m v t → ((t.winner == i) && is_done t.class) ≡ true → gone_count past i < length (sent_by past i)
 had-head c past m v t i w here = subst (λ k. gone_count past k < length (sent_by past k)) (eqb-true t.winner i (and_parts (t.winner == i) (is_done t.class) here).0) (tried_had_head c past m v t w)
 
-gone-more : (c : BusConfig) (past : List Entry) (i : ℕ) (e : Event) (r : Reply) → r ≡ legal_reply c past e → gone_count past i ≤ length (sent_by past i) → gone_after r i (length (sent_by past i)) (gone_count past i) ≤ length (sent_by past i)
+gone-more : (c : BusConfig) (past : List Entry) (i : ℕ) (e : Event) (r : Reply) → r ≡ legal_reply c past e → gone_count past i ≤ length (sent_by past i) → gone_after e r i (length (sent_by past i)) (gone_count past i) ≤ length (sent_by past i)
 gone-more c past i e (reply.Attempted (attempt.Tried t)) law le = tried_by c past e t law (λ m v w. gone-step (length (sent_by past i)) (gone_count past i) (is_in i t.off) ((t.winner == i) && is_done t.class) le (had-head c past m v t i w))
-gone-more c past i e _ law le = le
+gone-more c past i (Down k m) reply.Done law le = when (k == i)
+  where
+    when : (b : Bool) → (if b then length (sent_by past i) else gone_count past i) ≤ length (sent_by past i)
+    when true = omega arith
+    when false = le
+gone-more c past i _ _ law le = le
 
-done-more : (c : BusConfig) (past : List Entry) (i : ℕ) (e : Event) (r : Reply) → r ≡ legal_reply c past e → gone_count past i ≤ length (sent_by past i) → done_count past i ≤ gone_count past i → done_after r i (done_count past i) ≤ gone_after r i (length (sent_by past i)) (gone_count past i)
+done-more : (c : BusConfig) (past : List Entry) (i : ℕ) (e : Event) (r : Reply) → r ≡ legal_reply c past e → gone_count past i ≤ length (sent_by past i) → done_count past i ≤ gone_count past i → done_after r i (done_count past i) ≤ gone_after e r i (length (sent_by past i)) (gone_count past i)
 done-more c past i e (reply.Attempted (attempt.Tried t)) law le le' = tried_by c past e t law (λ m v w. done-step (length (sent_by past i)) (gone_count past i) (done_count past i) (is_in i t.off) ((t.winner == i) && is_done t.class) le le' (had-head c past m v t i w))
-done-more c past i e _ law le le' = le'
+done-more c past i (Down k m) reply.Done law le le' = when (k == i)
+  where
+    when : (b : Bool) → done_count past i ≤ (if b then length (sent_by past i) else gone_count past i)
+    when true = omega (arith, le, le')
+    when false = le'
+done-more c past i _ _ law le le' = le'
 
 pub gone-le-sent : (c : BusConfig) (past : List Entry) → IsLegal c past → (i : ℕ) → gone_count past i ≤ length (sent_by past i)
 gone-le-sent c [] legal i = omega arith

@@ -21,6 +21,7 @@ pub mod Closing
 pub mod Setting
 pub mod Opening
 pub mod Sending
+pub mod Silence
 pub mod OffFacts
 pub mod CopyFacts
 pub mod TurnFacts
@@ -29,6 +30,7 @@ pub mod Narrow
 pub mod Attempting
 pub mod Between
 pub mod Restarting
+pub mod Downing
 pub mod Telling
 pub mod HeadFacts
 pub mod LifeFacts

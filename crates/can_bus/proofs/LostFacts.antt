@@ -10,6 +10,7 @@ use Rattle.can_attempt.specs.Attempts.{Transmission, is_among, set_of, class_of,
 use Rattle.can_attempt.specs.Attempts as attempts
 use Rattle.can_event.specs.declared.entry.Entry.{Entry}
 use Rattle.can_event.specs.declared.event.Event.{Event}
+use Rattle.can_event.specs.declared.event.Event.TheVariants.{Open, Close, SetFilters, SetOption, Send, Receive, Attempt, Restart, Down}
 use Rattle.can_event.specs.declared.reply.Reply.{Reply}
 use Rattle.can_event.specs.declared.reply.Reply.TheVariants as reply
 use Rattle.can_event.specs.declared.bus_config.BusConfig.{BusConfig}
@@ -18,24 +19,26 @@ use Rattle.can_event.specs.declared.attempt.Attempt.TheVariants as attempt
 use Rattle.can_bus.specs.Transmit.{sent_by, gone_count, gone_after, done_count, done_after, lost_count}
 use Rattle.can_bus.specs.Counters.{state_at, transmission}
 use Rattle.can_bus.specs.Legal.{legal_reply, IsLegal}
-use Rattle.can_bus.specs.Fates.{goes_off}
+use Rattle.can_bus.specs.Fates.{goes_silent}
 use Rattle.can_bus.proofs.Lawful.{WasTried, tried_by, gone-le-sent, done-le-gone}
 use Rattle.can_attempt.proofs.Standing.{is_in-of}
 use Rattle.can_bus.proofs.OffFacts.{winner-contends}
+use Rattle.can_bus.proofs.Silence.{live-not-off}
 
--- ---- where no interface goes off, none is lost
+-- ---- where no interface goes off or down, none is lost
 
 kept-if : (sent gone done : ℕ) (off here : Bool) → off ≡ false → (if off then sent else if here then gone + 1 else gone) - (if here then done + 1 else done) ≡ gone - done
 kept-if sent gone done true here is = cc
 kept-if sent gone done false true is = omega arith
 kept-if sent gone done false false is = refl
 
-lost-step : (past : List Entry) (i : ℕ) (r : Reply) → goes_off i r ≡ false → gone_after r i (length (sent_by past i)) (gone_count past i) - done_after r i (done_count past i) ≡ gone_count past i - done_count past i
-lost-step past i (reply.Attempted (attempt.Tried t)) live = kept-if (length (sent_by past i)) (gone_count past i) (done_count past i) (is_in i t.off) ((t.winner == i) && is_done t.class) live
-lost-step past i _ live = refl
+lost-step : (past : List Entry) (i : ℕ) (e : Event) (r : Reply) → goes_silent i e r ≡ false → gone_after e r i (length (sent_by past i)) (gone_count past i) - done_after r i (done_count past i) ≡ gone_count past i - done_count past i
+lost-step past i e (reply.Attempted (attempt.Tried t)) live = kept-if (length (sent_by past i)) (gone_count past i) (done_count past i) (is_in i t.off) ((t.winner == i) && is_done t.class) live
+lost-step past i (Down k m) reply.Done live = ap (λ b. (if b then length (sent_by past i) else gone_count past i) - done_count past i) live
+lost-step past i _ _ live = refl
 
-pub lost-kept : (past : List Entry) (e : Entry) (i : ℕ) → goes_off i e.reply ≡ false → lost_count (e ∷ past) i ≡ lost_count past i
-lost-kept past e i live = lost-step past i e.reply live
+pub lost-kept : (past : List Entry) (e : Entry) (i : ℕ) → goes_silent i e.event e.reply ≡ false → lost_count (e ∷ past) i ≡ lost_count past i
+lost-kept past e i live = lost-step past i e.event e.reply live
 
 -- ---- an attempt that was done takes nobody off
 
@@ -74,10 +77,10 @@ not-done-off c past m v t i w off = when (is_done t.class) refl
         let gone_off : is_off (state_of (counts_after tr w.place)) ≡ true = went_off tr i (sym (ap (λ (u : Tried). is_in i u.off) w.is) ∙ off) in
         let stepped_off : is_off (state_of (stepped (tr.counts w.place) GoodTransmission)) ≡ true = ap (λ (x : ErrorCounts). is_off (state_of x)) (sym (good_step tr done)) ∙ gone_off in
         let was : is_off (state_at c past w.place) ≡ true = off-before (tr.counts w.place) stepped_off in
-        let clash : true ≡ false = sym was ∙ (winner-contends c past w.place w.won).live in
+        let clash : true ≡ false = sym was ∙ live-not-off (state_at c past w.place) (winner-contends c past w.place w.won).live in
         cc
 
--- ---- where it goes off, all that wait are lost
+-- ---- where it goes off or down, all that wait are lost
 
 lost-if : (sent gone done : ℕ) (off mine fine : Bool) → off ≡ true → fine ≡ false → done ≤ gone → gone ≤ sent → (if off then sent else if mine && fine then gone + 1 else gone) - (if mine && fine then done + 1 else done) ≡ gone - done + (sent - gone)
 lost-if sent gone done true true true is bad le le' = cc
@@ -85,10 +88,22 @@ lost-if sent gone done true true false is bad le le' = omega (arith, le, le')
 lost-if sent gone done true false fine is bad le le' = omega (arith, le, le')
 lost-if sent gone done false mine fine is bad le le' = cc
 
-lost-more : (c : BusConfig) (past : List Entry) (i : ℕ) (e : Event) (r : Reply) → IsLegal c past → r ≡ legal_reply c past e → goes_off i r ≡ true → gone_after r i (length (sent_by past i)) (gone_count past i) - done_after r i (done_count past i) ≡ lost_count past i + (length (sent_by past i) - gone_count past i)
+lost-more : (c : BusConfig) (past : List Entry) (i : ℕ) (e : Event) (r : Reply) → IsLegal c past → r ≡ legal_reply c past e → goes_silent i e r ≡ true → gone_after e r i (length (sent_by past i)) (gone_count past i) - done_after r i (done_count past i) ≡ lost_count past i + (length (sent_by past i) - gone_count past i)
 lost-more c past i e (reply.Attempted (attempt.Tried t)) legal law off =
     tried_by c past e t law (λ m v w. lost-if (length (sent_by past i)) (gone_count past i) (done_count past i) (is_in i t.off) (t.winner == i) (is_done t.class) off (not-done-off c past m v t i w off) (done-le-gone c past legal i) (gone-le-sent c past legal i))
-lost-more c past i e _ legal law off = cc
+lost-more c past i (Down k m) reply.Done legal law down =
+    let fewer = done-le-gone c past legal i in
+    let most = gone-le-sent c past legal i in
+    ap (λ b. (if b then length (sent_by past i) else gone_count past i) - done_count past i) down ∙ omega (arith, fewer, most)
+lost-more c past i (Open j n) _ legal law off = cc
+lost-more c past i (Close s) _ legal law off = cc
+lost-more c past i (SetFilters s f) _ legal law off = cc
+lost-more c past i (SetOption s o) _ legal law off = cc
+lost-more c past i (Send s f) _ legal law off = cc
+lost-more c past i (Receive s) _ legal law off = cc
+lost-more c past i (Attempt m v) _ legal law off = cc
+lost-more c past i (Restart k m) _ legal law off = cc
+lost-more c past i (Down k m) _ legal law off = cc
 
-pub lost-at-off : (c : BusConfig) (past : List Entry) (e : Entry) (i : ℕ) → IsLegal c (e ∷ past) → goes_off i e.reply ≡ true → lost_count (e ∷ past) i ≡ lost_count past i + (length (sent_by past i) - gone_count past i)
-lost-at-off c past e i legal off = lost-more c past i e.event e.reply legal.2 legal.1 off
+pub lost-where-silent : (c : BusConfig) (past : List Entry) (e : Entry) (i : ℕ) → IsLegal c (e ∷ past) → goes_silent i e.event e.reply ≡ true → lost_count (e ∷ past) i ≡ lost_count past i + (length (sent_by past i) - gone_count past i)
+lost-where-silent c past e i legal off = lost-more c past i e.event e.reply legal.2 legal.1 off

@@ -9,14 +9,14 @@ use Rattle.can_frame.specs.declared.iface.IfaceSet.{IfaceSet}
 use Rattle.can_filter.specs.Filters.{CanFilter}
 use Rattle.can_filter.specs.Passing.{wants}
 use Rattle.can_filter.specs.declared.options.Options.{Options}
-use Rattle.can_confine.specs.Confinement.{is_off, state_of}
+use Rattle.can_confine.specs.Confinement.{is_down, is_off, is_silent, state_of}
 use Rattle.can_fault.specs.declared.verdict.Verdict.{Verdict}
 use Rattle.can_attempt.specs.Attempts.{Transmission, counts_after, set_of, off_after, is_among}
 use Rattle.can_errframe.specs.ErrorMessages.{state_message, restart_message}
 use Rattle.can_event.specs.declared.bus_config.BusConfig.{BusConfig}
 use Rattle.can_event.specs.declared.entry.Entry.{Entry}
 use Rattle.can_event.specs.declared.event.Event.{Event}
-use Rattle.can_event.specs.declared.event.Event.TheVariants.{Open, Close, SetFilters, SetOption, Send, Receive, Attempt, Restart}
+use Rattle.can_event.specs.declared.event.Event.TheVariants.{Open, Close, SetFilters, SetOption, Send, Receive, Attempt, Restart, Down}
 use Rattle.can_event.specs.declared.pending.Pending.{Pending}
 use Rattle.can_event.specs.declared.received.Received.{Received}
 use Rattle.can_event.specs.declared.socket_id.SocketId.{SocketId}
@@ -182,10 +182,11 @@ legal-narrow c past (Send s f) legal few most other =
     let i = iface_of past s.0 in
     let small : length (sent_by past i) < 2 ^ 32 = omega (arith, sent_by-le past i) in
     let full : Bool = length (sent_by past i) - gone_count past i == c.tx_capacity in
-    narrow-if (Send s f) (is_open past s.0) _ _ (narrow-if (Send s f) (lacks_fd f (options_of past s.0)) _ _ refl (narrow-if (Send s f) (is_off (state_at c past i)) _ _ refl (narrow-if (Send s f) full _ _ refl (not_large (length (sent_by past i)) small)))) refl
+    narrow-if (Send s f) (is_open past s.0) _ _ (narrow-if (Send s f) (lacks_fd f (options_of past s.0)) _ _ refl (narrow-if (Send s f) (is_off (state_at c past i)) _ _ refl (narrow-if (Send s f) (is_down (state_at c past i)) _ _ refl (narrow-if (Send s f) full _ _ refl (not_large (length (sent_by past i)) small))))) refl
 legal-narrow c past (Receive s) legal few most other = narrow-if (Receive s) (is_open past s.0) _ _ (given-narrow s (queued_to c past s.0) (length (taken_from past s.0)) (queued-short c past s.0 legal few)) refl
 legal-narrow c past (Attempt m v) legal few most other = attempt-narrow c past m v (winner c past) refl legal few most
-legal-narrow c past (Restart i m) legal few most other = narrow-if (Restart i m) (nat_le c.ifaces i) _ _ refl (narrow-if (Restart i m) (is_off (state_at c past i)) _ _ refl refl)
+legal-narrow c past (Restart i m) legal few most other = narrow-if (Restart i m) (nat_le c.ifaces i) _ _ refl (narrow-if (Restart i m) (is_silent (state_at c past i)) _ _ refl refl)
+legal-narrow c past (Down i m) legal few most other = narrow-if (Down i m) (nat_le c.ifaces i) _ _ refl refl
 
 -- a bus answers nothing wide but to a set of filters
 pub legal_fits : (j : Kept) (parts : Parts) (e : Event) (r : Reply) → IsKept j parts → ¬ SetsFilters e → r ≡ legal_reply j.config j.history e → needs_box e r ≡ false

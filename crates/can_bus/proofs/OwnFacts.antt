@@ -9,7 +9,7 @@ use Rattle.can_attempt.specs.declared.class.Class.{Class}
 use Rattle.can_attempt.specs.declared.class.Class.TheVariants as class
 use Rattle.can_attempt.specs.Attempts.{Transmission, is_among, set_of, is_struck, unhurt, accepted_in, class_of}
 use Rattle.can_attempt.proofs.Places.{is_among-unhurt}
-use Rattle.can_confine.specs.Confinement.{is_off}
+use Rattle.can_confine.specs.Confinement.{is_silent}
 use Rattle.can_attempt.specs.Attempts as attempts
 use Rattle.can_event.specs.declared.entry.Entry.{Entry}
 use Rattle.can_event.specs.declared.event.Event.{Event}
@@ -55,7 +55,7 @@ deaf false true c d h = refl
 deaf a false c d h = cc
 
 unhurt-not : (tr : Transmission) (j : ℕ) → (j == tr.winner) ≡ true → is_among j (unhurt tr) ≡ false
-unhurt-not tr j wins = is_among-unhurt tr j ∙ deaf (not (is_struck tr.verdict j)) (j == tr.winner) (not (is_off (attempts.state_at tr j))) (nat_lt j tr.count) wins
+unhurt-not tr j wins = is_among-unhurt tr j ∙ deaf (not (is_struck tr.verdict j)) (j == tr.winner) (not (is_silent (attempts.state_at tr j))) (nat_lt j tr.count) wins
 
 pub not-accepted : (k : Class) (tr : Transmission) (j : ℕ) → (j == tr.winner) ≡ true → is_in j (set_of (accepted_in k tr)) ≡ false
 not-accepted class.Done tr j wins = is_in-of (unhurt tr) j ∙ and_right (nat_lt j 16) (is_among j (unhurt tr)) (unhurt-not tr j wins)

@@ -1,11 +1,11 @@
 use Rattle.std.proofs.Common.{◌≡◌, ◌⊎◌, ℕ, zero, suc, ◌+◌, ◌-◌, ◌<◌, ◌≤◌, ◌==◌, Bool, true, false, ◌&&◌, List, [], ◌∷◌, ◌++◌, length, take, slice_get, Some, if◌then◌else◌, refl, sym, ap, ◌∙◌, subst, arith, inl, inr}
 use Rattle.std.proofs.lemmas.Bool.{eqb-true, cases_lt}
 use Rattle.std.proofs.lemmas.List.{length_push, length-append, length-take}
-use Rattle.can_confine.specs.Confinement.{is_off}
+use Rattle.can_confine.specs.Confinement.{is_down, is_off}
 use Rattle.can_frame.specs.Sets.{is_in}
 use Rattle.can_event.specs.declared.entry.Entry.{Entry}
 use Rattle.can_event.specs.declared.event.Event.{Event}
-use Rattle.can_event.specs.declared.event.Event.TheVariants.{Send, Receive}
+use Rattle.can_event.specs.declared.event.Event.TheVariants.{Send, Receive, Down}
 use Rattle.can_event.specs.declared.reply.Reply.{Reply}
 use Rattle.can_event.specs.declared.attempt.Attempt.TheVariants as attempt
 use Rattle.can_event.specs.declared.reply.Reply.TheVariants as reply
@@ -20,7 +20,7 @@ use Rattle.can_bus.specs.Counters.{state_at}
 use Rattle.can_bus.specs.Queues.{queued_to, taken_from, taken_after, candidates_of}
 use Rattle.can_bus.specs.Legal.{lacks_fd, legal_reply, IsLegal}
 use Rattle.can_bus.proofs.Lawful.{gone-le-sent}
-use Rattle.can_bus.proofs.TurnFacts.{gone-grows-if}
+use Rattle.can_bus.proofs.TurnFacts.{gone-grows-if, gone-grows}
 use Rattle.can_bus.proofs.LifeFacts.{unmade-closed, queued-shut, queued-unmade}
 use Rattle.can_bus.proofs.OwnFacts.{places-kept}
 
@@ -89,24 +89,25 @@ few-items-wait c (e ∷ past) s = choose (cases_lt s (length (places past))) (fe
         let none : length (queued_to c (e ∷ past) s) ≡ 0 = ap (λ (rs : List Received). length rs) (queued-shut c past e s (unmade-closed past s unmade) ∙ queued-unmade c past s unmade) in
         omega (arith, none)
 
-few-frames-step : (c : BusConfig) (past : List Entry) (i : ℕ) (e : Event) (r : Reply) → r ≡ legal_reply c past e → gone_count past i ≤ length (sent_by past i) → length (sent_by past i) ≤ c.tx_capacity + gone_count past i → length (sent_after past i e r (sent_by past i)) ≤ c.tx_capacity + gone_after r i (length (sent_by past i)) (gone_count past i)
+few-frames-step : (c : BusConfig) (past : List Entry) (i : ℕ) (e : Event) (r : Reply) → r ≡ legal_reply c past e → gone_count past i ≤ length (sent_by past i) → length (sent_by past i) ≤ c.tx_capacity + gone_count past i → length (sent_after past i e r (sent_by past i)) ≤ c.tx_capacity + gone_after e r i (length (sent_by past i)) (gone_count past i)
 few-frames-step c past i (Send s f) (reply.Sent n) law le before = when (iface_of past s.0 == i) refl _
   where
     j : ℕ
     j = iface_of past s.0
 
-    free : (opened lacks off full : Bool) → (length (sent_by past j) - gone_count past j == c.tx_capacity) ≡ full
-        → reply.Sent n ≡ (if opened then (if lacks then reply.Refused refusal.FdOff else if off then reply.Refused refusal.BusOff else if full then reply.Refused refusal.NoBuffers else reply.Sent (length (sent_by past j))) else reply.Refused refusal.NoSocket)
+    free : (opened lacks off down full : Bool) → (length (sent_by past j) - gone_count past j == c.tx_capacity) ≡ full
+        → reply.Sent n ≡ (if opened then (if lacks then reply.Refused refusal.FdOff else if off then reply.Refused refusal.BusOff else if down then reply.Refused refusal.Down else if full then reply.Refused refusal.NoBuffers else reply.Sent (length (sent_by past j))) else reply.Refused refusal.NoSocket)
         → (length (sent_by past j) - gone_count past j == c.tx_capacity) ≡ false
-    free false lacks off full is l = cc
-    free true true off full is l = cc
-    free true false true full is l = cc
-    free true false false true is l = cc
-    free true false false false is l = is
+    free false lacks off down full is l = cc
+    free true true off down full is l = cc
+    free true false true down full is l = cc
+    free true false false true full is l = cc
+    free true false false false true is l = cc
+    free true false false false false is l = is
 
     when : (b : Bool) → (iface_of past s.0 == i) ≡ b → (p : Pending) → length (if b then sent_by past i ++ p ∷ [] else sent_by past i) ≤ c.tx_capacity + gone_count past i
     when true here p =
-        let open_room : (length (sent_by past j) - gone_count past j == c.tx_capacity) ≡ false = free (is_open past s.0) (lacks_fd f (options_of past s.0)) (is_off (state_at c past j)) _ refl law in
+        let open_room : (length (sent_by past j) - gone_count past j == c.tx_capacity) ≡ false = free (is_open past s.0) (lacks_fd f (options_of past s.0)) (is_off (state_at c past j)) (is_down (state_at c past j)) _ refl law in
         let room : (length (sent_by past i) - gone_count past i == c.tx_capacity) ≡ false = subst (λ k. (length (sent_by past k) - gone_count past k == c.tx_capacity) ≡ false) (eqb-true j i here) open_room in
         let lt : length (sent_by past i) < c.tx_capacity + gone_count past i = fewer (length (sent_by past i)) (gone_count past i) c.tx_capacity room le before in
         omega (arith, lt, length_push (sent_by past i) p)
@@ -116,12 +117,13 @@ few-frames-step c past i (Send s f) (reply.Sent n) law le before = when (iface_o
     when false there p = before
 few-frames-step c past i e (reply.Attempted (attempt.Tried t)) law le before = sent-stays e
   where
-    grows : gone_count past i ≤ gone_after (reply.Attempted (attempt.Tried t)) i (length (sent_by past i)) (gone_count past i)
+    grows : gone_count past i ≤ gone_after e (reply.Attempted (attempt.Tried t)) i (length (sent_by past i)) (gone_count past i)
     grows = gone-grows-if (length (sent_by past i)) (gone_count past i) (is_in i t.off) ((t.winner == i) && is_done t.class) le
 
-    sent-stays : (k : Event) → length (sent_after past i k (reply.Attempted (attempt.Tried t)) (sent_by past i)) ≤ c.tx_capacity + gone_after (reply.Attempted (attempt.Tried t)) i (length (sent_by past i)) (gone_count past i)
+    sent-stays : (k : Event) → length (sent_after past i k (reply.Attempted (attempt.Tried t)) (sent_by past i)) ≤ c.tx_capacity + gone_after e (reply.Attempted (attempt.Tried t)) i (length (sent_by past i)) (gone_count past i)
     sent-stays (Send s f) = omega (arith, grows, before)
     sent-stays _ = omega (arith, grows, before)
+few-frames-step c past i (Down k m) reply.Done law le before = let grows = gone-grows past i (Down k m) reply.Done le in omega (arith, grows, before)
 few-frames-step c past i _ _ law le before = before
 
 -- no more frames wait at an interface than may

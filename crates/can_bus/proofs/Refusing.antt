@@ -1,10 +1,10 @@
 use Rattle.std.proofs.Common.{◌≡◌, ℕ, ◌-◌, ◌==◌, nat_le, Bool, true, false, not, ◌&&◌, List, length, Option, Some, None, if◌then◌else◌, refl, ap, ◌∙◌}
-use Rattle.can_confine.specs.Confinement.{is_off}
+use Rattle.can_confine.specs.Confinement.{is_down, is_off, is_silent}
 use Rattle.can_fault.specs.declared.verdict.Verdict.{Verdict}
 use Rattle.can_event.specs.declared.bus_config.BusConfig.{BusConfig}
 use Rattle.can_event.specs.declared.entry.Entry.{Entry}
 use Rattle.can_event.specs.declared.event.Event.{Event}
-use Rattle.can_event.specs.declared.event.Event.TheVariants.{Open, Close, SetFilters, SetOption, Send, Receive, Attempt, Restart}
+use Rattle.can_event.specs.declared.event.Event.TheVariants.{Open, Close, SetFilters, SetOption, Send, Receive, Attempt, Restart, Down}
 use Rattle.can_event.specs.declared.pending.Pending.{Pending}
 use Rattle.can_event.specs.declared.reply.Reply.{Reply}
 use Rattle.can_event.specs.declared.reply.Reply.TheVariants as reply
@@ -42,10 +42,11 @@ legal-inside c past (SetOption s o) = inside-if (is_open past s.0) _ _ refl refl
 legal-inside c past (Send s f) =
     let i = iface_of past s.0 in
     let full : Bool = length (sent_by past i) - gone_count past i == c.tx_capacity in
-    inside-if (is_open past s.0) _ _ (inside-if (lacks_fd f (options_of past s.0)) _ _ refl (inside-if (is_off (state_at c past i)) _ _ refl (inside-if full _ _ refl refl))) refl
+    inside-if (is_open past s.0) _ _ (inside-if (lacks_fd f (options_of past s.0)) _ _ refl (inside-if (is_off (state_at c past i)) _ _ refl (inside-if (is_down (state_at c past i)) _ _ refl (inside-if full _ _ refl refl)))) refl
 legal-inside c past (Receive s) = inside-if (is_open past s.0) _ _ refl refl
 legal-inside c past (Attempt m v) = inside-attempt c past m v (winner c past)
-legal-inside c past (Restart i m) = inside-if (nat_le c.ifaces i) _ _ refl (inside-if (is_off (state_at c past i)) _ _ refl refl)
+legal-inside c past (Restart i m) = inside-if (nat_le c.ifaces i) _ _ refl (inside-if (is_silent (state_at c past i)) _ _ refl refl)
+legal-inside c past (Down i m) = inside-if (nat_le c.ifaces i) _ _ refl refl
 
 pub never_full : (c : BusConfig) (past : List Entry) (e : Event) → reply.Refused refusal.RecordFull ≡ legal_reply c past e → ⊥
 never_full c past e law = let both : true ≡ false = ap is_outside law ∙ legal-inside c past e in cc

@@ -2,7 +2,7 @@ use Rattle.std.proofs.Common.{◌≡◌, ◌≢◌, ℕ, Bool, ◌+◌, ◌-◌,
 use Rattle.std.proofs.lemmas.Bool.{eq-eqb, ne_eqb, cond-true, cond-false}
 use Rattle.std.proofs.lemmas.List.{length_push, length-drop, drop-append-le}
 use Rattle.can_frame.specs.Frames.{CanFrame}
-use Rattle.can_confine.specs.Confinement.{is_off}
+use Rattle.can_confine.specs.Confinement.{is_down, is_off, is_silent}
 use Rattle.can_event.specs.declared.entry.Entry.{Entry}
 use Rattle.can_event.specs.declared.bus_config.BusConfig.{BusConfig}
 use Rattle.can_event.specs.declared.pending.Pending.{Pending}
@@ -18,14 +18,15 @@ use Rattle.can_bus.specs.Legal.{lacks_fd, legal_reply, IsLegal}
 use Rattle.can_bus.specs.Sockets.{iface_of, is_open, options_of}
 use Rattle.can_bus.specs.Transmit.{sent_by, gone_count, head_of}
 use Rattle.can_bus.specs.State.{InterfaceState, SocketState, Parts, key_in, kept_interface, kept_interfaces, kept_keys, kept_nodes, kept_left, kept_socket, kept_sockets, kept_parts}
-use Rattle.can_bus.specs.Changes.{IsInterfaceOf, Takes, FindsFull, IsFdOffFor, IsOffFor, Sends, pending_of, with_interface, is_off_at}
+use Rattle.can_bus.specs.Changes.{IsInterfaceOf, Takes, FindsFull, IsFdOffFor, IsOffFor, IsDownFor, Sends, pending_of, with_interface, is_down_at, is_off_at, is_silent_at}
 use Rattle.can_bus.proofs.Keeping.{Follows, IsQuiet, kept_sockets-quiet, refused-quiet, follows_refused, parts-are}
 use Rattle.can_bus.proofs.KeyFacts.{kept_keys-one}
 use Rattle.can_bus.proofs.Lawful.{gone-le-sent, open-iface}
 use Rattle.can_bus.proofs.InterfaceFacts.{IsInterface-at, kept_interfaces-one}
 use Rattle.can_bus.proofs.Lists.{slice_get-drop}
-use Rattle.can_bus.proofs.NodeFacts.{is_off_at-kept}
+use Rattle.can_bus.proofs.NodeFacts.{is_down_at-kept, is_off_at-kept, is_silent_at-kept}
 use Rattle.can_bus.proofs.Opened.{IsThere-at, closed-nowhere}
+use Rattle.can_bus.proofs.Silence.{down-not-off, live-not-down, live-not-off}
 
 abbrev pub entry : SocketId → CanFrame → Result ℕ Refusal → Entry
 entry s f r = record { event = Send s f; reply = told reply.Sent r }
@@ -52,6 +53,12 @@ sender c past s v l is_interface =
 off-is : (c : BusConfig) (past : List Entry) (k i : ℕ) → k ≡ i → i < 16 → is_off_at (kept_nodes c past) k ≡ is_off (state_at c past i)
 off-is c past k i same below = ap (is_off_at (kept_nodes c past)) same ∙ is_off_at-kept c past i below
 
+down-is : (c : BusConfig) (past : List Entry) (k i : ℕ) → k ≡ i → i < 16 → is_down_at (kept_nodes c past) k ≡ is_down (state_at c past i)
+down-is c past k i same below = ap (is_down_at (kept_nodes c past)) same ∙ is_down_at-kept c past i below
+
+silent-is : (c : BusConfig) (past : List Entry) (k i : ℕ) → k ≡ i → i < 16 → is_silent_at (kept_nodes c past) k ≡ is_silent (state_at c past i)
+silent-is c past k i same below = ap (is_silent_at (kept_nodes c past)) same ∙ is_silent_at-kept c past i below
+
 may-send : (c : BusConfig) (past : List Entry) (s : ℕ) (f : CanFrame) (v : SocketState) (b : Bool) → v ≡ kept_socket c past s → lacks_fd f v.options ≡ b → lacks_fd f (options_of past s) ≡ b
 may-send c past s f v b is h = ap (λ (w : SocketState). lacks_fd f w.options) (sym is) ∙ h
 
@@ -61,7 +68,7 @@ waits-is : (c : BusConfig) (past : List Entry) (s : ℕ) (v : SocketState) (l : 
 waits-is c past s v l is = ap (λ (k : InterfaceState). length k.waiting) is.interface ∙ length-drop (gone_count past (iface_of past s)) (sent_by past (iface_of past s))
 
 reply-sent : (c : BusConfig) (past : List Entry) (s : SocketId) (f : CanFrame) (v : SocketState) (l : InterfaceState) → IsSender c past s.0 v l
-    → lacks_fd f (options_of past s.0) ≡ false → is_off (state_at c past (iface_of past s.0)) ≡ false → length l.waiting < l.room → reply.Sent l.sent ≡ legal_reply c past (Send s f)
+    → lacks_fd f (options_of past s.0) ≡ false → is_silent (state_at c past (iface_of past s.0)) ≡ false → length l.waiting < l.room → reply.Sent l.sent ≡ legal_reply c past (Send s f)
 reply-sent c past s f v l is may live room =
     let i = iface_of past s.0 in
     let number : l.sent ≡ length (sent_by past i) = ap (λ (k : InterfaceState). k.sent) is.interface in
@@ -69,18 +76,20 @@ reply-sent c past s f v l is may live room =
     let capacity : l.room ≡ c.tx_capacity = ap (λ (k : InterfaceState). k.room) is.interface in
     ap (λ (n : ℕ). reply.Sent n) number
     ∙ sym (cond-false (length (sent_by past i) - gone_count past i == c.tx_capacity) (reply.Refused refusal.NoBuffers) (reply.Sent (length (sent_by past i))) (ne_eqb _ _ (omega arith)))
-    ∙ sym (cond-false (is_off (state_at c past i)) _ _ live)
+    ∙ sym (cond-false (is_down (state_at c past i)) _ _ (live-not-down (state_at c past i) live))
+    ∙ sym (cond-false (is_off (state_at c past i)) _ _ (live-not-off (state_at c past i) live))
     ∙ sym (cond-false (lacks_fd f (options_of past s.0)) _ _ may)
     ∙ sym (cond-true (is_open past s.0) _ _ is.there)
 
 reply-full : (c : BusConfig) (past : List Entry) (s : SocketId) (f : CanFrame) (v : SocketState) (l : InterfaceState) → IsSender c past s.0 v l
-    → lacks_fd f (options_of past s.0) ≡ false → is_off (state_at c past (iface_of past s.0)) ≡ false → length l.waiting ≡ l.room → reply.Refused refusal.NoBuffers ≡ legal_reply c past (Send s f)
+    → lacks_fd f (options_of past s.0) ≡ false → is_silent (state_at c past (iface_of past s.0)) ≡ false → length l.waiting ≡ l.room → reply.Refused refusal.NoBuffers ≡ legal_reply c past (Send s f)
 reply-full c past s f v l is may live full =
     let i = iface_of past s.0 in
     let waits = waits-is c past s.0 v l is in
     let capacity : l.room ≡ c.tx_capacity = ap (λ (k : InterfaceState). k.room) is.interface in
     sym (cond-true (length (sent_by past i) - gone_count past i == c.tx_capacity) (reply.Refused refusal.NoBuffers) (reply.Sent (length (sent_by past i))) (eq-eqb _ _ (omega arith)))
-    ∙ sym (cond-false (is_off (state_at c past i)) _ _ live)
+    ∙ sym (cond-false (is_down (state_at c past i)) _ _ (live-not-down (state_at c past i) live))
+    ∙ sym (cond-false (is_off (state_at c past i)) _ _ (live-not-off (state_at c past i) live))
     ∙ sym (cond-false (lacks_fd f (options_of past s.0)) _ _ may)
     ∙ sym (cond-true (is_open past s.0) _ _ is.there)
 
@@ -157,7 +166,7 @@ taken_follows c past s f n new proper legal takes =
     let l = takes.interface in
     let is = sender c past s.0 v l takes.is_interface in
     let few : iface_of past s.0 < 16 = omega (arith, is.below, proper.few_ifaces) in
-    let live : is_off (state_at c past (iface_of past s.0)) ≡ false = sym (off-is c past v.iface (iface_of past s.0) is.iface few) ∙ takes.live in
+    let live : is_silent (state_at c past (iface_of past s.0)) ≡ false = sym (silent-is c past v.iface (iface_of past s.0) is.iface few) ∙ takes.live in
     record {
       lawful = ap (λ (m : ℕ). reply.Sent m) takes.number ∙ reply-sent c past s f v l is (may-send c past s.0 f v false is.socket takes.may) live takes.room;
       after = takes.after ∙ parts-are (with_interface (kept_parts c past) v.iface (record l { waiting = l.waiting ++ pending_of f s v ∷ []; sent = l.sent + 1 })) (kept_parts c (e ∷ past))
@@ -205,7 +214,7 @@ full_follows c past s f new proper full =
     let l = full.interface in
     let is = sender c past s.0 v l full.is_interface in
     let few : iface_of past s.0 < 16 = omega (arith, is.below, proper.few_ifaces) in
-    let live : is_off (state_at c past (iface_of past s.0)) ≡ false = sym (off-is c past v.iface (iface_of past s.0) is.iface few) ∙ full.live in
+    let live : is_silent (state_at c past (iface_of past s.0)) ≡ false = sym (silent-is c past v.iface (iface_of past s.0) is.iface few) ∙ full.live in
     record {
       lawful = reply-full c past s f v l is (may-send c past s.0 f v false is.socket full.may) live full.full;
       after = full.after ∙ parts-are (record (kept_parts c past) { interfaces = slice_set (kept_interfaces c past) v.iface (record l { refused = l.refused + 1 }) }) (kept_parts c (e ∷ past))
@@ -229,6 +238,18 @@ reply-off c past s f proper legal off =
     ∙ sym (cond-false (lacks_fd f (options_of past s.0)) _ _ (may-send c past s.0 f off.socket false at.left off.may))
     ∙ sym (cond-true (is_open past s.0) _ _ at.is_there)
 
+reply-down : (c : BusConfig) (past : List Entry) (s : SocketId) (f : CanFrame) → IsLongConfig c → IsLegal c past → IsDownFor (kept_parts c past) s.0 (pending_of f s) → reply.Refused refusal.Down ≡ legal_reply c past (Send s f)
+reply-down c past s f proper legal is =
+    let at = IsThere-at c past (kept_sockets c past) s.0 is.place is.socket refl is.is_at in
+    let below = open-iface c past legal is.place s.0 at.listed in
+    let few : iface_of past s.0 < 16 = omega (arith, below, proper.few_ifaces) in
+    let state = state_at c past (iface_of past s.0) in
+    let down : is_down state ≡ true = sym (down-is c past is.socket.iface (iface_of past s.0) (ap (λ (w : SocketState). w.iface) at.left) few) ∙ is.down in
+    sym (cond-true (is_down state) _ _ down)
+    ∙ sym (cond-false (is_off state) _ _ (down-not-off state down))
+    ∙ sym (cond-false (lacks_fd f (options_of past s.0)) _ _ (may-send c past s.0 f is.socket false at.left is.may))
+    ∙ sym (cond-true (is_open past s.0) _ _ at.is_there)
+
 reply-fd-off : (c : BusConfig) (past : List Entry) (s : SocketId) (f : CanFrame) → IsFdOffFor (kept_parts c past) s.0 (pending_of f s) → reply.Refused refusal.FdOff ≡ legal_reply c past (Send s f)
 reply-fd-off c past s f off =
     let at = IsThere-at c past (kept_sockets c past) s.0 off.place off.socket refl off.is_at in
@@ -242,5 +263,6 @@ sent_follows c past s f (Err refusal.NoSocket) new proper legal refuses =
     follows_refused c past (Send s f) refusal.NoSocket new tt refuses.1 (sym (cond-false (is_open past s.0) _ _ shut))
 sent_follows c past s f (Err refusal.FdOff) new proper legal refuses = follows_refused c past (Send s f) refusal.FdOff new tt refuses.1 (reply-fd-off c past s f refuses.0)
 sent_follows c past s f (Err refusal.BusOff) new proper legal refuses = follows_refused c past (Send s f) refusal.BusOff new tt refuses.1 (reply-off c past s f proper legal refuses.0)
+sent_follows c past s f (Err refusal.Down) new proper legal refuses = follows_refused c past (Send s f) refusal.Down new tt refuses.1 (reply-down c past s f proper legal refuses.0)
 sent_follows c past s f (Err refusal.NoBuffers) new proper legal full = full_follows c past s f new proper full
 sent_follows c past s f (Err _) new proper legal refuses = absurd refuses

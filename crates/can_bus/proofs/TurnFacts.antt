@@ -14,6 +14,7 @@ use Rattle.can_attempt.specs.declared.class.Class.TheVariants as class
 use Rattle.can_attempt.specs.Attempts.{Transmission, set_of, accepted_in, class_of, is_done}
 use Rattle.can_event.specs.declared.entry.Entry.{Entry}
 use Rattle.can_event.specs.declared.event.Event.{Event}
+use Rattle.can_event.specs.declared.event.Event.TheVariants.{Attempt, Down}
 use Rattle.can_event.specs.declared.reply.Reply.{Reply}
 use Rattle.can_event.specs.declared.reply.Reply.TheVariants as reply
 use Rattle.can_event.specs.declared.bus_config.BusConfig.{BusConfig}
@@ -166,11 +167,20 @@ gone-grows-if sent gone true mine le = le
 gone-grows-if sent gone false true le = omega arith
 gone-grows-if sent gone false false le = omega arith
 
-follow-tried : (c : BusConfig) (past : List Entry) (i s m : ℕ) (v : Verdict) (t : Tried) → WasTried c past m v t → gone_count past i ≤ length (sent_by past i) → Follow 0 (gone_count past i) (copying c past i s) → Follow 0 (gone_after (reply.Attempted (attempt.Tried t)) i (length (sent_by past i)) (gone_count past i)) (copying_after c past i s (reply.Attempted (attempt.Tried t)) (copying c past i s))
+pub gone-grows : (past : List Entry) (i : ℕ) (e : Event) (r : Reply) → gone_count past i ≤ length (sent_by past i) → gone_count past i ≤ gone_after e r i (length (sent_by past i)) (gone_count past i)
+gone-grows past i e (reply.Attempted (attempt.Tried t)) le = gone-grows-if (length (sent_by past i)) (gone_count past i) (is_in i t.off) ((t.winner == i) && is_done t.class) le
+gone-grows past i (Down k m) reply.Done le = when (k == i)
+  where
+    when : (b : Bool) → gone_count past i ≤ (if b then length (sent_by past i) else gone_count past i)
+    when true = le
+    when false = omega arith
+gone-grows past i _ _ le = omega arith
+
+follow-tried : (c : BusConfig) (past : List Entry) (i s m : ℕ) (v : Verdict) (t : Tried) → WasTried c past m v t → gone_count past i ≤ length (sent_by past i) → Follow 0 (gone_count past i) (copying c past i s) → Follow 0 (gone_after (Attempt m v) (reply.Attempted (attempt.Tried t)) i (length (sent_by past i)) (gone_count past i)) (copying_after c past i s (reply.Attempted (attempt.Tried t)) (copying c past i s))
 follow-tried c past i s m v t w le before = when (here c past i s t) refl
   where
     after : ℕ
-    after = gone_after (reply.Attempted (attempt.Tried t)) i (length (sent_by past i)) (gone_count past i)
+    after = gone_after (Attempt m v) (reply.Attempted (attempt.Tried t)) i (length (sent_by past i)) (gone_count past i)
 
     when : (b : Bool) → here c past i s t ≡ b → Follow 0 after (if b then copying c past i s ++ t ∷ [] else copying c past i s)
     when true is =
@@ -182,9 +192,9 @@ follow-tried c past i s m v t w le before = when (here c past i s t) refl
         Follow-push 0 (gone_count past i) after (copying c past i s) t from over (after-le t.number (length (sent_by past i)) (gone_count past i) (is_in i t.off) (t.winner == i) (is_done t.class) f.number f.waits both.1) before
     when false is = Follow-more 0 (gone_count past i) after (copying c past i s) (gone-grows-if (length (sent_by past i)) (gone_count past i) (is_in i t.off) ((t.winner == i) && is_done t.class) le) before
 
-follow-step : (c : BusConfig) (past : List Entry) (i s : ℕ) (e : Event) (r : Reply) → r ≡ legal_reply c past e → gone_count past i ≤ length (sent_by past i) → Follow 0 (gone_count past i) (copying c past i s) → Follow 0 (gone_after r i (length (sent_by past i)) (gone_count past i)) (copying_after c past i s r (copying c past i s))
+follow-step : (c : BusConfig) (past : List Entry) (i s : ℕ) (e : Event) (r : Reply) → r ≡ legal_reply c past e → gone_count past i ≤ length (sent_by past i) → Follow 0 (gone_count past i) (copying c past i s) → Follow 0 (gone_after e r i (length (sent_by past i)) (gone_count past i)) (copying_after c past i s r (copying c past i s))
 follow-step c past i s e (reply.Attempted (attempt.Tried t)) law le before = tried_by c past e t law (λ m v w. follow-tried c past i s m v t w le before)
-follow-step c past i s e _ law le before = before
+follow-step c past i s e r law le before = Follow-more 0 (gone_count past i) (gone_after e r i (length (sent_by past i)) (gone_count past i)) (copying_after c past i s r (copying c past i s)) (gone-grows past i e r le) before
 
 follow : (c : BusConfig) (past : List Entry) → IsLegal c past → (i s : ℕ) → Follow 0 (gone_count past i) (copying c past i s)
 follow c [] legal i s = omega arith

@@ -8,7 +8,7 @@ use Rattle.std.proofs.lemmas.Option.{slice_get-map, slice_get_within}
 use Rattle.can_frame.specs.Arbitration.{arbitration_bits, goes_before, key_of}
 use Rattle.can_frame.proofs.Keys.{key_of-before, goes_before-key_of}
 use Rattle.can_arbiter.specs.Keys.{IsWinner, IsIdle}
-use Rattle.can_confine.specs.Confinement.{is_off}
+use Rattle.can_confine.specs.Confinement.{is_silent}
 use Rattle.can_attempt.specs.Attempts.{is_among}
 use Rattle.can_attempt.proofs.Places.{is_among-filter, is_among-range, any_among, any_same, any_none}
 use Rattle.can_event.specs.declared.bus_config.BusConfig.{BusConfig}
@@ -108,9 +108,9 @@ some-head (Some q) h = (q, refl)
 
 pub contends : (c : BusConfig) (past : List Entry) (i : ℕ) → is_among i (contenders c past) ≡ true → Contends c past i
 contends c past i there =
-    let both = and_parts (is_some (head_of past i) && not (is_off (state_at c past i))) (is_among i (range_with_len 0 c.ifaces)) (sym (is_among-filter (λ j. is_some (head_of past j) && not (is_off (state_at c past j))) i (range_with_len 0 c.ifaces)) ∙ there) in
+    let both = and_parts (is_some (head_of past i) && not (is_silent (state_at c past i))) (is_among i (range_with_len 0 c.ifaces)) (sym (is_among-filter (λ j. is_some (head_of past j) && not (is_silent (state_at c past j))) i (range_with_len 0 c.ifaces)) ∙ there) in
     let within = and_parts (nat_le 0 i) (nat_lt i (0 + c.ifaces)) (sym (is_among-range i 0 c.ifaces) ∙ both.1) in
-    let has = some-head (head_of past i) (and_parts (is_some (head_of past i)) (not (is_off (state_at c past i))) both.0).0 in
+    let has = some-head (head_of past i) (and_parts (is_some (head_of past i)) (not (is_silent (state_at c past i))) both.0).0 in
     record { below = omega (arith, ltb-true i (0 + c.ifaces) within.1); pending = has.0; head = has.1 }
 
 live : (b : Bool) → (b ≡ true → ⊥) → not b ≡ true
@@ -120,10 +120,10 @@ live false h = refl
 pub contends-from_head : (c : BusConfig) (past : List Entry) → IsLegal c past → c.ifaces ≤ 16 → (i : ℕ) (p : Pending) → head_of past i ≡ Some p → is_among i (contenders c past) ≡ true
 contends-from_head c past legal few i p head =
     let below : i < c.ifaces = head-below c past legal i p head in
-    let is_live : not (is_off (state_at c past i)) ≡ true = live (is_off (state_at c past i)) (λ off. let none = off-no-head c past legal few i off in (cc)) in
-    is_among-filter (λ j. is_some (head_of past j) && not (is_off (state_at c past j))) i (range_with_len 0 c.ifaces)
-    ∙ and_from (is_some (head_of past i) && not (is_off (state_at c past i))) (is_among i (range_with_len 0 c.ifaces))
-    (and_from (is_some (head_of past i)) (not (is_off (state_at c past i))) (ap (λ (q : Option Pending). is_some q) head) is_live)
+    let is_live : not (is_silent (state_at c past i)) ≡ true = live (is_silent (state_at c past i)) (λ off. let none = off-no-head c past legal few i off in (cc)) in
+    is_among-filter (λ j. is_some (head_of past j) && not (is_silent (state_at c past j))) i (range_with_len 0 c.ifaces)
+    ∙ and_from (is_some (head_of past i) && not (is_silent (state_at c past i))) (is_among i (range_with_len 0 c.ifaces))
+    (and_from (is_some (head_of past i)) (not (is_silent (state_at c past i))) (ap (λ (q : Option Pending). is_some q) head) is_live)
     (is_among-range i 0 c.ifaces ∙ and_from (nat_le 0 i) (nat_lt i (0 + c.ifaces)) (le-leb 0 i (omega arith)) (lt-ltb i (0 + c.ifaces) (omega arith)))
 
 -- ---- who wins
@@ -150,7 +150,7 @@ pub winner-is : (c : BusConfig) (past : List Entry) → IsLegal c past → c.ifa
 winner-is c past legal few w wins =
     let has = holds_key past w wins.0 wins.1.holds in
     let among : is_among w (contenders c past) ≡ true = contends-from_head c past legal few w has.pending has.head in
-    let rises = Rises-filter (λ i. is_some (head_of past i) && not (is_off (state_at c past i))) 0 c.ifaces (range_with_len 0 c.ifaces) (range-rises 0 c.ifaces c.ifaces (omega arith)) in
+    let rises = Rises-filter (λ i. is_some (head_of past i) && not (is_silent (state_at c past i))) 0 c.ifaces (range_with_len 0 c.ifaces) (range-rises 0 c.ifaces c.ifaces (omega arith)) in
     first-found (λ i. not (list_any (λ j. beats past j i) (contenders c past))) 0 c.ifaces w (contenders c past) rises among
     (ap not (none-among (λ j. beats past j w) (contenders c past) (λ j there.
     let other = contends c past j there in
@@ -178,10 +178,10 @@ headless (Some p) h = cc
 pub idle-is : (c : BusConfig) (past : List Entry) → c.ifaces ≤ 16 → IsIdle (kept_keys past) → winner c past ≡ None
 idle-is c past few idle =
     find-none (λ i. not (list_any (λ j. beats past j i) (contenders c past))) (contenders c past)
-    (none-left (λ i. is_some (head_of past i) && not (is_off (state_at c past i))) (range_with_len 0 c.ifaces) (λ i there.
+    (none-left (λ i. is_some (head_of past i) && not (is_silent (state_at c past i))) (range_with_len 0 c.ifaces) (λ i there.
     let within = and_parts (nat_le 0 i) (nat_lt i (0 + c.ifaces)) (sym (is_among-range i 0 c.ifaces) ∙ there) in
     let below : i < 16 = omega (arith, ltb-true i (0 + c.ifaces) within.1) in
-    and_left (is_some (head_of past i)) (not (is_off (state_at c past i))) (headless (head_of past i) (idle_at i below))))
+    and_left (is_some (head_of past i)) (not (is_silent (state_at c past i))) (headless (head_of past i) (idle_at i below))))
   where
     idle_at : (i : ℕ) → i < 16 → key_in (head_of past i) ≡ None
     idle_at i below =

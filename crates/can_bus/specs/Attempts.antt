@@ -2,7 +2,7 @@ use Rattle.std.specs.Prelude.{ℕ, Bool, not, ◌&&◌, List, [], filter, find, 
 use Rattle.std.specs.List.{list_any, range_with_len}
 use Rattle.can_frame.specs.Frames.{CanFrame}
 use Rattle.can_frame.specs.Arbitration.{arbitration_bits, goes_before}
-use Rattle.can_confine.specs.Confinement.{is_off}
+use Rattle.can_confine.specs.Confinement.{is_silent}
 use Rattle.can_fault.specs.declared.verdict.Verdict.{Verdict}
 use Rattle.can_attempt.specs.Attempts.{class_of, accepted_in, off_after, set_of}
 use Rattle.can_event.specs.declared.bus_config.BusConfig.{BusConfig}
@@ -21,7 +21,7 @@ use Rattle.can_bus.specs.AutoRestart.{restarted_next}
 -- the live interfaces with a frame to send: they take part in arbitration
 abbrev pub contenders : BusConfig → List Entry → List ℕ
 contenders c past =
-    filter (λ i. is_some (head_of past i) && not (is_off (state_at c past i))) (range_with_len 0 c.ifaces)
+    filter (λ i. is_some (head_of past i) && not (is_silent (state_at c past i))) (range_with_len 0 c.ifaces)
 
 -- the bits of a frame that waits
 abbrev pub bits_in : Option Pending → List ℕ

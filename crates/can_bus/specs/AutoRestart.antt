@@ -8,7 +8,7 @@ use Rattle.can_attempt.specs.Attempts.{set_of}
 use Rattle.can_event.specs.declared.bus_config.BusConfig.{BusConfig}
 use Rattle.can_event.specs.declared.entry.Entry.{Entry}
 use Rattle.can_event.specs.declared.event.Event.{Event}
-use Rattle.can_event.specs.declared.event.Event.TheVariants.{Restart}
+use Rattle.can_event.specs.declared.event.Event.TheVariants.{Restart, Down}
 use Rattle.can_event.specs.declared.reply.Reply.{Reply}
 use Rattle.can_event.specs.declared.attempt.Attempt.TheVariants as attempt
 use Rattle.can_event.specs.declared.reply.Reply.TheVariants as reply
@@ -23,10 +23,11 @@ attempts_off_after e (reply.Attempted (attempt.Idle restarted)) i before =
 attempts_off_after e (reply.Attempted (attempt.Tried t)) i before =
     if is_in i t.restarted then None else if is_in i t.off then Some 0 else option_map suc before
 attempts_off_after (Restart k m) reply.Done i before = if k == i then None else before
+attempts_off_after (Down k m) reply.Done i before = if k == i then None else before
 attempts_off_after _ _ i before = before
 
 -- how many attempts there were, idle ones included, since interface i went bus off; none where it did not, or
--- was restarted since
+-- was restarted or taken down since
 abbrev pub attempts_off : List Entry → ℕ → Option ℕ
 attempts_off [] i = None
 attempts_off (e ∷ past) i = attempts_off_after e.event e.reply i (attempts_off past i)

@@ -8,7 +8,8 @@ use Rattle.can_frame.specs.Frames.{CanFrame}
 use Rattle.can_frame.specs.Sets.{is_in, set_where}
 use Rattle.can_frame.specs.declared.iface.IfaceSet.{IfaceSet}
 use Rattle.can_arbiter.specs.Keys.{IsWinner, IsIdle}
-use Rattle.can_confine.specs.Confinement.{at_start, state_of, is_off}
+use Rattle.can_confine.specs.Confinement.{at_start, state_of, stepped, is_down, is_off, is_silent}
+use Rattle.can_confine.specs.Confinement.Step.{TakenDown}
 use Rattle.can_fault.specs.declared.verdict.Verdict.{Verdict}
 use Rattle.can_attempt.specs.declared.class.Class.{Class}
 use Rattle.can_attempt.specs.declared.nodes.Nodes.{Nodes}
@@ -151,6 +152,14 @@ pub record IsInterfaceOf (old : Parts) (s : ℕ) (v : SocketState) (l : Interfac
 abbrev pub is_off_at : Nodes → ℕ → Bool
 is_off_at nodes i = is_off (state_of (counts_at nodes i))
 
+-- interface i is down (own choice)
+abbrev pub is_down_at : Nodes → ℕ → Bool
+is_down_at nodes i = is_down (state_of (counts_at nodes i))
+
+-- interface i is bus off or down (own choice)
+abbrev pub is_silent_at : Nodes → ℕ → Bool
+is_silent_at nodes i = is_silent (state_of (counts_at nodes i))
+
 -- a frame as it waits that was sent on this socket (own choice)
 abbrev pub pending_of : CanFrame → SocketId → SocketState → Pending
 pending_of frame s v = record { frame = frame; socket = s; loopback = v.options.loopback }
@@ -176,7 +185,7 @@ pub record Takes (old : Parts) (s n : ℕ) (pending : SocketState → Pending) (
   pub interface : InterfaceState
   pub is_interface : IsInterfaceOf old s socket interface
   pub may : lacks_fd (pending socket).frame socket.options ≡ false
-  pub live : is_off_at old.nodes socket.iface ≡ false
+  pub live : is_silent_at old.nodes socket.iface ≡ false
   pub room : length interface.waiting < interface.room
   pub number : n ≡ interface.sent
   pub after : new ≡ with_interface old socket.iface (with_pending (pending socket) interface)
@@ -196,13 +205,21 @@ pub record IsOffFor (old : Parts) (s : ℕ) (pending : SocketState → Pending) 
   pub may : lacks_fd (pending socket).frame socket.options ≡ false
   pub off : is_off_at old.nodes socket.iface ≡ true
 
+-- the socket is open, and its interface is down (own choice)
+pub record IsDownFor (old : Parts) (s : ℕ) (pending : SocketState → Pending) : Type 0 where
+  pub place : ℕ
+  pub socket : SocketState
+  pub is_at : IsAt old.sockets s place socket
+  pub may : lacks_fd (pending socket).frame socket.options ≡ false
+  pub down : is_down_at old.nodes socket.iface ≡ true
+
 -- a frame that is sent finds no room (own choice)
 pub record FindsFull (old : Parts) (s : ℕ) (pending : SocketState → Pending) (new : Parts) : Type 0 where
   pub socket : SocketState
   pub interface : InterfaceState
   pub is_interface : IsInterfaceOf old s socket interface
   pub may : lacks_fd (pending socket).frame socket.options ≡ false
-  pub live : is_off_at old.nodes socket.iface ≡ false
+  pub live : is_silent_at old.nodes socket.iface ≡ false
   pub full : length interface.waiting ≡ interface.room
   pub after : new ≡ record old { interfaces = slice_set old.interfaces socket.iface (with_refused interface) }
 
@@ -212,6 +229,7 @@ Sends old s pending (Ok n) new = Takes old s n pending new
 Sends old s pending (Err refusal.NoSocket) new = IsNowhere old.sockets s × (new ≡ old)
 Sends old s pending (Err refusal.FdOff) new = IsFdOffFor old s pending × (new ≡ old)
 Sends old s pending (Err refusal.BusOff) new = IsOffFor old s pending × (new ≡ old)
+Sends old s pending (Err refusal.Down) new = IsDownFor old s pending × (new ≡ old)
 Sends old s pending (Err refusal.NoBuffers) new = FindsFull old s pending new
 Sends old s pending (Err _) new = ⊥
 
@@ -307,7 +325,7 @@ pub record Attempts (old : Parts) (c : BusConfig) (m : ℕ) (v : Verdict) (a : A
 pub record IsReady (parts : Parts) (w : ℕ) : Type 0 where
   pub there : w < length parts.interfaces
   pub counted : w < parts.nodes.count
-  pub live : is_off_at parts.nodes w ≡ false
+  pub live : is_silent_at parts.nodes w ≡ false
   pub has_head : (l : InterfaceState) → slice_get parts.interfaces w ≡ Some l → is_some (slice_get l.waiting 0) ≡ true
 
 -- so is each interface with a key (own choice)
@@ -326,8 +344,38 @@ after_restart old i m = record old {
 
 -- an interface is restarted
 abbrev pub Restarts : Parts → ℕ → ℕ → Reply → Parts → Type 0
-Restarts old i m reply.Done new = (i < old.nodes.count) × (is_off_at old.nodes i ≡ true) × (new ≡ after_restart old i m)
+Restarts old i m reply.Done new =
+    (i < old.nodes.count) × (is_silent_at old.nodes i ≡ true) × (new ≡ after_restart old i m)
 Restarts old i m (reply.Refused refusal.NoInterface) new = (old.nodes.count ≤ i) × (new ≡ old)
 Restarts old i m (reply.Refused refusal.NotBusOff) new =
-    (i < old.nodes.count) × (is_off_at old.nodes i ≡ false) × (new ≡ old)
+    (i < old.nodes.count) × (is_silent_at old.nodes i ≡ false) × (new ≡ old)
 Restarts old i m _ new = ⊥
+
+-- ---- interfaces that go down
+
+-- an interface whose frames are all lost (own choice)
+abbrev pub emptied : InterfaceState → InterfaceState
+emptied l = record l { waiting = []; gone = l.sent }
+
+-- what is left where interface i, of which this was kept, goes down: its frames are lost, it counts no attempts, and its
+-- sockets receive nothing
+abbrev pub after_down : Parts → ℕ → InterfaceState → Parts
+after_down old i l = record (with_interface old i (emptied l)) {
+  nodes = record old.nodes {
+    counters = slice_set old.nodes.counters i (stepped (counts_at old.nodes i) TakenDown);
+  };
+  left = slice_set old.left i 0;
+}
+
+-- an interface that is there goes down (own choice)
+pub record GoesDown (old : Parts) (i : ℕ) (new : Parts) : Type 0 where
+  pub interface : InterfaceState
+  pub counted : i < old.nodes.count
+  pub there : slice_get old.interfaces i ≡ Some interface
+  pub after : new ≡ after_down old i interface
+
+-- an interface is taken down
+abbrev pub TakesDown : Parts → ℕ → Reply → Parts → Type 0
+TakesDown old i reply.Done new = GoesDown old i new
+TakesDown old i (reply.Refused refusal.NoInterface) new = (old.nodes.count ≤ i) × (new ≡ old)
+TakesDown old i _ new = ⊥

@@ -1,13 +1,14 @@
 use Rattle.std.specs.Prelude.{ℕ, ◌==◌, List, [], ◌++◌, ◌∷◌, if◌then◌else◌}
 use Rattle.can_frame.specs.Sets.{is_in}
 use Rattle.can_confine.specs.Confinement.{ErrorCounts, Step, all_stepped, at_start, state_of}
+use Rattle.can_confine.specs.Confinement.Step.{TakenDown}
 use Rattle.can_confine.specs.declared.state.State.{State}
 use Rattle.can_fault.specs.declared.verdict.Verdict.{Verdict}
 use Rattle.can_attempt.specs.Attempts.{Transmission, steps_at}
 use Rattle.can_event.specs.declared.bus_config.BusConfig.{BusConfig}
 use Rattle.can_event.specs.declared.entry.Entry.{Entry}
 use Rattle.can_event.specs.declared.event.Event.{Event}
-use Rattle.can_event.specs.declared.event.Event.TheVariants.{Attempt, Restart}
+use Rattle.can_event.specs.declared.event.Event.TheVariants.{Attempt, Restart, Down}
 use Rattle.can_event.specs.declared.reply.Reply.{Reply}
 use Rattle.can_event.specs.declared.attempt.Attempt.TheVariants as attempt
 use Rattle.can_event.specs.declared.reply.Reply.TheVariants as reply
@@ -25,6 +26,7 @@ steps_after c (Attempt m v) (reply.Attempted (attempt.Tried t)) counts i before 
 steps_after c (Attempt m v) (reply.Attempted (attempt.Idle restarted)) counts i before =
     if is_in i restarted then [] else before
 steps_after c (Restart k m) reply.Done counts i before = if k == i then [] else before
+steps_after c (Down k m) reply.Done counts i before = if k == i then before ++ TakenDown ∷ [] else before
 steps_after c _ _ counts i before = before
 
 -- the steps of interface i's error counters since its last restart, by hand or by an attempt

@@ -4,7 +4,7 @@ use Rattle.std.specs.List.{list_any, range_with_len}
 use Rattle.can_frame.specs.Sets.{is_in}
 use Rattle.can_event.specs.declared.entry.Entry.{Entry}
 use Rattle.can_event.specs.declared.event.Event.{Event}
-use Rattle.can_event.specs.declared.event.Event.TheVariants.{Open, Close, Restart}
+use Rattle.can_event.specs.declared.event.Event.TheVariants.{Open, Close, Restart, Down}
 use Rattle.can_event.specs.declared.reply.Reply.{Reply}
 use Rattle.can_event.specs.declared.reply.Reply.TheVariants as reply
 use Rattle.can_event.specs.declared.reply.Closed.{Closed}
@@ -42,10 +42,15 @@ fate_of past i n = if nat_le (gone_count past i) n then Waiting else if was_done
 abbrev pub frames_with : Fate → List Entry → ℕ → ℕ
 frames_with fate past i = count_by (λ n. is_fate (fate_of past i n) fate) (range_with_len 0 (length (sent_by past i)))
 
--- interface i goes bus off in an attempt
-abbrev pub goes_off : ℕ → Reply → Bool
-goes_off i (reply.Attempted (attempt.Tried t)) = is_in i t.off
-goes_off i _ = false
+-- interface i is taken down
+abbrev pub is_taken_down : ℕ → Event → Reply → Bool
+is_taken_down i (Down k m) reply.Done = k == i
+is_taken_down i _ _ = false
+
+-- interface i goes bus off in an attempt, or is taken down
+abbrev pub goes_silent : ℕ → Event → Reply → Bool
+goes_silent i e (reply.Attempted (attempt.Tried t)) = is_in i t.off
+goes_silent i e r = is_taken_down i e r
 
 -- numbers_given after one more entry (own choice)
 abbrev pub given_after : Event → Reply → List ℕ → List ℕ

@@ -57,7 +57,8 @@ pub record Headline (c : BusConfig) (past : List Entry) : Type 0 where
   pub dropped : (s : ℕ) → dropped_at c past s ≡ without_room (capacity_of past s) 0 (offers_to c past s)
   -- so what is offered is queued or dropped
   pub counted : (s : ℕ) → length (candidates_for c past s) ≡ length (queued_to c past s) + length (dropped_at c past s)
-  -- "every lost frame is counted", by bus off: the count of an interface is how many frames were lost
+  -- "every lost frame is counted", by bus off or as an interface goes down: the count of an interface is how many
+  -- frames were lost
   pub lost : (i : ℕ) → frames_with Lost past i ≡ lost_count past i
   -- "every lost frame is counted", unread at close, and "nothing is queued after close", whatever comes later
   pub closed : (later before : List Entry) (s : SocketId) (k : Closed) → past ≡ later ++ closing s k ∷ before

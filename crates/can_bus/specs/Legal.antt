@@ -9,14 +9,14 @@ use Rattle.can_event.specs.declared.received.Received.{Received}
 use Rattle.can_event.specs.declared.socket_id.SocketId.{SocketId}
 use Rattle.can_event.specs.declared.event.Event.{Event}
 use Rattle.can_event.specs.declared.event.Event.TheVariants.{Open, Close, SetFilters, SetOption}
-use Rattle.can_event.specs.declared.event.Event.TheVariants.{Send, Receive, Attempt, Restart}
+use Rattle.can_event.specs.declared.event.Event.TheVariants.{Send, Receive, Attempt, Restart, Down}
 use Rattle.can_event.specs.declared.reply.Closed.{Closed}
 use Rattle.can_event.specs.declared.reply.Reply.{Reply}
 use Rattle.can_event.specs.declared.reply.Reply.TheVariants as reply
 use Rattle.can_event.specs.declared.refusal.Refusal.TheVariants as refusal
 use Rattle.can_bus.specs.Sockets.{places, open_sockets, is_open, iface_of, options_of}
 use Rattle.can_bus.specs.Transmit.{sent_by, waiting_count}
-use Rattle.can_confine.specs.Confinement.{is_off}
+use Rattle.can_confine.specs.Confinement.{is_down, is_off, is_silent}
 use Rattle.can_bus.specs.Counters.{state_at}
 use Rattle.can_bus.specs.Attempts.{winner, attempt_reply}
 use Rattle.can_bus.specs.Queues.{taken_from, queued_to, dropped_at}
@@ -67,6 +67,7 @@ abbrev pub send_reply : BusConfig → List Entry → ℕ → CanFrame → Reply
 send_reply c past s frame =
     if lacks_fd frame (options_of past s) then reply.Refused refusal.FdOff
     else if is_off (state_at c past (iface_of past s)) then reply.Refused refusal.BusOff
+    else if is_down (state_at c past (iface_of past s)) then reply.Refused refusal.Down
     else if has_full_queue c past (iface_of past s) then reply.Refused refusal.NoBuffers
     else reply.Sent (length (sent_by past (iface_of past s)))
 
@@ -85,8 +86,9 @@ legal_reply c past (Receive s) = if_open past s.0 (reply.Received (next_item c p
 legal_reply c past (Attempt m v) = attempt_reply c past m v (winner c past)
 legal_reply c past (Restart i m) =
     if lacks_iface c i then reply.Refused refusal.NoInterface
-    else if is_off (state_at c past i) then reply.Done
+    else if is_silent (state_at c past i) then reply.Done
     else reply.Refused refusal.NotBusOff
+legal_reply c past (Down i m) = if lacks_iface c i then reply.Refused refusal.NoInterface else reply.Done
 
 -- a legal history: no more entries than the limit, and each reply is the one that the entries before it give
 abbrev pub IsLegal : BusConfig → List Entry → Type 0

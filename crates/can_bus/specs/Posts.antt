@@ -65,7 +65,7 @@ error_posts i m None = []
 error_posts i m (Some e) =
     record { received = record { item = item.Error e; from = i; number = 0; moment = m }; sender = None } ∷ []
 
--- the part that interface i has in an attempt: none where it is bus off
+-- the part that interface i has in an attempt: none where it is bus off or down
 abbrev pub role_at : Transmission → ℕ → Option Role
 role_at t i =
     if i == t.winner then Some role.Winner

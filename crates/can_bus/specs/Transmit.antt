@@ -1,7 +1,7 @@
 use Rattle.std.specs.Prelude.{ℕ, ◌+◌, ◌==◌, ◌&&◌, List, [], ◌∷◌, ◌++◌, length, slice_get, Option, ◌-◌, if◌then◌else◌}
 use Rattle.can_frame.specs.Sets.{is_in}
 use Rattle.can_event.specs.declared.event.Event.{Event}
-use Rattle.can_event.specs.declared.event.Event.TheVariants.{Send}
+use Rattle.can_event.specs.declared.event.Event.TheVariants.{Send, Down}
 use Rattle.can_event.specs.declared.reply.Reply.{Reply}
 use Rattle.can_event.specs.declared.attempt.Attempt.TheVariants as attempt
 use Rattle.can_event.specs.declared.reply.Reply.TheVariants as reply
@@ -28,16 +28,17 @@ sent_by [] i = []
 sent_by (e ∷ past) i = sent_after past i e.event e.reply (sent_by past i)
 
 -- gone_count after one more entry, where this many frames were sent (own choice)
-abbrev pub gone_after : Reply → ℕ → ℕ → ℕ → ℕ
-gone_after (reply.Attempted (attempt.Tried t)) i sent before =
+abbrev pub gone_after : Event → Reply → ℕ → ℕ → ℕ → ℕ
+gone_after e (reply.Attempted (attempt.Tried t)) i sent before =
     if is_in i t.off then sent else if (t.winner == i) && is_done t.class then before + 1 else before
-gone_after _ i sent before = before
+gone_after (Down k m) reply.Done i sent before = if k == i then sent else before
+gone_after _ _ i sent before = before
 
 -- how many frames of interface i have left its transmit queue: one for each attempt that it won and
--- that is done, and all that were sent where it went bus off
+-- that is done, and all that were sent where it went bus off or down
 abbrev pub gone_count : List Entry → ℕ → ℕ
 gone_count [] i = 0
-gone_count (e ∷ past) i = gone_after e.reply i (length (sent_by past i)) (gone_count past i)
+gone_count (e ∷ past) i = gone_after e.event e.reply i (length (sent_by past i)) (gone_count past i)
 
 -- how many frames wait in the transmit queue of interface i
 abbrev pub waiting_count : List Entry → ℕ → ℕ
@@ -58,7 +59,7 @@ abbrev pub done_count : List Entry → ℕ → ℕ
 done_count [] i = 0
 done_count (e ∷ past) i = done_after e.reply i (done_count past i)
 
--- how many frames of interface i were lost as it went bus off: they are gone, and not done
+-- how many frames of interface i were lost as it went bus off or down: they are gone, and not done
 abbrev pub lost_count : List Entry → ℕ → ℕ
 lost_count past i = gone_count past i - done_count past i
 

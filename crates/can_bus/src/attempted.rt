@@ -88,7 +88,7 @@ impl<'a> Attempted<'a> {
         is_posted(self.tried, iface, loopback)
     }
 
-    /// The part that an interface has in the attempt: none where it is bus off, or not there.
+    /// The part that an interface has in the attempt: none where it is bus off or down, or not there.
     pub fn role_of(&self, iface: Iface) -> Option<Role>
         ensures { result ≡ role_at (transmission_of self.now) iface }
     {
@@ -102,7 +102,7 @@ impl<'a> Attempted<'a> {
         if place >= self.nodes.count {
             return None;
         }
-        if self.nodes.is_off(iface) {
+        if self.nodes.is_silent(iface) {
             return None;
         }
         Some(Role::Other)

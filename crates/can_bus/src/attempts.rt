@@ -2,7 +2,7 @@ ghost use Rattle.std.specs.Prelude.{◌≡◌, ◌+◌, ◌<◌, ◌≤◌, ◌^
 ghost use Rattle.can_frame.specs.Sets.{is_in};
 ghost use Rattle.can_confine.specs.Confinement.{at_start};
 ghost use Rattle.can_attempt.specs.Attempts.{counts_at};
-ghost use Rattle.can_bus.specs.Changes.{AreReady, Attempts, Restarts, Tries, after_auto_restart, begun_anew};
+ghost use Rattle.can_bus.specs.Changes.{AreReady, Attempts, Restarts, TakesDown, Tries, after_auto_restart, begun_anew};
 
 use crate::attempted::Attempted;
 use crate::state::State;
@@ -158,7 +158,7 @@ impl<T: BoundedQueue<Pending>, R: BoundedQueue<Received>, A: Arbiter> State<T, R
         }
     }
 
-    /// Restarts an interface that is bus off, and notifies the sockets.
+    /// Restarts an interface that is bus off or down, and notifies the sockets.
     pub(crate) fn restart(&mut self, iface: Iface, moment: Moment) -> Reply
         requires { All (λ v. v.dropped + 1 < 2 ^ 64) self.old.sockets }
         ensures { Restarts self.old iface moment result self.new }
@@ -167,12 +167,28 @@ impl<T: BoundedQueue<Pending>, R: BoundedQueue<Received>, A: Arbiter> State<T, R
         if place >= self.nodes.count {
             return Reply::Refused(Refusal::NoInterface);
         }
-        if !self.nodes.is_off(iface) {
+        if !self.nodes.is_silent(iface) {
             return Reply::Refused(Refusal::NotBusOff);
         }
         self.nodes.counters[place as usize] = Counters::zero();
         self.countdown.stop(iface);
         posting::post_restart(&mut self.sockets, iface, moment);
+        Reply::Done
+    }
+
+    /// Takes an interface down: the frames that wait there are lost, and it counts no attempts until a restart. No socket is
+    /// notified.
+    pub(crate) fn down(&mut self, iface: Iface) -> Reply
+        requires { self.old.nodes.count ≤ length self.old.interfaces }
+        ensures { TakesDown self.old iface result self.new }
+    {
+        let place = iface.number();
+        if place >= self.nodes.count {
+            return Reply::Refused(Refusal::NoInterface);
+        }
+        interfaces::lose_all(&mut self.interfaces, &mut self.arbiter, iface);
+        self.nodes.counters[place as usize] = self.nodes.counters_of(iface).take_down();
+        self.countdown.stop(iface);
         Reply::Done
     }
 }

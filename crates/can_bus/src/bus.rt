@@ -252,7 +252,7 @@ impl<T: BoundedQueue<Pending>, R: BoundedQueue<Received>, A: Arbiter> Bus<T, R, 
     /// Puts a frame into the transmit queue of the socket's interface, and answers its number there.
     ///
     /// Refusals, in this order: `RecordFull`, `NoSocket`, `FdOff` where the frame is an FD frame and the
-    /// socket did not ask for such, `BusOff`, `NoBuffers` exactly where the queue is full.
+    /// socket did not ask for such, `BusOff`, `Down`, `NoBuffers` exactly where the queue is full.
     pub fn send(&mut self, id: SocketId, frame: Frame) -> Result<u64, Refusal>
         ensures { Answers reply.Sent self.old (event.Send id frame) result self.new }
     {
@@ -309,13 +309,25 @@ impl<T: BoundedQueue<Pending>, R: BoundedQueue<Received>, A: Arbiter> Bus<T, R, 
         Ok(attempt)
     }
 
-    /// Brings an interface that is bus off back, with both its error counts 0.
+    /// Brings an interface that is bus off or down back, with both its error counts 0.
     ///
     /// Refusals, in this order: `RecordFull`, `NoInterface`, `NotBusOff`.
     pub fn restart(&mut self, iface: Iface, moment: Moment) -> Result<(), Refusal>
         ensures { Answers done_reply self.old (event.Restart iface moment) result self.new }
     {
         self.answer(self.alloc, &Event::Restart(iface, moment))
+            .into_done()
+    }
+
+    /// Takes an interface down, as `ip link set down` does: until a restart it sends, accepts, acknowledges and counts
+    /// nothing. The frames in its transmit queue are lost, its sockets stay open. An interface that is down or bus off may
+    /// be taken down.
+    ///
+    /// Refusals, in this order: `RecordFull`, `NoInterface`.
+    pub fn down(&mut self, iface: Iface, moment: Moment) -> Result<(), Refusal>
+        ensures { Answers done_reply self.old (event.Down iface moment) result self.new }
+    {
+        self.answer(self.alloc, &Event::Down(iface, moment))
             .into_done()
     }
 

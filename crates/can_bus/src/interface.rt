@@ -1,5 +1,5 @@
 ghost use Rattle.std.specs.Prelude.{◌≡◌, ◌+◌, ◌<◌, ◌^◌, length, slice_get, IfOk, IfSome, IfNone, Err, ◌↔◌};
-ghost use Rattle.can_bus.specs.Changes.{settled, with_pending, with_refused};
+ghost use Rattle.can_bus.specs.Changes.{emptied, settled, with_pending, with_refused};
 ghost use Rattle.can_bus.specs.State.{fresh_interface, key_in};
 
 use can_attempt::Class;
@@ -123,6 +123,14 @@ impl<T: BoundedQueue<Pending>> Interface<T> {
         }
     }
 
+    /// All that waits is lost, and has left the queue.
+    pub fn lose_all(&mut self)
+        ensures { self.new ≡ emptied self.old }
+    {
+        self.queue.clear();
+        self.gone = self.sent;
+    }
+
     /// What an attempt with its head leaves: a finished head goes, and all that waits is lost where the
     /// interface went bus off.
     pub fn finish_attempt(&mut self, class: Class, is_off: bool)
@@ -135,8 +143,7 @@ impl<T: BoundedQueue<Pending>> Interface<T> {
             self.done += 1;
         }
         if is_off {
-            self.queue.clear();
-            self.gone = self.sent;
+            self.lose_all();
         } else if is_done {
             let _ = self.queue.pop();
             self.gone += 1;

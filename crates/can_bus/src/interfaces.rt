@@ -1,7 +1,7 @@
-ghost use Rattle.std.specs.Prelude.{◌≡◌, ◌+◌, ◌<◌, ◌≤◌, ◌^◌, Some, length, slice_get, slice_set, IfOk, replicate, All, Err, ◌≢◌};
+ghost use Rattle.std.specs.Prelude.{◌≡◌, ◌+◌, ◌<◌, ◌≤◌, ◌^◌, Some, None, length, slice_get, slice_set, IfOk, replicate, All, Err, ◌≢◌};
 ghost use Rattle.std.specs.Option.{option_map};
 ghost use Rattle.can_attempt.specs.Attempts.{counts_at};
-ghost use Rattle.can_bus.specs.Changes.{Sends, pending_of, settled};
+ghost use Rattle.can_bus.specs.Changes.{Sends, emptied, pending_of, settled};
 ghost use Rattle.can_bus.specs.State.{InterfaceState, fresh_interface, key_in};
 ghost use Rattle.can_bus.specs.Stats.{lost_of, told_interface};
 
@@ -10,6 +10,7 @@ use crate::sockets;
 use crate::state::State;
 use can_arbiter::Arbiter;
 use can_attempt::Class;
+use can_confine::State as Confinement;
 use can_event::{IfaceStats, Pending, Received, Refusal, SocketId};
 use can_frame::{Frame, Iface};
 use can_queue::{BoundedQueue, QueueError};
@@ -68,6 +69,21 @@ pub fn finish_attempt<T: BoundedQueue<Pending>, A: Arbiter>(
     set_key(arbiter, iface, key);
 }
 
+/// Loses all frames that wait on an interface, which then has none that competes.
+pub fn lose_all<T: BoundedQueue<Pending>, A: Arbiter>(
+    interfaces: &mut Vec<Interface<T>>,
+    arbiter: &mut A,
+    iface: Iface,
+)
+    requires within { iface < length interfaces.old.items }
+    ensures interfaces { (l : InterfaceState) → slice_get interfaces.old.items iface ≡ Some l →
+        interfaces.new.items ≡ slice_set interfaces.old.items iface (emptied l) }
+    ensures keys { A.keys_of arbiter.new ≡ slice_set (A.keys_of arbiter.old) iface None }
+{
+    interfaces[iface.number() as usize].lose_all();
+    arbiter.clear(iface);
+}
+
 impl<T: BoundedQueue<Pending>, R: BoundedQueue<Received>, A: Arbiter> State<T, R, A> {
     /// Sends a frame on a socket.
     pub(crate) fn send(&mut self, id: SocketId, frame: Frame) -> Result<u64, Refusal>
@@ -84,8 +100,10 @@ impl<T: BoundedQueue<Pending>, R: BoundedQueue<Received>, A: Arbiter> State<T, R
             return Err(Refusal::FdOff);
         }
         let iface = socket.iface();
-        if self.nodes.is_off(iface) {
-            return Err(Refusal::BusOff);
+        match self.nodes.counters_of(iface).state() {
+            Confinement::Off => return Err(Refusal::BusOff),
+            Confinement::Down => return Err(Refusal::Down),
+            Confinement::Active | Confinement::Warning | Confinement::Passive => {}
         }
         let pending = Pending {
             frame,
@@ -108,7 +126,7 @@ impl<T: BoundedQueue<Pending>, R: BoundedQueue<Received>, A: Arbiter> State<T, R
         self.interfaces.len()
     }
 
-    /// How many frames of an interface were lost as it went bus off.
+    /// How many frames of an interface were lost as it went bus off or down.
     pub fn lost_at(&self, place: usize) -> Option<u64>
         ensures { result ≡ option_map lost_of (slice_get self.now.interfaces place) }
     {

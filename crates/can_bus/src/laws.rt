@@ -2,7 +2,8 @@ ghost use Rattle.std.specs.Prelude.{◌≡◌, ◌≢◌, ◌+◌, ◌-◌, ◌�
 ghost use Rattle.std.specs.List.{range_with_len};
 ghost use Rattle.can_frame.specs.Frames.{CanFrame};
 ghost use Rattle.can_frame.specs.Sets.{is_in};
-ghost use Rattle.can_confine.specs.Confinement.{is_off, at_start};
+ghost use Rattle.can_confine.specs.Confinement.{is_down, is_off, is_silent, at_start, stepped};
+ghost use Rattle.can_confine.specs.Confinement.Step.{TakenDown};
 ghost use Rattle.can_fault.specs.declared.verdict.Verdict.{Verdict};
 ghost use Rattle.can_attempt.specs.declared.class.Class.TheVariants as class;
 ghost use Rattle.can_event.specs.Events.{IsLongConfig};
@@ -16,7 +17,7 @@ ghost use Rattle.can_bus.specs.Headline.{Headline};
 ghost use Rattle.can_bus.specs.Heads.{next_head};
 ghost use Rattle.can_bus.specs.Offers.{Offer, offers_to, with_room, without_room};
 ghost use Rattle.can_bus.specs.Sockets.{places, open_sockets, is_open, iface_of, capacity_of, options_of};
-ghost use Rattle.can_bus.specs.Fates.{numbers_given, opening, closing, is_restart_of, frames_with, goes_off};
+ghost use Rattle.can_bus.specs.Fates.{numbers_given, opening, closing, is_restart_of, is_taken_down, frames_with, goes_silent};
 ghost use Rattle.can_bus.specs.Fates.Fate.{Waiting, Done, Lost};
 ghost use Rattle.can_event.specs.declared.reply.Closed.{Closed};
 ghost use Rattle.can_event.specs.declared.socket_id.SocketId.{SocketId};
@@ -95,7 +96,7 @@ pub fn own_copies_are_single(config: BusConfig)
 /// On a bus of proper configuration a frame reaches a socket at most 32 times. While it is at the head of its
 /// queue the transmit error count of its interface never falls, and each attempt that failed at the last bit
 /// alone adds 8: by the 32nd the interface is bus off, and the frame lost. Restarts leave the bound as it is: an interface
-/// that is restarted was bus off, so it had no frame at the head.
+/// that is restarted was bus off or down, so it had no frame at the head.
 pub fn at_most_32_copies(config: BusConfig)
     ensures copies { IsLongConfig config → (past : List Entry) → IsLegal config past →
         AtMost32Copies config past }
@@ -107,7 +108,7 @@ pub fn at_most_32_copies(config: BusConfig)
 
 // ---- frames
 
-/// Each frame that was accepted for sending is done, waits, or was lost as its interface went bus off.
+/// Each frame that was accepted for sending is done, waits, or was lost as its interface went bus off or down.
 pub fn no_frame_is_forgotten(config: BusConfig)
     ensures { (past : List Entry) → IsLegal config past → (i : ℕ) →
         length (sent_by past i)
@@ -125,12 +126,12 @@ pub fn counts_are_those_of_the_fates(config: BusConfig)
         frames_with Lost past i ≡ lost_count past i }
 {}
 
-/// Frames are lost where their interface goes bus off, all that wait there, and nowhere else.
-pub fn frames_are_lost_at_bus_off_alone(config: BusConfig)
+/// Frames are lost where their interface goes bus off or down, all that wait there, and nowhere else.
+pub fn only_silence_loses_frames(config: BusConfig)
     ensures kept { (past : List Entry) → (e : Entry) → (i : ℕ) →
-        goes_off i e.reply ≡ false → lost_count (e ∷ past) i ≡ lost_count past i }
+        goes_silent i e.event e.reply ≡ false → lost_count (e ∷ past) i ≡ lost_count past i }
     ensures lost { (past : List Entry) → (e : Entry) → IsLegal config (e ∷ past) → (i : ℕ) →
-        goes_off i e.reply ≡ true →
+        goes_silent i e.event e.reply ≡ true →
         lost_count (e ∷ past) i
         ≡ lost_count past i + (length (sent_by past i) - gone_count past i) }
 {}
@@ -200,35 +201,53 @@ pub fn socket_numbers_are_never_used_again(config: BusConfig)
 
 // ---- interfaces
 
-/// An interface that is bus off has no frame waiting: all that was accepted there is gone.
-pub fn off_interfaces_have_nothing_to_send(config: BusConfig)
+/// An interface that is bus off or down has no frame waiting: all that was accepted there is gone.
+pub fn silent_interfaces_have_nothing_to_send(config: BusConfig)
     ensures gone { IsLongConfig config → (past : List Entry) → IsLegal config past → (i : ℕ) →
-        is_off (state_at config past i) ≡ true →
+        is_silent (state_at config past i) ≡ true →
         gone_count past i ≡ length (sent_by past i) }
     ensures idle { IsLongConfig config → (past : List Entry) → IsLegal config past → (i : ℕ) →
-        is_off (state_at config past i) ≡ true → head_of past i ≡ None }
+        is_silent (state_at config past i) ≡ true → head_of past i ≡ None }
 {}
 
-/// An interface that is bus off takes part in no attempt, and a frame sent on one of its sockets is
+/// An interface that is bus off or down takes part in no attempt, and a frame sent on one of its sockets is
 /// refused: an FD frame that the socket did not ask for as on any interface, the others for it. Its
 /// error counts stay until it is restarted.
-pub fn off_interfaces_take_no_part(config: BusConfig)
+pub fn silent_interfaces_take_no_part(config: BusConfig)
     ensures wins { (past : List Entry) → (m : ℕ) → (v : Verdict) → (t : Tried) →
         reply.Attempted (attempt.Tried t) ≡ legal_reply config past (event.Attempt m v) → (i : ℕ) →
-        is_off (state_at config past i) ≡ true → t.winner ≢ i }
+        is_silent (state_at config past i) ≡ true → t.winner ≢ i }
     ensures accepts { (past : List Entry) → (m : ℕ) → (v : Verdict) → (t : Tried) →
         reply.Attempted (attempt.Tried t) ≡ legal_reply config past (event.Attempt m v) → (i : ℕ) →
-        is_off (state_at config past i) ≡ true → is_in i t.accepted ≡ false }
-    ensures sends { (past : List Entry) → (s : SocketId) → (f : CanFrame) →
+        is_silent (state_at config past i) ≡ true → is_in i t.accepted ≡ false }
+    ensures off { (past : List Entry) → (s : SocketId) → (f : CanFrame) →
         is_open past s.0 ≡ true → lacks_fd f (options_of past s.0) ≡ false →
         is_off (state_at config past (iface_of past s.0)) ≡ true →
         legal_reply config past (event.Send s f) ≡ reply.Refused refusal.BusOff }
+    ensures down { (past : List Entry) → (s : SocketId) → (f : CanFrame) →
+        is_open past s.0 ≡ true → lacks_fd f (options_of past s.0) ≡ false →
+        is_down (state_at config past (iface_of past s.0)) ≡ true →
+        legal_reply config past (event.Send s f) ≡ reply.Refused refusal.Down }
     ensures fd { (past : List Entry) → (s : SocketId) → (f : CanFrame) →
         is_open past s.0 ≡ true → lacks_fd f (options_of past s.0) ≡ true →
         legal_reply config past (event.Send s f) ≡ reply.Refused refusal.FdOff }
     ensures counts { (past : List Entry) → (e : Entry) → IsLegal config (e ∷ past) → (i : ℕ) →
-        is_off (state_at config past i) ≡ true → is_restart_of i e.event e.reply ≡ false →
+        is_silent (state_at config past i) ≡ true → is_restart_of i e.event e.reply ≡ false →
+        is_taken_down i e.event e.reply ≡ false →
         counts_of config (e ∷ past) i ≡ counts_of config past i }
+{}
+
+/// Going down keeps the error counts of an interface, and it stays down until it is restarted by hand: no attempt restarts
+/// it.
+pub fn down_interfaces_stay_down(config: BusConfig)
+    ensures goes { (past : List Entry) → (e : Entry) → (i : ℕ) →
+        is_taken_down i e.event e.reply ≡ true →
+        counts_of config (e ∷ past) i ≡ stepped (counts_of config past i) TakenDown }
+    ensures stays { (past : List Entry) → (e : Entry) → (i : ℕ) →
+        is_down (state_at config past i) ≡ true → is_restart_of i e.event e.reply ≡ false →
+        is_down (state_at config (e ∷ past) i) ≡ true }
+    ensures waits { (past : List Entry) → IsLegal config past → (i : ℕ) →
+        is_down (state_at config past i) ≡ true → is_in i (restarted_next config past) ≡ false }
 {}
 
 /// An attempt tries the frame that was next, of the interface that had it, and is idle where there was none.

@@ -105,6 +105,7 @@ impl<T: BoundedQueue<Pending>, R: BoundedQueue<Received>, A: Arbiter> State<T, R
                 Reply::Attempted(self.attempt(config, *moment, *verdict))
             }
             Event::Restart(iface, moment) => self.restart(*iface, *moment),
+            Event::Down(iface, _) => self.down(*iface),
         }
     }
 

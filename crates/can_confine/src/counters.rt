@@ -1,6 +1,6 @@
-ghost use Rattle.std.specs.Prelude.{◌≡◌, ◌<◌, ◌≤◌, SomeIff, if◌then◌else◌};
+ghost use Rattle.std.specs.Prelude.{◌≡◌, ◌<◌, ◌≤◌, false, SomeIff, if◌then◌else◌};
 ghost use Rattle.can_confine.specs.Confinement.{stepped, at_start, state_of, is_passive};
-ghost use Rattle.can_confine.specs.Confinement.Step.{TransmitError, ReceiveError, GoodTransmission, GoodReception};
+ghost use Rattle.can_confine.specs.Confinement.Step.{TransmitError, ReceiveError, GoodTransmission, GoodReception, TakenDown};
 
 use crate::state::State;
 use std::marker::Model;
@@ -20,11 +20,13 @@ const ERROR_PASSIVE: u16 = 128;
 /// The count from which an interface is at its warning limit.
 const WARNING_LIMIT: u16 = 96;
 
-/// An interface's error counters: the transmit count, at most 263, and the receive count, at most 255.
+/// An interface's error counters: the transmit count, at most 263, and the receive count, at most 255; and whether the
+/// interface was taken down.
 #[derive(Debug, Clone, Copy, PartialEq, Eq)]
 pub struct Counters {
     tec: u16,
     rec: u16,
+    is_down: bool,
 }
 
 impl Model for Counters {
@@ -33,29 +35,39 @@ impl Model for Counters {
 
     ghost Value = { ErrorCounts };
 
-    ghost view = { λ c. record { tec = c.tec; rec = c.rec } };
+    ghost view = { λ c. record { tec = c.tec; rec = c.rec; down = c.is_down } };
 
     ghost invariant = { λ c. (c.tec ≤ 263) × (c.rec ≤ 255) };
 
-    ghost inverse = { λ v. record { tec = v.tec; rec = v.rec } };
+    ghost inverse = { λ v. record { tec = v.tec; rec = v.rec; is_down = v.down } };
 }
 
 impl Counters {
-    /// Counters with these counts, or `None` for a transmit count above 263 or a receive count above 255.
+    /// Counters with these counts, of an interface that is not down, or `None` for a transmit count above 263 or a receive
+    /// count above 255.
     pub fn new(tec: u16, rec: u16) -> Option<Counters>
-        ensures { SomeIff result ((tec ≤ 263) × (rec ≤ 255)) (record { tec = tec; rec = rec }) }
+        ensures { SomeIff result ((tec ≤ 263) × (rec ≤ 255))
+            (record { tec = tec; rec = rec; down = false }) }
     {
         if tec > MAX_TEC || rec > MAX_REC {
             return None;
         }
-        Some(Counters { tec, rec })
+        Some(Counters {
+            tec,
+            rec,
+            is_down: false,
+        })
     }
 
     /// Both counts 0, as at the start.
     pub fn zero() -> Counters
         ensures { result ≡ at_start }
     {
-        Counters { tec: 0, rec: 0 }
+        Counters {
+            tec: 0,
+            rec: 0,
+            is_down: false,
+        }
     }
 
     /// The transmit error count.
@@ -74,11 +86,20 @@ impl Counters {
         self.rec
     }
 
-    /// The fault confinement state that the counts give.
+    /// Whether the interface was taken down.
+    pub fn is_down(self) -> bool
+        ensures { result ≡ self.down }
+    {
+        self.is_down
+    }
+
+    /// The fault confinement state that the counts give, or that it is down.
     pub fn state(self) -> State
         ensures { result ≡ state_of self }
     {
-        if self.tec >= BUS_OFF {
+        if self.is_down {
+            State::Down
+        } else if self.tec >= BUS_OFF {
             State::Off
         } else if self.tec >= ERROR_PASSIVE || self.rec >= ERROR_PASSIVE {
             State::Passive
@@ -96,7 +117,7 @@ impl Counters {
     {
         Counters {
             tec: self.tec + 8,
-            rec: self.rec,
+            ..self
         }
     }
 
@@ -119,8 +140,8 @@ impl Counters {
         ensures { result ≡ stepped self ReceiveError }
     {
         Counters {
-            tec: self.tec,
             rec: (self.rec + 1).min(MAX_REC),
+            ..self
         }
     }
 
@@ -130,7 +151,7 @@ impl Counters {
     {
         Counters {
             tec: self.tec.saturating_sub(1),
-            rec: self.rec,
+            ..self
         }
     }
 
@@ -144,10 +165,20 @@ impl Counters {
         } else {
             self.rec.saturating_sub(1)
         };
-        Counters { tec: self.tec, rec }
+        Counters { rec, ..self }
     }
 
-    /// The counters after a restart: both 0, whatever they were.
+    /// The counters of an interface that is taken down: both counts stay.
+    pub fn take_down(self) -> Counters
+        ensures { result ≡ stepped self TakenDown }
+    {
+        Counters {
+            is_down: true,
+            ..self
+        }
+    }
+
+    /// The counters after a restart: both 0, whatever they were, and not down.
     pub fn restart(self) -> Counters
         ensures { result ≡ at_start }
     {

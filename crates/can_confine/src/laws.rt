@@ -1,6 +1,6 @@
-ghost use Rattle.std.specs.Prelude.{◌≡◌, ◌<◌, ◌≤◌, ℕ, nat_le, replicate};
-ghost use Rattle.can_confine.specs.Confinement.{ErrorCounts, Step, stepped, all_stepped, at_start, state_of, is_off, severity};
-ghost use Rattle.can_confine.specs.Confinement.Step.{TransmitError, ReceiveError, GoodTransmission, GoodReception};
+ghost use Rattle.std.specs.Prelude.{◌≡◌, ◌<◌, ◌≤◌, ℕ, List, true, nat_le, replicate};
+ghost use Rattle.can_confine.specs.Confinement.{ErrorCounts, Step, stepped, all_stepped, at_start, state_of, is_off, is_down, severity};
+ghost use Rattle.can_confine.specs.Confinement.Step.{TransmitError, ReceiveError, GoodTransmission, GoodReception, TakenDown};
 
 /// From 0/0, transmit errors in a row take an interface off exactly from the thirty-second on.
 pub fn thirty_two_errors_take_off()
@@ -33,5 +33,13 @@ pub fn errors_never_better()
 /// The receive count by itself never takes an interface off.
 pub fn receive_count_never_takes_off()
     ensures { (c : ErrorCounts) → (r : ℕ) →
-        is_off (state_of (record { tec = c.tec; rec = r })) ≡ is_off (state_of c) }
+        is_off (state_of (record c { rec = r })) ≡ is_off (state_of c) }
+{}
+
+/// An interface that was taken down stays down, whatever steps come after it, and keeps its counts as it goes down.
+pub fn only_a_restart_brings_up()
+    ensures stays { (c : ErrorCounts) → (ss : List Step) → c.down ≡ true →
+        is_down (state_of (all_stepped c ss)) ≡ true }
+    ensures transmit { (c : ErrorCounts) → (stepped c TakenDown).tec ≡ c.tec }
+    ensures receive { (c : ErrorCounts) → (stepped c TakenDown).rec ≡ c.rec }
 {}

@@ -46,6 +46,7 @@ pub data Call : Type 0 where
   Inject : List ℕ → Call
   CountsRules : Call
   EndsRules : Call
+  Down : ℕ → ℕ → Call
 
 -- the replies that a call can have
 abbrev pub Reply : Call → Type 0
@@ -66,6 +67,7 @@ Reply (LoadAt moment) = BusLoad
 Reply (Inject rule) = Result (Unit {0}) PortRefusal
 Reply CountsRules = ℕ
 Reply EndsRules = Unit {0}
+Reply (Down iface moment) = Result (Unit {0}) PortRefusal
 
 -- how a port's refusal is reported to a client
 abbrev pub cause_of_port : PortRefusal → Cause
@@ -97,6 +99,7 @@ Refuses step old (event.Send socket frame) why new = step old (Send socket frame
 Refuses step old (event.Receive socket) why new = step old (Receive socket) (Err why) new
 Refuses step old (event.Attempt moment verdict) why new = step old (Attempt moment verdict) (Err why) new
 Refuses step old (event.Restart iface moment) why new = step old (Restart iface moment) (Err why) new
+Refuses step old (event.Down iface moment) why new = step old (Down iface moment) (Err why) new
 
 -- an event with its reply is a step with what the reply gives: a reply is of the event's kind, or the bus's refusal
 abbrev pub Gives : {P : Type 0} → (P → (call : Call) → Reply call → P → Type 0) → P → Event → EventReply → P → Type 0
@@ -109,6 +112,7 @@ Gives step old (event.Send socket frame) (reply.Sent number) new = step old (Sen
 Gives step old (event.Receive socket) (reply.Received item) new = step old (Receive socket) (Ok item) new
 Gives step old (event.Attempt moment verdict) (reply.Attempted a) new = step old (Attempt moment verdict) (Ok a) new
 Gives step old (event.Restart iface moment) reply.Done new = step old (Restart iface moment) (Ok tt) new
+Gives step old (event.Down iface moment) reply.Done new = step old (Down iface moment) (Ok tt) new
 Gives step old e r new = ⊥
 
 -- a call by an event: it has a reply, or it is refused before the bus has the event

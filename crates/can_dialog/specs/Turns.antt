@@ -33,7 +33,7 @@ use Rattle.can_dialog.specs.declared.stage.RawSocket.{RawSocket}
 use Rattle.can_dialog.specs.declared.stage.Dialog.{Dialog}
 use Rattle.can_dialog.specs.Calls.{cause_of_port}
 use Rattle.can_dialog.specs.Calls.Call.{Names, Attach, Open, Close, SetFilters, SetOption, Send}
-use Rattle.can_dialog.specs.Calls.Call.{Receive, Restart, CountsOfSocket, CountsOfIface}
+use Rattle.can_dialog.specs.Calls.Call.{Receive, Restart, CountsOfSocket, CountsOfIface, Down}
 use Rattle.can_dialog.specs.Calls.Call.{CountersOfIface, LoadAt, Inject, CountsRules, EndsRules}
 use Rattle.can_dialog.specs.Plans.{Plan}
 use Rattle.can_dialog.specs.Plans.Plan.{Tell, Ask}
@@ -190,6 +190,7 @@ doing_raw moment d raw (command.Fault rule) = injecting d rule
 doing_raw moment d raw command.Faults = counting_rules d
 doing_raw moment d raw command.NoFaults = ending_rules d
 doing_raw moment d raw command.Close = closing d raw
+doing_raw moment d raw command.Down = Ask (Down raw.iface moment) (done d)
 
 -- a command, by the stage of the session
 abbrev pub doing : ℕ → Dialog → Stage → Command → Plan Dialog

@@ -159,6 +159,7 @@ fn do_raw<P: Port>(
         Command::Faults => Some(Answer::Faults(port.rules())),
         Command::NoFaults => end_rules(*dialog, port),
         Command::Close => close(dialog, raw, port),
+        Command::Down => told(port.down(raw.iface, moment)),
     }
 }
 

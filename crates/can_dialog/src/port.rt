@@ -82,7 +82,7 @@ pub trait Port {
     ghost use Rattle.can_dialog.specs.Calls.{Call, Reply, Steps};
     ghost use Rattle.std.specs.Prelude.{◌≡◌, ◌++◌, ℕ, List, OnOk};
     ghost use Rattle.can_proto.specs.Spelling.{spaced};
-    ghost use Rattle.can_dialog.specs.Calls.Call.{Names, Attach, Open, Close, SetFilters, SetOption, Send, Receive, Restart, CountsOfSocket, CountsOfIface, CountersOfIface, LoadAt, Inject, CountsRules, EndsRules};
+    ghost use Rattle.can_dialog.specs.Calls.Call.{Names, Attach, Open, Close, SetFilters, SetOption, Send, Receive, Restart, CountsOfSocket, CountsOfIface, CountersOfIface, LoadAt, Inject, CountsRules, EndsRules, Down};
 
     /// The state before, a call, its reply and the state after.
     ghost step: { Self → (call : Call) → Reply call → Self → Type 0 };
@@ -169,11 +169,20 @@ pub trait Port {
         }
     }
 
-    /// Brings an interface that is bus off back, at a moment.
+    /// Brings an interface that is bus off back, or one that is down up, at a moment.
     fn restart(&mut self, iface: Iface, moment: Moment) -> Result<(), PortRefusal>
         ensures { step self.old (Restart iface moment) result self.new }
     {
         self.call(Event::Restart(iface, moment))?
+            .into_done()
+            .map_err(PortRefusal::Bus)
+    }
+
+    /// Takes an interface down, at a moment.
+    fn down(&mut self, iface: Iface, moment: Moment) -> Result<(), PortRefusal>
+        ensures { step self.old (Down iface moment) result self.new }
+    {
+        self.call(Event::Down(iface, moment))?
             .into_done()
             .map_err(PortRefusal::Bus)
     }

@@ -127,7 +127,7 @@ impl Session {
 
     /// Takes the next piece of the client's stream: carries out the messages that it ends, in order, and
     /// writes the texts of all of them in one `write_all`, or nothing where there is no text.
-    /// A restart happens at `moment`.
+    /// An interface is restarted, or goes down, at `moment`.
     ///
     /// Refusals, in this order: `Ended`; `NoMemory`, before anything of the piece was taken; `Write`, after
     /// the messages of the piece were carried out. Where memory is refused while a command is read or by the

@@ -1,7 +1,7 @@
 use Rattle.std.specs.Prelude.{ℕ, ◌+◌, ◌==◌, nat_le, Bool, true, false, Option, Some, None}
 use Rattle.std.specs.Prelude.{option_map, List, [], ◌∷◌, replicate, bit_or, if◌then◌else◌}
 use Rattle.can_frame.specs.Frames.{ErrorMessage}
-use Rattle.can_confine.specs.Confinement.{ErrorCounts, Step, state_of, is_off, severity}
+use Rattle.can_confine.specs.Confinement.{ErrorCounts, Step, state_of, is_off, is_down, severity}
 use Rattle.can_confine.specs.Confinement.Step.{ReceiveError}
 use Rattle.can_fault.specs.declared.verdict.Verdict.{Verdict}
 use Rattle.can_fault.specs.declared.verdict.Verdict.TheVariants as verdict
@@ -59,7 +59,7 @@ controller_code tx rx =
     (if nat_le (level rx) (level tx) then tx_code tx else 0)
     (if nat_le (level tx) (level rx) then rx_code rx else 0)
 
--- the state and both counts, of an interface that is not bus off
+-- the state and both counts, of an interface that is neither bus off nor down
 abbrev pub controller_message : ErrorCounts → ErrorMessage
 controller_message c = record {
   class = err_crtl + err_cnt;
@@ -70,11 +70,12 @@ controller_message c = record {
 abbrev pub bus_off_message : ErrorMessage
 bus_off_message = record { class = err_busoff; bytes = no_bytes }
 
--- the report of a change of counts: nothing if the state stays
+-- the report of a change of counts: nothing if the state stays, or the interface is down
 abbrev pub state_message : ErrorCounts → ErrorCounts → Option ErrorMessage
 state_message old new =
     if severity (state_of old) == severity (state_of new) then None
     else if is_off (state_of new) then Some bus_off_message
+    else if is_down (state_of new) then None
     else Some (controller_message new)
 
 -- Restarts.

@@ -1,6 +1,6 @@
 ghost use Rattle.std.specs.Prelude.{◌≡◌, ◌↔◌, ℕ, true, false, IsNone, IfSome, None, is_some, slice_index, not};
 ghost use Rattle.can_frame.specs.declared.iface.IfaceSet.{IfaceSet};
-ghost use Rattle.can_confine.specs.Confinement.{ErrorCounts, state_of, is_off};
+ghost use Rattle.can_confine.specs.Confinement.{ErrorCounts, state_of, is_off, is_down};
 ghost use Rattle.can_fault.specs.declared.verdict.LocalKind.{LocalKind};
 ghost use Rattle.can_fault.specs.declared.verdict.Verdict.TheVariants.{Good, Local};
 ghost use Rattle.can_attempt.specs.declared.class.Class.{Class};
@@ -10,10 +10,13 @@ ghost use Rattle.can_errframe.specs.ErrorMessages.{state_message, fault_message,
 ghost use Rattle.can_errframe.specs.declared.role.Role.{Role};
 ghost use Rattle.can_errframe.specs.declared.role.Role.TheVariants.{Winner};
 
-/// There is no state frame exactly where the state stays.
+/// There is no state frame exactly where the state stays, of an interface that is not down; going down is no change that a
+/// frame reports.
 pub fn state_frames_report_changes()
-    ensures { (old new : ErrorCounts) →
+    ensures changes { (old new : ErrorCounts) → is_down (state_of new) ≡ false →
         IsNone (state_message old new) ↔ (state_of old ≡ state_of new) }
+    ensures down { (old new : ErrorCounts) → is_down (state_of new) ≡ true →
+        IsNone (state_message old new) }
 {}
 
 /// A state frame is a bus off frame, class 0x040, exactly where the new state is bus off.

@@ -3,7 +3,7 @@ ghost use Rattle.can_errframe.specs.ErrorMessages.{state_message, restart_messag
 
 use crate::codes::{CAN_ERR_BUSOFF, CAN_ERR_CNT, CAN_ERR_CRTL, CAN_ERR_RESTARTED};
 use crate::side::{Side, controller_code};
-use can_confine::{Counters, State};
+use can_confine::Counters;
 use can_frame::ErrorFrame;
 
 /// An error message frame of a class that fits 29 bits.
@@ -17,7 +17,7 @@ pub(crate) fn frame_of(class: u32, bytes: [u8; 8]) -> ErrorFrame
     }
 }
 
-/// The frame that reports a change of an interface's counters: `None` where its state stays, a bus off
+/// The frame that reports a change of an interface's counters: `None` where its state stays or it is down, a bus off
 /// frame where it went off, else a controller frame with both counts.
 #[inline]
 pub fn state_frame(old: Counters, new: Counters) -> Option<ErrorFrame>
@@ -38,8 +38,11 @@ fn frame_of_change(old: Counters, new: Counters) -> Option<ErrorFrame>
     if old.state() == new.state() {
         return None;
     }
-    if new.state() == State::Off {
+    if new.state().is_off() {
         return Some(frame_of(CAN_ERR_BUSOFF, [0; 8]));
+    }
+    if new.is_down() {
+        return None;
     }
     let code = controller_code(Side::of_count(new.tec()), Side::of_count(new.rec()));
     let bytes = [0, code, 0, 0, 0, 0, new.tec() as u8, new.rec() as u8];

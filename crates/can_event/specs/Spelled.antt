@@ -7,7 +7,7 @@ use Rattle.can_event.specs.declared.bus_config.BusConfig.{BusConfig}
 use Rattle.can_event.specs.declared.entry.Entry.{Entry}
 use Rattle.can_event.specs.declared.event.Event.{Event}
 use Rattle.can_event.specs.declared.event.Event.TheVariants.{Open, Close, SetFilters, SetOption}
-use Rattle.can_event.specs.declared.event.Event.TheVariants.{Send, Receive, Attempt, Restart}
+use Rattle.can_event.specs.declared.event.Event.TheVariants.{Send, Receive, Attempt, Restart, Down}
 use Rattle.can_event.specs.declared.received.Received.{Received}
 use Rattle.can_event.specs.declared.refusal.Refusal.{Refusal}
 use Rattle.can_event.specs.declared.refusal.Refusal.TheVariants as refusal
@@ -65,6 +65,7 @@ FitsReply (Receive s) (reply.Received item) = AreNumbered item
 FitsReply (Attempt m v) (reply.Attempted (attempt.Idle restarted)) = Unit {0}
 FitsReply (Attempt m v) (reply.Attempted (attempt.Tried t)) = t.moment ≡ m
 FitsReply (Restart i m) reply.Done = Unit {0}
+FitsReply (Down i m) reply.Done = Unit {0}
 FitsReply _ _ = ⊥
 
 -- attempts restart interfaces only on a bus that is made for it (own choice)

@@ -24,8 +24,10 @@ pub enum Event {
     Receive(SocketId),
     /// Try the frame that wins the bus, at a moment, with these faults.
     Attempt(Moment, Verdict),
-    /// Restart an interface that is bus off, at a moment.
+    /// Restart an interface that is bus off or down, at a moment.
     Restart(Iface, Moment),
+    /// Take an interface down, at a moment (`ip link set down`).
+    Down(Iface, Moment),
 }
 
 impl Event {
@@ -42,6 +44,7 @@ impl Event {
             Event::Receive(id) => Event::Receive(*id),
             Event::Attempt(moment, verdict) => Event::Attempt(*moment, *verdict),
             Event::Restart(iface, moment) => Event::Restart(*iface, *moment),
+            Event::Down(iface, moment) => Event::Down(*iface, *moment),
         })
     }
 }

@@ -30,12 +30,15 @@ pub enum Refusal {
     /// The transmit queue is full.
     #[error("no buffers")]
     NoBuffers,
-    /// The interface is not bus off.
+    /// The interface is neither bus off nor down.
     #[error("not bus off")]
     NotBusOff,
     /// Memory was refused.
     #[error("no memory")]
     NoMemory,
+    /// The interface is down.
+    #[error("interface down")]
+    Down,
 }
 
 impl Refusal {

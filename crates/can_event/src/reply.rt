@@ -21,7 +21,7 @@ pub enum Reply {
     Opened(SocketId),
     /// A socket was closed.
     Closed(Closed),
-    /// Filters or an option were set, or an interface was restarted.
+    /// Filters or an option were set, or an interface was restarted or taken down.
     Done,
     /// A frame was accepted for sending, and has this number at its interface.
     Sent(u64),

@@ -57,7 +57,7 @@ fn is_setting(event: &Event) -> bool
     match event {
         Event::SetFilters(_, _) => true,
         Event::SetOption(_, _) => true,
-        Event::Restart(_, _) => true,
+        Event::Restart(_, _) | Event::Down(_, _) => true,
         _ => false,
     }
 }

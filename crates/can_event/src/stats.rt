@@ -10,7 +10,7 @@ pub struct SocketStats {
 }
 
 /// What became of the frames of an interface, and its error counters. Each frame that was sent is done,
-/// waits, or was lost by bus off; refused are those that found the transmit queue full.
+/// waits, or was lost as the interface went bus off or down; refused are those that found the transmit queue full.
 #[derive(Debug, Clone, Copy, PartialEq, Eq)]
 pub struct IfaceStats {
     pub sent: u64,

@@ -8,7 +8,7 @@ use Rattle.can_confine.specs.Confinement.{ErrorCounts}
 use Rattle.can_event.specs.declared.bus_config.BusConfig.{BusConfig}
 use Rattle.can_event.specs.declared.entry.Entry.{Entry}
 use Rattle.can_event.specs.declared.event.Event.{Event}
-use Rattle.can_event.specs.declared.event.Event.TheVariants.{Open, Close, SetFilters, SetOption, Send, Receive, Attempt, Restart}
+use Rattle.can_event.specs.declared.event.Event.TheVariants.{Open, Close, SetFilters, SetOption, Send, Receive, Attempt, Restart, Down}
 use Rattle.can_event.specs.declared.received.Received.{Received}
 use Rattle.can_event.specs.declared.reply.Closed.{Closed}
 use Rattle.can_event.specs.declared.reply.Reply.{Reply}
@@ -53,11 +53,12 @@ seen_is c past =
     ∙ ap (λ (l : List ℕ). made (all_counts c past) l (map counts_in (kept_sockets c past))) (seen_lost c past)
     ∙ ap (λ (k : List Closed). made (all_counts c past) (map (lost_count past) (range_with_len 0 c.ifaces)) k) (seen_sockets c past)
 
--- ---- an attempt or a restart opens and closes no socket, and takes no item
+-- ---- a step opens and closes no socket, and takes no item
 
 open_stays : (n : ℕ) (e : Event) (r : Reply) (before : List ℕ) → IsTrue (is_step e) → open_after n e r before ≡ before
 open_stays n (Attempt m v) r before step = refl
 open_stays n (Restart i m) r before step = refl
+open_stays n (Down i m) r before step = refl
 open_stays n (Open i k) r before step = cc
 open_stays n (Close s) r before step = cc
 open_stays n (SetFilters s f) r before step = cc
@@ -68,6 +69,7 @@ open_stays n (Receive s) r before step = cc
 taken_stays : (e : Event) (r : Reply) (s : ℕ) (before : List Received) → IsTrue (is_step e) → taken_after e r s before ≡ before
 taken_stays (Attempt m v) r s before step = refl
 taken_stays (Restart i m) r s before step = refl
+taken_stays (Down i m) r s before step = refl
 taken_stays (Open i k) r s before step = cc
 taken_stays (Close s') r s before step = cc
 taken_stays (SetFilters s' f) r s before step = cc
@@ -136,7 +138,7 @@ dropped_told c past e step =
     ap (λ (ss : List ℕ). flat_map (told_dropped_at before (map (kept_socket c (e ∷ past)) ss)) (range_with_len 0 (length before))) same
     ∙ by_place dropped_in nothing_seen (counts_at_close c past) (kept_socket c (e ∷ past)) (open_sockets past)
 
--- what is told of what was seen before an attempt or a restart and is kept after it
+-- what is told of what was seen before a step and is kept after it
 pub parts_told : (c : BusConfig) (past : List Entry) (e : Entry) → IsLegal c past → IsTrue (is_step e.event) → told_parts (seen_after c past) (kept_parts c (e ∷ past)) ≡ parts_of c past e
 unfolding told_parts seen_after parts_of
 parts_told c past e legal step = whole (is_step e.event) step

@@ -30,7 +30,7 @@ abbrev pub counts_parts : BusConfig → List Entry → Entry → List ℕ
 counts_parts c past e =
     flat_map (λ i. counts_part i (counts_of c past i) (counts_of c (e ∷ past) i)) (range_with_len 0 16)
 
--- how many frames bus off took out of the transmit queues, by interface
+-- how many frames left the transmit queues as interfaces went bus off or down, by interface
 abbrev pub lost_parts : BusConfig → List Entry → Entry → List ℕ
 lost_parts c past e = flat_map (λ i. lost_part i (lost_by past e i)) (range_with_len 0 c.ifaces)
 
@@ -48,7 +48,7 @@ abbrev pub dropped_part : BusConfig → List Entry → Entry → List ℕ
 dropped_part c past e =
     named (codes "dropped") (flat_map (λ s. dropped_words s (dropped_by c past e s)) (open_sockets past))
 
--- what an entry brought about: nothing where it is of no attempt and no restart
+-- what an entry brought about: nothing where it is no attempt, and no interface is restarted or taken down
 unfoldable pub parts_of : BusConfig → List Entry → Entry → List ℕ
 parts_of c past e =
     if is_step e.event

@@ -19,8 +19,8 @@ use std::marker::Model;
 
 /// What a bus was like before an entry, as far as an entry can change it.
 ///
-/// `look` before an attempt or a restart, then the bus's answer, then `put_line` or `put_wanted_line`. Memory is taken once,
-/// by `new`.
+/// `look` before an attempt, or before an interface is restarted or taken down, then the bus's answer, then `put_line` or
+/// `put_wanted_line`. Memory is taken once, by `new`.
 #[derive(Drop)]
 pub struct Before {
     /// The error counters of all 16 places.
@@ -73,8 +73,8 @@ impl Before {
         see_sockets(&mut self.sockets, state)
     }
 
-    /// The line of an attempt or a restart, as it is in the record, and before its LF what the entry brought about. The
-    /// bus was looked at before it.
+    /// The line of an attempt, or of an interface that is restarted or taken down, as it is in the record, and before its LF
+    /// what the entry brought about. The bus was looked at before it.
     pub fn put_line(
         &self,
         out: &mut Vec<u8>,

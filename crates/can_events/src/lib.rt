@@ -1,5 +1,5 @@
 //! The text of a record's events: the line of each entry, with what the entry brought about. That is the error counts
-//! that it changed, the frames that bus off lost, and the items that found room at sockets, and those that found none. Where
+//! that it changed, the frames that were lost as an interface went bus off or down, and the items that found room at sockets, and those that found none. Where
 //! the timing of the bus is given, each frame that was tried also has its times and its bits on the wire, and where the
 //! faults of the run are, the number of the rule that gave the attempt its verdict.
 //!

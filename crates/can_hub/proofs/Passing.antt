@@ -47,6 +47,7 @@ module _ (F : Type 0) (buses : List BusSeen) (now : EnteredSeen) (pass : PassSee
   gives (event.Receive socket) (reply.Received item) called fits = on (λ x. reply.Received x) _ (Ok item) called
   gives (event.Attempt moment verdict) (reply.Attempted attempt) called fits = on reply.Attempted _ (Ok attempt) called
   gives (event.Restart iface moment) reply.Done called fits = on done_reply _ (Ok tt) called
+  gives (event.Down iface moment) reply.Done called fits = on done_reply _ (Ok tt) called
   gives (event.Open iface asked) (reply.Refused why) called fits = on (λ x. reply.Opened x) _ (Err (station.Bus why)) (inr called.0, called.1)
   gives (event.Close socket) (reply.Refused why) called fits = on (λ x. reply.Closed x) _ (Err (station.Bus why)) (inr called.0, called.1)
   gives (event.Send socket frame) (reply.Refused why) called fits = on (λ x. reply.Sent x) _ (Err (station.Bus why)) (inr called.0, called.1)

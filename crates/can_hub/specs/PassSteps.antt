@@ -18,7 +18,7 @@ use Rattle.can_dialog.specs.declared.port.PortRefusal.TheVariants as port
 use Rattle.can_dialog.specs.Calls.{Call, reply_to_rule}
 use Rattle.can_dialog.specs.Calls.{Reply as CallReply}
 use Rattle.can_dialog.specs.Calls.Call.{Names, Attach, Open, Close, SetFilters, SetOption, Send}
-use Rattle.can_dialog.specs.Calls.Call.{Receive, Restart, Attempt, CountsOfSocket, CountsOfIface}
+use Rattle.can_dialog.specs.Calls.Call.{Receive, Restart, Down, Attempt, CountsOfSocket, CountsOfIface}
 use Rattle.can_dialog.specs.Calls.Call.{CountersOfIface, LoadAt, Inject, CountsRules, EndsRules}
 use Rattle.can_rules.specs.declared.rules.RuleRefusal.{RuleRefusal}
 use Rattle.can_station.specs.Held.{StationSeen}
@@ -184,6 +184,7 @@ PassStep F old (SetOption socket option) answer new = OnPort done_reply old (eve
 PassStep F old (Send socket frame) answer new = OnPort reply.Sent old (event.Send socket frame) answer new
 PassStep F old (Receive socket) answer new = OnPort reply.Received old (event.Receive socket) answer new
 PassStep F old (Restart iface moment) answer new = OnPort done_reply old (event.Restart iface moment) answer new
+PassStep F old (Down iface moment) answer new = OnPort done_reply old (event.Down iface moment) answer new
 PassStep F old (Attempt moment verdict) answer new =
     OnPort reply.Attempted old (event.Attempt moment verdict) answer new
 PassStep F old (CountsOfSocket socket) answer new = CountsSocket F old.entered socket.0 answer × (new ≡ old)

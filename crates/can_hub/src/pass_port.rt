@@ -136,11 +136,18 @@ impl<'a, N: BusName, F: FaultSource + Drop, G: Gate + Drop, R: Wait> PassPort<'a
         self.tally
     }
 
-    /// The interface that a call restarted last, if one did since this was asked before.
+    /// The interface that a call restarted last, if one did since this was asked before and none took it down after that.
     pub fn take_restarted(&mut self) -> Option<Iface>
         ensures { self.new ≡ self.old }
     {
         self.tally.take_restarted()
+    }
+
+    /// The interface that a call took down last, if one did since this was asked before and none restarted it after that.
+    pub fn take_downed(&mut self) -> Option<Iface>
+        ensures { self.new ≡ self.old }
+    {
+        self.tally.take_downed()
     }
 
     /// Gives the pass away, where a station was entered.

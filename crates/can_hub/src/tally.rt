@@ -10,6 +10,7 @@ pub struct Tally {
     /// How many items found no room at its socket, as the close says.
     pub dropped: u64,
     restarted: Option<Iface>,
+    downed: Option<Iface>,
 }
 
 /// A call, as far as a tally looks at it.
@@ -17,6 +18,7 @@ pub struct Tally {
 pub(crate) struct Counted {
     is_send: bool,
     restarts: Option<Iface>,
+    downs: Option<Iface>,
 }
 
 impl Counted {
@@ -26,6 +28,10 @@ impl Counted {
             is_send: matches!(event, Event::Send(_, _)),
             restarts: match event {
                 Event::Restart(iface, _) => Some(*iface),
+                _ => None,
+            },
+            downs: match event {
+                Event::Down(iface, _) => Some(*iface),
                 _ => None,
             },
         }
@@ -39,6 +45,7 @@ impl Tally {
             refused: 0,
             dropped: 0,
             restarted: None,
+            downed: None,
         }
     }
 
@@ -57,16 +64,32 @@ impl Tally {
                 self.dropped = self.dropped.saturating_add(closed.dropped);
             }
             Reply::Done => {
-                if call.restarts.is_some() {
-                    self.restarted = call.restarts;
-                }
+                note(&mut self.restarted, &mut self.downed, call.restarts);
+                note(&mut self.downed, &mut self.restarted, call.downs);
             }
             _ => {}
         }
     }
 
-    /// The interface that was restarted last, if one was since this was asked before.
+    /// The interface that was restarted last, if one was since this was asked before. One that was taken down after it
+    /// is left out.
     pub fn take_restarted(&mut self) -> Option<Iface> {
         self.restarted.take()
+    }
+
+    /// The interface that was taken down last, if one was since this was asked before. One that was restarted after it is
+    /// left out.
+    pub fn take_downed(&mut self) -> Option<Iface> {
+        self.downed.take()
+    }
+}
+
+/// Notes the interface of a call, if it has one, in place of what was noted of it as the opposite.
+fn note(noted: &mut Option<Iface>, opposite: &mut Option<Iface>, iface: Option<Iface>) {
+    if iface.is_some() {
+        *noted = iface;
+        if *opposite == iface {
+            *opposite = None;
+        }
     }
 }

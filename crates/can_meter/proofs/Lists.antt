@@ -1,6 +1,6 @@
 -- Lists of publications, and ends of them.
-use Rattle.std.proofs.Common.{◌≡◌, ◌≢◌, ℕ, zero, suc, ◌/◌, ◌%◌, ◌≤◌, Bool, true, false, List, [], ◌∷◌, ◌++◌, length, refl, ap, sym, ◌∙◌, subst, arith, length-append}
-use Rattle.std.specs.Prelude.{nat_le, if◌then◌else◌}
+use Rattle.std.proofs.Common.{◌≡◌, ◌≢◌, ℕ, zero, suc, ◌+◌, ◌*◌, ◌/◌, ◌%◌, ◌≤◌, Bool, true, false, List, [], ◌∷◌, ◌++◌, length, refl, ap, sym, ◌∙◌, subst, arith, length-append}
+use Rattle.std.specs.Prelude.{nat_eq, nat_le, if◌then◌else◌}
 use Rattle.std.proofs.lemmas.Bool.Decides.{nat_tests}
 use mathlib.Core.List.{IsSuffix, suffix_refl, suffix-cons, IsSuffix-trans}
 use mathlib.Core.Logic.{dite}
@@ -8,7 +8,7 @@ use native.Mathlib.Decide.{ℕ_discrete}
 use Rattle.can_meter.specs.declared.status.Status.{Status}
 use Rattle.can_meter.specs.Publications.{newest, published, with_list, with_newest, longer, longer_lists, Ends}
 use Rattle.can_meter.specs.Rule.{AreRising, AllEnd}
-use Rattle.can_meter.specs.Words.{word_of, meant, Fits}
+use Rattle.can_meter.specs.Words.{bit_of, word_of, meant, Fits}
 
 -- of two ends of one list the shorter is an end of the longer
 pub suffix_shorter : {A : Type 0} (xs ys zs : List A) → IsSuffix xs zs → IsSuffix ys zs → length xs ≤ length ys → IsSuffix xs ys
@@ -99,10 +99,22 @@ longer_ends a b all p q = ((λ i. (each i).0), (λ i. (each i).1), (λ i. (each 
     each : (i : ℕ) → Longest i (published (longer_lists a b) i)
     each i = subst (Longest i) (sym (published-longer a b i)) (longer_is (published a i) (published b i) (published all i) (p i) (q i))
 
+-- the lowest bit is the flag that it was made of
+bit_back : (n : ℕ) (b : Bool) → nat_eq ((n * 2 + bit_of b) % 2) 1 ≡ b
+bit_back n true = let one : (n * 2 + 1) % 2 ≡ 1 = omega arith in rw one refl
+bit_back n false = let none : (n * 2 + 0) % 2 ≡ 0 = omega arith in rw none refl
+
+-- and the bits above it are the rest
+rest_back : (n : ℕ) (b : Bool) → (n * 2 + bit_of b) / 2 ≡ n
+rest_back n true = omega arith
+rest_back n false = omega arith
+
 -- a word keeps the publication that it was made of
 pub meant-word_of : (p : Status) → Fits p → meant (word_of p) ≡ p
 meant-word_of p f =
-    let at : word_of p / 256 / 512 ≡ p.at = omega arith in
-    let tec : word_of p / 256 % 512 ≡ p.counters.tec = omega arith in
-    let rec : word_of p % 256 ≡ p.counters.rec = omega arith in
-    λ k. record { at = at k; counters = record { tec = tec k; rec = rec k } }
+    let rest : word_of p / 2 ≡ (p.at * 512 + p.counters.tec) * 256 + p.counters.rec = rest_back _ p.counters.down in
+    let at : word_of p / 2 / 256 / 512 ≡ p.at = omega (arith, rest) in
+    let tec : word_of p / 2 / 256 % 512 ≡ p.counters.tec = omega (arith, rest) in
+    let rec : word_of p / 2 % 256 ≡ p.counters.rec = omega (arith, rest) in
+    let down : nat_eq (word_of p % 2) 1 ≡ p.counters.down = bit_back _ p.counters.down in
+    λ k. record { at = at k; counters = record { tec = tec k; rec = rec k; down = down k } }

@@ -1,15 +1,23 @@
-use Rattle.std.specs.Prelude.{ℕ, ◌+◌, ◌*◌, ◌/◌, ◌%◌, ◌<◌, ◌≤◌}
+use Rattle.std.specs.Prelude.{ℕ, ◌+◌, ◌*◌, ◌/◌, ◌%◌, ◌<◌, ◌≤◌, Bool, nat_eq, if◌then◌else◌}
 use Rattle.can_meter.specs.declared.status.Status.{Status}
 
 -- How one word of 64 bits keeps a publication. No caller's contract speaks of it.
 
--- from the lowest bit on: 8 bits of receive count, 9 of transmit count, and the length of the record
+-- a flag as a bit (own choice)
+abbrev pub bit_of : Bool → ℕ
+bit_of on = if on then 1 else 0
+
+-- from the lowest bit on: a bit for an interface that is down, 8 bits of receive count, 9 of transmit count, and the
+-- length of the record
 abbrev pub word_of : Status → ℕ
-word_of p = (p.at * 512 + p.counters.tec) * 256 + p.counters.rec
+word_of p = ((p.at * 512 + p.counters.tec) * 256 + p.counters.rec) * 2 + bit_of p.counters.down
 
 -- the publication that a word keeps
 abbrev pub meant : ℕ → Status
-meant n = record { at = n / 256 / 512; counters = record { tec = n / 256 % 512; rec = n % 256 } }
+meant n = record {
+  at = n / 2 / 256 / 512;
+  counters = record { tec = n / 2 / 256 % 512; rec = n / 2 % 256; down = nat_eq (n % 2) 1 };
+}
 
 -- the length of the record fits its 32 bits, and both counts are within their limits
 abbrev pub Fits : Status → Type 0

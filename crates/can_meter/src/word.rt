@@ -4,6 +4,9 @@ ghost use Rattle.can_meter.specs.Words.{word_of, meant, Fits};
 use crate::status::Status;
 use can_confine::Counters;
 
+/// The number of values of the bit that says whether the interface is down.
+const DOWN_VALUES: u64 = 2;
+
 /// How many values the receive count's bits have.
 const REC_VALUES: u64 = 256;
 
@@ -17,7 +20,9 @@ pub(crate) fn word(publication: Status) -> u64
 {
     let tec = publication.counters.tec();
     let rec = publication.counters.rec();
-    (u64::from(publication.at) * TEC_VALUES + u64::from(tec)) * REC_VALUES + u64::from(rec)
+    let counts = (u64::from(publication.at) * TEC_VALUES + u64::from(tec)) * REC_VALUES
+        + u64::from(rec);
+    counts * DOWN_VALUES + u64::from(publication.counters.is_down())
 }
 
 /// The publication that a word keeps.
@@ -25,11 +30,17 @@ pub(crate) fn read_word(word: u64) -> Status
     requires { Fits (meant word) }
     ensures { result ≡ meant word }
 {
-    let at = (word / REC_VALUES / TEC_VALUES) as u32;
-    let tec = (word / REC_VALUES % TEC_VALUES) as u16;
-    let rec = (word % REC_VALUES) as u16;
-    match Counters::new(tec, rec) {
-        Some(counters) => Status { at, counters },
-        None => unreachable!(),
-    }
+    let counts = word / DOWN_VALUES;
+    let at = (counts / REC_VALUES / TEC_VALUES) as u32;
+    let tec = (counts / REC_VALUES % TEC_VALUES) as u16;
+    let rec = (counts % REC_VALUES) as u16;
+    let Some(counters) = Counters::new(tec, rec) else {
+        unreachable!()
+    };
+    let counters = if word % DOWN_VALUES == 1 {
+        counters.take_down()
+    } else {
+        counters
+    };
+    Status { at, counters }
 }

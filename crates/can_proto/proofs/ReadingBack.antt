@@ -13,7 +13,7 @@ use Rattle.can_event.specs.declared.opt.Opt.{Opt}
 use Rattle.can_event.specs.declared.opt.Opt.TheVariants as opt
 use Rattle.can_proto.specs.declared.command.Mode.{Mode}
 use Rattle.can_proto.specs.declared.command.Command.{Command}
-use Rattle.can_proto.specs.declared.command.Command.TheVariants.{Echo, Interfaces, Open, Rawmode, Send, SetFilters, SetOption, ErrData, Ack, Origin, Stats, Status, Load, Restart, Fault, Faults, NoFaults, Close}
+use Rattle.can_proto.specs.declared.command.Command.TheVariants.{Echo, Interfaces, Open, Rawmode, Send, SetFilters, SetOption, ErrData, Ack, Origin, Stats, Status, Load, Restart, Fault, Faults, NoFaults, Close, Down}
 use Rattle.can_proto.specs.declared.fault.ProtoFault.{ProtoFault}
 use Rattle.can_proto.specs.declared.fault.ProtoFault.TheVariants.{BadByte}
 use Rattle.can_proto.specs.declared.verb.Verb.{Verb}
@@ -175,6 +175,7 @@ words-command (Fault rule) h = (refl, omega arith, words-after true rule)
 words-command Faults h = (refl, omega arith, tt)
 words-command NoFaults h = (refl, omega arith, tt)
 words-command Close h = (refl, omega arith, tt)
+words-command Down h = (refl, omega arith, tt)
 
 -- each word is read back
 
@@ -376,6 +377,7 @@ command-again mode (Fault rule) h may = said mode verb.Fault (words_of rule) (Fa
 command-again mode Faults h may = said mode verb.Faults [] Faults may refl
 command-again mode NoFaults h may = said mode verb.NoFaults [] NoFaults may refl
 command-again mode Close h may = said mode verb.Close [] Close may refl
+command-again mode Down h may = said mode verb.Down [] Down may refl
 
 pub read-back : (mode : Mode) (c : Command) → IsCommand c → IsTrue (mode_has mode (command_words c)) → reading mode (words_of (command_spelling c)) ≡ Ok c
 read-back mode c h may = ap (reading mode) (words-again (command_words c) (words-command c h)) ∙ command-again mode c h may

@@ -34,6 +34,7 @@ cause_in text =
     if is_word text (codes "wrong station") then cause.WrongStation else
     if is_word text (codes "bad rule") then cause.BadRule else
     if is_word text (codes "too many rules") then cause.TooManyRules else
+    if is_word text (codes "interface down") then cause.Down else
     cause.NoMemory
 
 told : (c : Cause) → cause_in (cause_text c) ≡ c
@@ -64,6 +65,7 @@ told cause.TooManySessions = refl
 told cause.WrongStation = refl
 told cause.BadRule = refl
 told cause.TooManyRules = refl
+told cause.Down = refl
 
 pub one-cause : (a b : Cause) → cause_text a ≡ cause_text b → a ≡ b
 one-cause a b h = sym (told a) ∙ ap cause_in h ∙ told b

@@ -1,4 +1,4 @@
-use Rattle.std.proofs.Common.{◌≡◌, ℕ, suc, ◌+◌, ◌/◌, ◌%◌, ◌^◌, ◌<◌, ◌==◌, if◌then◌else◌, Bool, true, false, List, [], ◌∷◌, ◌++◌, length, get_or, drop, refl, sym, ap, ◌∙◌, arith, append_assoc, codes}
+use Rattle.std.proofs.Common.{◌≡◌, ℕ, suc, ◌+◌, ◌/◌, ◌%◌, ◌^◌, ◌<◌, ◌==◌, ◌||◌, nat_le, if◌then◌else◌, Bool, true, false, List, [], ◌∷◌, ◌++◌, length, get_or, drop, refl, sym, ap, ◌∙◌, arith, append_assoc, codes}
 use Rattle.std.specs.Fmt.{decimal}
 use Rattle.std.specs.List.{All}
 use Rattle.std.proofs.lemmas.Fmt.{decimal_injective}
@@ -10,7 +10,7 @@ use Rattle.can_frame.specs.declared.item.Item.{Item}
 use Rattle.can_frame.specs.declared.item.Item.TheVariants as item
 use Rattle.can_confine.specs.Confinement.{ErrorCounts, state_of}
 use Rattle.can_confine.specs.declared.state.State.{State}
-use Rattle.can_confine.specs.declared.state.State.TheVariants.{Active, Warning, Passive, Off}
+use Rattle.can_confine.specs.declared.state.State.TheVariants.{Active, Warning, Passive, Off, Down}
 use Rattle.can_event.specs.declared.stats.SocketStats.{SocketStats}
 use Rattle.can_event.specs.declared.stats.IfaceStats.{IfaceStats}
 use Rattle.can_proto.specs.declared.answer.Answer.{Answer}
@@ -20,6 +20,7 @@ use Rattle.can_proto.specs.declared.answer.Origin.{Origin}
 use Rattle.can_proto.specs.declared.answer.Cause.{Cause}
 use Rattle.can_proto.specs.declared.answer.Cause.TheVariants as cause
 use Rattle.can_proto.specs.Causes.{cause_text}
+use Rattle.can_proto.specs.Verbs.{is_word}
 use Rattle.can_frame.specs.Moments.{moment_text}
 use Rattle.can_proto.specs.Spelling.{class_text, body_text, frame_front, error_text, item_text, origin_text, item_text_from, stats_text, state_word, status_text, load_text, reply_text, told_counts, IsAnswer, AreAlike}
 use Rattle.can_proto.proofs.Cuts.{clear, clear-append, marked-left, marked-right, cut}
@@ -70,6 +71,7 @@ clear-state Active = (refl, refl)
 clear-state Warning = (refl, refl)
 clear-state Passive = (refl, refl)
 clear-state Off = (refl, refl)
+clear-state Down = (refl, refl)
 
 -- the fourth and the seventh byte say what kind of reply it is, but for `ack`, which the third one says
 abbrev kind : List ℕ → ℕ
@@ -105,6 +107,17 @@ same-mark a b e = sym (marked a) ∙ ap kind e ∙ marked b
 same-stats : (s t : SocketStats) (i j : IfaceStats) → AreSmall (told_counts s i) → AreSmall (told_counts t j) → stats_text s i ≡ stats_text t j → told_counts s i ≡ told_counts t j
 same-stats s t i j hs ht e = same-behind s.queued t.queued (s.dropped ∷ s.taken ∷ i.sent ∷ i.done ∷ i.waiting ∷ i.lost ∷ i.refused ∷ []) (t.dropped ∷ t.taken ∷ j.sent ∷ j.done ∷ j.waiting ∷ j.lost ∷ j.refused ∷ []) hs ht refl (ap (drop 8) e)
 
+-- the word says whether it is down
+not-down : (off passive warning : Bool) → is_word (state_word (if off then Off else if passive then Passive else if warning then Warning else Active)) (codes "down") ≡ false
+not-down true passive warning = refl
+not-down false true warning = refl
+not-down false false true = refl
+not-down false false false = refl
+
+down-said : (tec rec : ℕ) (down : Bool) → is_word (state_word (state_of (record { tec = tec; rec = rec; down = down }))) (codes "down") ≡ down
+down-said tec rec true = refl
+down-said tec rec false = not-down (nat_le 256 tec) (nat_le 128 tec || nat_le 128 rec) (nat_le 96 tec || nat_le 96 rec)
+
 same-status : (c d : ErrorCounts) → AreSmall (c.tec ∷ c.rec ∷ []) → AreSmall (d.tec ∷ d.rec ∷ []) → status_text c ≡ status_text d → c ≡ d
 same-status c d hc hd e =
     let one = state_word (state_of c) in
@@ -112,7 +125,9 @@ same-status c d hc hd e =
     let rows : one ++ 32 ∷ row (c.tec ∷ c.rec ∷ []) ≡ other ++ 32 ∷ row (d.tec ∷ d.rec ∷ []) =
     sym (row-behind one (c.tec ∷ c.rec ∷ [])) ∙ ap (drop 9) e ∙ row-behind other (d.tec ∷ d.rec ∷ []) in
     let parts = cut is_space 32 one other (row (c.tec ∷ c.rec ∷ [])) (row (d.tec ∷ d.rec ∷ [])) refl (clear-state (state_of c)).0 (clear-state (state_of d)).0 rows in
-    ap (λ (l : List ℕ). record { tec = get_or l 0 0; rec = get_or l 1 0 }) (same-row (c.tec ∷ c.rec ∷ []) (d.tec ∷ d.rec ∷ []) hc hd refl parts.1)
+    let down : c.down ≡ d.down = sym (down-said c.tec c.rec c.down) ∙ ap (λ (word : List ℕ). is_word word (codes "down")) parts.0 ∙ down-said d.tec d.rec d.down in
+    ap (λ (l : List ℕ). record { tec = get_or l 0 0; rec = get_or l 1 0; down = c.down }) (same-row (c.tec ∷ c.rec ∷ []) (d.tec ∷ d.rec ∷ []) hc hd refl parts.1)
+    ∙ ap (λ (b : Bool). record { tec = d.tec; rec = d.rec; down = b }) down
 
 same-load : (l m : BusLoad) → AreSmall (l.permille ∷ l.micros ∷ l.bitrate ∷ l.dbitrate ∷ []) → AreSmall (m.permille ∷ m.micros ∷ m.bitrate ∷ m.dbitrate ∷ []) → load_text l ≡ load_text m → l ≡ m
 same-load l m hl hm e =

@@ -37,6 +37,7 @@ cause_text cause.TooManySessions = codes "too many sessions"
 cause_text cause.WrongStation = codes "wrong station"
 cause_text cause.BadRule = codes "bad rule"
 cause_text cause.TooManyRules = codes "too many rules"
+cause_text cause.Down = codes "interface down"
 
 -- how a fault of a message is reported
 abbrev pub cause_of_fault : ProtoFault → Cause
@@ -65,3 +66,4 @@ cause_of_refusal refusal.BusOff = cause.BusOff
 cause_of_refusal refusal.NoBuffers = cause.NoBuffers
 cause_of_refusal refusal.NotBusOff = cause.NotBusOff
 cause_of_refusal refusal.NoMemory = cause.NoMemory
+cause_of_refusal refusal.Down = cause.Down

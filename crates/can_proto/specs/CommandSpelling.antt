@@ -12,7 +12,7 @@ use Rattle.can_event.specs.declared.opt.Opt.TheVariants as opt
 use Rattle.can_proto.specs.declared.command.Command.{Command}
 use Rattle.can_proto.specs.declared.command.Command.TheVariants.{Echo, Interfaces, Open, Rawmode, Send, SetFilters}
 use Rattle.can_proto.specs.declared.command.Command.TheVariants.{SetOption, ErrData, Ack, Origin, Stats, Status}
-use Rattle.can_proto.specs.declared.command.Command.TheVariants.{Load, Restart, Fault, Faults, NoFaults, Close}
+use Rattle.can_proto.specs.declared.command.Command.TheVariants.{Load, Restart, Fault, Faults, NoFaults, Close, Down}
 use Rattle.can_proto.specs.Words.{front, words_of}
 
 -- How a client may write a command (socketcand's raw mode; filter and the options are own choice). Other
@@ -66,6 +66,7 @@ command_words (Fault rule) = codes "fault" ∷ words_of rule
 command_words Faults = codes "faults" ∷ []
 command_words NoFaults = codes "nofaults" ∷ []
 command_words Close = codes "close" ∷ []
+command_words Down = codes "down" ∷ []
 
 -- a command's written spelling: its words with one space (32) between each two
 abbrev pub command_spelling : Command → List ℕ

@@ -13,7 +13,7 @@ use Rattle.can_proto.specs.declared.command.Mode.TheVariants.{Raw}
 use Rattle.can_proto.specs.declared.command.Command.{Command}
 use Rattle.can_proto.specs.declared.command.Command.TheVariants.{Echo, Interfaces, Open, Rawmode, Send, SetFilters}
 use Rattle.can_proto.specs.declared.command.Command.TheVariants.{SetOption, ErrData, Ack, Origin, Stats, Status}
-use Rattle.can_proto.specs.declared.command.Command.TheVariants.{Load, Restart, Fault, Faults, NoFaults, Close}
+use Rattle.can_proto.specs.declared.command.Command.TheVariants.{Load, Restart, Fault, Faults, NoFaults, Close, Down}
 use Rattle.can_proto.specs.declared.fault.ProtoFault.{ProtoFault}
 use Rattle.can_proto.specs.declared.fault.ProtoFault.TheVariants.{NoMemory, InvalidFilter, TooManyFilters}
 use Rattle.can_proto.specs.declared.fault.ProtoFault.TheVariants.{EmptyMessage, UnknownCommand, WrongState}
@@ -239,6 +239,7 @@ arguments_of verb.Fault words = fault_of words
 arguments_of verb.Faults words = alone Faults words
 arguments_of verb.NoFaults words = alone NoFaults words
 arguments_of verb.Close words = alone Close words
+arguments_of verb.Down words = alone Down words
 
 -- what a verb says with the words after it, in a mode
 abbrev pub command_of : Mode → List (List ℕ) → Option Verb → Result Command ProtoFault

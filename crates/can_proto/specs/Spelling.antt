@@ -11,7 +11,7 @@ use Rattle.can_frame.specs.declared.item.Item.{Item}
 use Rattle.can_frame.specs.declared.item.Item.TheVariants as item
 use Rattle.can_confine.specs.Confinement.{ErrorCounts, state_of}
 use Rattle.can_confine.specs.declared.state.State.{State}
-use Rattle.can_confine.specs.declared.state.State.TheVariants.{Active, Warning, Passive, Off}
+use Rattle.can_confine.specs.declared.state.State.TheVariants.{Active, Warning, Passive, Off, Down}
 use Rattle.can_event.specs.declared.stats.SocketStats.{SocketStats}
 use Rattle.can_event.specs.declared.stats.IfaceStats.{IfaceStats}
 use Rattle.can_proto.specs.declared.answer.Answer.{Answer}
@@ -118,8 +118,9 @@ state_word Active = codes "active"
 state_word Warning = codes "warning"
 state_word Passive = codes "passive"
 state_word Off = codes "off"
+state_word Down = codes "down"
 
--- the state that an interface's error counts give, its transmit count and its receive count
+-- the state of an interface, its transmit error count and its receive error count
 abbrev pub status_text : ErrorCounts → List ℕ
 status_text c =
     codes "< status " ++ state_word (state_of c) ++ codes " " ++ decimal c.tec ++ codes " " ++ decimal c.rec

@@ -6,7 +6,7 @@ use Rattle.can_proto.specs.declared.verb.Verb.{Verb}
 use Rattle.can_proto.specs.declared.verb.Verb.TheVariants.{Echo, Interfaces, Open, Rawmode, OtherMode, Send, SendRtr}
 use Rattle.can_proto.specs.declared.verb.Verb.TheVariants.{SendFd, SendFlagged, Filter, Join, Loopback, RecvOwn}
 use Rattle.can_proto.specs.declared.verb.Verb.TheVariants.{FdFrames, ErrMask, ErrData, Ack, Origin, Stats, Status}
-use Rattle.can_proto.specs.declared.verb.Verb.TheVariants.{Load, Restart, Fault, Faults, NoFaults, Close}
+use Rattle.can_proto.specs.declared.verb.Verb.TheVariants.{Load, Restart, Fault, Faults, NoFaults, Close, Down}
 
 -- The commands' first words and the modes that have them (socketcand's raw mode; sendfd, sendfdx, and filter and what
 -- follows it, is own choice).
@@ -50,6 +50,7 @@ named word =
     if is_word word (codes "faults") then Some Faults else
     if is_word word (codes "nofaults") then Some NoFaults else
     if is_word word (codes "close") then Some Close else
+    if is_word word (codes "down") then Some Down else
     if is_other_mode word then Some OtherMode else None
 
 -- the mode has the command: `open` before an interface is opened, `echo` and `interfaces` always, the modes once it is

@@ -97,6 +97,7 @@ pub enum Cause {
     WrongStation,
     BadRule,
     TooManyRules,
+    Down,
 }
 
 impl Cause {
@@ -133,6 +134,7 @@ impl Cause {
             Cause::WrongStation => b"wrong station",
             Cause::BadRule => b"bad rule",
             Cause::TooManyRules => b"too many rules",
+            Cause::Down => b"interface down",
         }
     }
 }
@@ -179,6 +181,7 @@ impl From<Refusal> for Cause {
             Refusal::NoBuffers => Cause::NoBuffers,
             Refusal::NotBusOff => Cause::NotBusOff,
             Refusal::NoMemory => Cause::NoMemory,
+            Refusal::Down => Cause::Down,
         }
     }
 }

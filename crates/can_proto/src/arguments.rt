@@ -131,5 +131,6 @@ pub fn read_arguments(alloc: Global, verb: Verb, rest: &[u8]) -> Result<Command,
         Verb::Faults => read_alone(Command::Faults, rest),
         Verb::NoFaults => read_alone(Command::NoFaults, rest),
         Verb::Close => read_alone(Command::Close, rest),
+        Verb::Down => read_alone(Command::Down, rest),
     }
 }

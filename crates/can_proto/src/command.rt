@@ -55,7 +55,7 @@ pub enum Command {
     Status,
     /// To get how busy the bus was.
     Load,
-    /// To take the interface out of bus off.
+    /// To take the interface out of bus off, or bring it up.
     Restart,
     /// To give the bus one more rule of faults.
     Fault(WantedRule),
@@ -65,6 +65,8 @@ pub enum Command {
     NoFaults,
     /// To close the socket and end.
     Close,
+    /// To take the interface down.
+    Down,
 }
 
 impl Command {

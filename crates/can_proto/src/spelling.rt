@@ -297,6 +297,7 @@ fn state_word(state: State) -> &'static [u8]
         State::Warning => b"warning",
         State::Passive => b"passive",
         State::Off => b"off",
+        State::Down => b"down",
     }
 }
 

@@ -35,6 +35,7 @@ pub enum Verb {
     Faults,
     NoFaults,
     Close,
+    Down,
 }
 
 #[inline(always)]
@@ -98,6 +99,8 @@ pub fn verb_of(word: &[u8]) -> Option<Verb>
         Some(Verb::NoFaults)
     } else if matches(word, b"close") {
         Some(Verb::Close)
+    } else if matches(word, b"down") {
+        Some(Verb::Down)
     } else if names_other_mode(word) {
         Some(Verb::OtherMode)
     } else {

@@ -42,6 +42,8 @@ same_entry fs more (kept.Tried end named word number accepted restarted bytes st
 same_entry fs more (kept.AttemptRefused v m why) h = refl
 same_entry fs more (kept.Restarted i m) h = refl
 same_entry fs more (kept.RestartRefused i m why) h = refl
+same_entry fs more (kept.TakenDown i m) h = refl
+same_entry fs more (kept.DownRefused i m why) h = refl
 same_entry fs more (kept.Boxed entry) h = refl
 
 same_entries : (fs more : List CanFrame) (ks : List PackedEntry) → AreWithin (length fs) ks → map (entry_in (fs ++ more)) ks ≡ map (entry_in fs) ks

@@ -1,7 +1,8 @@
 use Rattle.std.specs.Prelude.{ℕ, ◌^◌, ◌==◌, nat_le, Bool, true, false, not, ◌||◌, Some, None}
 use Rattle.can_frame.specs.declared.iface.IfaceSet.{IfaceSet}
 use Rattle.can_event.specs.declared.event.Event.{Event}
-use Rattle.can_event.specs.declared.event.Event.TheVariants.{Open, Close, SetOption, Send, Receive, Attempt, Restart}
+use Rattle.can_event.specs.declared.event.Event.TheVariants.{Open, Close, SetOption, Send, Receive, Attempt}
+use Rattle.can_event.specs.declared.event.Event.TheVariants.{Restart, Down}
 use Rattle.can_event.specs.declared.reply.Reply.{Reply}
 use Rattle.can_event.specs.declared.attempt.Attempt.TheVariants as attempt
 use Rattle.can_event.specs.declared.reply.Reply.TheVariants as reply
@@ -36,4 +37,6 @@ needs_box (Attempt m v) (reply.Attempted (attempt.Tried t)) =
 needs_box (Attempt m v) (reply.Refused why) = false
 needs_box (Restart i m) reply.Done = false
 needs_box (Restart i m) (reply.Refused why) = false
+needs_box (Down i m) reply.Done = false
+needs_box (Down i m) (reply.Refused why) = false
 needs_box _ _ = true

@@ -9,7 +9,8 @@ use Rattle.can_frame.specs.declared.item.Item.TheVariants as item
 use Rattle.can_fault.specs.declared.verdict.Verdict.{Verdict}
 use Rattle.can_event.specs.declared.entry.Entry.{Entry}
 use Rattle.can_event.specs.declared.event.Event.{Event}
-use Rattle.can_event.specs.declared.event.Event.TheVariants.{Open, Close, SetOption, Send, Receive, Attempt, Restart}
+use Rattle.can_event.specs.declared.event.Event.TheVariants.{Open, Close, SetOption, Send, Receive, Attempt}
+use Rattle.can_event.specs.declared.event.Event.TheVariants.{Restart, Down}
 use Rattle.can_event.specs.declared.received.Received.{Received}
 use Rattle.can_event.specs.declared.refusal.Refusal.{Refusal}
 use Rattle.can_event.specs.declared.reply.Reply.{Reply}
@@ -103,6 +104,8 @@ entry_in frames (kept.FdTried end winner number named accepted off restarted pla
 entry_in frames (kept.AttemptRefused v m why) = entry_of (Attempt m v) (reply.Refused why)
 entry_in frames (kept.Restarted i m) = entry_of (Restart i m) reply.Done
 entry_in frames (kept.RestartRefused i m why) = entry_of (Restart i m) (reply.Refused why)
+entry_in frames (kept.TakenDown i m) = entry_of (Down i m) reply.Done
+entry_in frames (kept.DownRefused i m why) = entry_of (Down i m) (reply.Refused why)
 entry_in frames (kept.Boxed entry) = entry.value
 
 -- it has no memory of its own

@@ -15,7 +15,7 @@ pub fn needs_box(event: &Event, reply: &Reply) -> bool
         (Event::SetFilters(_, _), _) => true,
         (Event::Open(_, _), Reply::Opened(_))
         | (Event::Close(_), Reply::Closed(_))
-        | (Event::SetOption(_, _) | Event::Restart(_, _), Reply::Done)
+        | (Event::SetOption(_, _) | Event::Restart(_, _) | Event::Down(_, _), Reply::Done)
         | (Event::Receive(_), Reply::Received(None))
         | (Event::Attempt(_, _), Reply::Attempted(Attempt::Idle { .. }))
         | (_, Reply::Refused(_)) => false,

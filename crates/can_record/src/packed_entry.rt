@@ -133,6 +133,15 @@ pub enum PackedEntry {
         moment: Moment,
         why: Refusal,
     },
+    TakenDown {
+        iface: Iface,
+        moment: Moment,
+    },
+    DownRefused {
+        iface: Iface,
+        moment: Moment,
+        why: Refusal,
+    },
     /// Any entry, in memory of its own.
     Boxed(Box<Entry>),
 }

@@ -36,6 +36,7 @@ pub fn pack(frames: &mut Vec<Frame>, event: &Event, reply: &Reply) -> PackedEntr
         Event::Receive(id) => received(frames, *id, reply),
         Event::Attempt(moment, verdict) => attempted(frames, *moment, *verdict, reply),
         Event::Restart(iface, moment) => restarted(*iface, *moment, reply),
+        Event::Down(iface, moment) => taken_down(*iface, *moment, reply),
     }
 }
 
@@ -109,6 +110,24 @@ fn restarted(iface: Iface, moment: Moment, reply: &Reply) -> PackedEntry
     match reply {
         Reply::Done => PackedEntry::Restarted { iface, moment },
         Reply::Refused(why) => PackedEntry::RestartRefused {
+            iface,
+            moment,
+            why: *why,
+        },
+        _ => unreachable!(),
+    }
+}
+
+#[inline(always)]
+fn taken_down(iface: Iface, moment: Moment, reply: &Reply) -> PackedEntry
+    requires fits { needs_box (asked.Down iface moment) reply.now ≡ false }
+    ensures entry { (fs : List CanFrame) →
+        entry_in fs result ≡ entry_of (asked.Down iface moment) reply.now }
+    ensures within { frames_needed result ≡ 0 }
+{
+    match reply {
+        Reply::Done => PackedEntry::TakenDown { iface, moment },
+        Reply::Refused(why) => PackedEntry::DownRefused {
             iface,
             moment,
             why: *why,

@@ -74,6 +74,8 @@ pub fn event_in(frames: &[Frame], kept: &PackedEntry) -> Event
         } => Event::Attempt(*moment, *verdict),
         PackedEntry::Restarted { iface, moment } => Event::Restart(*iface, *moment),
         PackedEntry::RestartRefused { iface, moment, .. } => Event::Restart(*iface, *moment),
+        PackedEntry::TakenDown { iface, moment } => Event::Down(*iface, *moment),
+        PackedEntry::DownRefused { iface, moment, .. } => Event::Down(*iface, *moment),
         PackedEntry::Boxed(_) => unreachable!(),
     }
 }
@@ -177,6 +179,8 @@ pub fn reply_in(frames: &[Frame], kept: &PackedEntry) -> Reply
         PackedEntry::AttemptRefused { why, .. } => Reply::Refused(*why),
         PackedEntry::Restarted { .. } => Reply::Done,
         PackedEntry::RestartRefused { why, .. } => Reply::Refused(*why),
+        PackedEntry::TakenDown { .. } => Reply::Done,
+        PackedEntry::DownRefused { why, .. } => Reply::Refused(*why),
         PackedEntry::Boxed(entry) => entry.reply,
     }
 }

@@ -26,7 +26,7 @@ use Rattle.can_event.specs.declared.socket_id.SocketId.{SocketId}
 use Rattle.can_event.specs.declared.opt.Opt.{Opt}
 use Rattle.can_event.specs.declared.opt.Opt.TheVariants as opt
 use Rattle.can_event.specs.declared.event.Event.{Event}
-use Rattle.can_event.specs.declared.event.Event.TheVariants.{Open, Close, SetFilters, SetOption, Send, Receive, Attempt, Restart}
+use Rattle.can_event.specs.declared.event.Event.TheVariants.{Open, Close, SetFilters, SetOption, Send, Receive, Attempt, Restart, Down}
 use Rattle.can_event.specs.declared.refusal.Refusal.{Refusal}
 use Rattle.can_event.specs.declared.refusal.Refusal.TheVariants as refusal
 use Rattle.can_event.specs.declared.received.Received.{Received}
@@ -245,6 +245,7 @@ tried_moment (SetOption s o) t h = absurd h
 tried_moment (Send s f) t h = absurd h
 tried_moment (Receive s) t h = absurd h
 tried_moment (Restart i m) t h = absurd h
+tried_moment (Down i m) t h = absurd h
 
 received_number : (e : Event) (r : Received) → FitsReply e (reply.Received (Some r)) → IsNumberOf r.item r.number
 received_number (Receive s) r h = h
@@ -255,6 +256,7 @@ received_number (SetFilters s fs) r h = absurd h
 received_number (SetOption s o) r h = absurd h
 received_number (Send s f) r h = absurd h
 received_number (Restart i m) r h = absurd h
+received_number (Down i m) r h = absurd h
 
 may_leave : (e : Event) (why : Refusal) → MayRefuse e why → LeavesEntry why
 may_leave e refusal.FdOff h = refl
@@ -267,6 +269,7 @@ may_leave e refusal.NoBuffers h = h
 may_leave e refusal.NotBusOff h = h
 may_leave e refusal.RecordFull h = h
 may_leave e refusal.NoMemory h = h
+may_leave e refusal.Down h = h
 
 pub leaves : (e : Event) (why : Refusal) → FitsReply e (reply.Refused why) → LeavesEntry why
 leaves (Receive s) why h = may_leave (Receive s) why h
@@ -277,6 +280,7 @@ leaves (SetFilters s fs) why h = may_leave (SetFilters s fs) why h
 leaves (SetOption s o) why h = may_leave (SetOption s o) why h
 leaves (Send s f) why h = may_leave (Send s f) why h
 leaves (Restart i m) why h = may_leave (Restart i m) why h
+leaves (Down i m) why h = may_leave (Down i m) why h
 
 received_again : (i : Item) (from n m : ℕ) (moment : Option ℕ) (rest : List ℕ) → IsNumberOf i n → IsItem i → from < 16 → n < 2 ^ 64 → m < 10 ^ 16
     → reply_at moment (spell (received_words i (record { item = i; from = from; number = n; moment = m })) rest) ≡ Some (reply.Received (Some (record { item = i; from = from; number = n; moment = m })), rest)
@@ -296,6 +300,7 @@ refused_again refusal.NoBuffers moment rest h = refl
 refused_again refusal.NotBusOff moment rest h = refl
 refused_again refusal.RecordFull moment rest h = absurd (cc (h))
 refused_again refusal.NoMemory moment rest h = absurd (cc (h))
+refused_again refusal.Down moment rest h = refl
 
 reply_again : (e : Event) (r : Reply) (rest : List ℕ) → FitsReply e r → HoldsReply r → reply_at (moment_of e) (spell (reply_words r) rest) ≡ Some (r, rest)
 unfolding reply_at fixed_in word after
@@ -334,6 +339,7 @@ event_again (Send s f) w ws rest h = rw (socket_field s 32 (frame_spelling (item
 event_again (Receive s) w ws rest h = rw (socket_field s 32 (spell (w ∷ ws) rest) h refl) refl
 event_again (Attempt m v) w ws rest h = rw (moment_field m 32 (verdict_word v ++ 32 ∷ spell (w ∷ ws) rest) h.0 refl, verdict_again v (spell (w ∷ ws) rest) h.1) refl
 event_again (Restart i m) w ws rest h = rw (number_field 16 i 32 (moment_word m ++ 32 ∷ spell (w ∷ ws) rest) h.0 (omega arith) refl, moment_field m 32 (spell (w ∷ ws) rest) h.1 refl) refl
+event_again (Down i m) w ws rest h = rw (number_field 16 i 32 (moment_word m ++ 32 ∷ spell (w ∷ ws) rest) h.0 (omega arith) refl, moment_field m 32 (spell (w ∷ ws) rest) h.1 refl) refl
 
 -- ---- entries
 
@@ -362,6 +368,7 @@ auto_restart_again version.Two c rest h = number_field (2 ^ 32) c.auto_restart 1
 auto_restart_again version.Three c rest h = number_field (2 ^ 32) c.auto_restart 10 rest (omega (arith, h.proper.few_attempts)) (omega arith) refl
 auto_restart_again version.Four c rest h = number_field (2 ^ 32) c.auto_restart 10 rest (omega (arith, h.proper.few_attempts)) (omega arith) refl
 auto_restart_again version.Five c rest h = number_field (2 ^ 32) c.auto_restart 10 rest (omega (arith, h.proper.few_attempts)) (omega arith) refl
+auto_restart_again version.Six c rest h = number_field (2 ^ 32) c.auto_restart 10 rest (omega (arith, h.proper.few_attempts)) (omega arith) refl
 
 -- the configuration of a bus's line
 pub config_again : (v : Version) (c : BusConfig) (rest : List ℕ) → HasBusLine v c → config_at v (spell (bus_words v c) rest) ≡ Some c

@@ -13,13 +13,16 @@ use Rattle.can_event.specs.Events.{max_limit}
 use Rattle.can_record_text.specs.declared.needs.Needs.{Needs}
 use Rattle.can_record_text.specs.declared.version.Version.{Version}
 use Rattle.can_record_text.specs.declared.version.Version.TheVariants as version
-use Rattle.can_record_text.specs.Spelling.{all_needs, both_needs, frame_needs, is_needless, needs_of, no_needs, takes, takes_fd, takes_flags, version_for, version_of}
+use Rattle.can_record_text.specs.Spelling.{all_needs, both_needs, frame_needs, is_needless, needs_of, no_needs, takes, takes_down, takes_fd, takes_flags, version_for, version_of}
 use Rattle.can_record_text.specs.Values.{HasLine, HasBusLine, HasLines, HasText}
 
 -- ---- what lines need
 
-needs_are : (a b c d : Bool) → a ≡ b → c ≡ d → ◌≡◌ {A = Needs} (record { fd = a; flags = c }) (record { fd = b; flags = d })
-needs_are a b c d e f = ap (λ (x : Bool). let n : Needs = record { fd = x; flags = c } in n) e ∙ ap (λ (x : Bool). let n : Needs = record { fd = b; flags = x } in n) f
+abbrev needs : Bool → Bool → Bool → Needs
+needs fd flags down = record { fd = fd; flags = flags; down = down }
+
+needs_are : (a b c d e f : Bool) → a ≡ b → c ≡ d → e ≡ f → needs a c e ≡ needs b d f
+needs_are a b c d e f x y z = ap (λ (u : Bool). needs u c e) x ∙ ap (λ (u : Bool). needs b u e) y ∙ ap (needs b d) z
 
 or_assoc : (a b c : Bool) → (a || (b || c)) ≡ ((a || b) || c)
 or_assoc true b c = refl
@@ -30,10 +33,10 @@ or_none true = refl
 or_none false = refl
 
 both_assoc : (a b c : Needs) → both_needs a (both_needs b c) ≡ both_needs (both_needs a b) c
-both_assoc a b c = needs_are _ _ _ _ (or_assoc a.fd b.fd c.fd) (or_assoc a.flags b.flags c.flags)
+both_assoc a b c = needs_are _ _ _ _ _ _ (or_assoc a.fd b.fd c.fd) (or_assoc a.flags b.flags c.flags) (or_assoc a.down b.down c.down)
 
 both_none : (a : Needs) → both_needs a no_needs ≡ both_needs no_needs a
-both_none a = needs_are _ _ _ _ (or_none a.fd) (or_none a.flags)
+both_none a = needs_are _ _ _ _ _ _ (or_none a.fd) (or_none a.flags) (or_none a.down)
 
 -- one entry more at the end
 pub needs_push : (es : List Entry) (e : Entry) → all_needs (es ++ e ∷ []) ≡ both_needs (all_needs es) (needs_of e)
@@ -60,7 +63,7 @@ needs_more es k e there =
 pub classic_frame : (f : CanFrame) → is_fd f.payload ≡ false → frame_needs f ≡ no_needs
 classic_frame f h = of_payload f.payload h
   where
-    of_payload : (p : Payload) → is_fd p ≡ false → ◌≡◌ {A = Needs} (record { fd = is_fd p; flags = is_flagged p }) no_needs
+    of_payload : (p : Payload) → is_fd p ≡ false → needs (is_fd p) (is_flagged p) false ≡ no_needs
     of_payload (Data bytes) h = refl
     of_payload (Remote len) h = refl
     of_payload (Fd flags bytes) h = absurd cc
@@ -86,7 +89,7 @@ pub of_long : (c : BusConfig) (needs : Needs) → max_limit < c.limit → versio
 of_long c needs h = rw (is_long c h) refl
 
 short_version : BusConfig → Needs → Version
-short_version c needs = if needs.flags then version.Five else if needs.fd then version.Three else if c.auto_restart == 0 then version.One else version.Two
+short_version c needs = if needs.down then version.Six else if needs.flags then version.Five else if needs.fd then version.Three else if c.auto_restart == 0 then version.One else version.Two
 
 of_short : (c : BusConfig) (needs : Needs) → c.limit ≤ max_limit → version_for c needs ≡ short_version c needs
 unfolding short_version
@@ -112,36 +115,48 @@ one_right true true p h = h
 one_right true false p h = refl
 one_right false z p h = h
 
-and_true : (x y : Bool) → x ≡ true → y ≡ true → (x && y) ≡ true
-and_true true y h k = k
-and_true false y h k = absurd cc
+all_three : (x y z : Bool) → x ≡ true → y ≡ true → z ≡ true → (x && y && z) ≡ true
+all_three true true z h k l = l
+all_three true false z h k l = absurd cc
+all_three false y z h k l = absurd cc
+
+each_of : (x y z : Bool) → (x && y && z) ≡ true → (x ≡ true) × (y ≡ true) × (z ≡ true)
+each_of x y z h =
+    let last = and_parts (x && y) z h in
+    let front = and_parts x y last.0 in
+    (front.0, front.1, last.1)
+
+-- the three parts of what a version takes
+takes_each : (v : Version) (n : Needs) → takes v n ≡ true → ((not n.fd || takes_fd v) ≡ true) × ((not n.flags || takes_flags v) ≡ true) × ((not n.down || takes_down v) ≡ true)
+takes_each v n h = each_of (not n.fd || takes_fd v) (not n.flags || takes_flags v) (not n.down || takes_down v) h
+
+takes_all : (v : Version) (n : Needs) → (not n.fd || takes_fd v) ≡ true → (not n.flags || takes_flags v) ≡ true → (not n.down || takes_down v) ≡ true → takes v n ≡ true
+takes_all v n h k l = all_three (not n.fd || takes_fd v) (not n.flags || takes_flags v) (not n.down || takes_down v) h k l
 
 -- what takes some lines and others takes both
 takes_both : (v : Version) (a b : Needs) → takes v a ≡ true → takes v b ≡ true → takes v (both_needs a b) ≡ true
 takes_both v a b h k =
-    let one = and_parts (not a.fd || takes_fd v) (not a.flags || takes_flags v) h in
-    let other = and_parts (not b.fd || takes_fd v) (not b.flags || takes_flags v) k in
-    and_true (not (a.fd || b.fd) || takes_fd v) (not (a.flags || b.flags) || takes_flags v) (one_takes a.fd b.fd (takes_fd v) one.0 other.0) (one_takes a.flags b.flags (takes_flags v) one.1 other.1)
+    let one = takes_each v a h in
+    let other = takes_each v b k in
+    takes_all v (both_needs a b) (one_takes a.fd b.fd (takes_fd v) one.0 other.0) (one_takes a.flags b.flags (takes_flags v) one.1 other.1) (one_takes a.down b.down (takes_down v) one.2 other.2)
 
 takes_left : (v : Version) (a b : Needs) → takes v (both_needs a b) ≡ true → takes v a ≡ true
 takes_left v a b h =
-    let both = and_parts (not (a.fd || b.fd) || takes_fd v) (not (a.flags || b.flags) || takes_flags v) h in
-    and_true (not a.fd || takes_fd v) (not a.flags || takes_flags v) (one_left a.fd b.fd (takes_fd v) both.0) (one_left a.flags b.flags (takes_flags v) both.1)
+    let both = takes_each v (both_needs a b) h in
+    takes_all v a (one_left a.fd b.fd (takes_fd v) both.0) (one_left a.flags b.flags (takes_flags v) both.1) (one_left a.down b.down (takes_down v) both.2)
 
 takes_right : (v : Version) (a b : Needs) → takes v (both_needs a b) ≡ true → takes v b ≡ true
 takes_right v a b h =
-    let both = and_parts (not (a.fd || b.fd) || takes_fd v) (not (a.flags || b.flags) || takes_flags v) h in
-    and_true (not b.fd || takes_fd v) (not b.flags || takes_flags v) (one_right a.fd b.fd (takes_fd v) both.0) (one_right a.flags b.flags (takes_flags v) both.1)
+    let both = takes_each v (both_needs a b) h in
+    takes_all v b (one_right a.fd b.fd (takes_fd v) both.0) (one_right a.flags b.flags (takes_flags v) both.1) (one_right a.down b.down (takes_down v) both.2)
 
--- version 5 takes anything
-pub five_takes : (n : Needs) → takes version.Five n ≡ true
-five_takes n = when n.fd n.flags
-  where
-    when : (fd flags : Bool) → takes version.Five (record { fd = fd; flags = flags }) ≡ true
-    when true true = refl
-    when true false = refl
-    when false true = refl
-    when false false = refl
+taken : (x : Bool) → (not x || true) ≡ true
+taken true = refl
+taken false = refl
+
+-- version 6 takes anything
+pub six_takes : (n : Needs) → takes version.Six n ≡ true
+six_takes n = takes_all version.Six n (taken n.fd) (taken n.flags) (taken n.down)
 
 -- what has lines in a version, it takes
 all_taken : (v : Version) (c : BusConfig) (es : List Entry) → All (HasLine v c) es → takes v (all_needs es) ≡ true
@@ -154,10 +169,13 @@ has_none true h = absurd cc
 has_none false h = refl
 
 no_fd : (v : Version) (n : Needs) → takes_fd v ≡ false → takes v n ≡ true → n.fd ≡ false
-no_fd v n none h = let parts = and_parts (not n.fd || takes_fd v) (not n.flags || takes_flags v) h in has_none n.fd (ap (λ (p : Bool). not n.fd || p) (sym none) ∙ parts.0)
+no_fd v n none h = has_none n.fd (ap (λ (p : Bool). not n.fd || p) (sym none) ∙ (takes_each v n h).0)
 
 no_flags_in : (v : Version) (n : Needs) → takes_flags v ≡ false → takes v n ≡ true → n.flags ≡ false
-no_flags_in v n none h = let parts = and_parts (not n.fd || takes_fd v) (not n.flags || takes_flags v) h in has_none n.flags (ap (λ (p : Bool). not n.flags || p) (sym none) ∙ parts.1)
+no_flags_in v n none h = has_none n.flags (ap (λ (p : Bool). not n.flags || p) (sym none) ∙ (takes_each v n h).1)
+
+no_down_in : (v : Version) (n : Needs) → takes_down v ≡ false → takes v n ≡ true → n.down ≡ false
+no_down_in v n none h = has_none n.down (ap (λ (p : Bool). not n.down || p) (sym none) ∙ (takes_each v n h).2)
 
 -- what is there where it is not missing
 there_is : (x : Bool) → not x ≡ false → x ≡ true
@@ -167,67 +185,78 @@ there_is false h = absurd cc
 -- the version of lines that need it
 pub version_is : (v : Version) (c : BusConfig) (es : List Entry) → HasLines v c es → is_needless v (all_needs es) ≡ false → v ≡ version_of c es
 version_is version.One c es whole needed =
+    let some = all_needs es in
     let taken = all_taken version.One c es whole.lines in
-    rw (is_short c whole.bus.limit, no_flags_in version.One (all_needs es) refl taken, no_fd version.One (all_needs es) refl taken, whole.bus.restarts) refl
+    rw (is_short c whole.bus.limit, no_down_in version.One some refl taken, no_flags_in version.One some refl taken, no_fd version.One some refl taken, whole.bus.restarts) refl
 version_is version.Two c es whole needed =
+    let some = all_needs es in
     let taken = all_taken version.Two c es whole.lines in
-    rw (is_short c whole.bus.limit, no_flags_in version.Two (all_needs es) refl taken, no_fd version.Two (all_needs es) refl taken, ne_eqb c.auto_restart 0 whole.bus.restarts) refl
+    rw (is_short c whole.bus.limit, no_down_in version.Two some refl taken, no_flags_in version.Two some refl taken, no_fd version.Two some refl taken, ne_eqb c.auto_restart 0 whole.bus.restarts) refl
 version_is version.Three c es whole needed =
+    let some = all_needs es in
     let taken = all_taken version.Three c es whole.lines in
-    rw (is_short c whole.bus.limit, no_flags_in version.Three (all_needs es) refl taken, there_is (all_needs es).fd needed) refl
+    rw (is_short c whole.bus.limit, no_down_in version.Three some refl taken, no_flags_in version.Three some refl taken, there_is some.fd needed) refl
 version_is version.Four c es whole needed = rw (is_long c whole.bus.limit) refl
-version_is version.Five c es whole needed = rw (is_short c whole.bus.limit, there_is (all_needs es).flags needed) refl
+version_is version.Five c es whole needed =
+    let some = all_needs es in
+    let taken = all_taken version.Five c es whole.lines in
+    rw (is_short c whole.bus.limit, no_down_in version.Five some refl taken, there_is some.flags needed) refl
+version_is version.Six c es whole needed = rw (is_short c whole.bus.limit, there_is (all_needs es).down needed) refl
 
 -- no record is in a version that it does not need
 never_needless : (c : BusConfig) (n : Needs) → is_needless (version_for c n) n ≡ false
-never_needless c n = when (nat_lt max_limit c.limit) n.fd n.flags (c.auto_restart == 0)
+never_needless c n = when (nat_lt max_limit c.limit) n.down n.flags n.fd (c.auto_restart == 0)
   where
-    when : (long fd flags b : Bool) → is_needless (cond long version.Four (cond flags version.Five (cond fd version.Three (cond b version.One version.Two)))) (record { fd = fd; flags = flags }) ≡ false
-    when true fd flags b = refl
-    when false fd true b = refl
-    when false true false b = refl
-    when false false false true = refl
-    when false false false false = refl
+    when : (long down flags fd b : Bool)
+        → is_needless (cond long version.Four (cond down version.Six (cond flags version.Five (cond fd version.Three (cond b version.One version.Two))))) (needs fd flags down) ≡ false
+    when true down flags fd b = refl
+    when false true flags fd b = refl
+    when false false true fd b = refl
+    when false false false true b = refl
+    when false false false false true = refl
+    when false false false false false = refl
 
 pub not_needless : (v : Version) (c : BusConfig) (es ds : List Entry) → v ≡ version_of c es → ds ≡ es → is_needless v (all_needs ds) ≡ true → ⊥
 not_needless v c es ds is same none =
     not_both (is_needless (version_of c es) (all_needs es)) (never_needless c (all_needs es))
     (subst (λ (u : Version). is_needless u (all_needs es) ≡ true) is (subst (λ (xs : List Entry). is_needless v (all_needs xs) ≡ true) same none))
 
--- an entry that has a line in version 5 has one in each version that takes what it needs
-pub line_in : (v : Version) (c : BusConfig) (e : Entry) → HasLine version.Five c e → takes v (needs_of e) ≡ true → HasLine v c e
+-- an entry that has a line in version 6 has one in each version that takes what it needs
+pub line_in : (v : Version) (c : BusConfig) (e : Entry) → HasLine version.Six c e → takes v (needs_of e) ≡ true → HasLine v c e
 line_in v c e h taken = record { spelled = h.spelled; version = taken; event = h.event; reply = h.reply }
 
-lines_in : (v : Version) (c : BusConfig) (es : List Entry) → All (HasLine version.Five c) es → takes v (all_needs es) ≡ true → All (HasLine v c) es
+lines_in : (v : Version) (c : BusConfig) (es : List Entry) → All (HasLine version.Six c) es → takes v (all_needs es) ≡ true → All (HasLine v c) es
 lines_in v c [] lines taken = All-nil (HasLine v c)
 lines_in v c (e ∷ es) lines taken =
-    All-cons (HasLine v c) e es (line_in v c e (All-head (HasLine version.Five c) e es lines) (takes_left v (needs_of e) (all_needs es) taken))
-    (lines_in v c es (All-tail (HasLine version.Five c) e es lines) (takes_right v (needs_of e) (all_needs es) taken))
+    All-cons (HasLine v c) e es (line_in v c e (All-head (HasLine version.Six c) e es lines) (takes_left v (needs_of e) (all_needs es) taken))
+    (lines_in v c es (All-tail (HasLine version.Six c) e es lines) (takes_right v (needs_of e) (all_needs es) taken))
 
-bus_in : (c : BusConfig) (n : Needs) → HasBusLine version.Five c → HasBusLine (version_for c n) c
+bus_in : (c : BusConfig) (n : Needs) → HasBusLine version.Six c → HasBusLine (version_for c n) c
 unfolding short_version
-bus_in c n h = subst (λ (v : Version). HasBusLine v c) (sym (of_short c n h.limit)) (when n.flags n.fd (c.auto_restart == 0) refl)
+bus_in c n h = subst (λ (v : Version). HasBusLine v c) (sym (of_short c n h.limit)) (when n.down n.flags n.fd (c.auto_restart == 0) refl)
   where
-    when : (flags fd b : Bool) → (c.auto_restart == 0) ≡ b → HasBusLine (cond flags version.Five (cond fd version.Three (cond b version.One version.Two))) c
-    when true fd b is = h
-    when false true b is = record { proper = h.proper; limit = h.limit; reporting = h.reporting; restarts = tt }
-    when false false true is = record { proper = h.proper; limit = h.limit; reporting = h.reporting; restarts = eqb-true c.auto_restart 0 is }
-    when false false false is = record { proper = h.proper; limit = h.limit; reporting = h.reporting; restarts = eqb-false c.auto_restart 0 is }
+    when : (down flags fd b : Bool) → (c.auto_restart == 0) ≡ b → HasBusLine (cond down version.Six (cond flags version.Five (cond fd version.Three (cond b version.One version.Two)))) c
+    when true flags fd b is = h
+    when false true fd b is = record { proper = h.proper; limit = h.limit; reporting = h.reporting; restarts = tt }
+    when false false true b is = record { proper = h.proper; limit = h.limit; reporting = h.reporting; restarts = tt }
+    when false false false true is = record { proper = h.proper; limit = h.limit; reporting = h.reporting; restarts = eqb-true c.auto_restart 0 is }
+    when false false false false is = record { proper = h.proper; limit = h.limit; reporting = h.reporting; restarts = eqb-false c.auto_restart 0 is }
 
 -- a record's own version takes what it needs
 own_version : (c : BusConfig) (n : Needs) → c.limit ≤ max_limit → takes (version_for c n) n ≡ true
 unfolding short_version
-own_version c n short = ap (λ (v : Version). takes v n) (of_short c n short) ∙ when n.flags n.fd (c.auto_restart == 0)
+own_version c n short = ap (λ (v : Version). takes v n) (of_short c n short) ∙ when n.down n.flags n.fd (c.auto_restart == 0)
   where
-    when : (flags fd b : Bool) → takes (cond flags version.Five (cond fd version.Three (cond b version.One version.Two))) (record { fd = fd; flags = flags }) ≡ true
-    when true true b = refl
-    when true false b = refl
-    when false true b = refl
-    when false false true = refl
-    when false false false = refl
+    when : (down flags fd b : Bool) → takes (cond down version.Six (cond flags version.Five (cond fd version.Three (cond b version.One version.Two)))) (needs fd flags down) ≡ true
+    when true flags fd b = six_takes (needs fd flags true)
+    when false true true b = refl
+    when false true false b = refl
+    when false false true b = refl
+    when false false false true = refl
+    when false false false false = refl
 
--- lines that are right in version 5 are right in the version of their record
-pub has_text : (c : BusConfig) (es : List Entry) → HasBusLine version.Five c → All (HasLine version.Five c) es → HasText c es
+-- lines that are right in version 6 are right in the version of their record
+pub has_text : (c : BusConfig) (es : List Entry) → HasBusLine version.Six c → All (HasLine version.Six c) es → HasText c es
 has_text c es bus lines = record {
   bus = bus_in c (all_needs es) bus;
   lines = lines_in (version_of c es) c es lines (own_version c (all_needs es) bus.limit);

@@ -1,5 +1,5 @@
 -- The text of a record.
-use Rattle.std.proofs.Common.{◌≡◌, ◌≢◌, ◌≤◌, inl, inr, ℕ, ◌+◌, true, false, List, [], ◌∷◌, ◌++◌, length, drop, get_or, Result, Ok, Err, append_assoc, refl, sym, ap, subst, ◌∙◌, arith}
+use Rattle.std.proofs.Common.{◌≡◌, ◌≢◌, ◌≤◌, inl, inr, ℕ, ◌+◌, ◌==◌, if◌then◌else◌, true, false, List, [], ◌∷◌, ◌++◌, length, drop, get_or, Result, Ok, Err, append_assoc, refl, sym, ap, subst, ◌∙◌, arith}
 use Rattle.std.specs.Prelude.{All, reverse}
 use Rattle.std.proofs.lemmas.List.{append_cancel_left, length-reverse, reverse-reverse}
 use Rattle.std.proofs.lemmas.List.Elements.{All-head, All-tail}
@@ -86,6 +86,7 @@ version_digit version.Two = 50
 version_digit version.Three = 51
 version_digit version.Four = 52
 version_digit version.Five = 53
+version_digit version.Six = 54
 
 digit_of : (v : Version) (a : List ℕ) → get_or (first_line v ++ a) 14 0 ≡ version_digit v
 digit_of version.One a = refl
@@ -93,33 +94,28 @@ digit_of version.Two a = refl
 digit_of version.Three a = refl
 digit_of version.Four a = refl
 digit_of version.Five a = refl
+digit_of version.Six a = refl
+
+-- the version of a first line with this digit
+abbrev with_digit : ℕ → Version
+with_digit n =
+    if n == 49 then version.One
+    else if n == 50 then version.Two
+    else if n == 51 then version.Three
+    else if n == 52 then version.Four
+    else if n == 53 then version.Five
+    else version.Six
+
+digit_again : (v : Version) → with_digit (version_digit v) ≡ v
+digit_again version.One = refl
+digit_again version.Two = refl
+digit_again version.Three = refl
+digit_again version.Four = refl
+digit_again version.Five = refl
+digit_again version.Six = refl
 
 same_digit : (v w : Version) → version_digit v ≡ version_digit w → v ≡ w
-same_digit version.One version.One e = refl
-same_digit version.One version.Two e = absurd (omega (arith, e))
-same_digit version.One version.Three e = absurd (omega (arith, e))
-same_digit version.One version.Four e = absurd (omega (arith, e))
-same_digit version.One version.Five e = absurd (omega (arith, e))
-same_digit version.Two version.One e = absurd (omega (arith, e))
-same_digit version.Two version.Two e = refl
-same_digit version.Two version.Three e = absurd (omega (arith, e))
-same_digit version.Two version.Four e = absurd (omega (arith, e))
-same_digit version.Two version.Five e = absurd (omega (arith, e))
-same_digit version.Three version.One e = absurd (omega (arith, e))
-same_digit version.Three version.Two e = absurd (omega (arith, e))
-same_digit version.Three version.Three e = refl
-same_digit version.Three version.Four e = absurd (omega (arith, e))
-same_digit version.Three version.Five e = absurd (omega (arith, e))
-same_digit version.Four version.One e = absurd (omega (arith, e))
-same_digit version.Four version.Two e = absurd (omega (arith, e))
-same_digit version.Four version.Three e = absurd (omega (arith, e))
-same_digit version.Four version.Four e = refl
-same_digit version.Four version.Five e = absurd (omega (arith, e))
-same_digit version.Five version.One e = absurd (omega (arith, e))
-same_digit version.Five version.Two e = absurd (omega (arith, e))
-same_digit version.Five version.Three e = absurd (omega (arith, e))
-same_digit version.Five version.Four e = absurd (omega (arith, e))
-same_digit version.Five version.Five e = refl
+same_digit v w e = sym (digit_again v) ∙ ap with_digit e ∙ digit_again w
 
 behind_first : (v : Version) (a : List ℕ) → drop 16 (first_line v ++ a) ≡ a
 behind_first version.One a = refl
@@ -127,6 +123,7 @@ behind_first version.Two a = refl
 behind_first version.Three a = refl
 behind_first version.Four a = refl
 behind_first version.Five a = refl
+behind_first version.Six a = refl
 
 -- one text is of one version
 one_version : (v w : Version) (a b : List ℕ) → first_line v ++ a ≡ first_line w ++ b → (v ≡ w) × (a ≡ b)
@@ -248,6 +245,7 @@ short_config version.Two c other h = h.limit
 short_config version.Three c other h = h.limit
 short_config version.Four c other h = absurd (other refl)
 short_config version.Five c other h = h.limit
+short_config version.Six c other h = h.limit
 
 pub proper_config : (v : Version) (c : BusConfig) → v ≢ version.Four → HasBusLine v c → IsConfig c
 proper_config v c other h = record {

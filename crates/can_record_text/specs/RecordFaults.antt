@@ -25,7 +25,7 @@ IsRecordText text = (c : BusConfig) × (entries : List Entry) × IsTextOf text c
 abbrev pub LacksFirst : List ℕ → Type 0
 LacksFirst text = (v : Version) (rest : List ℕ) → text ≢ first_line v ++ rest
 
--- the text is right line by line in a version, 3 or 5, and has nothing that takes this version
+-- the text is right line by line in a version, 3, 5 or 6, and has nothing that takes this version
 pub record IsNeedless (text : List ℕ) : Type 0 where
   pub version : Version
   pub config : BusConfig

@@ -20,7 +20,7 @@ use Rattle.can_event.specs.declared.opt.Opt.{Opt}
 use Rattle.can_event.specs.declared.opt.Opt.TheVariants as opt
 use Rattle.can_event.specs.declared.event.Event.{Event}
 use Rattle.can_event.specs.declared.event.Event.TheVariants.{Open, Close, SetFilters, SetOption}
-use Rattle.can_event.specs.declared.event.Event.TheVariants.{Send, Receive, Attempt, Restart}
+use Rattle.can_event.specs.declared.event.Event.TheVariants.{Send, Receive, Attempt, Restart, Down}
 use Rattle.can_event.specs.declared.refusal.Refusal.{Refusal}
 use Rattle.can_event.specs.declared.refusal.Refusal.TheVariants as refusal
 use Rattle.can_event.specs.declared.received.Received.{Received}
@@ -112,6 +112,7 @@ refusal_words refusal.NoBuffers = codes "no-buffers" ∷ []
 refusal_words refusal.NotBusOff = codes "not-bus-off" ∷ []
 refusal_words refusal.RecordFull = []
 refusal_words refusal.NoMemory = []
+refusal_words refusal.Down = codes "interface-down" ∷ []
 
 -- an event: what was called, and with what
 abbrev pub event_words : Event → List (List ℕ)
@@ -123,6 +124,7 @@ event_words (Send s frame) = codes "send" ∷ decimal s.0 ∷ frame_spelling (it
 event_words (Receive s) = codes "receive" ∷ decimal s.0 ∷ []
 event_words (Attempt m verdict) = codes "attempt" ∷ moment_word m ∷ verdict_word verdict ∷ []
 event_words (Restart i m) = codes "restart" ∷ decimal i ∷ moment_word m ∷ []
+event_words (Down i m) = codes "down" ∷ decimal i ∷ moment_word m ∷ []
 
 -- an item that was received: where it comes from, its number if it is a frame, the item, and when it was put to
 -- the socket
@@ -175,35 +177,46 @@ attempt_line moment verdict r = answered_line (Attempt moment verdict) r []
 
 -- nothing of the later versions
 abbrev pub no_needs : Needs
-no_needs = record { fd = false; flags = false }
+no_needs = record { fd = false; flags = false; down = false }
 
 -- what these and others need
 abbrev pub both_needs : Needs → Needs → Needs
-both_needs a b = record { fd = a.fd || b.fd; flags = a.flags || b.flags }
+both_needs a b = record { fd = a.fd || b.fd; flags = a.flags || b.flags; down = a.down || b.down }
 
 -- what the option for FD frames needs
 abbrev pub option_needs : Needs
-option_needs = record { fd = true; flags = false }
+option_needs = record { fd = true; flags = false; down = false }
+
+-- what the call that takes an interface down needs, and the refusal of a call as its interface is down
+abbrev pub down_needs : Needs
+down_needs = record { fd = false; flags = false; down = true }
 
 -- what a frame needs
 abbrev pub frame_needs : CanFrame → Needs
-frame_needs f = record { fd = is_fd f.payload; flags = is_flagged f.payload }
+frame_needs f = record { fd = is_fd f.payload; flags = is_flagged f.payload; down = false }
 
 -- what an item needs
 abbrev pub item_needs : Item → Needs
 item_needs (item.Data f) = frame_needs f
 item_needs (item.Error e) = no_needs
 
--- what an event needs: the frame that is to be sent, or the option for FD frames
+-- what an event needs: the frame that is to be sent, the option for FD frames, or the call that takes an interface down
 abbrev pub event_needs : Event → Needs
 event_needs (SetOption s (opt.FdFrames on)) = option_needs
 event_needs (Send s frame) = frame_needs frame
+event_needs (Down i m) = down_needs
 event_needs _ = no_needs
 
--- what a reply needs: the frame in it
+-- what a refusal needs
+abbrev pub refusal_needs : Refusal → Needs
+refusal_needs refusal.Down = down_needs
+refusal_needs _ = no_needs
+
+-- what a reply needs: the frame in it, or the refusal
 abbrev pub reply_needs : Reply → Needs
 reply_needs (reply.Received (Some r)) = item_needs r.item
 reply_needs (reply.Attempted (attempt.Tried t)) = frame_needs t.frame
+reply_needs (reply.Refused why) = refusal_needs why
 reply_needs _ = no_needs
 
 -- what an entry needs
@@ -222,6 +235,7 @@ takes_fd version.Two = false
 takes_fd version.Three = true
 takes_fd version.Four = true
 takes_fd version.Five = true
+takes_fd version.Six = true
 
 -- a version that has lines with flags of FD frames
 abbrev pub takes_flags : Version → Bool
@@ -230,24 +244,40 @@ takes_flags version.Two = false
 takes_flags version.Three = false
 takes_flags version.Four = true
 takes_flags version.Five = true
+takes_flags version.Six = true
+
+-- a version that has lines of interfaces that go down or are down; that of long runs does, since its first line comes
+-- before any of them
+abbrev pub takes_down : Version → Bool
+takes_down version.One = false
+takes_down version.Two = false
+takes_down version.Three = false
+takes_down version.Four = true
+takes_down version.Five = false
+takes_down version.Six = true
 
 -- a version that has lines with so much
 abbrev pub takes : Version → Needs → Bool
-takes v needs = (not needs.fd || takes_fd v) && (not needs.flags || takes_flags v)
+takes v needs =
+    (not needs.fd || takes_fd v) && (not needs.flags || takes_flags v) && (not needs.down || takes_down v)
 
--- a version that is for more than this: 3 is for an FD frame or the option for such, and 5 for a flag of an FD frame
+-- a version that is for more than this: 3 is for an FD frame or the option for such, 5 for a flag of an FD frame, and 6
+-- for an interface that goes down or is down
 abbrev pub is_needless : Version → Needs → Bool
 is_needless version.One needs = false
 is_needless version.Two needs = false
 is_needless version.Three needs = not needs.fd
 is_needless version.Four needs = false
 is_needless version.Five needs = not needs.flags
+is_needless version.Six needs = not needs.down
 
--- the version for a bus: 4 for a limit that only a long run has; else 5 where its record has a flag of an FD frame;
--- else 3 where an FD frame or the option for such does, and else 2 exactly where interfaces are restarted automatically
+-- the version for a bus: 4 for a limit that only a long run has; else 6 where its record has a call that takes an
+-- interface down, or one that is refused as its interface is down; else 5 where it has a flag of an FD frame; else 3
+-- where an FD frame or the option for such does, and else 2 exactly where interfaces are restarted automatically
 abbrev pub version_for : BusConfig → Needs → Version
 version_for c needs =
     if nat_lt max_limit c.limit then version.Four
+    else if needs.down then version.Six
     else if needs.flags then version.Five
     else if needs.fd then version.Three
     else if c.auto_restart == 0 then version.One
@@ -264,6 +294,7 @@ first_line version.Two = codes "canbus record 2" ++ 10 ∷ []
 first_line version.Three = codes "canbus record 3" ++ 10 ∷ []
 first_line version.Four = codes "canbus record 4" ++ 10 ∷ []
 first_line version.Five = codes "canbus record 5" ++ 10 ∷ []
+first_line version.Six = codes "canbus record 6" ++ 10 ∷ []
 
 -- from version 2 on: how many attempts after it went off an interface is restarted; from version 3 on this may be 0
 abbrev pub auto_restart_words : Version → BusConfig → List (List ℕ)
@@ -272,6 +303,7 @@ auto_restart_words version.Two c = decimal c.auto_restart ∷ []
 auto_restart_words version.Three c = decimal c.auto_restart ∷ []
 auto_restart_words version.Four c = decimal c.auto_restart ∷ []
 auto_restart_words version.Five c = decimal c.auto_restart ∷ []
+auto_restart_words version.Six c = decimal c.auto_restart ∷ []
 
 -- the bus: how many interfaces, who acknowledges, the interfaces with reporting on, the room of a transmit queue,
 -- the limit

@@ -8,7 +8,7 @@ use Rattle.can_event.specs.declared.opt.Opt.{Opt}
 use Rattle.can_event.specs.declared.opt.Opt.TheVariants as opt
 use Rattle.can_event.specs.declared.event.Event.{Event}
 use Rattle.can_event.specs.declared.event.Event.TheVariants.{Open, Close, SetFilters, SetOption}
-use Rattle.can_event.specs.declared.event.Event.TheVariants.{Send, Receive, Attempt, Restart}
+use Rattle.can_event.specs.declared.event.Event.TheVariants.{Send, Receive, Attempt, Restart, Down}
 use Rattle.can_event.specs.declared.received.Received.{Received}
 use Rattle.can_event.specs.declared.attempt.Tried.{Tried}
 use Rattle.can_event.specs.declared.attempt.Attempt.TheVariants as attempt
@@ -55,6 +55,7 @@ HoldsEvent (Send s frame) = (s.0 < 2 ^ 32) × IsItem (item.Data frame)
 HoldsEvent (Receive s) = s.0 < 2 ^ 32
 HoldsEvent (Attempt m v) = (m < 10 ^ 16) × HoldsVerdict v
 HoldsEvent (Restart i m) = (i < 16) × (m < 10 ^ 16)
+HoldsEvent (Down i m) = (i < 16) × (m < 10 ^ 16)
 
 -- the parts of a frame that was tried
 pub record HoldsTried (t : Tried) : Type 0 where
@@ -101,6 +102,7 @@ Restarts version.Two c = c.auto_restart ≢ 0
 Restarts version.Three c = Unit {0}
 Restarts version.Four c = Unit {0}
 Restarts version.Five c = Unit {0}
+Restarts version.Six c = Unit {0}
 
 -- a configuration that has a line in this version
 pub record HasBusLine (v : Version) (c : BusConfig) : Type 0 where

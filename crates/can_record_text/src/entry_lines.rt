@@ -65,6 +65,11 @@ pub(crate) fn push_event<'a>(line: &mut LineText, event: &'a Event) -> &'a [Filt
             push_number(line, u64::from(iface.number()), b' ');
             push_moment(line, *moment, b' ');
         }
+        Event::Down(iface, moment) => {
+            line.push_all(b"down ");
+            push_number(line, u64::from(iface.number()), b' ');
+            push_moment(line, *moment, b' ');
+        }
     }
     &[]
 }
@@ -289,6 +294,7 @@ fn push_refusal(line: &mut LineText, why: Refusal)
         Refusal::BusOff => line.push_all(b"= bus-off\n"),
         Refusal::NoBuffers => line.push_all(b"= no-buffers\n"),
         Refusal::NotBusOff => line.push_all(b"= not-bus-off\n"),
+        Refusal::Down => line.push_all(b"= interface-down\n"),
         // These two leave no entry.
         Refusal::RecordFull | Refusal::NoMemory => line.push_all(b"=\n"),
     }

@@ -130,6 +130,15 @@ fn guess_setting<'a>(word: &[u8], text: &'a [u8]) -> Option<(Event, &'a [u8])>
         };
         return Some((Event::Restart(iface, moment), rest));
     }
+    if same_word(word, b"down") {
+        let Some((iface, rest)) = iface_field(text) else {
+            return None;
+        };
+        let Some((moment, rest)) = moment_field(rest) else {
+            return None;
+        };
+        return Some((Event::Down(iface, moment), rest));
+    }
     None
 }
 

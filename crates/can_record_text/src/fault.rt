@@ -4,7 +4,7 @@ use thiserror::Error;
 #[derive(Debug, Clone, Copy, PartialEq, Eq, Error)]
 pub enum ReadFault {
     /// The text does not begin with the first line of a version that the reader knows, or it is right line by line in
-    /// version 3 or 5, and nothing in it takes this version.
+    /// version 3, 5 or 6, and nothing in it takes this version.
     #[error("bad version")]
     BadVersion,
     /// The first line that is wrong or missing, from 1.

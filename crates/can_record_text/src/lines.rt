@@ -99,7 +99,7 @@ fn push_limit(line: &mut LineText, version: Version, config: BusConfig)
 {
     match version {
         Version::One => push_number(line, u64::from(config.limit), b'\n'),
-        Version::Two | Version::Three | Version::Four | Version::Five => {
+        Version::Two | Version::Three | Version::Four | Version::Five | Version::Six => {
             push_number(line, u64::from(config.limit), b' ');
             push_number(line, u64::from(config.auto_restart), b'\n');
         }
@@ -154,6 +154,9 @@ pub fn read_version(text: &[u8]) -> Option<Version>
     }
     if begins(text, Version::Five.first_line()) {
         return Some(Version::Five);
+    }
+    if begins(text, Version::Six.first_line()) {
+        return Some(Version::Six);
     }
     None
 }
@@ -272,7 +275,9 @@ fn auto_restart_field(version: Version, text: &[u8]) -> Option<(u32, &[u8])>
 {
     match version {
         Version::One => Some((0, text)),
-        Version::Two | Version::Three | Version::Four | Version::Five => short_field(text),
+        Version::Two | Version::Three | Version::Four | Version::Five | Version::Six => {
+            short_field(text)
+        }
     }
 }
 

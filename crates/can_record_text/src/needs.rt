@@ -2,9 +2,9 @@ ghost use Rattle.std.specs.Prelude.{◌≡◌, ◌≤◌, false, length, reverse
 ghost use Rattle.can_event.specs.Replies.{entry_of};
 ghost use Rattle.can_record.specs.PackedEntry.{entry_in, frames_needed, IsSmall};
 ghost use Rattle.can_record.specs.StoredEntry.{entry_stored, IsStored};
-ghost use Rattle.can_record_text.specs.Spelling.{all_needs, both_needs, event_needs, frame_needs, item_needs, needs_of, no_needs, option_needs, reply_needs};
+ghost use Rattle.can_record_text.specs.Spelling.{all_needs, both_needs, down_needs, event_needs, frame_needs, item_needs, needs_of, no_needs, option_needs, refusal_needs, reply_needs};
 
-use can_event::{Attempt, Entry, Event, Opt, Reply};
+use can_event::{Attempt, Entry, Event, Opt, Refusal, Reply};
 use can_frame::{Frame, Item};
 use can_record::{PackedEntry, Record, StoredEntry};
 
@@ -15,6 +15,8 @@ pub struct Needs {
     pub fd: bool,
     /// Flags of FD frames.
     pub flags: bool,
+    /// Interfaces that go down or are down.
+    pub down: bool,
 }
 
 impl Needs {
@@ -25,6 +27,7 @@ impl Needs {
         Needs {
             fd: false,
             flags: false,
+            down: false,
         }
     }
 
@@ -35,6 +38,7 @@ impl Needs {
         Needs {
             fd: self.fd || others.fd,
             flags: self.flags || others.flags,
+            down: self.down || others.down,
         }
     }
 
@@ -42,7 +46,7 @@ impl Needs {
     pub fn of(event: &Event, reply: &Reply) -> Needs
         ensures { result ≡ needs_of (entry_of event.now reply.now) }
     {
-        if is_of_fd(event) || is_of_fd_frame(reply) {
+        if may_need(event) || may_need_of(reply) {
             Needs::of_words(event, reply)
         } else {
             Needs::nothing()
@@ -64,6 +68,7 @@ impl Needs {
         match event {
             Event::SetOption(_, Opt::FdFrames(_)) => Needs::of_option(),
             Event::Send(_, frame) => Needs::of_frame(frame),
+            Event::Down(_, _) => Needs::of_down(),
             _ => Needs::nothing(),
         }
     }
@@ -75,11 +80,12 @@ impl Needs {
         match reply {
             Reply::Received(Some(received)) => Needs::of_item(&received.item),
             Reply::Attempted(Attempt::Tried(tried)) => Needs::of_frame(&tried.frame),
+            Reply::Refused(why) => Needs::of_refusal(*why),
             _ => Needs::nothing(),
         }
     }
 
-    /// What an item needs.
+    /// The needs of an item.
     fn of_item(item: &Item) -> Needs
         ensures { result ≡ item_needs item.now }
     {
@@ -89,13 +95,14 @@ impl Needs {
         }
     }
 
-    /// What a frame needs.
+    /// The needs of a frame.
     fn of_frame(frame: &Frame) -> Needs
         ensures { result ≡ frame_needs frame.now }
     {
         Needs {
             fd: frame.is_fd(),
             flags: frame.is_flagged(),
+            down: false,
         }
     }
 
@@ -106,6 +113,28 @@ impl Needs {
         Needs {
             fd: true,
             flags: false,
+            down: false,
+        }
+    }
+
+    /// The needs of a refusal.
+    fn of_refusal(why: Refusal) -> Needs
+        ensures { result ≡ refusal_needs why }
+    {
+        match why {
+            Refusal::Down => Needs::of_down(),
+            _ => Needs::nothing(),
+        }
+    }
+
+    /// The needs of an interface that goes down or is down.
+    fn of_down() -> Needs
+        ensures { result ≡ down_needs }
+    {
+        Needs {
+            fd: false,
+            flags: false,
+            down: true,
         }
     }
 
@@ -140,7 +169,9 @@ impl Needs {
     {
         match kept {
             PackedEntry::FdSent { place, .. } => Needs::of_frame(&frames[*place]),
-            PackedEntry::FdSendRefused { place, .. } => Needs::of_frame(&frames[*place]),
+            PackedEntry::FdSendRefused { why, place, .. } => {
+                Needs::of_frame(&frames[*place]).and(Needs::of_refusal(*why))
+            }
             PackedEntry::FdReceived { place, .. } => Needs::of_frame(&frames[*place]),
             PackedEntry::FdTried { place, .. } => Needs::of_frame(&frames[*place]),
             PackedEntry::OptionSet {
@@ -149,8 +180,18 @@ impl Needs {
             } => Needs::of_option(),
             PackedEntry::OptionRefused {
                 option: Opt::FdFrames(_),
+                why,
                 ..
-            } => Needs::of_option(),
+            } => Needs::of_option().and(Needs::of_refusal(*why)),
+            PackedEntry::TakenDown { .. } => Needs::of_down(),
+            PackedEntry::DownRefused { why, .. } => Needs::of_down().and(Needs::of_refusal(*why)),
+            PackedEntry::OpenRefused { why, .. }
+            | PackedEntry::CloseRefused { why, .. }
+            | PackedEntry::OptionRefused { why, .. }
+            | PackedEntry::SendRefused { why, .. }
+            | PackedEntry::ReceiveRefused { why, .. }
+            | PackedEntry::AttemptRefused { why, .. }
+            | PackedEntry::RestartRefused { why, .. } => Needs::of_refusal(*why),
             _ => Needs::nothing(),
         }
     }
@@ -167,26 +208,28 @@ impl Needs {
     }
 }
 
-/// Whether an event is the send of an FD frame, or sets the option for such.
+/// Whether an event is the send of an FD frame, sets the option for such, or takes an interface down.
 #[tactic(auto, using(crate::proofs::Versioning::classic_frame))]
-fn is_of_fd(event: &Event) -> bool
+fn may_need(event: &Event) -> bool
     ensures { result ≡ false → event_needs event.now ≡ no_needs }
 {
     match event {
         Event::SetOption(_, Opt::FdFrames(_)) => true,
         Event::Send(_, frame) => frame.is_fd(),
+        Event::Down(_, _) => true,
         _ => false,
     }
 }
 
-/// Whether a reply has an FD frame.
+/// Whether a reply has an FD frame, or is that the interface is down.
 #[tactic(auto, using(crate::proofs::Versioning::classic_frame))]
-fn is_of_fd_frame(reply: &Reply) -> bool
+fn may_need_of(reply: &Reply) -> bool
     ensures { result ≡ false → reply_needs reply.now ≡ no_needs }
 {
     match reply {
         Reply::Received(Some(received)) => is_fd_item(&received.item),
         Reply::Attempted(Attempt::Tried(tried)) => tried.frame.is_fd(),
+        Reply::Refused(why) => *why == Refusal::Down,
         _ => false,
     }
 }

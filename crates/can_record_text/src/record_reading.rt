@@ -17,10 +17,10 @@ use std::alloc::{AllocError, Global};
 
 /// The record of a text, as `record_text` writes it: no other text is taken.
 ///
-/// `BadVersion` where the text does not begin with the first line of version 1, 2, 3 or 5 (4 is that of a run longer than
-/// a `Record`), and otherwise `BadLine` with the first line that is wrong or missing, from 1; where the text goes on
+/// `BadVersion` where the text does not begin with the first line of version 1, 2, 3, 5 or 6 (4 is that of a run longer
+/// than a `Record`), and otherwise `BadLine` with the first line that is wrong or missing, from 1; where the text goes on
 /// after its end, that is the line after the end. Last, `BadVersion` where a text of version 3 has neither an FD frame
-/// nor the option for such, or one of version 5 no flag.
+/// nor the option for such, one of version 5 no flag, or one of version 6 no interface that goes down or is down.
 /// The time is linear in the text, and nothing is allocated for a line but the filters that it sets.
 pub fn read_record(alloc: Global, text: &str) -> Result<Record, ReadFault>
     ensures reads { ReadsRecord text.now result }

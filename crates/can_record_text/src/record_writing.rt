@@ -22,8 +22,9 @@ use std::io::Write;
 
 /// The text of a record: a first line that names its version, a line of the bus, one for each entry, the
 /// oldest first, and one that says how many entries there were. Each ends with LF, and the bytes are ASCII.
-/// The version is 5 where the record has a flag of an FD frame; else 3 where it has an FD frame or the option for such;
-/// else 2 where interfaces are restarted automatically, and else 1.
+/// The version is 6 where the record has a call that takes an interface down, or one that is refused as its interface is
+/// down; else 5 where it has a flag of an FD frame; else 3 where it has an FD frame or the option for such; else 2 where
+/// interfaces are restarted automatically, and else 1.
 ///
 /// One record has one text, and one text has one record. The text takes some 40 bytes an entry; it grows in
 /// place, and the time is linear in it.

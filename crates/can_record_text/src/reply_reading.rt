@@ -208,5 +208,8 @@ fn refusal_of(word: &[u8]) -> Option<Refusal>
     if same_word(word, b"not-bus-off") {
         return Some(Refusal::NotBusOff);
     }
+    if same_word(word, b"interface-down") {
+        return Some(Refusal::Down);
+    }
     None
 }

@@ -43,17 +43,17 @@ pub fn read_back(alloc: Global, kept: &Record) -> Result<Record, AllocError>
     }
 }
 
-/// A configuration within the limits has a line in version 5.
+/// A configuration within the limits has a line in version 6.
 fn hold_config(config: BusConfig)
     requires { IsConfig config }
-    ensures { HasBusLine version.Five config }
+    ensures { HasBusLine version.Six config }
 {
     let _bits = config.reporting.0;
 }
 
-/// Entries of a record have lines in version 5.
+/// Entries of a record have lines in version 6.
 fn hold_lines(kept: &Record)
-    ensures { All (HasLine version.Five «kept».now.config) (reverse «kept».now.history) }
+    ensures { All (HasLine version.Six «kept».now.config) (reverse «kept».now.history) }
 {
     let config = kept.config();
     for place in 0..kept.len() {
@@ -64,7 +64,7 @@ fn hold_lines(kept: &Record)
 
 fn hold_line(config: BusConfig, entry: &Entry)
     requires { IsSpelled config entry.now }
-    ensures { HasLine version.Five config entry.now }
+    ensures { HasLine version.Six config entry.now }
 {
     hold_event(&entry.event);
     hold_reply(&entry.reply);

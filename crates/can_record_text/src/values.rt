@@ -36,7 +36,7 @@ pub(crate) fn hold_event(event: &Event)
             let _micros = moment.micros();
             hold_verdict(*verdict);
         }
-        Event::Restart(iface, moment) => {
+        Event::Restart(iface, moment) | Event::Down(iface, moment) => {
             let _number = iface.number();
             let _micros = moment.micros();
         }

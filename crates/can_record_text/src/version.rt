@@ -1,5 +1,5 @@
 ghost use Rattle.std.specs.Prelude.{◌≡◌, IsTrue};
-ghost use Rattle.can_record_text.specs.Spelling.{first_line, is_needless, takes, takes_fd, takes_flags, version_for};
+ghost use Rattle.can_record_text.specs.Spelling.{first_line, is_needless, takes, takes_down, takes_fd, takes_flags, version_for};
 ghost use Rattle.can_record_text.specs.Values.{HasLimit, Restarts};
 
 use crate::needs::Needs;
@@ -18,6 +18,8 @@ pub enum Version {
     Four,
     /// The record with a flag of an FD frame.
     Five,
+    /// The record with a call that takes an interface down, or one that is refused as its interface is down.
+    Six,
 }
 
 impl Version {
@@ -27,6 +29,8 @@ impl Version {
     {
         if config.limit > MAX_LIMIT {
             Version::Four
+        } else if needs.down {
+            Version::Six
         } else if needs.flags {
             Version::Five
         } else if needs.fd {
@@ -48,6 +52,7 @@ impl Version {
             Version::Three => b"canbus record 3\n",
             Version::Four => b"canbus record 4\n",
             Version::Five => b"canbus record 5\n",
+            Version::Six => b"canbus record 6\n",
         }
     }
 
@@ -57,7 +62,7 @@ impl Version {
     {
         match self {
             Version::One | Version::Two => false,
-            Version::Three | Version::Four | Version::Five => true,
+            Version::Three | Version::Four | Version::Five | Version::Six => true,
         }
     }
 
@@ -67,7 +72,17 @@ impl Version {
     {
         match self {
             Version::One | Version::Two | Version::Three => false,
-            Version::Four | Version::Five => true,
+            Version::Four | Version::Five | Version::Six => true,
+        }
+    }
+
+    /// Whether it has lines of interfaces that go down or are down.
+    fn takes_down(self) -> bool
+        ensures { result ≡ takes_down self }
+    {
+        match self {
+            Version::One | Version::Two | Version::Three | Version::Five => false,
+            Version::Four | Version::Six => true,
         }
     }
 
@@ -75,11 +90,13 @@ impl Version {
     pub fn takes(self, needs: Needs) -> bool
         ensures { result ≡ takes self needs }
     {
-        (!needs.fd || self.takes_fd()) && (!needs.flags || self.takes_flags())
+        (!needs.fd || self.takes_fd())
+            && (!needs.flags || self.takes_flags())
+            && (!needs.down || self.takes_down())
     }
 
     /// Whether a record whose lines need so much does not need it: version 3 is for an FD frame, or for the option for
-    /// such, and version 5 for a flag of an FD frame.
+    /// such, version 5 for a flag of an FD frame, and version 6 for an interface that goes down or is down.
     pub fn is_needless(self, needs: Needs) -> bool
         ensures { result ≡ is_needless self needs }
     {
@@ -87,6 +104,7 @@ impl Version {
             Version::One | Version::Two | Version::Four => false,
             Version::Three => !needs.fd,
             Version::Five => !needs.flags,
+            Version::Six => !needs.down,
         }
     }
 
@@ -96,8 +114,9 @@ impl Version {
         ensures no { HasLimit self config → IsTrue result }
     {
         match self {
-            Version::One | Version::Two | Version::Three | Version::Five => config.limit
-                <= MAX_LIMIT,
+            Version::One | Version::Two | Version::Three | Version::Five | Version::Six => {
+                config.limit <= MAX_LIMIT
+            }
             Version::Four => config.limit > MAX_LIMIT,
         }
     }
@@ -111,7 +130,7 @@ impl Version {
         match self {
             Version::One => config.auto_restart == 0,
             Version::Two => config.auto_restart != 0,
-            Version::Three | Version::Four | Version::Five => true,
+            Version::Three | Version::Four | Version::Five | Version::Six => true,
         }
     }
 }

@@ -1,15 +1,16 @@
-use Rattle.std.proofs.Common.{◌≡◌, ℕ, ◌+◌, ◌<◌, nat_le, Bool, true, false, if◌then◌else◌, List, [], ◌∷◌, ◌++◌, length, map, get_or, refl, sym, ap, ◌∙◌, subst, arith}
+use Rattle.std.proofs.Common.{◌≡◌, ◌≢◌, ℕ, ◌+◌, ◌<◌, ◌==◌, nat_le, Bool, true, false, if◌then◌else◌, List, [], ◌∷◌, ◌++◌, length, map, get_or, slice_set, refl, sym, ap, ◌∙◌, subst, arith}
 use mathlib.Core.Path.{fun_ext}
 use Rattle.std.specs.List.{range_with_len}
-use Rattle.std.proofs.lemmas.Bool.{leb-false}
-use Rattle.can_confine.specs.Confinement.{ErrorCounts, all_stepped, at_start, state_of, is_off}
+use Rattle.std.proofs.lemmas.Bool.{cond-false, cond-true, eq-eqb, leb-false, ne_eqb}
+use Rattle.can_confine.specs.Confinement.{ErrorCounts, all_stepped, at_start, state_of, stepped, is_silent}
+use Rattle.can_confine.specs.Confinement.Step.{TakenDown}
 use Rattle.can_fault.specs.declared.verdict.Verdict.{Verdict}
 use Rattle.can_attempt.specs.declared.nodes.Nodes.{Nodes}
 use Rattle.can_attempt.specs.Attempts.{Transmission, counts_at, counts_after, judged, steps_at}
 use Rattle.can_event.specs.declared.bus_config.BusConfig.{BusConfig}
 use Rattle.can_event.specs.declared.entry.Entry.{Entry}
 use Rattle.can_event.specs.declared.event.Event.{Event}
-use Rattle.can_event.specs.declared.event.Event.TheVariants.{Open, Close, SetFilters, SetOption, Send, Receive, Attempt, Restart}
+use Rattle.can_event.specs.declared.event.Event.TheVariants.{Open, Close, SetFilters, SetOption, Send, Receive, Attempt, Restart, Down}
 use Rattle.can_event.specs.declared.reply.Reply.{Reply}
 use Rattle.can_event.specs.declared.reply.Reply.TheVariants as reply
 use Rattle.can_event.specs.declared.refusal.Refusal.TheVariants as refusal
@@ -26,6 +27,7 @@ use Rattle.can_bus.proofs.Attempting.{between-is, count-kept, counts_at-all}
 use Rattle.can_bus.proofs.Lawful.{WasTried, by_attempt}
 use Rattle.can_bus.proofs.NodeFacts.{counts_at-kept}
 use Rattle.can_bus.proofs.OffFacts.{all_stepped-append, winner-contends}
+use Rattle.can_bus.proofs.KeyFacts.{sixteen-one}
 use Rattle.can_bus.proofs.Restarting.{nodes-restarted}
 use Rattle.can_replay.proofs.Before.{before_more}
 use Rattle.can_reference.specs.inner.Counted.{Counts, IsLive, judged_nodes}
@@ -34,15 +36,15 @@ use Rattle.can_replay.specs.Histories.{before, IsHistory}
 
 -- The error counts of all interfaces, one entry after another.
 
--- ---- the interface that sent is there, and not bus off
+-- ---- the interface that sent is there, and neither bus off nor down
 
-pub live-kept : (c : BusConfig) (past : List Entry) (i : ℕ) → IsHistory c past → i < c.ifaces → is_off (state_of (counts_of c past i)) ≡ false → IsLive (kept_nodes c past) i
+pub live-kept : (c : BusConfig) (past : List Entry) (i : ℕ) → IsHistory c past → i < c.ifaces → is_silent (state_of (counts_of c past i)) ≡ false → IsLive (kept_nodes c past) i
 live-kept c past i h below live =
     let count = count-kept c past in
     record {
       few = omega (arith, count, h.proper.few_ifaces);
       there = omega (arith, count, below);
-      live = ap (λ (k : ErrorCounts). is_off (state_of k)) (counts_at-all c past h.legal h.proper.few_ifaces i) ∙ live;
+      live = ap (λ (k : ErrorCounts). is_silent (state_of k)) (counts_at-all c past h.legal h.proper.few_ifaces i) ∙ live;
     }
 
 pub winner-live : (c : BusConfig) (past : List Entry) (m : ℕ) (v : Verdict) (t : Tried) → IsHistory c past → WasTried c past m v t → IsLive (kept_nodes c past) t.winner
@@ -114,14 +116,41 @@ tried-law c past e t old new h law are =
 restart-below : (c : BusConfig) (past : List Entry) (i m : ℕ) → reply.Done ≡ legal_reply c past (Restart i m) → i < c.ifaces
 restart-below c past i m law = when (nat_le c.ifaces i) refl law
   where
-    when : (b : Bool) → nat_le c.ifaces i ≡ b → reply.Done ≡ (if b then reply.Refused refusal.NoInterface else if is_off (state_at c past i) then reply.Done else reply.Refused refusal.NotBusOff) → i < c.ifaces
+    when : (b : Bool) → nat_le c.ifaces i ≡ b → reply.Done ≡ (if b then reply.Refused refusal.NoInterface else if is_silent (state_at c past i) then reply.Done else reply.Refused refusal.NotBusOff) → i < c.ifaces
     when true above l = cc
     when false below l = leb-false c.ifaces i below
+
+down-below : (c : BusConfig) (past : List Entry) (i m : ℕ) → reply.Done ≡ legal_reply c past (Down i m) → i < c.ifaces
+down-below c past i m law = when (nat_le c.ifaces i) refl law
+  where
+    when : (b : Bool) → nat_le c.ifaces i ≡ b → reply.Done ≡ (if b then reply.Refused refusal.NoInterface else reply.Done) → i < c.ifaces
+    when true above l = cc
+    when false below l = leb-false c.ifaces i below
+
+-- one that is taken down keeps its counts, and the others theirs
+counts-down : (c : BusConfig) (past : List Entry) (i m : ℕ) → counts_of c (entry_of (Down i m) reply.Done ∷ past) i ≡ stepped (counts_of c past i) TakenDown
+counts-down c past i m =
+    ap (all_stepped at_start) (cond-true (i == i) (steps_of c past i ++ TakenDown ∷ []) (steps_of c past i) (eq-eqb i i refl))
+    ∙ all_stepped-append at_start (steps_of c past i) (TakenDown ∷ [])
+
+counts-others : (c : BusConfig) (past : List Entry) (i m j : ℕ) → j ≢ i → counts_of c (entry_of (Down i m) reply.Done ∷ past) j ≡ counts_of c past j
+counts-others c past i m j other =
+    ap (all_stepped at_start) (cond-false (i == j) (steps_of c past j ++ TakenDown ∷ []) (steps_of c past j) (ne_eqb i j (λ e. other (sym e))))
+
+nodes-down : (c : BusConfig) (past : List Entry) (i m : ℕ) (old new : Nodes) → i < 16 → old ≡ kept_nodes c past → new ≡ record old { counters = slice_set old.counters i (stepped (counts_at old i) TakenDown) } → new ≡ kept_nodes c (entry_of (Down i m) reply.Done ∷ past)
+unfolding kept_nodes
+nodes-down c past i m old new few are after =
+    after
+    ∙ ap (λ (n : Nodes). record n { counters = slice_set n.counters i (stepped (counts_at n i) TakenDown) }) are
+    ∙ ap (λ (k : ErrorCounts). record { count = c.ifaces; counters = slice_set (map (counts_of c past) (range_with_len 0 16)) i (stepped k TakenDown) }) (counts_at-kept c past i few)
+    ∙ ap (λ (k : ErrorCounts). record { count = c.ifaces; counters = slice_set (map (counts_of c past) (range_with_len 0 16)) i k }) (sym (counts-down c past i m))
+    ∙ ap (λ (ks : List ErrorCounts). record { count = c.ifaces; counters = ks }) (sym (sixteen-one (counts_of c past) (counts_of c (entry_of (Down i m) reply.Done ∷ past)) i 16 few (counts-others c past i m)))
 
 pub counted-kept : (c : BusConfig) (past : List Entry) (e : Event) (r : Reply) (old new : Nodes) → IsHistory c past → r ≡ legal_reply c past e → old ≡ kept_nodes c past → Counts c e r old new → new ≡ kept_nodes c (entry_of e r ∷ past)
 unfolding kept_nodes
 counted-kept c past e (reply.Attempted (attempt.Tried t)) old new h law are counted = tried-law c past e t old new h law are counted
 counted-kept c past (Restart i m) reply.Done old new h law are counted = nodes-restarted c past i m old new (omega (arith, restart-below c past i m law, h.proper.few_ifaces)) are counted
+counted-kept c past (Down i m) reply.Done old new h law are counted = nodes-down c past i m old new (omega (arith, down-below c past i m law, h.proper.few_ifaces)) are counted
 counted-kept c past (Attempt m v) (reply.Attempted (attempt.Idle set)) old new h law are counted = nodes-idle c past m v set old new are counted
 counted-kept c past (Open i n) _ old new h law are counted = counted ∙ are
 counted-kept c past (Close s) _ old new h law are counted = counted ∙ are
@@ -131,6 +160,7 @@ counted-kept c past (Send s f) _ old new h law are counted = counted ∙ are
 counted-kept c past (Receive s) _ old new h law are counted = counted ∙ are
 counted-kept c past (Attempt m v) _ old new h law are counted = counted ∙ are
 counted-kept c past (Restart i m) _ old new h law are counted = counted ∙ are
+counted-kept c past (Down i m) _ old new h law are counted = counted ∙ are
 
 -- ---- one entry after another
 
@@ -154,6 +184,10 @@ counted_more c es k e old new lt read so_far counted h =
     let past : IsHistory c (before es k) = earlier c e (before es k) here in
     counted-kept c (before es k) e.event e.reply old new past here.legal.1 (so_far past) counted ∙ ap (kept_nodes c) (sym more)
 
--- whether an interface is bus off, as it is kept
-pub off-kept : (c : BusConfig) (past : List Entry) (nodes : Nodes) (i : ℕ) (off : Bool) → i < 16 → nodes ≡ kept_nodes c past → off ≡ is_off (state_of (counts_at nodes i)) → off ≡ is_off (state_at c past i)
-off-kept c past nodes i off few are is = is ∙ ap (λ (n : Nodes). is_off (state_of (counts_at n i))) are ∙ ap (λ (k : ErrorCounts). is_off (state_of k)) (counts_at-kept c past i few)
+-- the state of an interface, as it is kept
+pub state-kept : (c : BusConfig) (past : List Entry) (nodes : Nodes) (i : ℕ) → i < 16 → nodes ≡ kept_nodes c past → state_of (counts_at nodes i) ≡ state_at c past i
+state-kept c past nodes i few are = ap (λ (n : Nodes). state_of (counts_at n i)) are ∙ ap state_of (counts_at-kept c past i few)
+
+-- whether it is bus off or down
+pub silent-kept : (c : BusConfig) (past : List Entry) (nodes : Nodes) (i : ℕ) (silent : Bool) → i < 16 → nodes ≡ kept_nodes c past → silent ≡ is_silent (state_of (counts_at nodes i)) → silent ≡ is_silent (state_at c past i)
+silent-kept c past nodes i silent few are is = is ∙ ap is_silent (state-kept c past nodes i few are)

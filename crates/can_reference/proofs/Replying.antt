@@ -3,7 +3,8 @@ use Rattle.std.specs.List.{list_any}
 use Rattle.std.proofs.lemmas.Bool.{cond-true, cond-false, le-leb, lt-leb, leb-false, eq-eqb, ne_eqb}
 use Rattle.std.proofs.lemmas.List.{drop_more, drop_all, reverse-append, length-reverse}
 use Rattle.can_frame.specs.Frames.{CanFrame}
-use Rattle.can_confine.specs.Confinement.{state_of, is_off}
+use Rattle.can_confine.specs.Confinement.{ErrorCounts, state_of, is_down, is_off, is_silent}
+use Rattle.can_confine.specs.declared.state.State.{State}
 use Rattle.can_attempt.specs.declared.nodes.Nodes.{Nodes}
 use Rattle.can_attempt.specs.Attempts.{counts_at}
 use Rattle.can_event.specs.declared.bus_config.BusConfig.{BusConfig}
@@ -22,7 +23,7 @@ use Rattle.can_bus.specs.Sockets.{Place, places, open_sockets, is_open, iface_of
 use Rattle.can_bus.specs.State.{kept_nodes}
 use Rattle.can_bus.specs.Transmit.{sent_by, gone_count}
 use Rattle.can_bus.proofs.OffFacts.{is_open-iface}
-use Rattle.can_reference.proofs.Counting.{off-kept}
+use Rattle.can_reference.proofs.Counting.{silent-kept, state-kept}
 use Rattle.can_event.specs.Replies.{entry_of}
 use Rattle.can_replay.specs.Histories.{IsHistory}
 use Rattle.can_replay.specs.Replies.{reply_after, entries_after, replies_after}
@@ -31,15 +32,15 @@ use Rattle.can_replay.specs.Replies.{reply_after, entries_after, replies_after}
 
 -- ---- restarts
 
-pub restart-off : (c : BusConfig) (past : List Entry) (i m : ℕ) (nodes : Nodes) (off : Bool) → IsHistory c past → i < c.ifaces → nodes ≡ kept_nodes c past → off ≡ is_off (state_of (counts_at nodes i)) → off ≡ true → reply.Done ≡ legal_reply c past (event.Restart i m)
-restart-off c past i m nodes off h below are is is_true =
-    let here : is_off (state_at c past i) ≡ true = sym (off-kept c past nodes i off (omega (arith, below, h.proper.few_ifaces)) are is) ∙ is_true in
-    sym (cond-false (nat_le c.ifaces i) _ _ (lt-leb c.ifaces i below) ∙ cond-true (is_off (state_at c past i)) _ _ here)
+pub restart-silent : (c : BusConfig) (past : List Entry) (i m : ℕ) (nodes : Nodes) (silent : Bool) → IsHistory c past → i < c.ifaces → nodes ≡ kept_nodes c past → silent ≡ is_silent (state_of (counts_at nodes i)) → silent ≡ true → reply.Done ≡ legal_reply c past (event.Restart i m)
+restart-silent c past i m nodes silent h below are is is_true =
+    let here : is_silent (state_at c past i) ≡ true = sym (silent-kept c past nodes i silent (omega (arith, below, h.proper.few_ifaces)) are is) ∙ is_true in
+    sym (cond-false (nat_le c.ifaces i) _ _ (lt-leb c.ifaces i below) ∙ cond-true (is_silent (state_at c past i)) _ _ here)
 
-pub restart-live : (c : BusConfig) (past : List Entry) (i m : ℕ) (nodes : Nodes) (off : Bool) → IsHistory c past → i < c.ifaces → nodes ≡ kept_nodes c past → off ≡ is_off (state_of (counts_at nodes i)) → off ≡ false → reply.Refused refusal.NotBusOff ≡ legal_reply c past (event.Restart i m)
-restart-live c past i m nodes off h below are is not_off =
-    let here : is_off (state_at c past i) ≡ false = sym (off-kept c past nodes i off (omega (arith, below, h.proper.few_ifaces)) are is) ∙ not_off in
-    sym (cond-false (nat_le c.ifaces i) _ _ (lt-leb c.ifaces i below) ∙ cond-false (is_off (state_at c past i)) _ _ here)
+pub restart-live : (c : BusConfig) (past : List Entry) (i m : ℕ) (nodes : Nodes) (silent : Bool) → IsHistory c past → i < c.ifaces → nodes ≡ kept_nodes c past → silent ≡ is_silent (state_of (counts_at nodes i)) → silent ≡ false → reply.Refused refusal.NotBusOff ≡ legal_reply c past (event.Restart i m)
+restart-live c past i m nodes silent h below are is live =
+    let here : is_silent (state_at c past i) ≡ false = sym (silent-kept c past nodes i silent (omega (arith, below, h.proper.few_ifaces)) are is) ∙ live in
+    sym (cond-false (nat_le c.ifaces i) _ _ (lt-leb c.ifaces i below) ∙ cond-false (is_silent (state_at c past i)) _ _ here)
 
 -- ---- calls on an open socket
 
@@ -79,7 +80,9 @@ few-on : (c : BusConfig) (past : List Entry) (s i : ℕ) → IsHistory c past �
 few-on c past s i h on = omega (arith, on.iface, is_open-iface c past h.legal s on.there, h.proper.few_ifaces)
 
 abbrev send_as : BusConfig → List Entry → ℕ → Reply
-send_as c past i = if is_off (state_at c past i) then reply.Refused refusal.BusOff else if length (sent_by past i) - gone_count past i == c.tx_capacity then reply.Refused refusal.NoBuffers else reply.Sent (length (sent_by past i))
+send_as c past i =
+    if is_off (state_at c past i) then reply.Refused refusal.BusOff else if is_down (state_at c past i) then reply.Refused refusal.Down
+    else if length (sent_by past i) - gone_count past i == c.tx_capacity then reply.Refused refusal.NoBuffers else reply.Sent (length (sent_by past i))
 
 on-open : (c : BusConfig) (past : List Entry) (s : SocketId) (f : CanFrame) (i : ℕ) → IsOn past s.0 i → lacks_fd f (options_of past s.0) ≡ false → send_as c past i ≡ legal_reply c past (event.Send s f)
 on-open c past s f i on may = ap (send_as c past) on.iface ∙ sym (cond-true (is_open past s.0) _ _ on.there ∙ cond-false (lacks_fd f (options_of past s.0)) _ _ may)
@@ -87,11 +90,30 @@ on-open c past s f i on may = ap (send_as c past) on.iface ∙ sym (cond-true (i
 pub sent-fd-off : (c : BusConfig) (past : List Entry) (s : SocketId) (f : CanFrame) → is_open past s.0 ≡ true → lacks_fd f (options_of past s.0) ≡ true → reply.Refused refusal.FdOff ≡ legal_reply c past (event.Send s f)
 sent-fd-off c past s f there lacks = sym (cond-true (is_open past s.0) _ _ there ∙ cond-true (lacks_fd f (options_of past s.0)) _ _ lacks)
 
-pub sent-off : (c : BusConfig) (past : List Entry) (s : SocketId) (f : CanFrame) (i : ℕ) (nodes : Nodes) (off : Bool) → IsHistory c past → IsOn past s.0 i → lacks_fd f (options_of past s.0) ≡ false
-    → nodes ≡ kept_nodes c past → off ≡ is_off (state_of (counts_at nodes i)) → off ≡ true → reply.Refused refusal.BusOff ≡ legal_reply c past (event.Send s f)
-sent-off c past s f i nodes off h on may are is is_true =
-    let here : is_off (state_at c past i) ≡ true = sym (off-kept c past nodes i off (few-on c past s.0 i h on) are is) ∙ is_true in
+-- the state of its interface
+pub state-on : (c : BusConfig) (past : List Entry) (s i : ℕ) (nodes : Nodes) (counts : ErrorCounts) (state : State) → IsHistory c past → IsOn past s i → nodes ≡ kept_nodes c past → counts ≡ counts_at nodes i → state ≡ state_of counts → state ≡ state_at c past i
+state-on c past s i nodes counts state h on are counted is = is ∙ ap state_of counted ∙ state-kept c past nodes i (few-on c past s i h on) are
+
+pub sent-off : (c : BusConfig) (past : List Entry) (s : SocketId) (f : CanFrame) (i : ℕ) (state : State) (off : Bool) → IsOn past s.0 i → lacks_fd f (options_of past s.0) ≡ false
+    → state ≡ state_at c past i → off ≡ is_off state → off ≡ true → reply.Refused refusal.BusOff ≡ legal_reply c past (event.Send s f)
+sent-off c past s f i state off on may at is is_true =
+    let here : is_off (state_at c past i) ≡ true = ap is_off (sym at) ∙ sym is ∙ is_true in
     sym (cond-true (is_off (state_at c past i)) _ _ here) ∙ on-open c past s f i on may
+
+pub sent-down : (c : BusConfig) (past : List Entry) (s : SocketId) (f : CanFrame) (i : ℕ) (state : State) (off down : Bool) → IsOn past s.0 i → lacks_fd f (options_of past s.0) ≡ false
+    → state ≡ state_at c past i → off ≡ is_off state → off ≡ false → down ≡ is_down state → down ≡ true → reply.Refused refusal.Down ≡ legal_reply c past (event.Send s f)
+sent-down c past s f i state off down on may at is not_off is_too is_true =
+    let on_bus : is_off (state_at c past i) ≡ false = ap is_off (sym at) ∙ sym is ∙ not_off in
+    let here : is_down (state_at c past i) ≡ true = ap is_down (sym at) ∙ sym is_too ∙ is_true in
+    sym (cond-false (is_off (state_at c past i)) _ _ on_bus ∙ cond-true (is_down (state_at c past i)) _ _ here) ∙ on-open c past s f i on may
+
+-- its interface is neither bus off nor down
+pub record IsUp (c : BusConfig) (past : List Entry) (i : ℕ) : Type 0 where
+  pub off : is_off (state_at c past i) ≡ false
+  pub down : is_down (state_at c past i) ≡ false
+
+pub is-up : (c : BusConfig) (past : List Entry) (i : ℕ) (state : State) (off down : Bool) → state ≡ state_at c past i → off ≡ is_off state → off ≡ false → down ≡ is_down state → down ≡ false → IsUp c past i
+is-up c past i state off down at is not_off is_too not_down = record { off = ap is_off (sym at) ∙ sym is ∙ not_off; down = ap is_down (sym at) ∙ sym is_too ∙ not_down }
 
 -- what is there to send, and how much of it has left
 pub record IsQueue (past : List Entry) (i sent gone : ℕ) : Type 0 where
@@ -101,22 +123,18 @@ pub record IsQueue (past : List Entry) (i sent gone : ℕ) : Type 0 where
 waiting : (past : List Entry) (i sent gone n : ℕ) → IsQueue past i sent gone → n ≡ sent - gone → n ≡ length (sent_by past i) - gone_count past i
 waiting past i sent gone n queue is = is ∙ ap (λ (k : ℕ). k - gone) queue.sent_is ∙ ap (λ (k : ℕ). length (sent_by past i) - k) queue.gone_is
 
-pub sent-full : (c : BusConfig) (past : List Entry) (s : SocketId) (f : CanFrame) (i : ℕ) (nodes : Nodes) (off : Bool) (sent gone n : ℕ) → IsHistory c past
-    → IsOn past s.0 i → lacks_fd f (options_of past s.0) ≡ false → nodes ≡ kept_nodes c past → off ≡ is_off (state_of (counts_at nodes i)) → off ≡ false → IsQueue past i sent gone → n ≡ sent - gone
+pub sent-full : (c : BusConfig) (past : List Entry) (s : SocketId) (f : CanFrame) (i sent gone n : ℕ) → IsOn past s.0 i → lacks_fd f (options_of past s.0) ≡ false → IsUp c past i → IsQueue past i sent gone → n ≡ sent - gone
     → n ≡ c.tx_capacity → reply.Refused refusal.NoBuffers ≡ legal_reply c past (event.Send s f)
-sent-full c past s f i nodes off sent gone n h on may are is live queue room full =
-    let here : is_off (state_at c past i) ≡ false = sym (off-kept c past nodes i off (few-on c past s.0 i h on) are is) ∙ live in
+sent-full c past s f i sent gone n on may up queue room full =
     let is_full : (length (sent_by past i) - gone_count past i == c.tx_capacity) ≡ true = eq-eqb _ _ (sym (waiting past i sent gone n queue room) ∙ full) in
-    sym (cond-false (is_off (state_at c past i)) _ _ here ∙ cond-true (length (sent_by past i) - gone_count past i == c.tx_capacity) _ _ is_full) ∙ on-open c past s f i on may
+    sym (cond-false (is_off (state_at c past i)) _ _ up.off ∙ cond-false (is_down (state_at c past i)) _ _ up.down ∙ cond-true (length (sent_by past i) - gone_count past i == c.tx_capacity) _ _ is_full) ∙ on-open c past s f i on may
 
-pub sent-taken : (c : BusConfig) (past : List Entry) (s : SocketId) (f : CanFrame) (i : ℕ) (nodes : Nodes) (off : Bool) (sent gone n : ℕ) → IsHistory c past
-    → IsOn past s.0 i → lacks_fd f (options_of past s.0) ≡ false → nodes ≡ kept_nodes c past → off ≡ is_off (state_of (counts_at nodes i)) → off ≡ false → IsQueue past i sent gone → n ≡ sent - gone
+pub sent-taken : (c : BusConfig) (past : List Entry) (s : SocketId) (f : CanFrame) (i sent gone n : ℕ) → IsOn past s.0 i → lacks_fd f (options_of past s.0) ≡ false → IsUp c past i → IsQueue past i sent gone → n ≡ sent - gone
     → n ≢ c.tx_capacity → reply.Sent sent ≡ legal_reply c past (event.Send s f)
-sent-taken c past s f i nodes off sent gone n h on may are is live queue room free =
-    let here : is_off (state_at c past i) ≡ false = sym (off-kept c past nodes i off (few-on c past s.0 i h on) are is) ∙ live in
+sent-taken c past s f i sent gone n on may up queue room free =
     let is_free : (length (sent_by past i) - gone_count past i == c.tx_capacity) ≡ false = ne_eqb _ _ (λ e. free (waiting past i sent gone n queue room ∙ e)) in
     ap (λ (k : ℕ). reply.Sent k) queue.sent_is
-    ∙ sym (cond-false (is_off (state_at c past i)) _ _ here ∙ cond-false (length (sent_by past i) - gone_count past i == c.tx_capacity) _ _ is_free) ∙ on-open c past s f i on may
+    ∙ sym (cond-false (is_off (state_at c past i)) _ _ up.off ∙ cond-false (is_down (state_at c past i)) _ _ up.down ∙ cond-false (length (sent_by past i) - gone_count past i == c.tx_capacity) _ _ is_free) ∙ on-open c past s f i on may
 
 -- ---- one event after another
 

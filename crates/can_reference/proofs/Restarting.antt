@@ -8,7 +8,7 @@ use Rattle.can_attempt.proofs.Places.{is_among-filter, is_among-range, bits_wher
 use Rattle.can_event.specs.declared.bus_config.BusConfig.{BusConfig}
 use Rattle.can_event.specs.declared.entry.Entry.{Entry}
 use Rattle.can_event.specs.declared.event.Event.{Event}
-use Rattle.can_event.specs.declared.event.Event.TheVariants.{Open, Close, SetFilters, SetOption, Send, Receive, Attempt, Restart}
+use Rattle.can_event.specs.declared.event.Event.TheVariants.{Open, Close, SetFilters, SetOption, Send, Receive, Attempt, Restart, Down}
 use Rattle.can_event.specs.declared.reply.Reply.{Reply}
 use Rattle.can_event.specs.declared.attempt.Attempt.TheVariants as attempt
 use Rattle.can_event.specs.declared.reply.Reply.TheVariants as reply
@@ -69,6 +69,11 @@ few-then (Restart j m) reply.Done i k old h = when (j == i)
     when : (b : Bool) → IfSome (if b then None else old) (λ n. n ≤ k + 1)
     when true = tt
     when false = no-more old k h
+few-then (Down j m) reply.Done i k old h = when (j == i)
+  where
+    when : (b : Bool) → IfSome (if b then None else old) (λ n. n ≤ k + 1)
+    when true = tt
+    when false = no-more old k h
 few-then (Open j n) _ i k old h = no-more old k h
 few-then (Close s) _ i k old h = no-more old k h
 few-then (SetFilters s f) _ i k old h = no-more old k h
@@ -77,6 +82,7 @@ few-then (Send s f) _ i k old h = no-more old k h
 few-then (Receive s) _ i k old h = no-more old k h
 few-then (Attempt m v) _ i k old h = no-more old k h
 few-then (Restart j m) _ i k old h = no-more old k h
+few-then (Down j m) _ i k old h = no-more old k h
 
 pub few-more : (e : Entry) (i k : ℕ) (old new : Option ℕ) → IfSome old (λ n. n ≤ k) → new ≡ attempts_off_after e.event e.reply i old → IfSome new (λ n. n ≤ k + 1)
 few-more e i k old new h after = subst (λ (o : Option ℕ). IfSome o (λ n. n ≤ k + 1)) (sym after) (few-then e.event e.reply i k old h)

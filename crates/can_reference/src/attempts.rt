@@ -30,7 +30,7 @@ fn compete<A: Arbiter>(arbiter: &mut A, iface: Iface, head: Option<Pending>)
     }
 }
 
-/// The interface whose frame goes first. One that is bus off has no frame to send.
+/// The interface whose frame goes first. One that is bus off or down has no frame to send.
 fn first_of<A: Arbiter>(alloc: Global, past: &[Entry]) -> Result<Option<Iface>, AllocError>
     ensures first { IfOk result (λ w. IfSome w (λ i. IsWinner (kept_keys (reverse past.now)) i)) }
     ensures none { IfOk result (λ w. IsNone w → IsIdle (kept_keys (reverse past.now))) }

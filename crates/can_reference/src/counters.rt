@@ -1,6 +1,7 @@
 ghost use Rattle.std.specs.Prelude.{◌≡◌, ◌≤◌, ℕ, slice_set, Some, IfSome, OnSome};
-ghost use Rattle.can_confine.specs.Confinement.{at_start};
-ghost use Rattle.can_attempt.specs.Attempts.{attempt_between, judged};
+ghost use Rattle.can_confine.specs.Confinement.{at_start, stepped};
+ghost use Rattle.can_confine.specs.Confinement.Step.{TakenDown};
+ghost use Rattle.can_attempt.specs.Attempts.{attempt_between, counts_at, judged};
 ghost use Rattle.can_event.specs.declared.event.Event.TheVariants as event;
 ghost use Rattle.can_event.specs.declared.reply.Reply.TheVariants as reply;
 ghost use Rattle.can_bus.specs.Changes.{begun_anew};
@@ -16,7 +17,7 @@ use can_frame::{Iface, IfaceSet};
 
 // The error counters of a bus's interfaces, by its entries.
 
-/// What becomes of an attempt, where the interface that sends is there and not bus off.
+/// The outcome of an attempt, where the interface that sends is there, and neither bus off nor down.
 pub fn judgement_of(
     nodes: &Nodes,
     winner: Iface,
@@ -28,7 +29,7 @@ pub fn judgement_of(
     ensures live { IsLive nodes.now winner →
         result ≡ Some (judged (attempt_between nodes.now winner verdict ack)) }
 {
-    if nodes.count > 16 || winner.number() >= nodes.count || nodes.is_off(winner) {
+    if nodes.count > 16 || winner.number() >= nodes.count || nodes.is_silent(winner) {
         return None;
     }
     Some(judge(nodes, winner, verdict, ack))
@@ -41,14 +42,14 @@ fn count(nodes: &mut Nodes, judgement: &Judgement)
     nodes.counters = judgement.counters;
 }
 
-/// What an attempt that restarts these interfaces in the end does to the error counters.
+/// Counts an attempt that restarts these interfaces in the end.
 fn note_restarts(nodes: &mut Nodes, restarted: IfaceSet)
     ensures { nodes.new ≡ begun_anew restarted nodes.old }
 {
     nodes.counters = begun_anew(nodes, restarted);
 }
 
-/// What a frame that was tried does to them.
+/// Counts a frame that was tried.
 fn note_frame(config: BusConfig, nodes: &mut Nodes, winner: Iface, verdict: Verdict)
     ensures { IsLive nodes.old winner →
         nodes.new ≡ judged_nodes nodes.old winner verdict config.ack }
@@ -58,7 +59,7 @@ fn note_frame(config: BusConfig, nodes: &mut Nodes, winner: Iface, verdict: Verd
     }
 }
 
-/// What an attempt that tried a frame does to them.
+/// Counts an attempt that tried a frame.
 fn note_tried(config: BusConfig, nodes: &mut Nodes, tried: &Tried, verdict: Verdict)
     ensures { CountsTried config tried.now verdict nodes.old nodes.new }
 {
@@ -66,7 +67,7 @@ fn note_tried(config: BusConfig, nodes: &mut Nodes, tried: &Tried, verdict: Verd
     note_restarts(nodes, tried.restarted);
 }
 
-/// What an attempt does to them.
+/// Counts an attempt.
 fn note_attempt(config: BusConfig, nodes: &mut Nodes, attempt: &Attempt, verdict: Verdict)
     ensures { (moment : ℕ) → Counts config (event.Attempt moment verdict)
         (reply.Attempted attempt.now) nodes.old nodes.new }
@@ -77,7 +78,7 @@ fn note_attempt(config: BusConfig, nodes: &mut Nodes, attempt: &Attempt, verdict
     }
 }
 
-/// What a restart does to them.
+/// Counts a restart.
 fn note_restart(nodes: &mut Nodes, iface: Iface)
     ensures { nodes.new
         ≡ record nodes.old { counters = slice_set nodes.old.counters iface at_start } }
@@ -85,7 +86,18 @@ fn note_restart(nodes: &mut Nodes, iface: Iface)
     nodes.counters[iface.number() as usize] = Counters::zero();
 }
 
-/// What an entry does to them.
+/// Counts an interface that is taken down.
+fn note_down(nodes: &mut Nodes, iface: Iface)
+    ensures { nodes.new
+        ≡ record nodes.old {
+          counters = slice_set nodes.old.counters iface
+              (stepped (counts_at nodes.old iface) TakenDown);
+        } }
+{
+    nodes.counters[iface.number() as usize] = nodes.counters_of(iface).take_down();
+}
+
+/// Counts an entry.
 fn note(config: BusConfig, entry: &Entry, nodes: &mut Nodes)
     ensures { Counts config entry.now.event entry.now.reply nodes.old nodes.new }
 {
@@ -97,6 +109,11 @@ fn note(config: BusConfig, entry: &Entry, nodes: &mut Nodes)
         Event::Restart(iface, _) => {
             if matches!(&entry.reply, Reply::Done) {
                 note_restart(nodes, *iface);
+            }
+        }
+        Event::Down(iface, _) => {
+            if matches!(&entry.reply, Reply::Done) {
+                note_down(nodes, *iface);
             }
         }
         _ => {}

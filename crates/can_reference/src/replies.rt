@@ -1,4 +1,5 @@
-ghost use Rattle.std.specs.Prelude.{◌≡◌, ℕ, ◌≤◌, ◌↔◌, [], ◌∷◌, ◌++◌, reverse, length, OnOk, Err};
+ghost use Rattle.std.specs.Prelude.{◌≡◌, ℕ, ◌≤◌, ◌↔◌, List, [], ◌∷◌, ◌++◌, reverse, length, OnOk, Err};
+ghost use Rattle.can_event.specs.declared.entry.Entry.{Entry as AnEntry};
 ghost use Rattle.can_event.specs.Events.{IsConfig, max_limit};
 ghost use Rattle.can_bus.specs.Legal.{lacks_fd, legal_reply, if_open};
 ghost use Rattle.can_bus.specs.Sockets.{options_of};
@@ -111,8 +112,12 @@ fn send_reply(
         return Ok(Reply::Refused(Refusal::FdOff));
     }
     let iface = sockets.iface_of(id);
-    if nodes_of(config, past).is_off(iface) {
+    let state = nodes_of(config, past).counters_of(iface).state();
+    if state.is_off() {
         return Ok(Reply::Refused(Refusal::BusOff));
+    }
+    if state.is_down() {
+        return Ok(Reply::Refused(Refusal::Down));
     }
     let sent = sent_by(alloc, past, iface)?.len();
     let gone = gone_count(alloc, past, iface)?;
@@ -147,10 +152,22 @@ fn restart_reply(config: BusConfig, past: &[Entry], iface: Iface) -> Reply
     if iface.number() >= config.ifaces {
         return Reply::Refused(Refusal::NoInterface);
     }
-    if nodes_of(config, past).is_off(iface) {
+    if nodes_of(config, past).is_silent(iface) {
         Reply::Done
     } else {
         Reply::Refused(Refusal::NotBusOff)
+    }
+}
+
+/// The reply where an interface is taken down.
+fn down_reply(config: BusConfig, iface: Iface) -> Reply
+    ensures { (past : List AnEntry) (m : ℕ) →
+        result ≡ legal_reply config past (event.Down iface m) }
+{
+    if iface.number() >= config.ifaces {
+        Reply::Refused(Refusal::NoInterface)
+    } else {
+        Reply::Done
     }
 }
 
@@ -173,6 +190,7 @@ fn legal_reply(
         Event::Receive(id) => receive_reply(alloc, config, past, *id),
         Event::Attempt(moment, verdict) => { attempt_reply(alloc, config, past, *moment, *verdict) }
         Event::Restart(iface, _) => Ok(restart_reply(config, past, *iface)),
+        Event::Down(iface, _) => Ok(down_reply(config, *iface)),
     }
 }
 

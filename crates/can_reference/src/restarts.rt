@@ -19,7 +19,8 @@ fn one_more(before: Option<usize>) -> Option<usize>
     }
 }
 
-/// How many attempts there were since the interface went bus off, after one entry more.
+/// How many attempts there were since the interface went bus off, after one entry more; none where it is brought up or taken
+/// down.
 fn attempts_off_after(entry: &Entry, iface: Iface, before: Option<usize>) -> Option<usize>
     requires { IfSome before (λ k. k < 2 ^ 63) }
     ensures { result ≡ attempts_off_after entry.now.event entry.now.reply iface before }
@@ -42,14 +43,14 @@ fn attempts_off_after(entry: &Entry, iface: Iface, before: Option<usize>) -> Opt
             }
         }
         Reply::Done => match &entry.event {
-            Event::Restart(restarted, _) if *restarted == iface => None,
+            Event::Restart(of, _) | Event::Down(of, _) if *of == iface => None,
             _ => before,
         },
         _ => before,
     }
 }
 
-/// How many attempts there were since the interface went bus off; none where it is not off.
+/// How many attempts there were since the interface went bus off; none where it is not bus off.
 fn attempts_off(past: &[Entry], iface: Iface) -> Option<usize>
     ensures count { result ≡ attempts_off (reverse past.now) iface }
     ensures few { IfSome result (λ k. k ≤ length past.now) }

@@ -1,4 +1,5 @@
 ghost use Rattle.std.specs.Prelude.{◌≡◌, ◌+◌, ◌≤◌, reverse, length, slice_get, IfOk, OnOk};
+ghost use Rattle.can_event.specs.declared.reply.Reply.TheVariants as reply;
 ghost use Rattle.can_reference.specs.Histories.{Returns, ReturnsList};
 ghost use Rattle.can_bus.specs.Transmit.{sent_by, sent_after, gone_count, gone_after, head_of};
 
@@ -60,7 +61,8 @@ fn gone_after(
 ) -> Result<usize, AllocError>
     requires { before ≤ length past.now }
     ensures gone { Returns result
-        (gone_after entry.now.reply iface (length (sent_by (reverse past.now) iface)) before) }
+        (gone_after entry.now.event entry.now.reply iface (length (sent_by (reverse past.now) iface))
+        before) }
     ensures few { IfOk result (λ n. n ≤ length past.now + 1) }
 {
     match &entry.reply {
@@ -74,6 +76,26 @@ fn gone_after(
                 Ok(before)
             }
         }
+        Reply::Done => gone_down(alloc, past, &entry.event, iface, before),
+        _ => Ok(before),
+    }
+}
+
+/// The same of an event that was done: where it takes the interface down, all of them have left.
+fn gone_down(
+    alloc: Global,
+    past: &[Entry],
+    event: &Event,
+    iface: Iface,
+    before: usize,
+) -> Result<usize, AllocError>
+    requires { before ≤ length past.now }
+    ensures gone { Returns result
+        (gone_after event.now reply.Done iface (length (sent_by (reverse past.now) iface)) before) }
+    ensures few { IfOk result (λ n. n ≤ length past.now + 1) }
+{
+    match event {
+        Event::Down(down, _) if *down == iface => Ok(sent_by(alloc, past, iface)?.len()),
         _ => Ok(before),
     }
 }

@@ -37,6 +37,7 @@ answers c past e (reply.Refused refusal.FdOff) h memory = noted c past e _ h.0 h
 answers c past e (reply.Refused refusal.BusOff) h memory = noted c past e _ h.0 h.1 refl
 answers c past e (reply.Refused refusal.NoBuffers) h memory = noted c past e _ h.0 h.1 refl
 answers c past e (reply.Refused refusal.NotBusOff) h memory = noted c past e _ h.0 h.1 refl
+answers c past e (reply.Refused refusal.Down) h memory = noted c past e _ h.0 h.1 refl
 answers c past e (reply.Opened s) h memory = noted c past e _ h.0 h.1 refl
 answers c past e (reply.Closed k) h memory = noted c past e _ h.0 h.1 refl
 answers c past e reply.Done h memory = noted c past e _ h.0 h.1 refl

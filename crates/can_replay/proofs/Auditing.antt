@@ -66,6 +66,7 @@ blamed_at c es k e (reply.Refused refusal.FdOff) at is other = other_reply c es 
 blamed_at c es k e (reply.Refused refusal.BusOff) at is other = other_reply c es k e _ at (omega (arith, is.0, count_before es k at.below)) is.1 other
 blamed_at c es k e (reply.Refused refusal.NoBuffers) at is other = other_reply c es k e _ at (omega (arith, is.0, count_before es k at.below)) is.1 other
 blamed_at c es k e (reply.Refused refusal.NotBusOff) at is other = other_reply c es k e _ at (omega (arith, is.0, count_before es k at.below)) is.1 other
+blamed_at c es k e (reply.Refused refusal.Down) at is other = other_reply c es k e _ at (omega (arith, is.0, count_before es k at.below)) is.1 other
 blamed_at c es k e (reply.Opened s) at is other = other_reply c es k e _ at (omega (arith, is.0, count_before es k at.below)) is.1 other
 blamed_at c es k e (reply.Closed n) at is other = other_reply c es k e _ at (omega (arith, is.0, count_before es k at.below)) is.1 other
 blamed_at c es k e reply.Done at is other = other_reply c es k e _ at (omega (arith, is.0, count_before es k at.below)) is.1 other

@@ -9,7 +9,7 @@ use Rattle.std.proofs.lemmas.Option.{slice_get_within}
 use Rattle.can_event.specs.declared.bus_config.BusConfig.{BusConfig}
 use Rattle.can_event.specs.declared.entry.Entry.{Entry}
 use Rattle.can_event.specs.declared.event.Event.{Event}
-use Rattle.can_event.specs.declared.event.Event.TheVariants.{Open, Close, SetFilters, SetOption, Send, Receive, Attempt, Restart}
+use Rattle.can_event.specs.declared.event.Event.TheVariants.{Open, Close, SetFilters, SetOption, Send, Receive, Attempt, Restart, Down}
 use Rattle.can_event.specs.declared.reply.Reply.{Reply}
 use Rattle.can_bus.specs.Lean.{IsAfter}
 use Rattle.can_bus.specs.Legal.{IsLegal}
@@ -105,6 +105,7 @@ no_parts c past e plain = rw plain refl
 none_tried : (t : BusTiming) (v : Event) (r : Reply) → is_step v ≡ false → tried_part t v r ≡ []
 none_tried t (Attempt m w) r plain = absurd cc
 none_tried t (Restart i m) r plain = refl
+none_tried t (Down i m) r plain = refl
 none_tried t (Open i k) r plain = refl
 none_tried t (Close s) r plain = refl
 none_tried t (SetFilters s f) r plain = refl
@@ -120,6 +121,7 @@ no_wire (Some t) e plain = none_tried t e.event e.reply plain
 none_ruled : (run : RunSeen) (v : Event) (r : Reply) → is_step v ≡ false → rule_by run v r ≡ None
 none_ruled run (Attempt m w) r plain = absurd cc
 none_ruled run (Restart i m) r plain = refl
+none_ruled run (Down i m) r plain = refl
 none_ruled run (Open i k) r plain = refl
 none_ruled run (Close s) r plain = refl
 none_ruled run (SetFilters s f) r plain = refl
@@ -135,6 +137,7 @@ no_rule (Some run) e plain = ap (numbered (codes "rule")) (none_ruled run e.even
 none_asked : (run : RunSeen) (v : Event) (r : Reply) → is_step v ≡ false → asked_by run v r ≡ run
 none_asked run (Attempt m w) r plain = absurd cc
 none_asked run (Restart i m) r plain = refl
+none_asked run (Down i m) r plain = refl
 none_asked run (Open i k) r plain = refl
 none_asked run (Close s) r plain = refl
 none_asked run (SetFilters s f) r plain = refl

@@ -1,6 +1,6 @@
 -- The entries of a text that goes on.
 use Rattle.std.proofs.Common.{◌≡◌, ◌==◌, ℕ, Bool, true, false, cond, All, List, [], ◌∷◌, ◌++◌, get_or, length, refl, sym, ap, subst, ◌∙◌}
-use Rattle.std.proofs.lemmas.List.{append_cancel_left}
+use Rattle.std.proofs.lemmas.List.{append-nil, append_cancel_left}
 use Rattle.std.proofs.lemmas.List.Elements.{All-head, All-tail}
 use Rattle.std.proofs.lemmas.Option.{same_Some}
 use Rattle.can_event.specs.declared.bus_config.BusConfig.{BusConfig}
@@ -9,7 +9,7 @@ use Rattle.can_record_text.specs.declared.version.Version.{Version}
 use Rattle.can_record_text.specs.declared.version.Version.TheVariants as version
 use Rattle.can_record_text.specs.RecordFaults.{LacksEntry}
 use Rattle.can_record_text.specs.Spelling.{bus_words, end_words, entry_line, entry_lines, entry_words, first_line, front_lines, spell}
-use Rattle.can_record_text.specs.Values.{HasBusLine, HasLine}
+use Rattle.can_record_text.specs.Values.{HasBusLine, HasLine, HasLines}
 use Rattle.can_record_text.specs.inner.Reading.{config_at, entry_at}
 use Rattle.can_record_text.proofs.Again.{config_again, entry_again, line_some, spell-rest}
 use Rattle.can_record_text.proofs.Whole.{end_lacks, front-then, lines-then}
@@ -23,7 +23,7 @@ use Rattle.can_replay.proofs.LineEnds.{cut_entry}
 
 abbrev version_of_digit : ℕ → Version
 version_of_digit n =
-    cond (n == 49) version.One (cond (n == 50) version.Two (cond (n == 51) version.Three (cond (n == 52) version.Four version.Five)))
+    cond (n == 49) version.One (cond (n == 50) version.Two (cond (n == 51) version.Three (cond (n == 52) version.Four (cond (n == 53) version.Five version.Six))))
 
 digit_again : (v : Version) (rest : List ℕ) → version_of_digit (get_or (first_line v ++ rest) 14 0) ≡ v
 digit_again version.One rest = refl
@@ -31,8 +31,9 @@ digit_again version.Two rest = refl
 digit_again version.Three rest = refl
 digit_again version.Four rest = refl
 digit_again version.Five rest = refl
+digit_again version.Six rest = refl
 
-one_version : (v w : Version) (a b : List ℕ) → first_line v ++ a ≡ first_line w ++ b → v ≡ w
+pub one_version : (v w : Version) (a b : List ℕ) → first_line v ++ a ≡ first_line w ++ b → v ≡ w
 one_version v w a b e = sym (digit_again v a) ∙ ap (λ (x : List ℕ). version_of_digit (get_or x 14 0)) e ∙ digit_again w b
 
 spelled_rest : (ws : List (List ℕ)) (a b : List ℕ) → spell ws a ≡ spell ws b → a ≡ b
@@ -57,6 +58,9 @@ one_front v w c d a b hc hd e =
       rest = spelled_rest (bus_words v c) a b (lines ∙ ap (λ (x : BusConfig). spell (bus_words v x) b) (sym bus));
     }
 
+pub one_bus : (v w : Version) (c d : BusConfig) (a b : List ℕ) → HasBusLine v c → HasBusLine w d → front_lines v c a ≡ front_lines w d b → c ≡ d
+one_bus v w c d a b hc hd e = (one_front v w c d a b hc hd e).config
+
 -- ---- the lines of entries
 
 pub one_line : (v : Version) (c : BusConfig) (x d : Entry) (a b : List ℕ) → HasLine v c x → HasLine v c d → entry_line x a ≡ entry_line d b → x ≡ d
@@ -77,6 +81,25 @@ longer v c (x ∷ es) (d ∷ ds) a b hes hds none e =
     let next = spelled_rest (entry_words x) (entry_lines es a) (entry_lines ds b) (e ∙ ap (λ (y : Entry). entry_line y (entry_lines ds b)) (sym one)) in
     let m = longer v c es ds a b (All-tail (HasLine v c) x es hes) (All-tail (HasLine v c) d ds hds) none next in
     record { more = m.more; are = ap (λ (y : Entry). y ∷ ds) (sym one) ∙ ap (λ (ys : List Entry). x ∷ ys) m.are; rest = m.rest }
+
+All-after : {A : Type 0} (P : A → Type 0) (xs ys : List A) → All P (xs ++ ys) → All P ys
+All-after P [] ys h = h
+All-after P (x ∷ xs) ys h = All-after P xs ys (All-tail P x (xs ++ ys) h)
+
+none_more : (v : Version) (c : BusConfig) (es more : List Entry) (a b : List ℕ) → All (HasLine v c) (es ++ more) → LacksEntry v c a → a ≡ entry_lines more b → es ≡ es ++ more
+unfolding entry_lines
+none_more v c es [] a b lines none is = sym (append-nil es)
+none_more v c es (x ∷ more) a b lines none is = absurd (none x (entry_lines more b) (All-head (HasLine v c) x more (All-after (HasLine v c) es (x ∷ more) lines)) is)
+
+-- two texts that go on to what is no entry's line have the same entries
+pub one_list : (v w : Version) (c d : BusConfig) (es ds : List Entry) (a b : List ℕ) → HasLines v c es → HasLines w d ds → LacksEntry v c a → LacksEntry w d b
+    → front_lines v c (entry_lines es a) ≡ front_lines w d (entry_lines ds b) → es ≡ ds
+one_list v w c d es ds a b hc hd na nb e =
+    let front = one_front v w c d (entry_lines es a) (entry_lines ds b) hc.bus hd.bus e in
+    let lines : All (HasLine v c) ds = subst (λ (u : Version). All (HasLine u c) ds) (sym front.version) (subst (λ (x : BusConfig). All (HasLine w x) ds) (sym front.config) hd.lines) in
+    let lacks : LacksEntry v c b = subst (λ (u : Version). LacksEntry u c b) (sym front.version) (subst (λ (x : BusConfig). LacksEntry w x b) (sym front.config) nb) in
+    let m = longer v c es ds a b hc.lines lines lacks front.rest in
+    none_more v c es m.more a b (subst (All (HasLine v c)) m.are lines) na m.rest ∙ sym m.are
 
 no_front : (xs ys : List ℕ) → xs ++ ys ≡ [] → xs ≡ []
 no_front [] ys e = refl
@@ -110,10 +133,6 @@ pub record GoesOn (old new : EntryAudit) (es ds : List Entry) (line : List ℕ) 
   pub are : ds ≡ es ++ more
   pub rest : last_of old.is_ended es ++ line ≡ entry_lines more (last_of new.is_ended ds)
   pub lines : All (HasLine old.version old.config) more
-
-All-after : {A : Type 0} (P : A → Type 0) (xs ys : List A) → All P (xs ++ ys) → All P ys
-All-after P [] ys h = h
-All-after P (x ∷ xs) ys h = All-after P xs ys (All-tail P x (xs ++ ys) h)
 
 pub goes_on : (text line : List ℕ) (old new : EntryAudit) (g : IsGoing text old) (h : IsGoing (text ++ line) new) → GoesOn old new g.read.entries h.read.entries line
 goes_on text line old new g h =

@@ -9,3 +9,4 @@ pub mod Taking
 pub mod Ending
 pub mod GoingOn
 pub mod EventLines
+pub mod Lacking

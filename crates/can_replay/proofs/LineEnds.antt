@@ -34,12 +34,13 @@ spell_through : (w : List ℕ) (ws : List (List ℕ)) (rest : List ℕ) → AreW
 spell_through w [] rest h = word_through w (10 ∷ rest) h.0
 spell_through w (v ∷ ws) rest h = word_through w (32 ∷ spell (v ∷ ws) rest) h.0 ∙ ap (λ (ys : List ℕ). w ++ 32 ∷ ys) (spell_through v ws rest h.1)
 
-first_through : (v : Version) (rest : List ℕ) → take_through 10 (first_line v ++ rest) ≡ first_line v
+pub first_through : (v : Version) (rest : List ℕ) → take_through 10 (first_line v ++ rest) ≡ first_line v
 first_through version.One rest = refl
 first_through version.Two rest = refl
 first_through version.Three rest = refl
 first_through version.Four rest = refl
 first_through version.Five rest = refl
+first_through version.Six rest = refl
 
 spell_some : (w : List ℕ) (ws : List (List ℕ)) (rest : List ℕ) → spell (w ∷ ws) rest ≡ [] → ⊥
 spell_some [] ws rest e = absurd cc
@@ -50,7 +51,7 @@ words_through [] rest h some = absurd (some refl)
 words_through (w ∷ ws) rest h some = spell_through w ws rest h
 
 -- where a text begins with a line that ends so, the two are one
-same_line : (line after whole l : List ℕ) → MayFollow line after → line ++ after ≡ whole → take_through 10 whole ≡ l → line ≡ l
+pub same_line : (line after whole l : List ℕ) → MayFollow line after → line ++ after ≡ whole → take_through 10 whole ≡ l → line ≡ l
 same_line line after whole l may is through = sym may ∙ ap (take_through 10) is ∙ through
 
 pub event_words_then : (e : Entry) → entry_words e ≢ []
@@ -63,7 +64,7 @@ event_words_then e is = append_cons_some (event_words e.event) (codes "=") (repl
 entry_through : (v : Version) (c : BusConfig) (e : Entry) (rest : List ℕ) → HasLine v c e → take_through 10 (entry_line e rest) ≡ entry_line e []
 entry_through v c e rest h = words_through (entry_words e) rest (entry_are_words v c e h) (event_words_then e)
 
-bus_through : (v : Version) (c : BusConfig) (rest : List ℕ) → HasBusLine v c → take_through 10 (spell (bus_words v c) rest) ≡ spell (bus_words v c) []
+pub bus_through : (v : Version) (c : BusConfig) (rest : List ℕ) → HasBusLine v c → take_through 10 (spell (bus_words v c) rest) ≡ spell (bus_words v c) []
 bus_through v c rest h = words_through (bus_words v c) rest (bus_are_words v c h) (λ is. absurd cc)
 
 end_through : (n : ℕ) (rest : List ℕ) → n < 2 ^ 64 → take_through 10 (spell (end_words n) rest) ≡ spell (end_words n) []
@@ -138,6 +139,7 @@ first_ends version.Two rest h = line_ends (codes "canbus record 2") rest h
 first_ends version.Three rest h = line_ends (codes "canbus record 3") rest h
 first_ends version.Four rest h = line_ends (codes "canbus record 4") rest h
 first_ends version.Five rest h = line_ends (codes "canbus record 5") rest h
+first_ends version.Six rest h = line_ends (codes "canbus record 6") rest h
 
 -- no line of theirs stands there
 pub torn_first : (torn : List ℕ) → EndsNoLine torn → LacksFirst torn

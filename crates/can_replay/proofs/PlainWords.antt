@@ -20,7 +20,7 @@ use Rattle.can_event.specs.declared.opt.Opt.{Opt}
 use Rattle.can_event.specs.declared.opt.Opt.TheVariants as opt
 use Rattle.can_event.specs.declared.entry.Entry.{Entry}
 use Rattle.can_event.specs.declared.event.Event.{Event}
-use Rattle.can_event.specs.declared.event.Event.TheVariants.{Open, Close, SetFilters, SetOption, Send, Receive, Attempt, Restart}
+use Rattle.can_event.specs.declared.event.Event.TheVariants.{Open, Close, SetFilters, SetOption, Send, Receive, Attempt, Restart, Down}
 use Rattle.can_event.specs.declared.received.Received.{Received}
 use Rattle.can_event.specs.declared.refusal.Refusal.{Refusal}
 use Rattle.can_event.specs.declared.refusal.Refusal.TheVariants as refusal
@@ -92,6 +92,7 @@ events (Send s f) h = (refl, (number s.0 (2 ^ 32) h.0 (omega arith), (is_word-it
 events (Receive s) h = (refl, (number s.0 (2 ^ 32) h (omega arith), tt))
 events (Attempt m v) h = (refl, (is_word-moment m h.0, (verdict_is v, tt)))
 events (Restart i m) h = (refl, (number i 16 h.0 (omega arith), (is_word-moment m h.1, tt)))
+events (Down i m) h = (refl, (number i 16 h.0 (omega arith), (is_word-moment m h.1, tt)))
 
 restarted : (set : IfaceSet) → AreWords (restarted_words set)
 restarted set = when (set.0 == 0)
@@ -116,6 +117,7 @@ refused refusal.FdOff = (refl, tt)
 refused refusal.BusOff = (refl, tt)
 refused refusal.NoBuffers = (refl, tt)
 refused refusal.NotBusOff = (refl, tt)
+refused refusal.Down = (refl, tt)
 refused refusal.RecordFull = tt
 refused refusal.NoMemory = tt
 
@@ -139,6 +141,7 @@ restarts version.Two c h = (is_word-decimal c.auto_restart (omega (arith, h.prop
 restarts version.Three c h = (is_word-decimal c.auto_restart (omega (arith, h.proper.few_attempts)), tt)
 restarts version.Four c h = (is_word-decimal c.auto_restart (omega (arith, h.proper.few_attempts)), tt)
 restarts version.Five c h = (is_word-decimal c.auto_restart (omega (arith, h.proper.few_attempts)), tt)
+restarts version.Six c h = (is_word-decimal c.auto_restart (omega (arith, h.proper.few_attempts)), tt)
 
 pub bus_are_words : (v : Version) (c : BusConfig) → HasBusLine v c → AreWords (bus_words v c)
 bus_are_words v c h = (refl, (is_word-decimal c.ifaces (omega (arith, h.proper.few_ifaces)), (ack_is c.ack, (set-plain c.reporting, (is_word-decimal c.tx_capacity (omega (arith, h.proper.few_frames)), (is_word-decimal c.limit (omega (arith, h.proper.few_entries)), restarts v c h))))))

@@ -118,8 +118,8 @@ legal_more text line b bus needs g none going is config step may =
     let es = g.read.entries in
     let one = step (reverse es) (g.is_after going none) in
     let e = one.entry in
-    let five : HasLine version.Five b.config e = subst (λ (d : BusConfig). HasLine version.Five d e) (g.config going) one.good in
-    let good : HasLine b.version b.config e = line_in b.version b.config e five (ap (takes b.version) (sym one.needed) ∙ may) in
+    let six : HasLine version.Six b.config e = subst (λ (d : BusConfig). HasLine version.Six d e) (g.config going) one.good in
+    let good : HasLine b.version b.config e = line_in b.version b.config e six (ap (takes b.version) (sym one.needed) ∙ may) in
     let after : IsAfter bus (reverse (es ++ e ∷ [])) = subst (IsAfter bus) (sym (reverse-append es (e ∷ []))) one.after in
     let legal : IsLegal b.config (reverse (es ++ e ∷ [])) = subst (λ (d : BusConfig). IsLegal d (reverse (es ++ e ∷ []))) (config ∙ g.config going) after.kept.legal in
     record {
@@ -160,7 +160,7 @@ spells_none v c line none e more good is = none-some e (sym none ∙ ap entry_at
 -- a line stands only in a version that takes what it needs
 pub not_taken : (v : Version) (c : BusConfig) (past : List Entry) (line : List ℕ) (needs : Needs) (bus : Lean) → IsNext c past line needs bus → takes v needs ≡ false → LacksEntry v c line
 not_taken v c past line needs bus one other e more good is =
-    let same : e ≡ one.entry = same_Some e one.entry (sym (entry_again v c e more good) ∙ ap entry_at (sym is ∙ one.is_line) ∙ entry_again version.Five c one.entry one.rest one.good) in
+    let same : e ≡ one.entry = same_Some e one.entry (sym (entry_again v c e more good) ∙ ap entry_at (sym is ∙ one.is_line) ∙ entry_again version.Six c one.entry one.rest one.good) in
     never (takes v needs) other (ap (takes v) (one.needed ∙ ap needs_of (sym same)) ∙ good.version)
   where
     never : (b : Bool) → b ≡ false → b ≡ true → ⊥

@@ -20,7 +20,7 @@ use Rattle.can_record_text.specs.declared.version.Version.{Version}
 use Rattle.can_record_text.specs.inner.Words.{after}
 use Rattle.can_record_text.specs.inner.Reading.{Gives, entry_at, event_at, moment_of, reply_at, ◌>>=◌}
 use Rattle.can_record_text.specs.declared.needs.Needs.{Needs}
-use Rattle.can_record_text.proofs.Versioning.{five_takes}
+use Rattle.can_record_text.proofs.Versioning.{six_takes}
 use Rattle.can_record_text.specs.Spelling.{answered_line, entry_line, needs_of}
 use Rattle.can_record_text.specs.Values.{HasLine, HoldsEvent, HoldsReply}
 use Rattle.can_record_text.proofs.Again.{entry_again}
@@ -66,7 +66,7 @@ pub next_is : (c : BusConfig) (past : List Entry) (line : List ℕ) (ev : Event)
 next_is c past line ev r needs bus enters spelled event reply needed is_line after = record {
   entry = record { event = ev; reply = r };
   rest = drop (length (answered_line ev r [])) line;
-  good = record { spelled = spelled; version = five_takes (needs_of (record { event = ev; reply = r })); event = event; reply = reply };
+  good = record { spelled = spelled; version = six_takes (needs_of (record { event = ev; reply = r })); event = event; reply = reply };
   needed = needed;
   is_line = is_line;
   after = subst (IsAfter bus) (history-entered ev r past enters) after;

@@ -12,7 +12,7 @@ use Rattle.can_record_text.specs.Values.{HasLines}
 use Rattle.can_record_text.specs.RecordFaults.{IsFirstWrong, IsOfNoVersion, Reads}
 use Rattle.can_record_text.proofs.LineLists.{lines-rest}
 use Rattle.can_record_text.proofs.Whole.{front-then, lines-then, not_both, one_first, text-then}
-use Rattle.can_replay.specs.TextAudits.{EndsLine, EndsNoLine, FaultsUncut, IsCutText, IsUncut}
+use Rattle.can_replay.specs.TextAudits.{EndsLine, EndsNoLine, FaultsUncut, IsCutText, IsFrontOf, IsUncut}
 use Rattle.can_replay.proofs.LineEnds.{line_ends, torn_end, torn_entry}
 
 -- ---- what is the first wrong line of a text
@@ -68,21 +68,29 @@ some_after (x ∷ xs) ys some is = absurd cc
 -- ---- a text at fault
 
 -- the first wrong line is the same, whatever follows the whole lines
-first_uncut : (p after : List ℕ) (n : ℕ) → EndsLine p → ((more : List ℕ) → more ≢ [] → IsFirstWrong (p ++ more) n) → IsUncut (p ++ after)
-first_uncut p after n end wrong m cut =
-    let v = cut.front.version in
-    let c = cut.config in
-    let es = cut.entries in
+wrong_uncut : (p after : List ℕ) (n : ℕ) → EndsLine p → ((more : List ℕ) → more ≢ [] → IsFirstWrong (p ++ more) n) → (c : BusConfig) (es : List Entry) → IsFrontOf (p ++ after) c es → ⊥
+wrong_uncut p after n end wrong c es front =
+    let v = front.version in
     let byte : List ℕ = 0 ∷ [] in
     let last : List ℕ = spell (end_words (length es)) byte in
-    let at = lines_before p after v c es cut.front.torn end cut.front.begins cut.front.unended in
+    let at = lines_before p after v c es front.torn end front.begins front.unended in
     let unended : EndsNoLine byte = All-cons (λ b. b ≢ 10) 0 [] (λ is. absurd cc) (All-nil (λ b. b ≢ 10)) in
     let some : byte ≢ [] = λ none. absurd cc in
-    let short : n ≡ length es + 3 = one_first (p ++ (at.0 ++ byte)) n (length es + 3) (wrong (at.0 ++ byte) (some_after at.0 byte some)) (lacking (p ++ (at.0 ++ byte)) v c es byte cut.front.good unended (at.1 byte)) in
+    let short : n ≡ length es + 3 = one_first (p ++ (at.0 ++ byte)) n (length es + 3) (wrong (at.0 ++ byte) (some_after at.0 byte some)) (lacking (p ++ (at.0 ++ byte)) v c es byte front.good unended (at.1 byte)) in
     let long : n ≡ length es + 4 =
     one_first (p ++ (at.0 ++ last)) n (length es + 4) (wrong (at.0 ++ last) (some_after at.0 last (λ none. absurd cc)))
-    (going (p ++ (at.0 ++ last)) v c es byte cut.front.good some (at.1 last ∙ sym (text-then v c es byte))) in
+    (going (p ++ (at.0 ++ last)) v c es byte front.good some (at.1 last ∙ sym (text-then v c es byte))) in
     absurd (omega (arith, short, long))
+
+first_uncut : (p after : List ℕ) (n : ℕ) → EndsLine p → ((more : List ℕ) → more ≢ [] → IsFirstWrong (p ++ more) n) → IsUncut (p ++ after)
+first_uncut p after n end wrong m cut = wrong_uncut p after n end wrong cut.config cut.entries cut.front
+
+-- whole lines that are at fault, whatever follows them, are not the front of the text of a record
+pub no_front : (p after : List ℕ) (why : ReadFault) → why ≢ fault.NoMemory → EndsLine p → ((more : List ℕ) → Reads (p ++ more) (Err why)) → (c : BusConfig) (es : List Entry) → IsFrontOf (p ++ after) c es → ⊥
+no_front p after fault.NoMemory some end wrong c es front = some refl
+no_front p after fault.BadVersion some end wrong c es front =
+    not_both (p ++ after) (length es + 3) (wrong after) (lacking (p ++ after) front.version c es front.torn front.good front.unended front.begins)
+no_front p after (fault.BadLine n) some end wrong c es front = wrong_uncut p after n end (λ more some. wrong more) c es front
 
 -- it is of no version
 pub version_uncut : (text : List ℕ) → IsOfNoVersion text → IsUncut text

@@ -91,7 +91,8 @@ abbrev pub IsReadAs : Entry → Result Entry Unread → Type 0
 IsReadAs e (Ok read) = read ≡ e
 IsReadAs e (Err why) = why ≡ unread.NoMemory
 
--- the line of an attempt or a restart was written with its parts, by what the bus was like before it, and the faults
+-- the line of an attempt, or of an interface that is restarted or taken down, was written with its parts, by what the
+-- bus was like before it, and the faults
 -- are those after it
 abbrev pub WritesParts : EventsText → EntryAudit → List ℕ → EventsText → Type 0
 WritesParts old audit line new =

@@ -1,4 +1,5 @@
 use Rattle.std.specs.Prelude.{◌≡◌, ◌≢◌, ◌⊎◌, ℕ, Bool, false, All, List, [], ◌∷◌, ◌++◌, length, reverse, Result, Ok, Err}
+use Rattle.std.specs.Prelude.{Option, Some, None}
 use Rattle.std.specs.Io.{StopsAt}
 use Rattle.std.specs.Io.BufRead.{take_through}
 use Rattle.can_event.specs.declared.bus_config.BusConfig.{BusConfig}
@@ -9,7 +10,7 @@ use Rattle.can_record_text.specs.declared.fault.ReadFault.TheVariants as read
 use Rattle.can_record_text.specs.declared.version.Version.{Version}
 use Rattle.can_record_text.specs.RecordFaults.{IsTextOf, Reads}
 use Rattle.can_record_text.specs.Spelling.{entry_lines, first_line, front_lines}
-use Rattle.can_record_text.specs.Values.{HasLines}
+use Rattle.can_record_text.specs.Values.{HasBusLine, HasLines}
 use Rattle.can_replay.specs.declared.text_fault.Cut.{Cut}
 use Rattle.can_replay.specs.declared.text_fault.Cut.TheVariants as cut
 use Rattle.can_replay.specs.declared.text_fault.TextFault.{TextFault}
@@ -54,6 +55,14 @@ pub record IsFrontOf (text : List ℕ) (config : BusConfig) (entries : List Entr
   pub good : HasLines version config entries
   pub begins : text ≡ front_lines version config (entry_lines entries torn)
   pub unended : EndsNoLine torn
+
+-- the text begins with the first two lines of a record, and this is its bus
+abbrev pub HasBus : List ℕ → BusConfig → Type 0
+HasBus text c = (v : Version) × (rest : List ℕ) × HasBusLine v c × (text ≡ front_lines v c rest)
+
+-- the text does not begin with the first two lines of a record
+abbrev pub LacksFront : List ℕ → Type 0
+LacksFront text = (v : Version) (c : BusConfig) (rest : List ℕ) → HasBusLine v c → text ≢ front_lines v c rest
 
 -- the text is cut off: it is the front of that of a legal record, up to the lines of this many entries
 pub record IsCutText (text : List ℕ) (count : ℕ) : Type 0 where
@@ -138,3 +147,8 @@ first_taken _ = []
 abbrev pub has_end_line : Phase → Bool
 has_end_line (phase.Entries b) = b.is_ended
 has_end_line _ = false
+
+-- the bus of the record, where its line was taken and no line was at fault
+abbrev pub bus_taken : Phase → Option BusConfig
+bus_taken (phase.Entries b) = Some b.config
+bus_taken _ = None

@@ -281,6 +281,13 @@ impl EntryAudit {
         Ok(())
     }
 
+    /// The configuration of the bus.
+    pub fn config(&self) -> BusConfig
+        ensures { result ≡ self.now.config }
+    {
+        self.config
+    }
+
     /// The first line, which names the version.
     pub fn first_line(&self) -> &'static [u8]
         ensures { result.now ≡ first_line self.now.version }

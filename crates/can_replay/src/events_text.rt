@@ -21,7 +21,7 @@ pub struct EventsText {
     text: Vec<u8>,
     /// A line while it is being made.
     line: Vec<u8>,
-    /// What the bus was like before an attempt or a restart.
+    /// The state of the bus before an attempt, or before an interface was restarted or taken down.
     before: Before,
     /// What else is wanted. Of its faults the rules were asked by the entries so far.
     wanted: Wanted,
@@ -92,7 +92,7 @@ impl EventsText {
         }
     }
 
-    // The same of the line of an attempt or a restart, while all entries were legal.
+    // The same of the line of an attempt, or of an interface that is restarted or taken down, while all entries were legal.
     fn carry_step(
         &mut self,
         alloc: Global,
@@ -145,7 +145,7 @@ impl EventsText {
         }
     }
 
-    // Writes the line of an attempt or a restart with its parts, which the audit took.
+    // Writes such a line with its parts, which the audit took.
     fn write_step(
         &mut self,
         alloc: Global,
@@ -197,12 +197,12 @@ impl EventsText {
     }
 }
 
-/// Whether an entry's line is that of an attempt or a restart.
+/// Whether an entry's line is that of an attempt, or of an interface that is restarted or taken down.
 fn is_step_line(line: &[u8]) -> bool
     ensures yes { IsTrue result →
         (e : AnEntry) → line.now ≡ entry_line e [] → is_step e.event ≡ true }
     ensures no { result ≡ false →
         (e : AnEntry) → line.now ≡ entry_line e [] → is_step e.event ≡ false }
 {
-    line.starts_with(b"attempt ") || line.starts_with(b"restart ")
+    line.starts_with(b"attempt ") || line.starts_with(b"restart ") || line.starts_with(b"down ")
 }

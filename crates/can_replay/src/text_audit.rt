@@ -7,11 +7,12 @@ ghost use Rattle.can_record_text.specs.Spelling.{first_line};
 ghost use Rattle.can_record_text.specs.Texts.{StartsWith};
 ghost use Rattle.can_replay.specs.declared.text_fault.WrongLine.{WrongLine as AWrongLine};
 ghost use Rattle.can_replay.specs.EventTexts.{Completes, EndsCutEvents, EndsEvents, HasWritten, IsWantedAfter, has_events, held_events, wrong_so_far};
-ghost use Rattle.can_replay.specs.TextAudits.{AreTaken, EndsNoLine, FailsAfter, FailsNext, HasFailed, IsLine, TakesOn, Reports, ReportsCut, first_taken, has_end_line};
+ghost use Rattle.can_replay.specs.TextAudits.{AreTaken, EndsNoLine, FailsAfter, FailsNext, HasFailed, IsLine, TakesOn, Reports, ReportsCut, bus_taken, first_taken, has_end_line};
 
 use crate::entry_audit::EntryAudit;
 use crate::events_text::EventsText;
 use crate::text_fault::{Cut, TextFault};
+use can_bus::BusConfig;
 use can_events::Wanted;
 use can_record_text::ReadFault;
 use can_record_text::lines::read_version;
@@ -227,6 +228,16 @@ impl TextAudit {
             Phase::Front(_) => Err(TextFault::Read(ReadFault::BadLine(2))),
             Phase::Entries(audit) => audit.finish_cut(torn),
             Phase::Failed(why) => Err(TextFault::Read(why)),
+        }
+    }
+
+    /// The record's bus, where its line was taken and no line was at fault.
+    pub fn bus(&self) -> Option<BusConfig>
+        ensures { result ≡ bus_taken self.now.phase }
+    {
+        match &self.phase {
+            Phase::Entries(audit) => Some(audit.config()),
+            _ => None,
         }
     }
 

@@ -1,17 +1,24 @@
-use Rattle.std.specs.Prelude.{◌≡◌, ◌⊎◌, ℕ, List, [], ◌∷◌, ◌++◌, Option, Some, None, codes, decimal}
+use Rattle.std.specs.Prelude.{◌≡◌, ◌⊎◌, ℕ, Bool, true, false, if◌then◌else◌, List, [], ◌∷◌, ◌++◌, Option, Some, None}
+use Rattle.std.specs.Prelude.{codes, decimal}
 use Rattle.can_rules.specs.declared.run_faults.Later.{Later}
 use Rattle.can_rules.specs.RunFaults.{RunSeen}
 
 -- What becomes of the rules of a bus while its run goes on, as lines of the faults of a run (own choice).
 
--- lines that wait to be taken, and before which attempt all rules ended after them, if they did
+-- lines that wait to be taken, before which attempt all rules ended after them, if they did, and whether lines are kept
+-- at all
 pub record LinesSeen : Type 0 where
   pub text : List ℕ
   pub ended : Option ℕ
+  pub kept : Bool
 
--- no line
+-- no line so far
 abbrev pub no_lines : LinesSeen
-no_lines = record { text = []; ended = None }
+no_lines = record { text = []; ended = None; kept = true }
+
+-- no line, now and later
+abbrev pub never_lines : LinesSeen
+never_lines = record { text = []; ended = None; kept = false }
 
 -- the line of a rule in these words, given before the attempt with this number, without its line feed
 abbrev pub given_words : ℕ → List ℕ → List ℕ
@@ -34,18 +41,23 @@ end_line (Some attempt) = end_words attempt ++ 10 ∷ []
 abbrev pub lines_of : LinesSeen → List ℕ
 lines_of known = known.text ++ end_line known.ended
 
--- the lines with that of a rule after them
+-- the lines with that of a rule after them, where lines are kept
 abbrev pub with_given : ℕ → List ℕ → LinesSeen → LinesSeen
-with_given attempt words known = record { text = lines_of known ++ given_line attempt words; ended = None }
+with_given attempt words known =
+    if known.kept then record known { text = lines_of known ++ given_line attempt words; ended = None } else known
 
 -- before which attempt all rules ended, where they end before this one: earlier, if they had and none was given since
 abbrev pub first_end : Option ℕ → ℕ → ℕ
 first_end None attempt = attempt
 first_end (Some earlier) attempt = earlier
 
--- the lines with an end of all rules after them
+-- the lines with an end of all rules after them, where lines are kept
 abbrev pub with_end : ℕ → LinesSeen → LinesSeen
-with_end attempt known = record { text = known.text; ended = Some (first_end known.ended attempt) }
+with_end attempt known = if known.kept then record known { ended = Some (first_end known.ended attempt) } else known
+
+-- what waits once all lines are taken
+abbrev pub with_none_left : LinesSeen → LinesSeen
+with_none_left known = record known { text = []; ended = None }
 
 -- How such lines are read: texts of whole lines.
 

@@ -1,7 +1,7 @@
 //! What becomes of the rules of a bus while its run goes on, as the lines that [`RunFaults`](crate::RunFaults) reads.
 ghost use Rattle.std.specs.Prelude.{◌≡◌, ◌++◌, Some, IfOk, OnErr, OnOk};
 ghost use Rattle.can_rules.specs.Plans.{GivesRule};
-ghost use Rattle.can_rules.specs.RuleLines.{no_lines, end_line, given_line, lines_of, with_end, with_given};
+ghost use Rattle.can_rules.specs.RuleLines.{never_lines, no_lines, end_line, given_line, lines_of, with_end, with_given, with_none_left};
 
 use crate::plan::Plan;
 use crate::rule::Rule;
@@ -14,12 +14,14 @@ use std::mem;
 /// How many bytes of lines wait at most to be taken.
 const MOST_BYTES: usize = 1 << 26;
 
-/// The lines of rules that were given while a run went on, and of where all rules were ended, which wait to be taken.
+/// The lines of rules that were given while a run went on, and of where all rules were ended, which wait to be taken. Where
+/// nobody takes them, none are kept.
 #[derive(Drop)]
 pub struct RuleLines {
     text: Vec<u8>,
     // Before which attempt all rules ended, where none was given since. So an end takes no memory.
     ended: Option<u64>,
+    kept: bool,
 }
 
 impl Model for RuleLines {
@@ -27,7 +29,7 @@ impl Model for RuleLines {
 
     ghost Value = { LinesSeen };
 
-    ghost view = { λ l. record { text = l.text.items; ended = l.ended } };
+    ghost view = { λ l. record { text = l.text.items; ended = l.ended; kept = l.kept } };
 }
 
 impl RuleLines {
@@ -38,12 +40,23 @@ impl RuleLines {
         RuleLines {
             text: Vec::new(alloc),
             ended: None,
+            kept: true,
         }
     }
 
-    /// Gives a plan a rule, after the others, and adds its line: it came in these words, before the attempt with this number
-    /// among those that try a frame. Refusals, in this order, which change nothing: `TooManyRules` where there are 64,
-    /// `NoMemory`, also where 64 MiB of lines wait.
+    /// Lets go of the lines, and keeps none from now on.
+    pub fn keep_none(&mut self)
+        ensures { self.new ≡ never_lines }
+    {
+        let alloc = *self.text.allocator();
+        self.text = Vec::new(alloc);
+        self.ended = None;
+        self.kept = false;
+    }
+
+    /// Gives a plan a rule, after the others, and adds its line, if lines are kept: it came in these words, before the attempt
+    /// with this number among those that try a frame. Refusals, in this order, which change nothing: `TooManyRules` where there
+    /// are 64, `NoMemory`, also where 64 MiB of lines wait.
     pub fn give(
         &mut self,
         plan: &mut Plan,
@@ -57,6 +70,9 @@ impl RuleLines {
     {
         if plan.rules() == MAX_RULES {
             return Err(RuleRefusal::TooManyRules);
+        }
+        if !self.kept {
+            return plan.give(rule);
         }
         let Ok(lines) = self.with_line(attempt, words) else {
             return Err(RuleRefusal::NoMemory);
@@ -88,11 +104,11 @@ impl RuleLines {
     }
 
     /// All rules end before the attempt with this number. It changes nothing where they have ended before, and none was
-    /// given since.
+    /// given since, or where no lines are kept.
     pub fn end(&mut self, attempt: u64)
         ensures { self.new ≡ with_end attempt self.old }
     {
-        if self.ended.is_none() {
+        if self.kept && self.ended.is_none() {
             self.ended = Some(attempt);
         }
     }
@@ -100,7 +116,7 @@ impl RuleLines {
     /// Takes the lines out. `AllocError` where memory is refused: then they stay.
     pub fn take(&mut self) -> Result<Vec<u8>, AllocError>
         ensures taken { IfOk result (λ lines. lines.items ≡ lines_of self.old) }
-        ensures after { OnOk result (self.new ≡ no_lines) }
+        ensures after { OnOk result (self.new ≡ with_none_left self.old) }
         ensures stays { OnErr result (self.new ≡ self.old) }
     {
         let alloc = *self.text.allocator();

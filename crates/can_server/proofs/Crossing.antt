@@ -20,7 +20,6 @@ use Rattle.can_server.proofs.conn.Conn.TheSendSync as conn
 use Rattle.can_server.proofs.acceptor.Acceptor.TheSendSync as acceptor
 use Rattle.can_server.proofs.clients.Clients.TheSendSync as clients
 use Rattle.can_server.proofs.opening.Opening.TheSendSync as opening
-use Rattle.can_server.proofs.opening.FirstBytes.TheSendSync as first
 use Rattle.can_server.proofs.scribing.Scribe.TheSendSync as scribe
 use Rattle.can_server.specs.contracts.given.Given as given
 use Rattle.can_server.specs.declared.scribing.Keeper as keeper
@@ -60,7 +59,7 @@ module _ (N F G : RattleType) (g : roll.Ghosts N.Denot) (g' : meter.Ghosts N.Den
   -- a session with its port
   pub talk_send : (R : RattleType) → IsSync R → IsSend (talk.the_row κ N F G R g g' g'')
   talk_send R r =
-      declared_send (talk.the_type κ N F G R g g' g'') (session.the_send, (port_send N F G g g' g'' f s κ R r, (batch.the_send, (opening.the_send, (first.the_send, (search sendable depth 20, tt))))))
+      declared_send (talk.the_type κ N F G R g g' g'') (session.the_send, (port_send N F G g g' g'' f s κ R r, (batch.the_send, (opening.the_send, (search sendable depth 20, tt)))))
 
   -- what the thread has that delivers
   pub delivery_sync : (ν : NamedLft) (C R : RattleType) → IsSync C → IsSync R → IsSync (delivery.the_row ν κ N F G C R g g' g'')

@@ -28,7 +28,7 @@ GivesAll step contents most old p out is_all new q out' =
     (text : List ℕ) × Gives step most old.dialog.stage p text q is_all
     × Appends (contents out) (contents out') text × (new ≡ old)
 
--- the items are received, and the session ends, since they could not be written
+-- the items are received, and the session ends
 abbrev pub LosesAll :
     {P : Type 0} → (P → (call : Call) → Reply call → P → Type 0) → ℕ → SessionState → P → SessionState → P → Type 0
 LosesAll {P} step most old p new q =
@@ -36,7 +36,7 @@ LosesAll {P} step most old p new q =
     × Ends step old mid new q
 
 -- where this many items wait, up to 256 are received and written, which is how many the client took; or fewer are
--- there, or they could not be written
+-- there, or the session ends
 abbrev pub Delivers : {P W : Type 0} → (P → (call : Call) → Reply call → P → Type 0) → (W → Option (List ℕ)) → ℕ
     → SessionState → P → W → Option ℕ → SessionState → P → W → Type 0
 Delivers step contents waiting old p out (Some n) new q out' =

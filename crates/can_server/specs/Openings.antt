@@ -1,31 +1,30 @@
-use Rattle.std.specs.Prelude.{ℕ, List, [], ◌∷◌, codes, if◌then◌else◌, eqb}
-use Rattle.std.specs.List.{starts_with}
+use Rattle.std.specs.Prelude.{ℕ, Bool, true, false, List, [], ◌∷◌, ◌==◌, ◌||◌, if◌then◌else◌}
+use Rattle.std.specs.Char.{is_ascii_control}
+use Rattle.can_proto.specs.Words.{is_blank}
 use Rattle.can_server.specs.declared.opening.Opening.{Opening}
-use Rattle.can_server.specs.declared.opening.Opening.TheVariants.{Undecided, Request, Other}
+use Rattle.can_server.specs.declared.opening.Opening.TheVariants.{Blank, Word, Client, Stranger}
 
--- How a connection begins: as a request of HTTP does, or not (that such a connection is closed is own choice).
+-- The beginning of a connection: one that a client may make, or one that none makes (to close it is own choice). A request
+-- of HTTP begins with a method and a space (RFC 9112, 3), so does one of RTSP (RFC 7826), and TLS with the byte 22 (RFC
+-- 8446, 5.1).
 
--- the methods of a request (RFC 9110, 9.3; PATCH: RFC 5789), each with the space after it (RFC 9112, 3)
-abbrev pub methods : List (List ℕ)
-methods =
-    codes "GET " ∷ codes "POST " ∷ codes "PUT " ∷ codes "HEAD " ∷ codes "OPTIONS " ∷ codes "DELETE "
-    ∷ codes "PATCH " ∷ codes "CONNECT " ∷ codes "TRACE " ∷ []
+-- more bytes decide (own choice)
+abbrev pub is_open : Opening → Bool
+is_open Blank = true
+is_open Word = true
+is_open Client = false
+is_open Stranger = false
 
--- bytes beside a method: they begin with it, they may come to it, or they differ from it
-abbrev pub beside : List ℕ → List ℕ → Opening
-beside bytes method =
-    if starts_with eqb bytes method then Request else if starts_with eqb method bytes then Undecided else Other
+-- one more byte: `<` begins the first message, and before it neither a control byte that is no blank nor a blank after
+-- other bytes may come (own choice)
+abbrev pub after_byte : Opening → ℕ → Opening
+after_byte Client b = Client
+after_byte Stranger b = Stranger
+after_byte Blank b =
+    if b == 60 then Client else if is_blank b then Blank else if is_ascii_control b then Stranger else Word
+after_byte Word b = if b == 60 then Client else if is_blank b || is_ascii_control b then Stranger else Word
 
--- the first of two that is decided, or may be
-abbrev pub either_of : Opening → Opening → Opening
-either_of Other b = b
-either_of a b = a
-
--- bytes beside methods
-abbrev pub among : Opening → List ℕ → List (List ℕ) → Opening
-among so_far bytes [] = so_far
-among so_far bytes (method ∷ others) = among (either_of so_far (beside bytes method)) bytes others
-
--- how these first bytes of a connection begin
-abbrev pub opening_of : List ℕ → Opening
-opening_of bytes = among Other bytes methods
+-- these bytes more, one after another (own choice)
+abbrev pub after_bytes : Opening → List ℕ → Opening
+after_bytes o [] = o
+after_bytes o (b ∷ bs) = after_bytes (after_byte o b) bs

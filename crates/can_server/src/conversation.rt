@@ -1,12 +1,13 @@
-ghost use Rattle.std.specs.Prelude.{◌≡◌, ◌++◌, IsTrue};
+ghost use Rattle.std.specs.Prelude.{◌≡◌, ◌++◌, IsTrue, false};
 ghost use Rattle.can_hub.specs.PassSteps.{PassStep};
 ghost use Rattle.can_proto.specs.Messages.{messages_of, kept_of};
 ghost use Rattle.can_dialog.specs.Sessions.{Wrote};
 ghost use Rattle.can_dialog.specs.Turns.{greeting};
 ghost use Rattle.can_server.specs.Conversations.{Delivers, Ends, Hears};
+ghost use Rattle.can_server.specs.Openings.{after_bytes};
 
 use crate::batch::Batch;
-use crate::opening::{FirstBytes, Opening};
+use crate::opening::Opening;
 use can_bus::SocketId;
 use can_dialog::{Session, Stage};
 use can_fault::FaultSource;
@@ -34,9 +35,8 @@ pub struct Conversation<'a, N: BusName, F: FaultSource + Drop, G: Gate + Drop, R
     session: Session,
     port: PassPort<'a, N, F, G, R>,
     batch: Batch,
-    /// How the connection begins, and the bytes that decide it.
+    /// The connection's beginning.
     opening: Opening,
-    first: FirstBytes,
     /// Whether what was said to the last piece is more than one `< ok >`.
     said_more: bool,
 }
@@ -54,8 +54,7 @@ impl<'a, N: BusName, F: FaultSource + Drop, G: Gate + Drop, R: Wait> Conversatio
             session: Session::new(alloc, 0)?,
             port: PassPort::with_spares(rt, alloc, buses, spares),
             batch: Batch::new(alloc, most_bytes)?,
-            opening: Opening::Undecided,
-            first: FirstBytes::new(),
+            opening: Opening::Blank,
             said_more: false,
         })
     }
@@ -70,8 +69,8 @@ impl<'a, N: BusName, F: FaultSource + Drop, G: Gate + Drop, R: Wait> Conversatio
         }
     }
 
-    /// Takes a piece of what the client says: whether the session goes on. Of a request of HTTP nothing is carried out.
-    /// A session whose client does not take what is written ends.
+    /// Takes a piece of what the client says: whether the session goes on. Of a connection that begins as no client does
+    /// nothing is carried out. A session whose client does not take what is written ends.
     pub fn feed<W: Write>(
         &mut self,
         alloc: Global,
@@ -79,18 +78,18 @@ impl<'a, N: BusName, F: FaultSource + Drop, G: Gate + Drop, R: Wait> Conversatio
         moment: Moment,
         out: &mut W,
     ) -> bool
-        ensures request { self.new.opening ≡ Opening.Request →
-            (self.new.session ≡ self.old.session) × (self.new.port ≡ self.old.port) }
+        ensures opening { self.new.opening ≡ after_bytes self.old.opening piece.now }
+        ensures stranger { self.new.opening ≡ Opening.Stranger → (result ≡ false)
+            × (self.new.session ≡ self.old.session) × (self.new.port ≡ self.old.port)
+            × (out.new ≡ out.old) }
         ensures hears { IsTrue result → Hears (PassStep F) W.contents moment
             (messages_of (self.old.session.kept ++ piece.now)) self.old.session.dialog
             self.old.port out.old self.new.session.dialog self.new.port out.new }
         ensures keeps { IsTrue result →
             self.new.session.kept ≡ kept_of (self.old.session.kept ++ piece.now) }
     {
-        if self.opening == Opening::Undecided {
-            self.opening = self.first.hear(piece);
-        }
-        if self.opening == Opening::Request {
+        self.opening = self.opening.after(piece);
+        if self.opening == Opening::Stranger {
             return false;
         }
         self.carry_out(alloc, piece, moment, out)
@@ -157,9 +156,9 @@ impl<'a, N: BusName, F: FaultSource + Drop, G: Gate + Drop, R: Wait> Conversatio
         let _ = self.session.end(&mut self.port);
     }
 
-    /// Whether the client sent a request of HTTP.
-    pub fn is_request(&self) -> bool {
-        self.opening == Opening::Request
+    /// Whether the connection began as no client's does.
+    pub fn is_strangers(&self) -> bool {
+        self.opening == Opening::Stranger
     }
 
     /// Whether what was said to the last piece is more than one `< ok >`, so that its client reads one text after another.
@@ -189,9 +188,14 @@ impl<'a, N: BusName, F: FaultSource + Drop, G: Gate + Drop, R: Wait> Conversatio
         }
     }
 
-    /// The interface that the session has restarted since the last look, if it has.
+    /// The interface that the session has restarted since the last look, if it has and did not take it down after that.
     pub fn look_for_restart(&mut self) -> Option<Iface> {
         self.port.take_restarted()
+    }
+
+    /// The interface that the session has taken down since the last look, if it has and did not restart it after that.
+    pub fn look_for_down(&mut self) -> Option<Iface> {
+        self.port.take_downed()
     }
 
     /// What the calls of the session came to.

@@ -7,8 +7,8 @@
 //!
 //! Of the threads it is proved that one list of passes is handed back for each bus, and that a server that is closed
 //! lets nobody in ([`Clients`]). The sessions are can_dialog's, each with a pass of its own; what one says, and the texts
-//! of its items, go out in order, each once ([`Batch`]). Which first bytes of a connection are a request of HTTP, which is
-//! closed, is [`FirstBytes`]. Not promised: that a peer gets anything, how long anybody waits, that no two wait for each
+//! of its items, go out in order, each once ([`Batch`]). Which connections begin as no client's does, and are closed, is
+//! [`Opening`]. Not promised: that a peer gets anything, how long anybody waits, that no two wait for each
 //! other.
 #![tactic(auto)]
 
@@ -36,6 +36,6 @@ pub use clients::{Clients, NotAdmitted};
 pub use conn::Conn;
 pub use given::Given;
 pub use notice::Notice;
-pub use opening::{FirstBytes, Opening};
+pub use opening::Opening;
 pub use scribing::{Keeper, Scribe, ScrollKeeper};
 pub use serving::{Clock, serve, serve_with};

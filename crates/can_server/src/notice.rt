@@ -14,8 +14,8 @@ pub enum Notice {
         session: u32,
         from: Option<SocketAddr>,
     },
-    /// A client sent a request of HTTP, as a web page does, and is closed.
-    Requested {
+    /// A connection began as no client's does, as that of a web page, and is closed.
+    Strange {
         session: u32,
     },
     /// A session opened a socket on this interface of a bus.
@@ -58,5 +58,10 @@ pub enum Notice {
     /// Memory was refused to the driver of this bus, so no frame is tried on it any more. It is reported once.
     NoDriver {
         bus: usize,
+    },
+    /// An interface of a bus was taken down.
+    WentDown {
+        bus: usize,
+        iface: Iface,
     },
 }

@@ -77,7 +77,7 @@ impl<
     /// beside.
     fn hear_all(&self, talk: &Mutex<Conversation<'_, N, F, G, R>>, visit: &Visit<'_>, conn: &Conn) {
         let Some(place) = self.hear_until_raw(talk, conn) else {
-            self.report_request(talk, visit.session);
+            self.report_stranger(talk, visit.session);
             return;
         };
         if self.is_long && !visit.acceptor.count_raw() {
@@ -166,11 +166,11 @@ impl<'a, N: BusName, F: FaultSource + Drop, G: Gate + Drop, C: Clock, R: Wait + 
         }
     }
 
-    /// Reports to the host that a session's client sent a request of HTTP, if it did.
-    fn report_request(&self, talk: &Mutex<Conversation<'_, N, F, G, R>>, session: u32) {
-        let is_request = talk.lock(self.rt).is_request();
-        if is_request {
-            self.host.notify(Notice::Requested { session });
+    /// Reports to the host that a session's connection began as no client's does, if it did.
+    fn report_stranger(&self, talk: &Mutex<Conversation<'_, N, F, G, R>>, session: u32) {
+        let is_strangers = talk.lock(self.rt).is_strangers();
+        if is_strangers {
+            self.host.notify(Notice::Strange { session });
         }
     }
 
@@ -179,6 +179,14 @@ impl<'a, N: BusName, F: FaultSource + Drop, G: Gate + Drop, C: Clock, R: Wait + 
         if let Some(iface) = restarted {
             let bus = usize::from(station.number());
             self.host.notify(Notice::Restarted { bus, iface });
+        }
+    }
+
+    /// Reports to the host that a session has taken an interface down, if it has.
+    fn report_down(&self, station: &Station<N, F, G, HubBus>, downed: Option<Iface>) {
+        if let Some(iface) = downed {
+            let bus = usize::from(station.number());
+            self.host.notify(Notice::WentDown { bus, iface });
         }
     }
 
@@ -193,15 +201,16 @@ impl<'a, N: BusName, F: FaultSource + Drop, G: Gate + Drop, C: Clock, R: Wait + 
         let mut talk = talk.lock(self.rt);
         let goes_on = talk.feed(self.alloc, &piece[..count], moment, &mut Out(conn));
         let station = talk.station();
-        let restarted = if self.host.wants_notices() {
-            talk.look_for_restart()
+        let (restarted, downed) = if self.host.wants_notices() {
+            (talk.look_for_restart(), talk.look_for_down())
         } else {
-            None
+            (None, None)
         };
         drop(talk);
         if let Some(station) = station {
             stop_full(self.rt, station);
             self.report_restart(station, restarted);
+            self.report_down(station, downed);
         }
         if goes_on {
             ReadOutcome::More

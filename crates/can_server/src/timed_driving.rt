@@ -1,5 +1,5 @@
 //! The driver of a bus with bit rates.
-ghost use Rattle.std.specs.Prelude.{◌≡◌, ℕ, IfErr, IfOk};
+ghost use Rattle.std.specs.Prelude.{◌≡◌, IfErr, IfOk};
 ghost use Rattle.can_server.specs.Timed.{GoesBy, MakesDue, after_attempt, caught_up, head_moment};
 ghost use Rattle.can_station.specs.Held.{Held};
 ghost use Rattle.can_station.specs.Passes.{MadeStep, head_on, next_verdict};
@@ -101,7 +101,8 @@ impl<'a, N: BusName, F: FaultSource + Drop, G: Gate + Drop, C: Clock, R: Wait + 
             station.rest(self.rt, Duration::from_nanos(early));
             let hold = station.lock(self.rt);
             let is_nearly_full = hold.is_nearly_full();
-            match self.step_due(hold, bus, &mut timed, pass) {
+            let now = self.host.now();
+            match self.step_due(hold, bus, &mut timed, pass, now) {
                 Stepped::On(changes) => {
                     self.report_changes(bus, changes);
                     self.report_nearly_full(bus, is_nearly_full && !was_nearly_full);
@@ -115,16 +116,17 @@ impl<'a, N: BusName, F: FaultSource + Drop, G: Gate + Drop, C: Clock, R: Wait + 
         false
     }
 
-    /// Makes the attempt that is due, and others as long as they are due too, in one hold of the lock, as `step_all_due`
-    /// does.
+    /// Makes the attempt that is due at this moment, and others as long as they are due too, in one hold of the lock, as
+    /// `step_all_due` does.
     fn step_due(
         &self,
         mut hold: Hold<'_, N, F, G, HubBus>,
         bus: usize,
         timed: &mut Timed,
         pass: &mut Pass<N>,
+        now: Moment,
     ) -> Stepped
-        ensures { (now : ℕ) × (last : Held F) × MakesDue F.verdicts result
+        ensures { (last : Held F) × MakesDue F.verdicts result
             (record {
               held = hold.entry;
               pass = pass.old;
@@ -132,7 +134,6 @@ impl<'a, N: BusName, F: FaultSource + Drop, G: Gate + Drop, C: Clock, R: Wait + 
             })
             (record { held = last; pass = pass.new; schedule = timed.new.schedule }) }
     {
-        let now = self.host.now();
         let is_ending = self.is_ending.load(Ordering::SeqCst);
         timed.catch_up(now);
         self.step_all_due(&mut hold, bus, timed, pass, now, is_ending)

@@ -25,13 +25,13 @@ refuses old new e refusal.RecordFull a is = (a, is)
 refuses old new e refusal.NoMemory a is = (a.0, a.1, is)
 refuses old new e why a is = record { room = a.0; lawful = a.1; new_is = is }
 
-module _ (old new : NamedBus) (names : new.names ≡ old.names) (plan : new.plan ≡ old.plan) (used : new.used ≡ old.used) where
+module _ (old new : NamedBus) (names : new.names ≡ old.names) (plan : new.plan ≡ old.plan) (schedule : new.schedule ≡ old.schedule) where
   given : {A : Type 0} (told : A → Reply) (a : A) (e : Event) → Noted old.journal e (told a) new.journal → IsEvent told old e (Ok a) new
-  given told a e noted = (Ok a, refl, noted, names, plan, used)
+  given told a e noted = (Ok a, refl, noted, names, plan, schedule)
 
   refused : {A : Type 0} (told : A → Reply) (why : Refusal) (e : Event) → IsAnswer old.journal.config old.journal.history e (reply.Refused why) → new.journal ≡ record old.journal { history = history_after e (reply.Refused why) old.journal.history }
       → IsEvent told old e (Err (port.Bus why)) new
-  refused told why e a is = (Err why, refl, refuses old.journal new.journal e why a is, names, plan, used)
+  refused told why e a is = (Err why, refl, refuses old.journal new.journal e why a is, names, plan, schedule)
 
   -- the reply is a step of the event's kind, for it is the legal one
   pub gives : (e : Event) (r : Reply) → IsAnswer old.journal.config old.journal.history e r → new.journal ≡ record old.journal { history = history_after e r old.journal.history } → Gives BusStep old e r new
@@ -43,6 +43,7 @@ module _ (old new : NamedBus) (names : new.names ≡ old.names) (plan : new.plan
   gives (event.Receive socket) (reply.Received item) a is = given (λ x. reply.Received x) item _ (record { room = a.0; lawful = a.1; new_is = is })
   gives (event.Attempt moment verdict) (reply.Attempted attempt) a is = given reply.Attempted attempt _ (record { room = a.0; lawful = a.1; new_is = is })
   gives (event.Restart iface moment) reply.Done a is = given done_reply tt _ (record { room = a.0; lawful = a.1; new_is = is })
+  gives (event.Down iface moment) reply.Done a is = given done_reply tt _ (record { room = a.0; lawful = a.1; new_is = is })
   gives (event.Open iface capacity) (reply.Refused why) a is = refused (λ x. reply.Opened x) why _ a is
   gives (event.Close socket) (reply.Refused why) a is = refused (λ x. reply.Closed x) why _ a is
   gives (event.Send socket frame) (reply.Refused why) a is = refused (λ x. reply.Sent x) why _ a is
@@ -52,7 +53,7 @@ module _ (old new : NamedBus) (names : new.names ≡ old.names) (plan : new.plan
   gives e r a is = absurd (legal_is_spelled old.journal.config old.journal.history e r a.1)
 
 -- a receive into a room is the event
-pub receives_into : (old new : NamedBus) (s : SocketId) (room : Received) (outcome : Result Bool Refusal) → Answers (taken_reply room) old.journal (event.Receive s) outcome new.journal → new.names ≡ old.names → new.plan ≡ old.plan → new.used ≡ old.used
+pub receives_into : (old new : NamedBus) (s : SocketId) (room : Received) (outcome : Result Bool Refusal) → Answers (taken_reply room) old.journal (event.Receive s) outcome new.journal → new.names ≡ old.names → new.plan ≡ old.plan → new.schedule ≡ old.schedule
     → BusStep old (Receive s) (received_into room (passed_on outcome)) new
-receives_into old new s room (Ok taken) answers names plan used = (Ok (taken_item room taken), refl, answers, names, plan, used)
-receives_into old new s room (Err why) answers names plan used = (Err why, refl, answers, names, plan, used)
+receives_into old new s room (Ok taken) answers names plan schedule = (Ok (taken_item room taken), refl, answers, names, plan, schedule)
+receives_into old new s room (Err why) answers names plan schedule = (Err why, refl, answers, names, plan, schedule)

@@ -1,6 +1,8 @@
 -- What a run does keeps the configuration of its bus.
-use Rattle.std.proofs.Common.{◌≡◌, inl, inr, ℕ, zero, suc, Bool, List, [], ◌∷◌, Result, Ok, Err, ap, ◌∙◌}
+use Rattle.std.proofs.Common.{◌≡◌, inl, inr, ℕ, zero, suc, Bool, List, [], ◌∷◌, Result, Ok, Err, refl, ap, ◌∙◌}
 use Rattle.can_fault.specs.Sources.{VerdictMap}
+use Rattle.can_fault.specs.declared.verdict.Verdict.{Verdict}
+use Rattle.can_event.specs.declared.attempt.Attempt.{Attempt as AnAttempt}
 use Rattle.can_event.specs.declared.bus_config.BusConfig.{BusConfig}
 use Rattle.can_event.specs.declared.event.Event.{Event}
 use Rattle.can_event.specs.declared.refusal.Refusal.{Refusal}
@@ -15,15 +17,15 @@ use Rattle.can_dialog.specs.declared.stage.Stage.TheVariants.{NoBus, Opened, Raw
 use Rattle.can_dialog.specs.declared.stage.Dialog.{Dialog}
 use Rattle.can_dialog.specs.Calls.{Call}
 use Rattle.can_dialog.specs.Calls.{Reply as CallReply}
-use Rattle.can_dialog.specs.Calls.Call.{Names, Attach, Open, Close, SetFilters, SetOption, Send, Receive, Restart, Attempt, CountsOfSocket, CountsOfIface, CountersOfIface, LoadAt, Inject, CountsRules, EndsRules}
+use Rattle.can_dialog.specs.Calls.Call.{Names, Attach, Open, Close, SetFilters, SetOption, Send, Receive, Restart, Attempt, CountsOfSocket, CountsOfIface, CountersOfIface, LoadAt, Inject, CountsRules, EndsRules, Down}
 use Rattle.can_dialog.specs.Plans.{Plan, Plays}
 use Rattle.can_dialog.specs.Plans.Plan.{Tell, Ask}
 use Rattle.can_dialog.specs.Sessions.{SessionState, Turns}
 use Rattle.can_dialog.specs.Deliveries.{AreGiven}
-use Rattle.can_session.specs.BusSteps.{NamedBus, BusStep}
+use Rattle.can_session.specs.BusSteps.{NamedBus, BusStep, plan_left, verdict_on, waits_in_time}
 use Rattle.can_session.specs.Orders.{Effect}
-use Rattle.can_session.specs.Orders.Effect.{Does_nothing, Sets, Starts, Feeds, Drains, Ends, Attempts, Runs, Injects}
-use Rattle.can_session.specs.Benches.{BenchState, IsFedAt, IsTried, AreTried, NoneFollows, AreMade, Does, AreCarriedOut}
+use Rattle.can_session.specs.Orders.Effect.{Does_nothing, Sets, Starts, Feeds, Drains, Ends, Attempts, Runs, Injects, TakesDown, BringsUp}
+use Rattle.can_session.specs.Benches.{BenchState, IsFedAt, IsTried, AreTried, NoneFollows, AreMade, Does, AreCarriedOut, passed, sourced}
 
 -- the configuration of a bus with names, and of a bench
 abbrev of_bus : NamedBus → BusConfig
@@ -59,6 +61,7 @@ stepped old (Inject rule) answer new h = ap of_bus h.3
 stepped old Names answer new h = ap of_bus h.1
 stepped old CountsRules answer new h = ap of_bus h.1
 stepped old EndsRules answer new h = ap of_bus h
+stepped old (Down iface moment) answer new h = answered _ old.journal _ h.0 new.journal h.2
 
 played : {A : Type 0} (plan : Plan A) (p q : NamedBus) (text : List ℕ) (outcome : A) → Plays BusStep plan p q text outcome → of_bus q ≡ of_bus p
 played (Tell said after) p q text outcome h = ap of_bus h.0
@@ -81,8 +84,16 @@ given : (n : ℕ) (stage : Stage) (p : NamedBus) (text : List ℕ) (q : NamedBus
 given zero stage p text q h = ap of_bus h.1
 given (suc n) stage p text q (before, mid, last, first, plays, is) = played _ mid q last _ plays ∙ given n stage p before mid first
 
+-- the time of an attempt changes no configuration
+passing : (waits : Bool) (v : Verdict) (outcome : Result AnAttempt Refusal) (b : BenchState) → of_bench (passed waits v outcome b) ≡ of_bench b
+passing waits v (Ok a) b = refl
+passing waits v (Err why) b = refl
+
 tried : (v : VerdictMap) (b : BenchState) (text : List ℕ) (after : BenchState) → IsTried v b text after → of_bench after ≡ of_bench b
-tried v b text after h = ap of_bench h.after_is ∙ answered reply.Attempted b.bus.journal _ h.outcome h.journal h.answers
+tried v b text after h =
+    let left = record b { bus = record b.bus { journal = h.journal; plan = plan_left b.bus (sourced v b.bus) } } in
+    let time : of_bench after ≡ h.journal.config = ap of_bench h.after_is ∙ passing (waits_in_time b.bus) (verdict_on b.bus (sourced v b.bus)) h.outcome left in
+    time ∙ answered reply.Attempted b.bus.journal _ h.outcome h.journal h.answers
 
 all_tried : (v : VerdictMap) (moment n : ℕ) (b : BenchState) (text : List ℕ) (after : BenchState) → AreTried v moment n b text after → of_bench after ≡ of_bench b
 all_tried v moment zero b text after h = ap of_bench h.1
@@ -106,6 +117,8 @@ done v (Ends s) b text after h = ap of_bench h.after_is ∙ played _ b.bus h.bus
 done v Attempts b text after h = tried v b text after h
 done v (Runs moment) b text after h = ap of_bench h.after_is ∙ made v moment b text h.over h.made
 done v (Injects rule) b text after h = ap of_bench h.1.after_is
+done v (TakesDown name) b text after h = ap of_bench h.after_is ∙ answered _ b.bus.journal _ h.outcome h.journal h.answers
+done v (BringsUp name) b text after h = ap of_bench h.after_is ∙ answered _ b.bus.journal _ h.outcome h.journal h.answers
 
 -- lines that are carried out
 pub carried_out : (v : VerdictMap) (lines : List (List ℕ)) (b : BenchState) (text : List ℕ) (after : BenchState) → AreCarriedOut v lines b text after → of_bench after ≡ of_bench b

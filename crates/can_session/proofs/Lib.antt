@@ -12,3 +12,4 @@ pub mod Ordered
 pub mod BusCalls
 pub mod Configs
 pub mod TimedRuns
+pub mod Downing

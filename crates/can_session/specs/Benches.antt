@@ -1,18 +1,23 @@
-use Rattle.std.specs.Prelude.{◌≡◌, ◌≢◌, ◌⊎◌, ℕ, zero, suc, ◌-◌, ◌<◌, ◌≤◌, Bool, true, false, ◌&&◌, List, [], ◌∷◌}
-use Rattle.std.specs.Prelude.{◌++◌, slice_get, slice_set, length, Option, Some, None, is_some, Result, Ok, Err}
+use Rattle.std.specs.Prelude.{◌≡◌, ◌≢◌, ◌⊎◌, ℕ, zero, suc, ◌-◌, ◌<◌, ◌≤◌, Bool, true, false, ◌&&◌, ◌||◌, List, []}
+use Rattle.std.specs.Prelude.{◌∷◌, ◌++◌, slice_get, slice_set, length, codes, Option, Some, None, is_some}
+use Rattle.std.specs.Prelude.{Result, Ok, Err}
 use Rattle.std.specs.Option.{option_map}
+use Rattle.std.specs.Result.{is_ok}
 use Rattle.std.specs.Fmt.{decimal}
+use Rattle.can_frame.specs.Names.{place_of}
 use Rattle.can_fault.specs.Sources.{VerdictMap, verdict_in}
 use Rattle.can_fault.specs.declared.verdict.Verdict.{Verdict}
 use Rattle.can_rules.specs.declared.rules.RuleRefusal.{RuleRefusal}
 use Rattle.can_rules.specs.declared.rules.RuleRefusal.TheVariants as refusal
 use Rattle.can_rules.specs.declared.rule.Decision.{Decision}
 use Rattle.can_rules.specs.Plans.{PlanSeen, Injected}
+use Rattle.can_event.specs.declared.event.Event.{Event}
 use Rattle.can_event.specs.declared.event.Event.TheVariants as event
 use Rattle.can_event.specs.declared.refusal.Refusal.{Refusal}
+use Rattle.can_event.specs.declared.refusal.Refusal.TheVariants.{RecordFull}
 use Rattle.can_event.specs.declared.attempt.Attempt.{Attempt}
-use Rattle.can_event.specs.declared.attempt.Attempt.TheVariants as attempt
 use Rattle.can_record.specs.Journal.{Journal}
+use Rattle.can_record.specs.Outcomes.{done_reply}
 use Rattle.can_bus.specs.Answer.{Answers}
 use Rattle.can_event.specs.declared.reply.Reply.TheVariants as reply
 use Rattle.can_proto.specs.Messages.{messages_of, kept_of}
@@ -23,24 +28,25 @@ use Rattle.can_dialog.specs.Turns.{ending, delivery, greeting}
 use Rattle.can_dialog.specs.Deliveries.{AreGiven}
 use Rattle.can_dialog.specs.Sessions.{SessionState, Turns, beginning}
 use Rattle.can_session.specs.BusSteps.{NamedBus, BusStep, next_number, head_on, verdict_on, decision_on, plan_left}
-use Rattle.can_session.specs.Wires.{Wire, attempt_moment, wire_left, used_left, moment_left, begins_before}
+use Rattle.can_session.specs.BusSteps.{waits_in_time}
+use Rattle.can_session.specs.Wires.{Schedule, attempt_moment, schedule_left, moment_left, begins_before}
 use Rattle.can_session.specs.declared.ignored_input.IgnoredInput.{IgnoredInput}
 use Rattle.can_session.specs.IgnoredInput.{ignored_then}
 use Rattle.can_session.specs.Orders.{Effect, order_of}
 use Rattle.can_session.specs.Orders.Effect.{Does_nothing, Sets, Starts, Feeds, Drains, Ends, Attempts, Runs, Injects}
+use Rattle.can_session.specs.Orders.Effect.{TakesDown, BringsUp}
 use Rattle.can_session.specs.AttemptLines.{attempt_line}
 
 -- What the bench does and writes: its lines, one after another (own choice).
 
 -- the state of a bench: how many items a socket holds, whether the lines of attempts have their faults, the bus, the
--- sessions by number, the moment set, the wire if the bus has bit rates, and what was fed that is in no message
+-- sessions by number, the moment set, and what was fed that is in no message
 pub record BenchState : Type 0 where
   pub capacity : ℕ
   pub shows_faults : Bool
   pub bus : NamedBus
   pub sessions : List (Option SessionState)
   pub moment : ℕ
-  pub wire : Option Wire
   pub ignored : IgnoredInput
 
 -- session s: `Some None` where it was not started, `None` where there is no such number
@@ -119,24 +125,25 @@ sourced verdicts bus = verdict_in verdicts (next_number bus)
 
 -- the moment of the next attempt
 abbrev pub next_moment : BenchState → ℕ
-next_moment b = attempt_moment b.wire b.moment (head_on b.bus)
+next_moment b = attempt_moment b.moment (waits_in_time b.bus) (head_on b.bus) b.bus.schedule
 
 -- what its line says of that: nothing where the bus has no bit rates
-abbrev pub said_moment : Option Wire → ℕ → Option ℕ
-said_moment wire moment = option_map (λ w. moment) wire
+abbrev pub said_moment : Option Schedule → ℕ → Option ℕ
+said_moment schedule moment = option_map (λ s. moment) schedule
 
 -- what it says of what was decided on the attempt: its fault and the rule that gave it, where faults are shown
 abbrev pub said_decision : Bool → Decision → Option Decision
 said_decision true decision = Some decision
 said_decision false decision = None
 
--- the bench when the time of an attempt has passed that came to this and had this verdict
-abbrev pub passed : Verdict → Result Attempt Refusal → BenchState → BenchState
-passed v outcome b = record b {
-  wire = wire_left b.moment v outcome b.wire;
-  moment = moment_left (wire_left b.moment v outcome b.wire) b.moment;
-  bus = record b.bus { used = used_left b.moment v outcome b.wire b.bus.used };
+-- the bench when the time of an attempt has passed that had this verdict and came to this, and before which an
+-- interface waited for its restart in time or none did; one that is refused takes no time
+abbrev pub passed : Bool → Verdict → Result Attempt Refusal → BenchState → BenchState
+passed waits v (Ok a) b = record b {
+  moment = moment_left b.moment (schedule_left b.moment waits v a b.bus.schedule);
+  bus = record b.bus { schedule = schedule_left b.moment waits v a b.bus.schedule };
 }
+passed waits v (Err why) b = b
 
 -- an attempt, with the verdict that source and plan have for the next one
 pub record IsTried (verdicts : VerdictMap) (b : BenchState) (text : List ℕ) (after : BenchState) : Type 0 where
@@ -144,27 +151,22 @@ pub record IsTried (verdicts : VerdictMap) (b : BenchState) (text : List ℕ) (a
   pub journal : Journal
   pub answers : Answers reply.Attempted b.bus.journal
       (event.Attempt (next_moment b) (verdict_on b.bus (sourced verdicts b.bus))) outcome journal
-  pub text_is : text ≡ attempt_line b.bus.names (said_moment b.wire (next_moment b))
+  pub text_is : text ≡ attempt_line b.bus.names (said_moment b.bus.schedule (next_moment b))
       (said_decision b.shows_faults (decision_on b.bus (sourced verdicts b.bus))) outcome
-  pub after_is : after ≡ passed (verdict_on b.bus (sourced verdicts b.bus)) outcome (record b {
+  pub after_is : after ≡ passed (waits_in_time b.bus) (verdict_on b.bus (sourced verdicts b.bus)) outcome (record b {
     bus = record b.bus { journal = journal; plan = plan_left b.bus (sourced verdicts b.bus) };
   })
 
--- whether an attempt tried a frame
-abbrev pub tries : Result Attempt Refusal → Bool
-tries (Ok (attempt.Tried t)) = true
-tries (Ok (attempt.Idle restarted)) = false
-tries (Err why) = false
-
--- an attempt that tries a frame, or one that tries none
+-- an attempt that is made, or one that is refused
 abbrev pub IsTriedIf : Bool → VerdictMap → BenchState → List ℕ → BenchState → Type 0
-IsTriedIf is verdicts b text after = (one : IsTried verdicts b text after) × (tries one.outcome ≡ is)
+IsTriedIf is_made verdicts b text after = (one : IsTried verdicts b text after) × (is_ok one.outcome ≡ is_made)
 
--- an attempt would begin before this moment, and there is a frame for it to try
+-- an attempt would begin before this moment, and there is a frame for it to try, or an interface waits for its restart
 abbrev pub is_due : ℕ → BenchState → Bool
-is_due moment b = begins_before b.wire b.moment moment && is_some (head_on b.bus)
+is_due moment b =
+    begins_before b.moment moment b.bus.schedule && (is_some (head_on b.bus) || waits_in_time b.bus)
 
--- this many attempts, each of which was due and tries a frame; the last one is the last step
+-- this many attempts, each of which was due and is made; the last one is the last step
 abbrev pub AreTried : VerdictMap → ℕ → ℕ → BenchState → List ℕ → BenchState → Type 0
 AreTried verdicts moment zero b text after = (text ≡ []) × (after ≡ b)
 AreTried verdicts moment (suc n) b text after =
@@ -198,7 +200,7 @@ pub record AreMade (verdicts : VerdictMap) (moment : ℕ) (b : BenchState) (text
 -- the same, and then this moment is set: the bus has bit rates, and the moment that was set is no later
 pub record IsRun (verdicts : VerdictMap) (moment : ℕ) (b : BenchState) (text : List ℕ)
     (after : BenchState) : Type 0 where
-  pub timed : b.wire ≢ None
+  pub timed : b.bus.schedule ≢ None
   pub ahead : b.moment ≤ moment
   pub over : BenchState
   pub made : AreMade verdicts moment b text over
@@ -206,7 +208,7 @@ pub record IsRun (verdicts : VerdictMap) (moment : ℕ) (b : BenchState) (text :
 
 -- a bench that cannot run to this moment: its bus has no bit rates, or a later moment is set
 abbrev pub IsWrongRun : ℕ → BenchState → Type 0
-IsWrongRun moment b = (b.wire ≡ None) ⊎ (moment < b.moment)
+IsWrongRun moment b = (b.bus.schedule ≡ None) ⊎ (moment < b.moment)
 
 -- the bus's plan takes a rule of faults
 pub record IsInjected (rule : List ℕ) (b after : BenchState) : Type 0 where
@@ -220,6 +222,42 @@ pub record IsWrongRule (rule : List ℕ) (b : BenchState) : Type 0 where
   pub refuses : Injected b.bus.names rule b.bus.plan (Err why) b.bus.plan
   pub fault : why ≢ refusal.NoMemory
 
+-- what a line puts out that takes an interface down or brings it up: that the record is full, if it is
+abbrev pub change_line : Result (Unit {0}) Refusal → List ℕ
+change_line (Ok done) = []
+change_line (Err why) = codes "record full\n"
+
+-- the line is good: the bus did it, or its record is full
+abbrev pub is_good_change : Result (Unit {0}) Refusal → Bool
+is_good_change (Ok done) = true
+is_good_change (Err RecordFull) = true
+is_good_change (Err why) = false
+
+-- the bus has this event of the interface of this name, at the moment set: that goes down, or is restarted
+pub record IsChanged (event_of : ℕ → ℕ → Event) (name : List ℕ) (b : BenchState) (text : List ℕ)
+    (after : BenchState) : Type 0 where
+  pub iface : ℕ
+  pub outcome : Result (Unit {0}) Refusal
+  pub journal : Journal
+  pub named : place_of b.bus.names name ≡ Some iface
+  pub answers : Answers done_reply b.bus.journal (event_of iface b.moment) outcome journal
+  pub good : is_good_change outcome ≡ true
+  pub text_is : text ≡ change_line outcome
+  pub after_is : after ≡ record b { bus = record b.bus { journal = journal } }
+
+-- the bus refuses it, not since its record is full
+pub record IsDenied (event_of : ℕ → ℕ → Event) (name : List ℕ) (b : BenchState) : Type 0 where
+  pub iface : ℕ
+  pub why : Refusal
+  pub journal : Journal
+  pub named : place_of b.bus.names name ≡ Some iface
+  pub answers : Answers done_reply b.bus.journal (event_of iface b.moment) (Err why) journal
+  pub fault : why ≢ RecordFull
+
+-- no interface has this name, or the bus refuses
+abbrev pub IsWrongChange : (ℕ → ℕ → Event) → List ℕ → BenchState → Type 0
+IsWrongChange event_of name b = (place_of b.bus.names name ≡ None) ⊎ IsDenied event_of name b
+
 -- what a good line does: the bench before it, what is put out, and the bench after it
 abbrev pub Does : VerdictMap → Effect → BenchState → List ℕ → BenchState → Type 0
 Does verdicts Does_nothing b text after = (text ≡ []) × (after ≡ b)
@@ -231,6 +269,8 @@ Does verdicts (Ends s) b text after = Speaks IsEnded s b text after
 Does verdicts Attempts b text after = IsTried verdicts b text after
 Does verdicts (Runs moment) b text after = IsRun verdicts moment b text after
 Does verdicts (Injects rule) b text after = (text ≡ []) × IsInjected rule b after
+Does verdicts (TakesDown name) b text after = IsChanged event.Down name b text after
+Does verdicts (BringsUp name) b text after = IsChanged event.Restart name b text after
 
 -- a line is carried out
 pub record IsCarriedOut (verdicts : VerdictMap) (line : List ℕ) (b : BenchState) (text : List ℕ)
@@ -240,7 +280,8 @@ pub record IsCarriedOut (verdicts : VerdictMap) (line : List ℕ) (b : BenchStat
   pub does : Does verdicts effect b text after
 
 -- a line is refused: it is no good line, it starts a session whose number was used before, it is of one that was never
--- started, it runs to a moment and cannot, or it is of a rule that is not taken
+-- started, it runs to a moment and cannot, it is of a rule that is not taken, or of an interface that is not there or that
+-- the bus refuses to bring up
 abbrev pub IsRefused : Option Effect → BenchState → Type 0
 IsRefused None b = Unit {0}
 IsRefused (Some (Starts s)) b = session_at b s ≢ Some None
@@ -249,6 +290,8 @@ IsRefused (Some (Drains s)) b = session_at b s ≡ Some None
 IsRefused (Some (Ends s)) b = session_at b s ≡ Some None
 IsRefused (Some (Runs moment)) b = IsWrongRun moment b
 IsRefused (Some (Injects rule)) b = IsWrongRule rule b
+IsRefused (Some (TakesDown name)) b = IsWrongChange event.Down name b
+IsRefused (Some (BringsUp name)) b = IsWrongChange event.Restart name b
 IsRefused (Some _) b = ⊥
 
 -- lines are carried out, one after another; the last one is the last step

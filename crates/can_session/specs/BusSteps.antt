@@ -1,4 +1,4 @@
-use Rattle.std.specs.Prelude.{◌≡◌, ℕ, List, length, Option, Some, None, Result, Ok, Err}
+use Rattle.std.specs.Prelude.{◌≡◌, ℕ, Bool, ◌&&◌, List, length, Option, Some, None, is_some, Result, Ok, Err}
 use Rattle.can_frame.specs.Names.{place_of}
 use Rattle.can_confine.specs.Confinement.{ErrorCounts, at_start}
 use Rattle.can_event.specs.declared.event.Event.{Event}
@@ -15,6 +15,7 @@ use Rattle.can_rules.specs.Plans.{decided_for}
 use Rattle.can_rules.specs.declared.rule.Decision.{Decision}
 use Rattle.can_record.specs.Journal.{Journal}
 use Rattle.can_record.specs.Tapes.{tape}
+use Rattle.can_bus.specs.AutoRestart.{is_counting}
 use Rattle.can_bus.specs.Heads.{next_head}
 use Rattle.can_bus.specs.Answer.{Answers}
 use Rattle.can_record.specs.Outcomes.{done_reply}
@@ -24,20 +25,19 @@ use Rattle.can_dialog.specs.declared.port.PortRefusal.{PortRefusal}
 use Rattle.can_dialog.specs.declared.port.PortRefusal.TheVariants as port
 use Rattle.can_dialog.specs.Calls.{Call, reply_to_rule}
 use Rattle.can_dialog.specs.Calls.{Reply as CallReply}
-use Rattle.can_session.specs.Wires.{load_at}
-use Rattle.can_session.specs.declared.wire_times.WireUse.{WireUse}
+use Rattle.can_session.specs.Wires.{Schedule, load_at}
 use Rattle.can_dialog.specs.Calls.Call.{Names, Attach, Open, Close, SetFilters, SetOption, Send}
 use Rattle.can_dialog.specs.Calls.Call.{Receive, Restart, Attempt, CountsOfSocket, CountsOfIface}
-use Rattle.can_dialog.specs.Calls.Call.{CountersOfIface, LoadAt, Inject, CountsRules, EndsRules}
+use Rattle.can_dialog.specs.Calls.Call.{CountersOfIface, LoadAt, Inject, CountsRules, EndsRules, Down}
 
 -- A bus as a port: each call but the look-ups and those of rules is one event of the bus.
 
--- the names of the interfaces, the bus, the plan of its faults, and how busy its wire is, if it has bit rates
+-- the names of the interfaces, the bus, the plan of its faults, and the schedule of its attempts, if it has bit rates
 pub record NamedBus : Type 0 where
   pub names : List (List ℕ)
   pub journal : Journal
   pub plan : PlanSeen
-  pub used : Option WireUse
+  pub schedule : Option Schedule
 
 -- the number of the next attempt that tries a frame
 abbrev pub next_number : NamedBus → ℕ
@@ -46,6 +46,10 @@ next_number bus = length (tape bus.journal.history)
 -- what the next attempt tries
 abbrev pub head_on : NamedBus → Option (ℕ × CanFrame)
 head_on bus = next_head bus.journal.config bus.journal.history
+
+-- an attempt without a frame takes time: the bus has bit rates, and an interface waits for its restart
+abbrev pub waits_in_time : NamedBus → Bool
+waits_in_time bus = is_some bus.schedule && is_counting bus.journal.config bus.journal.history
 
 -- the verdict of the next attempt, for which the source has this one
 abbrev pub verdict_on : NamedBus → Verdict → Verdict
@@ -82,7 +86,7 @@ IsEvent {A} told old event answer new =
     × Answers told old.journal event outcome new.journal
     × (new.names ≡ old.names)
     × (new.plan ≡ old.plan)
-    × (new.used ≡ old.used)
+    × (new.schedule ≡ old.schedule)
 
 -- a rule of faults is taken, or refused as the plan refuses it
 abbrev pub IsInjected : NamedBus → List ℕ → Result (Unit {0}) PortRefusal → NamedBus → Type 0
@@ -110,7 +114,8 @@ BusStep old (CountsOfIface iface) answer new =
     (answer ≡ iface_stats_of old.journal.config old.journal.history iface) × (new ≡ old)
 BusStep old (CountersOfIface iface) answer new =
     (answer ≡ counters_in (iface_stats_of old.journal.config old.journal.history iface)) × (new ≡ old)
-BusStep old (LoadAt moment) answer new = (answer ≡ load_at moment old.used) × (new ≡ old)
+BusStep old (LoadAt moment) answer new = (answer ≡ load_at moment old.schedule) × (new ≡ old)
 BusStep old (Inject rule) answer new = IsInjected old rule answer new
 BusStep old CountsRules answer new = (answer ≡ length old.plan.rules) × (new ≡ old)
 BusStep old EndsRules answer new = new ≡ record old { plan = without_rules old.plan }
+BusStep old (Down iface moment) answer new = IsEvent done_reply old (event.Down iface moment) answer new

@@ -6,12 +6,12 @@ use Rattle.can_frame.specs.Numbers.{number_in}
 use Rattle.can_proto.specs.Verbs.{is_word}
 use Rattle.can_session.specs.declared.order.Order.{Order}
 use Rattle.can_session.specs.declared.order.Order.TheVariants.{Nothing, At, Session, Feed}
-use Rattle.can_session.specs.declared.order.Order.TheVariants.{Drain, End, Attempt, Run, Fault}
+use Rattle.can_session.specs.declared.order.Order.TheVariants.{Drain, End, Attempt, Run, Fault, Down, Up}
 
 -- What a line of the bench's input asks for (own choice).
 
 -- what a line does: it sets a moment, in microseconds, starts, feeds, drains or ends a session, makes an attempt,
--- or those that begin before a moment, or gives a rule of faults
+-- or those that begin before a moment, gives a rule of faults, or takes the interface of a name down or brings it up
 pub data Effect : Type 0 where
   Does_nothing : Effect
   Sets : ℕ → Effect
@@ -22,6 +22,8 @@ pub data Effect : Type 0 where
   Attempts : Effect
   Runs : ℕ → Effect
   Injects : List ℕ → Effect
+  TakesDown : List ℕ → Effect
+  BringsUp : List ℕ → Effect
 
 -- the effect that an order has
 abbrev pub effect_of : Order → Effect
@@ -34,6 +36,8 @@ effect_of (End session) = Ends session
 effect_of Attempt = Attempts
 effect_of (Run moment) = Runs moment
 effect_of (Fault rule) = Injects rule.now
+effect_of (Down name) = TakesDown name.now
+effect_of (Up name) = BringsUp name.now
 
 -- what comes before the first of these marks, and what follows it
 abbrev pub parted : ℕ → List ℕ → Option (List ℕ × List ℕ)
@@ -60,7 +64,9 @@ asked_by (word, rest) =
     if is_word word (codes "drain") then option_map Drains (session_of rest) else
     if is_word word (codes "end") then option_map Ends (session_of rest) else
     if is_word word (codes "run") then option_map Runs (moment_in rest) else
-    if is_word word (codes "fault") then Some (Injects rest) else None
+    if is_word word (codes "fault") then Some (Injects rest) else
+    if is_word word (codes "down") then Some (TakesDown rest) else
+    if is_word word (codes "up") then Some (BringsUp rest) else None
 
 -- an empty line or one that begins with #
 abbrev pub is_remark : List ℕ → Bool

@@ -18,7 +18,7 @@ use Rattle.can_session.specs.Lines.{Input, IsLine, IsOver, FindsEnd, TakesLine, 
 use Rattle.can_session.specs.declared.ignored_input.IgnoredInput.{IgnoredInput}
 use Rattle.can_session.specs.IgnoredInput.{none_ignored}
 use Rattle.can_session.specs.Orders.{order_of}
-use Rattle.can_session.specs.Wires.{unused, unused_so_far}
+use Rattle.can_session.specs.Wires.{nothing_yet}
 use Rattle.can_session.specs.Benches.{BenchState, AreCarriedOut, IsCarriedOut, IsRefused}
 
 -- A run of the bench over an input (own choice).
@@ -41,11 +41,10 @@ at_start_with shows_faults plan timing names config capacity = record {
     names = names;
     journal = record { config = config; history = [] };
     plan = plan;
-    used = option_map unused_so_far timing;
+    schedule = option_map nothing_yet timing;
   };
   sessions = replicate 64 None;
   moment = 0;
-  wire = option_map unused timing;
   ignored = none_ignored;
 }
 

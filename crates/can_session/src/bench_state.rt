@@ -1,10 +1,12 @@
-ghost use Rattle.std.specs.Prelude.{◌≡◌, ◌≢◌, ◌-◌, ◌<◌, [], ◌↔◌, Some, None, Err, true, OnOk, IfOk, IfErr, MatchBool};
+ghost use Rattle.std.specs.Prelude.{◌≡◌, ◌≢◌, [], ◌↔◌, Some, None, Err, true, OnOk, IfOk, IfErr, MatchBool};
+ghost use Rattle.can_event.specs.declared.event.Event.TheVariants as event;
 ghost use Rattle.can_bus.specs.Headline.{Headline};
 ghost use Rattle.can_bus.specs.Legal.{IsLegal};
 ghost use Rattle.can_session.specs.Runs.{IsBench, IsRecordOf, IsStartFault, at_start_with};
 ghost use Rattle.can_session.specs.Orders.{order_of};
 ghost use Rattle.can_session.specs.Benches.{session_at, Speaks, IsStarted, IsTriedIf, IsRun, IsWrongRun, IsInjected, IsWrongRule, IsCarriedOut, IsRefused};
-ghost use Rattle.can_session.specs.Benches.{AreMade, is_due, next_moment, said_moment, said_decision, passed, tries};
+ghost use Rattle.can_session.specs.Benches.{AreMade, is_due, said_moment, said_decision, passed};
+ghost use Rattle.can_session.specs.Benches.{IsChanged, IsWrongChange, change_line, is_good_change};
 ghost use Rattle.can_session.specs.inner.Acts.{done_by, noted, noted_by, Puts};
 
 use crate::attempt_lines::put_attempt;
@@ -14,15 +16,15 @@ use crate::bus_port::BusPort;
 use crate::ignored_input::IgnoredInput;
 use crate::line_prefix::{begin_output, end_output};
 use crate::order::{Order, SessionNumber, read_order};
+use crate::timed_attempts::first_schedule;
 use crate::turns::{self, Act, BenchPort};
-use crate::wire_times::{attempt_lasts, frame_lasts, unused_so_far, unused_wire};
 use can_bus::{Attempt, BusConfig, Record, Refusal};
 use can_dialog::Session;
 use can_event::MAX_RX_CAPACITY;
 use can_fault::{FaultSource, Verdict};
 use can_frame::{Moment, Names};
 use can_rules::{Decision, Plan, RuleRefusal};
-use can_wire::{Timing, Wire};
+use can_wire::Timing;
 use std::alloc::{AllocError, Global};
 use std::marker::Model;
 
@@ -35,7 +37,6 @@ pub struct Bench {
     shows_faults: bool,
     sessions: Vec<Option<Session>>,
     moment: Moment,
-    wire: Option<Wire>,
     ignored: IgnoredInput,
 }
 
@@ -55,7 +56,6 @@ impl Model for Bench {
       bus = s.port;
       sessions = s.sessions.items;
       moment = s.moment;
-      wire = s.wire;
       ignored = s.ignored;
     } };
 
@@ -86,15 +86,13 @@ impl Bench {
         let Ok(sessions) = no_sessions(alloc) else {
             return Err(BenchFault::NoMemory);
         };
-        let used = unused_so_far(&timing);
         Ok(Bench {
             alloc,
-            port: BusPort::with_plan(alloc, names, bus, plan, used),
+            port: BusPort::with_plan(alloc, names, bus, plan, first_schedule(timing)),
             capacity,
             shows_faults,
             sessions,
             moment: the_start(),
-            wire: unused_wire(timing),
             ignored: IgnoredInput::none(),
         })
     }
@@ -148,6 +146,8 @@ impl Bench {
             }
             Order::Run(moment) => self.run(script, moment, said),
             Order::Fault(rule) => self.inject(rule),
+            Order::Down(name) => self.take_down(name, said),
+            Order::Up(name) => self.bring_up(name, said),
         }
     }
 
@@ -214,24 +214,55 @@ impl Bench {
         }
     }
 
-    /// Puts the next frame on the bus, with the verdict that the next attempt has: whether it tries one.
+    /// Takes the interface of this name down at the moment set, if there is one: whether there is. Where the record is full,
+    /// that is put out.
+    pub fn take_down(&mut self, name: &[u8], said: &mut Vec<u8>) -> Result<bool, AllocError>
+        requires { said.old.items ≡ [] }
+        ensures { IfOk result (λ good. MatchBool good
+            (IsChanged event.Down name.now self.old said.new.items self.new)
+            (IsWrongChange event.Down name.now self.old)) }
+    {
+        let Some(iface) = self.port.find(name) else {
+            return Ok(false);
+        };
+        let outcome = self.port.take_down(iface, self.moment);
+        put_change(said, outcome)
+    }
+
+    /// Brings the interface of this name up at the moment set, if there is one that is bus off or down: whether there is.
+    /// Where the record is full, that is put out.
+    pub fn bring_up(&mut self, name: &[u8], said: &mut Vec<u8>) -> Result<bool, AllocError>
+        requires { said.old.items ≡ [] }
+        ensures { IfOk result (λ good. MatchBool good
+            (IsChanged event.Restart name.now self.old said.new.items self.new)
+            (IsWrongChange event.Restart name.now self.old)) }
+    {
+        let Some(iface) = self.port.find(name) else {
+            return Ok(false);
+        };
+        let outcome = self.port.bring_up(iface, self.moment);
+        put_change(said, outcome)
+    }
+
+    /// Puts the next frame on the bus, with the verdict that the next attempt has: whether the attempt is made.
     pub fn attempt<F: FaultSource>(
         &mut self,
         script: &mut F,
         said: &mut Vec<u8>,
     ) -> Result<bool, AllocError>
-        ensures tried { IfOk result (λ tried. Puts (IsTriedIf tried (F.verdicts script.old))
+        ensures tried { IfOk result (λ is_made. Puts (IsTriedIf is_made (F.verdicts script.old))
             self.old said.old.items self.new said.new.items) }
         ensures keeps { F.verdicts script.new ≡ F.verdicts script.old }
     {
         let source = script.verdict(self.port.next_attempt());
-        let moment = self.next_moment();
+        let waits = self.port.waits_in_time();
+        let moment = self.port.next_moment(self.moment, waits);
         let when = self.said_moment(moment);
         let (decision, outcome) = self.port.attempt(moment, source);
         let shown = self.said_decision(decision);
         put_attempt(said, self.port.names(), when, shown, &outcome)?;
-        self.pass(decision.verdict, &outcome);
-        Ok(tries(&outcome))
+        self.pass(waits, decision.verdict, &outcome);
+        Ok(outcome.is_ok())
     }
 
     /// Makes attempts as long as one is due before a moment, and sets the moment, if it can run to it: whether it can.
@@ -247,7 +278,7 @@ impl Bench {
             (IsWrongRun moment self.old)) }
         ensures keeps { F.verdicts script.new ≡ F.verdicts script.old }
     {
-        if self.wire.is_none() || moment.micros() < self.moment.micros() {
+        if !self.port.is_timed() || moment.micros() < self.moment.micros() {
             return Ok(false);
         }
         self.make_due(script, moment, said)?;
@@ -274,38 +305,23 @@ impl Bench {
         Ok(())
     }
 
-    /// Whether an attempt would begin before a moment, and there is a frame for it to try.
+    /// Whether an attempt would begin before a moment, and there is a frame for it to try, or an interface waits for its
+    /// restart.
     fn is_due(&self, moment: Moment) -> bool
         ensures { result ≡ is_due moment self.now }
     {
-        match self.wire {
-            Some(wire) => {
-                wire.begins_before(self.moment, moment) && self.port.next_head().is_some()
-            }
-            None => false,
-        }
-    }
-
-    /// The moment of the next attempt.
-    fn next_moment(&self) -> Moment
-        ensures { result ≡ next_moment self.now }
-    {
-        match self.wire {
-            Some(wire) => {
-                let lasts = frame_lasts(wire.timing(), self.port.next_head());
-                wire.moment_after(self.moment, lasts)
-            }
-            None => self.moment,
-        }
+        self.port.begins_before(self.moment, moment)
+            && (self.port.next_head().is_some() || self.port.waits_in_time())
     }
 
     /// What the line of an attempt says of its moment.
     fn said_moment(&self, moment: Moment) -> Option<Moment>
-        ensures { result ≡ said_moment self.now.wire moment }
+        ensures { result ≡ said_moment self.now.bus.schedule moment }
     {
-        match self.wire {
-            Some(_) => Some(moment),
-            None => None,
+        if self.port.is_timed() {
+            Some(moment)
+        } else {
+            None
         }
     }
 
@@ -320,30 +336,34 @@ impl Bench {
         }
     }
 
-    /// Lets the time of an attempt pass that had this verdict and came to this.
-    fn pass(&mut self, verdict: Verdict, outcome: &Result<Attempt, Refusal>)
-        ensures { self.new ≡ passed verdict outcome.now self.old }
+    /// Lets the time of an attempt pass that had this verdict and came to this, and before which an interface waited for
+    /// its restart in time or none did.
+    fn pass(&mut self, waits: bool, verdict: Verdict, outcome: &Result<Attempt, Refusal>)
+        ensures { self.new ≡ passed waits verdict outcome.now self.old }
     {
-        let Some(wire) = self.wire else {
+        let Ok(attempt) = outcome else {
             return;
         };
-        let lasts = attempt_lasts(wire.timing(), verdict, outcome);
-        let after = wire.taken_for(self.moment, lasts);
-        if tries(outcome) {
-            self.port.note_use(wire.begin(self.moment), after.free());
+        if let Some(moment) = self.port.pass_time(self.moment, waits, verdict, attempt) {
+            self.moment = moment;
         }
-        self.moment = after.free_at();
-        self.wire = Some(after);
     }
 }
 
-/// Whether an attempt tried a frame.
-fn tries(outcome: &Result<Attempt, Refusal>) -> bool
-    ensures { result ≡ tries outcome.now }
+/// Puts out that the record is full, where that is why an interface was not taken down or brought up: whether that is so,
+/// or it was.
+fn put_change(said: &mut Vec<u8>, outcome: Result<(), Refusal>) -> Result<bool, AllocError>
+    requires { said.old.items ≡ [] }
+    ensures good { IfOk result (λ good. good ≡ is_good_change outcome) }
+    ensures said { IfOk result (λ good. good ≡ true → said.new.items ≡ change_line outcome) }
 {
     match outcome {
-        Ok(Attempt::Tried(_)) => true,
-        Ok(Attempt::Idle { .. }) | Err(_) => false,
+        Ok(()) => Ok(true),
+        Err(Refusal::RecordFull) => {
+            said.extend_from_slice(b"record full\n")?;
+            Ok(true)
+        }
+        Err(_) => Ok(false),
     }
 }
 

@@ -1,12 +1,14 @@
-ghost use Rattle.std.specs.Prelude.{◌≡◌, ◌<◌, ◌^◌, None, option_map};
+ghost use Rattle.std.specs.Prelude.{◌≡◌, None, is_some, option_map};
 ghost use Rattle.can_bus.specs.Answer.{Answers};
+ghost use Rattle.can_frame.specs.Names.{place_of};
+ghost use Rattle.can_record.specs.Outcomes.{done_reply};
 ghost use Rattle.can_event.specs.declared.reply.Reply.TheVariants as reply;
 ghost use Rattle.can_event.specs.declared.event.Event.TheVariants as event;
 ghost use Rattle.can_rules.specs.Plans.{no_plan, Injected};
-ghost use Rattle.can_session.specs.BusSteps.{next_number, head_on, verdict_on, decision_on, plan_left, passed_on};
-ghost use Rattle.can_session.specs.Wires.{taken};
+ghost use Rattle.can_session.specs.BusSteps.{next_number, head_on, waits_in_time, verdict_on, decision_on, plan_left, passed_on};
+ghost use Rattle.can_session.specs.Wires.{attempt_moment, begins_before, free_at, schedule_left};
 
-use crate::wire_times::WireUse;
+use crate::timed_attempts::{load_at, moment_on, note_attempt, set_to};
 use can_arbiter::Arbiter;
 use can_bus::{
     Attempt, Bus, Event, IfaceStats, Pending, Received, Refusal, Reply, SocketId, SocketStats,
@@ -18,6 +20,7 @@ use can_frame::{Frame, Iface, Moment, Names};
 use can_proto::BusLoad;
 use can_queue::BoundedQueue;
 use can_rules::{Decision, Plan, RuleRefusal};
+use can_wire::Schedule;
 use std::alloc::{AllocError, Global};
 use std::marker::Model;
 
@@ -29,7 +32,7 @@ pub struct BusPort<T: BoundedQueue<Pending>, R: BoundedQueue<Received>, A: Arbit
     names: Names,
     bus: Bus<T, R, A>,
     plan: Plan,
-    used: Option<WireUse>,
+    schedule: Option<Schedule>,
 }
 
 impl<T: BoundedQueue<Pending>, R: BoundedQueue<Received>, A: Arbiter> Model for BusPort<T, R, A> {
@@ -41,34 +44,49 @@ impl<T: BoundedQueue<Pending>, R: BoundedQueue<Received>, A: Arbiter> Model for 
 
     ghost coded = { Prim.hlevel (codes, verdict_map_code) };
 
-    ghost view = { λ p. record { names = p.names; journal = p.bus; plan = p.plan; used = p.used } };
+    ghost view = { λ p. record {
+      names = p.names;
+      journal = p.bus;
+      plan = p.plan;
+      schedule = p.schedule;
+    } };
 }
 
 impl<T: BoundedQueue<Pending>, R: BoundedQueue<Received>, A: Arbiter> BusPort<T, R, A> {
     /// The port of a bus whose interfaces have these names, the first interface 0. Memory that calls take
     /// is asked of `alloc`.
     pub fn new(alloc: Global, names: Names, bus: Bus<T, R, A>) -> BusPort<T, R, A>
-        ensures { result ≡ record { names = names; journal = bus; plan = no_plan; used = None } }
+        ensures { result ≡ record {
+          names = names;
+          journal = bus;
+          plan = no_plan;
+          schedule = None;
+        } }
     {
         BusPort::with_plan(alloc, names, bus, Plan::new(alloc), None)
     }
 
-    /// The same, with a plan of the bus's faults, and how busy its wire is, if it has bit rates.
+    /// The same, with a plan of the bus's faults, and the schedule of its attempts, if it has bit rates.
     pub fn with_plan(
         alloc: Global,
         names: Names,
         bus: Bus<T, R, A>,
         plan: Plan,
-        used: Option<WireUse>,
+        schedule: Option<Schedule>,
     ) -> BusPort<T, R, A>
-        ensures { result ≡ record { names = names; journal = bus; plan = plan; used = used } }
+        ensures { result ≡ record {
+          names = names;
+          journal = bus;
+          plan = plan;
+          schedule = schedule;
+        } }
     {
         BusPort {
             alloc,
             names,
             bus,
             plan,
-            used,
+            schedule,
         }
     }
 
@@ -100,6 +118,41 @@ impl<T: BoundedQueue<Pending>, R: BoundedQueue<Received>, A: Arbiter> BusPort<T,
         self.bus.next_head()
     }
 
+    /// Whether the bus has bit rates.
+    pub(crate) fn is_timed(&self) -> bool
+        ensures { result ≡ is_some self.now.schedule }
+    {
+        self.schedule.is_some()
+    }
+
+    /// Whether the bus has bit rates, and an interface waits for its restart: then an attempt without a frame takes time.
+    pub(crate) fn waits_in_time(&self) -> bool
+        ensures { result ≡ waits_in_time self.now }
+    {
+        self.schedule.is_some() && self.bus.is_counting()
+    }
+
+    /// Whether the next attempt would begin before a moment, where this one is set.
+    pub(crate) fn begins_before(&self, set: Moment, moment: Moment) -> bool
+        ensures { result ≡ begins_before set moment self.now.schedule }
+    {
+        match &self.schedule {
+            Some(schedule) => schedule.wire().begins_before(set, moment),
+            None => false,
+        }
+    }
+
+    /// The moment of the next attempt, where this one is set. Where it tries no frame, `waits` is whether an interface
+    /// waits for its restart.
+    pub(crate) fn next_moment(&self, set: Moment, waits: bool) -> Moment
+        ensures { result ≡ attempt_moment set waits (head_on self.now) self.now.schedule }
+    {
+        match self.schedule {
+            Some(schedule) => moment_on(&set_to(schedule, set), waits, self.bus.next_head()),
+            None => set,
+        }
+    }
+
     /// Tries the frame that wins the bus, if a live interface has one to send, and restarts the interfaces whose time it
     /// is. The attempt has the verdict that the source has for it, or where that is good, the plan's: it is returned
     /// with the rule that gave it, if one did, and with what the attempt came to. Refusal: `RecordFull`.
@@ -114,11 +167,37 @@ impl<T: BoundedQueue<Pending>, R: BoundedQueue<Received>, A: Arbiter> BusPort<T,
             (event.Attempt moment (verdict_on self.old source)) result.1 self.new.journal }
         ensures names { self.new.names ≡ self.old.names }
         ensures plan { self.new.plan ≡ plan_left self.old source }
-        ensures used { self.new.used ≡ self.old.used }
+        ensures schedule { self.new.schedule ≡ self.old.schedule }
     {
         let decision = self.next_decision(source);
         let outcome = self.bus.attempt(moment, decision.verdict);
         (decision, outcome)
+    }
+
+    /// The interface with this name.
+    pub(crate) fn find(&self, name: &[u8]) -> Option<Iface>
+        ensures { result ≡ place_of self.now.names name.now }
+    {
+        self.names.find_bytes(name)
+    }
+
+    /// Takes an interface down, at a moment. Refusals, in this order: `RecordFull`, `NoInterface`.
+    pub(crate) fn take_down(&mut self, iface: Iface, moment: Moment) -> Result<(), Refusal>
+        ensures answer { Answers done_reply self.old.journal (event.Down iface moment) result
+            self.new.journal }
+        ensures same { self.new ≡ record self.old { journal = self.new.journal } }
+    {
+        self.bus.down(iface, moment)
+    }
+
+    /// Restarts an interface that is bus off or down, at a moment. Refusals, in this order: `RecordFull`, `NoInterface`,
+    /// `NotBusOff`.
+    pub(crate) fn bring_up(&mut self, iface: Iface, moment: Moment) -> Result<(), Refusal>
+        ensures answer { Answers done_reply self.old.journal (event.Restart iface moment) result
+            self.new.journal }
+        ensures same { self.new ≡ record self.old { journal = self.new.journal } }
+    {
+        self.bus.restart(iface, moment)
     }
 
     /// Gives the plan a rule of faults, after those that it has.
@@ -131,15 +210,26 @@ impl<T: BoundedQueue<Pending>, R: BoundedQueue<Received>, A: Arbiter> BusPort<T,
         self.plan.inject(rule, &self.names)
     }
 
-    /// Notes an attempt that takes the wire from one nanosecond to another, if the bus has bit rates.
-    pub fn note_use(&mut self, begin: u64, end: u64)
-        requires begin { begin < 10 ^ 19 }
-        requires end { end < 10 ^ 19 }
-        ensures { self.new ≡ record self.old { used = option_map (taken begin end) self.old.used } }
+    /// Lets the time of an attempt pass that had this verdict and came to this, where this moment was set, if the bus has
+    /// bit rates: the moment at which the wire is free again.
+    pub(crate) fn pass_time(
+        &mut self,
+        set: Moment,
+        waits: bool,
+        verdict: Verdict,
+        attempt: &Attempt,
+    ) -> Option<Moment>
+        ensures free { result ≡ option_map free_at self.new.schedule }
+        ensures after { self.new ≡ record self.old {
+          schedule = schedule_left set waits verdict attempt.now self.old.schedule;
+        } }
     {
-        if let Some(used) = &mut self.used {
-            used.note(begin, end);
-        }
+        let Some(schedule) = &mut self.schedule else {
+            return None;
+        };
+        schedule.set_since(set);
+        note_attempt(schedule, waits, verdict, attempt);
+        Some(schedule.wire().free_at())
     }
 
     /// The verdict of the next attempt, for which the source has this one, and the rule that gives it, if one does. The
@@ -219,8 +309,8 @@ impl<T: BoundedQueue<Pending>, R: BoundedQueue<Received>, A: Arbiter> Port for B
     }
 
     fn load(&mut self, moment: Moment) -> BusLoad {
-        match &self.used {
-            Some(used) => used.load_at(moment),
+        match &self.schedule {
+            Some(schedule) => load_at(schedule, moment),
             None => BusLoad::none(),
         }
     }

@@ -1,10 +1,12 @@
-ghost use Rattle.std.specs.Prelude.{◌≡◌, ◌<◌, ◌≤◌, ◌*◌, ◌^◌, ◌∷◌, ◌++◌, ◌↔◌, ◌||◌, [], Bool, false, List, ℕ, Some, None, Result, length};
+ghost use Rattle.std.specs.Prelude.{◌≡◌, ◌<◌, ◌≤◌, ◌*◌, ◌^◌, ◌∷◌, ◌++◌, ◌↔◌, ◌||◌, [], Bool, false, List, ℕ, Option, Some, None, Result, length};
+ghost use Rattle.can_frame.specs.Frames.{CanFrame};
 ghost use Rattle.can_fault.specs.declared.verdict.Verdict.{Verdict};
 ghost use Rattle.can_event.specs.declared.attempt.Attempt.{Attempt};
 ghost use Rattle.can_event.specs.declared.refusal.Refusal.{Refusal};
 ghost use Rattle.can_rules.specs.declared.rule.Decision.{Decision};
 ghost use Rattle.can_session.specs.Benches.{BenchState, is_due, next_moment, passed, said_decision, said_moment};
-ghost use Rattle.can_session.specs.Wires.{Wire, begin_of, wire_after};
+ghost use Rattle.can_session.specs.Wires.{Schedule, moment_on, schedule_after, set_to, tried_in};
+ghost use Rattle.can_wire.specs.Schedules.{next_begin};
 ghost use Rattle.can_session.specs.Lines.{FindsEnd, Given, Input, IsWithin, Stops, StopsAfter, TakesLine, left_of, lines_of};
 ghost use Rattle.can_session.specs.declared.lines.InputFault.{InputFault};
 ghost use Rattle.can_session.specs.declared.lines.InputFault.TheVariants.{TooLong, Read};
@@ -43,12 +45,12 @@ pub fn nothing_is_outside_messages_and_blanks()
 
 /// On a bus without bit rates attempts have the moment that is set, their lines do not say it, and they take no time.
 pub fn attempts_take_no_time_without_bit_rates()
-    ensures moment { (b : BenchState) → b.wire ≡ None → next_moment b ≡ b.moment }
-    ensures said { (b : BenchState) (moment : ℕ) → b.wire ≡ None →
-        said_moment b.wire moment ≡ None }
-    ensures passed { (b : BenchState) (v : Verdict) (outcome : Result Attempt Refusal) →
-        b.wire ≡ None → passed v outcome b ≡ b }
-    ensures due { (b : BenchState) (moment : ℕ) → b.wire ≡ None → is_due moment b ≡ false }
+    ensures moment { (b : BenchState) → b.bus.schedule ≡ None → next_moment b ≡ b.moment }
+    ensures said { (b : BenchState) (moment : ℕ) → b.bus.schedule ≡ None →
+        said_moment b.bus.schedule moment ≡ None }
+    ensures passed { (waits : Bool) (b : BenchState) (v : Verdict)
+        (outcome : Result Attempt Refusal) → b.bus.schedule ≡ None → passed waits v outcome b ≡ b }
+    ensures due { (b : BenchState) (moment : ℕ) → b.bus.schedule ≡ None → is_due moment b ≡ false }
 {}
 
 /// Where faults are not shown, the lines of attempts do not say what was decided on them.
@@ -58,11 +60,16 @@ pub fn lines_have_faults_only_where_they_are_shown()
 {}
 
 /// On one with bit rates an attempt begins neither before the moment that is set nor before the wire is free, and
-/// afterwards the wire is free no earlier than that.
+/// afterwards the wire is free no earlier than that. Its moment is not before that of the attempt before it.
 pub fn one_attempt_comes_after_another()
-    ensures begins { (w : Wire) (moment : ℕ) →
-        (moment * 1000 ≤ begin_of moment w) × (w.free ≤ begin_of moment w) }
-    ensures ends { (w : Wire) (moment : ℕ) (v : Verdict) (outcome : Result Attempt Refusal) →
-        moment < 10 ^ 16 → w.free < 10 ^ 19 →
-        begin_of moment w ≤ (wire_after moment v outcome w).free }
+    ensures begins { (s : Schedule) (moment : ℕ) →
+        (moment * 1000 ≤ next_begin (set_to moment s))
+        × (s.wire.free ≤ next_begin (set_to moment s)) }
+    ensures ends { (s : Schedule) (waits : Bool) (v : Verdict) (a : Attempt) →
+        s.since < 10 ^ 16 → s.wire.free < 10 ^ 19 →
+        next_begin s ≤ (schedule_after waits v a s).wire.free }
+    ensures rises { (s : Schedule) (waits : Bool) (head : Option (ℕ × CanFrame)) →
+        s.last ≤ moment_on waits head s }
+    ensures last { (s : Schedule) (waits : Bool) (v : Verdict) (a : Attempt) →
+        (schedule_after waits v a s).last ≡ moment_on waits (tried_in a) s }
 {}

@@ -20,8 +20,8 @@ pub mod lines;
 mod numbers;
 pub mod order;
 mod read_buffer;
+mod timed_attempts;
 mod turns;
-mod wire_times;
 
 pub use bench_run::{BenchConfig, BenchFault, bench, bench_lines, bench_noting};
 pub use bus_port::BusPort;

@@ -75,6 +75,10 @@ pub enum Order<'a> {
     Run(Moment),
     /// To give the bus a rule of faults, of which this is the text.
     Fault(&'a [u8]),
+    /// To take the interface of this name down.
+    Down(&'a [u8]),
+    /// To bring the interface of this name up, by a restart.
+    Up(&'a [u8]),
 }
 
 /// The order that a line spells, without its LF, or `None` where it spells none.
@@ -118,6 +122,10 @@ fn read_asked<'a>(word: &[u8], rest: &'a [u8]) -> Option<Order<'a>>
         Some(Order::Run(read_moment(rest)?))
     } else if is_word(word, b"fault") {
         Some(Order::Fault(rest))
+    } else if is_word(word, b"down") {
+        Some(Order::Down(rest))
+    } else if is_word(word, b"up") {
+        Some(Order::Up(rest))
     } else {
         None
     }

@@ -21,5 +21,6 @@ module _ (F : Type 0) {A : Type 0} (told : A → Reply) (seen : StationSeen) (e 
   answered (Err (station.Bus refusal.BusOff)) is found = subst (λ (t : Reply). InSome F seen (λ held. IsAnsweredIn held e t)) is found
   answered (Err (station.Bus refusal.NoBuffers)) is found = subst (λ (t : Reply). InSome F seen (λ held. IsAnsweredIn held e t)) is found
   answered (Err (station.Bus refusal.NotBusOff)) is found = subst (λ (t : Reply). InSome F seen (λ held. IsAnsweredIn held e t)) is found
+  answered (Err (station.Bus refusal.Down)) is found = subst (λ (t : Reply). InSome F seen (λ held. IsAnsweredIn held e t)) is found
   answered (Err (station.Bus refusal.NoMemory)) is found = tt
   answered (Err station.WrongStation) is found = absurd is

@@ -1,5 +1,6 @@
 use Rattle.std.proofs.Common.{◌≡◌, ℕ, suc, ◌<◌, ◌≤◌, ◌==◌, Bool, true, false, ◌&&◌, List, [], ◌∷◌, length, inr, refl, ap, sym, ◌∙◌, subst, arith}
 use Rattle.std.specs.Prelude.{Option, Some, None, Result, Ok, Err, if◌then◌else◌}
+use Rattle.std.specs.Bool.{beq}
 use Rattle.std.proofs.lemmas.Bool.Decides.{nat_tests}
 use Rattle.std.proofs.lemmas.List.Elements.{All-weaker}
 use mathlib.Core.List.{IsSuffix}
@@ -22,7 +23,7 @@ use Rattle.can_meter.specs.Publications.{published, newest, Ends}
 use Rattle.can_meter.specs.Readings.{Readings, readings}
 use Rattle.can_event.specs.Replies.{enters, entry_of}
 use Rattle.can_station.specs.Passes.{PassSeen}
-use Rattle.can_station.specs.Published.{published_after, publications_of, counts_before, counts_in, IsPublished, AllEarlier, Publishes, AllSeen, AreTrue, TakesBack, TakesBackScroll}
+use Rattle.can_station.specs.Published.{are_same, published_after, publications_of, counts_before, counts_in, IsPublished, AllEarlier, Publishes, AllSeen, AreTrue, TakesBack, TakesBackScroll}
 use Rattle.can_station.proofs.Replies.{after-entered, after-kept}
 
 -- Publications of a history that is one entry longer.
@@ -38,7 +39,7 @@ newest-within c [] i = omega arith
 newest-within c (e ∷ past) i =
     let old = counts_of c past i in
     let new = counts_of c (e ∷ past) i in
-    newest_after (old.tec == new.tec && old.rec == new.rec) (suc (length past)) (suc (length past)) new (publications_of c past i) (omega arith) (omega (arith, newest-within c past i))
+    newest_after (are_same old new) (suc (length past)) (suc (length past)) new (publications_of c past i) (omega arith) (omega (arith, newest-within c past i))
 
 -- so a later one may come with the next entry
 pub later : (keeper : Readings) (number : ℕ) (j : Journal) (e : Event) (r : Reply) (at : ℕ) → IsPublished keeper number j → at ≡ length (history_after e r j.history) → enters r ≡ true → AllEarlier keeper at
@@ -97,6 +98,7 @@ kept_before j (event.Send s f) told before is kept = absurd (cc (is, kept))
 kept_before j (event.Receive s) told before is kept = absurd (cc (is, kept))
 kept_before j (event.Attempt m v) told before is kept = cc (is, kept)
 kept_before j (event.Restart i m) told before is kept = cc (is, kept)
+kept_before j (event.Down i m) told before is kept = cc (is, kept)
 
 -- an event before which none were kept changes none
 unchanged : (j : Journal) (e : Event) (r : Reply) (i : ℕ) → counts_before j e ≡ None → counts_of j.config (entry_of e r ∷ j.history) i ≡ counts_of j.config j.history i
@@ -108,13 +110,15 @@ unchanged j (event.Send s f) r i none = refl
 unchanged j (event.Receive s) r i none = refl
 unchanged j (event.Attempt m v) r i none = absurd (cc (none))
 unchanged j (event.Restart k m) r i none = absurd (cc (none))
+unchanged j (event.Down k m) r i none = absurd (cc (none))
 
 -- and publishes nothing
 published_same : (k : ErrorCounts) (at : ℕ) (before : List Status) → published_after k k at before ≡ before
-published_same k at before = rw (both k.tec k.rec) refl
+published_same k at before = rw (both k.tec k.rec k.down) refl
   where
-    both : (m n : ℕ) → (m == m && n == n) ≡ true
-    both m n = grind (arith, nat_tests)
+    both : (m n : ℕ) (b : Bool) → (m == m && (n == n && beq b b)) ≡ true
+    both m n true = grind (arith, nat_tests)
+    both m n false = grind (arith, nat_tests)
 
 publishes_nothing : (b : Bool) (j : Journal) (e : Event) (r : Reply) (i : ℕ) → enters r ≡ b → counts_before j e ≡ None → publications_of j.config (history_after e r j.history) i ≡ publications_of j.config j.history i
 publishes_nothing true j e r i is none =

@@ -26,5 +26,6 @@ module _ {F : Type 0} (verdicts : F → VerdictMap) (held : Held F) (seen : Stat
   stepped (Err (station.Bus refusal.BusOff)) r is answer kept = steps r _ is answer kept
   stepped (Err (station.Bus refusal.NoBuffers)) r is answer kept = steps r _ is answer kept
   stepped (Err (station.Bus refusal.NotBusOff)) r is answer kept = steps r _ is answer kept
+  stepped (Err (station.Bus refusal.Down)) r is answer kept = steps r _ is answer kept
   stepped (Err (station.Bus refusal.NoMemory)) r is answer kept = kept ∙ ap (λ (t : Reply). pass_after (next_attempt verdicts held moment) t old) is
   stepped (Err station.WrongStation) r is answer kept = absurd is

@@ -9,7 +9,7 @@ use Rattle.can_record.specs.Journal.{Journal}
 use Rattle.can_bus.specs.Run.{history_after}
 use Rattle.can_record.specs.Tapes.{tape}
 use Rattle.can_rules.specs.Plans.{PlanSeen, without_rules}
-use Rattle.can_rules.specs.RuleLines.{LinesSeen, lines_of, no_lines, with_end, with_given}
+use Rattle.can_rules.specs.RuleLines.{LinesSeen, lines_of, no_lines, with_end, with_given, with_none_left}
 use Rattle.can_rules.specs.declared.rules.RuleRefusal.{RuleRefusal}
 use Rattle.can_roll.specs.Lists.{added}
 use Rattle.can_roll.specs.Seen.{RollSeen, SlipSeen, roll_seen, slip_seen}
@@ -74,7 +74,8 @@ after_end h =
 -- the lines of what became of the rules are taken out, or none where memory is refused
 abbrev pub LinesTaken : {F : Type 0} → Held F → List ℕ → Held F → Type 0
 LinesTaken old lines new =
-    ((lines ≡ lines_of old.changes) × (new ≡ with_rules old.plan no_lines old)) ⊎ ((lines ≡ []) × (new ≡ old))
+    ((lines ≡ lines_of old.changes) × (new ≡ with_rules old.plan (with_none_left old.changes) old))
+    ⊎ ((lines ≡ []) × (new ≡ old))
 
 -- the calls of each pass, after a call of pass p
 abbrev pub lists_after : ℕ → Event → Reply → List (List Entry) → List (List Entry)

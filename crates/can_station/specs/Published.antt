@@ -1,5 +1,6 @@
-use Rattle.std.specs.Prelude.{◌≡◌, ℕ, suc, ◌==◌, ◌&&◌, ◌<◌, ◌⊎◌, List, [], ◌∷◌, length, All}
+use Rattle.std.specs.Prelude.{◌≡◌, ℕ, suc, Bool, ◌==◌, ◌&&◌, ◌<◌, ◌⊎◌, List, [], ◌∷◌, length, All}
 use Rattle.std.specs.Prelude.{slice_index_or, Option, Some, None, Result, Ok, Err, if◌then◌else◌}
+use Rattle.std.specs.Bool.{beq}
 use mathlib.Core.List.{IsSuffix}
 use Rattle.can_confine.specs.Confinement.{ErrorCounts, at_start}
 use Rattle.can_event.specs.declared.bus_config.BusConfig.{BusConfig}
@@ -14,12 +15,17 @@ use Rattle.can_meter.specs.Publications.{published, newest, Ends}
 use Rattle.can_meter.specs.Readings.{Readings}
 use Rattle.can_station.specs.Passes.{PassSeen, AllOf, SomeOther}
 
--- What is published of a history: the error counters of each interface, each time that they change (own).
+-- The publications of a history: the error counters of each interface, and whether it is down, after each change of them
+-- (own).
+
+-- two counts are the same, and so is whether the interface is down
+abbrev pub are_same : ErrorCounts → ErrorCounts → Bool
+are_same a b = a.tec == b.tec && (a.rec == b.rec && beq a.down b.down)
 
 -- an interface's publications, the newest first, after an entry that makes the record this long
 abbrev pub published_after : ErrorCounts → ErrorCounts → ℕ → List Status → List Status
 published_after old new at before =
-    if old.tec == new.tec && old.rec == new.rec then before else record { at = at; counters = new } ∷ before
+    if are_same old new then before else record { at = at; counters = new } ∷ before
 
 -- the publications of interface i: for each entry that changes its error counters, the record's length with that
 -- entry, and the counters then
@@ -28,10 +34,12 @@ publications_of c [] i = []
 publications_of c (e ∷ past) i =
     published_after (counts_of c past i) (counts_of c (e ∷ past) i) (suc (length past)) (publications_of c past i)
 
--- the counters of all interfaces, where this event can change some: it tries a frame or restarts an interface
+-- the counters of all interfaces, where this event can change some: it tries a frame, restarts an interface or takes it
+-- down
 abbrev pub counts_before : Journal → Event → Option (List ErrorCounts)
 counts_before j (event.Attempt m v) = Some (all_counts j.config j.history)
 counts_before j (event.Restart i m) = Some (all_counts j.config j.history)
+counts_before j (event.Down i m) = Some (all_counts j.config j.history)
 counts_before j _ = None
 
 -- the counters at a place of a list of them

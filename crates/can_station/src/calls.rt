@@ -15,7 +15,7 @@ use can_frame::{Frame, Iface, Moment};
 use std::alloc::Global;
 use std::sync::Wait;
 
-// The eight calls of a pass: each is one event of the bus. Before the bus's own refusals come `NoMemory`, where the pass's
+// The nine calls of a pass: each is one event of the bus. Before the bus's own refusals come `NoMemory`, where the pass's
 // list of calls can't grow, and `WrongStation`, where the pass is another station's; neither changes anything.
 impl<N: BusName, F: FaultSource + Drop, G: Gate + Drop, B: Journaled> Station<N, F, G, B> {
     /// Opens a socket on an interface, where `capacity` items may wait. Refusals of the bus: `RecordFull`,
@@ -96,7 +96,7 @@ impl<N: BusName, F: FaultSource + Drop, G: Gate + Drop, B: Journaled> Station<N,
     }
 
     /// Sends a frame on a socket, and returns its number at the interface. Refusals of the bus: `RecordFull`,
-    /// `NoSocket`, `FdOff`, `BusOff`, `NoBuffers`.
+    /// `NoSocket`, `FdOff`, `BusOff`, `Down`, `NoBuffers`.
     pub fn send<R: Wait>(
         &self,
         rt: &R,
@@ -152,7 +152,7 @@ impl<N: BusName, F: FaultSource + Drop, G: Gate + Drop, B: Journaled> Station<N,
             .map_err(StationRefusal::Bus)
     }
 
-    /// Brings an interface that is bus off back, at a moment. Refusals of the bus: `RecordFull`, `NoInterface`,
+    /// Brings an interface that is bus off or down back, at a moment. Refusals of the bus: `RecordFull`, `NoInterface`,
     /// `NotBusOff`.
     pub fn restart<R: Wait>(
         &self,
@@ -167,6 +167,25 @@ impl<N: BusName, F: FaultSource + Drop, G: Gate + Drop, B: Journaled> Station<N,
         ensures answered { Answered F done_reply self.now (event.Restart iface moment) result }
     {
         self.call(rt, alloc, pass, Event::Restart(iface, moment))?
+            .into_done()
+            .map_err(StationRefusal::Bus)
+    }
+
+    /// Takes an interface down, at a moment: until a restart it takes no part, and the frames in its transmit queue are
+    /// lost. Refusals of the bus: `RecordFull`, `NoInterface`.
+    pub fn down<R: Wait>(
+        &self,
+        rt: &R,
+        alloc: Global,
+        pass: &mut Pass<N>,
+        iface: Iface,
+        moment: Moment,
+    ) -> Result<(), StationRefusal>
+        ensures called { Called done_reply self.now.number pass.old
+            (event.Down iface moment) result pass.new }
+        ensures answered { Answered F done_reply self.now (event.Down iface moment) result }
+    {
+        self.call(rt, alloc, pass, Event::Down(iface, moment))?
             .into_done()
             .map_err(StationRefusal::Bus)
     }

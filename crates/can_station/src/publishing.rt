@@ -7,12 +7,12 @@ use can_bus::{Event, Journaled, Reply};
 use can_confine::Counters;
 use can_meter::{Keeper, MeterName};
 
-/// The error counters of a bus before an event that can change them: an attempt or a restart.
+/// The error counters of a bus before an event that can change them: an attempt, a restart or a down.
 pub(crate) fn counters_before<B: Journaled>(bus: &B, event: &Event) -> Option<[Counters; 16]>
     ensures { result ≡ counts_before (B.journal bus.now) event.now }
 {
     match event {
-        Event::Attempt(_, _) | Event::Restart(_, _) => Some(bus.counters()),
+        Event::Attempt(_, _) | Event::Restart(_, _) | Event::Down(_, _) => Some(bus.counters()),
         _ => None,
     }
 }

@@ -321,6 +321,12 @@ impl<N: BusName, F: FaultSource + Drop, G: Gate + Drop, B: Journaled> Station<N,
         self.hold(rt).end_rules();
     }
 
+    /// Keeps no lines of what becomes of the rules of the bus from now on, where nobody is to take them: else they would wait for
+    /// ever. Lines that wait are let go.
+    pub fn keep_no_changes<R: Wait>(&self, rt: &R) {
+        self.hold(rt).keep_no_changes();
+    }
+
     /// Takes out the lines of what became of the rules of the bus since the start or the last such call, as
     /// [`RunFaults`](can_rules::RunFaults) reads them: each rule that was taken, and each end of all rules, with the number of the
     /// next attempt that tries a frame. `AllocError` where memory is refused: then they stay.

@@ -5,7 +5,7 @@ ghost use Rattle.can_bus.specs.Heads.{next_head};
 ghost use Rattle.can_bus.specs.Legal.{IsLegal};
 ghost use Rattle.can_event.specs.declared.event.Event.TheVariants as event;
 ghost use Rattle.can_meter.specs.Readings.{readings};
-ghost use Rattle.can_rules.specs.RuleLines.{lines_of, no_lines};
+ghost use Rattle.can_rules.specs.RuleLines.{lines_of, never_lines, with_none_left};
 ghost use Rattle.can_station.specs.Held.{HasEntered, HasNoPlace, NoPassLeft, Takes, after_end, new_held, roll_after, slip_after, station_seen, with_rules};
 ghost use Rattle.can_rules.specs.Plans.{Injected, given, plan_after};
 ghost use Rattle.can_station.specs.Marks.{IsBooked, IsMarked};
@@ -306,11 +306,19 @@ impl<N: BusName, F: FaultSource + Drop, B: Journaled> StationState<N, F, B> {
         self.changes.end(self.bus.next_attempt());
     }
 
+    /// Keeps no lines of what becomes of the rules from now on, since nobody takes them, and lets go of those that wait.
+    pub fn keep_no_changes(&mut self)
+        ensures { self.new ≡ with_rules self.old.plan never_lines self.old }
+    {
+        self.changes.keep_none();
+    }
+
     /// Takes out the lines of what became of the rules since the start or the last such call. `AllocError` where memory is
     /// refused: then they stay.
     pub fn take_changes(&mut self) -> Result<Vec<u8>, AllocError>
         ensures taken { IfOk result (λ lines. lines.items ≡ lines_of self.old.changes) }
-        ensures after { OnOk result (self.new ≡ with_rules self.old.plan no_lines self.old) }
+        ensures after { OnOk result (self.new
+            ≡ with_rules self.old.plan (with_none_left self.old.changes) self.old) }
         ensures stays { OnErr result (self.new ≡ self.old) }
     {
         self.changes.take()

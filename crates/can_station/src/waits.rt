@@ -58,7 +58,7 @@ impl Wakeups {
 
     /// Adds what a call can have changed. A frame to send comes only of `send`; items come of attempts and restarts,
     /// and a socket closes by `close`. An interface begins to count towards its restart where a frame was tried, whose
-    /// `send` has woken who waits for work.
+    /// `send` has woken who waits for work. One that goes down only leaves less to do.
     pub(crate) fn add(&mut self, event: &Event, reply: &Reply) {
         match (event, reply) {
             (_, Reply::Refused(why)) => self.add_refusal(*why),

@@ -6,7 +6,7 @@ use Rattle.can_wire.specs.Timings.{BusTiming, frame_nanos_of, attempt_nanos_of, 
 use Rattle.can_wire.specs.Wires.{Wire, unused, begin_of, moment_after, taken_for}
 use Rattle.can_wire.specs.Loads.{Load, no_load, noted}
 
--- When the attempts are of a bus that is served in time (own choice).
+-- When the attempts are of a bus that is driven in time, by a server or on a bench (own choice).
 
 -- a schedule: its wire, since when there is something to attempt, the moment of the last attempt, at first 0, and
 -- how busy its attempts keep the wire
@@ -34,6 +34,10 @@ next_lasts t (Some frame) = frame_nanos_of t frame
 abbrev pub next_moment : Option CanFrame → Schedule → ℕ
 next_moment frame s = max s.last (moment_after s.since (next_lasts s.wire.timing frame) s.wire)
 
+-- the moment of the next attempt where it takes no time: that of its begin; but none is before the last
+abbrev pub begin_moment : Schedule → ℕ
+begin_moment s = max s.last (moment_after s.since 0 s.wire)
+
 -- after an attempt that tried this frame and takes the wire this many nanoseconds
 abbrev pub attempted : Option CanFrame → ℕ → Schedule → Schedule
 attempted frame nanos s = record {
@@ -56,3 +60,7 @@ after_tried frame class verdict s = busied frame (attempt_nanos_of s.wire.timing
 -- after an attempt for which no frame waited
 abbrev pub after_idle : Schedule → Schedule
 after_idle s = attempted None (idle_nanos_of s.wire.timing) s
+
+-- after one that took no time
+abbrev pub after_no_time : Schedule → Schedule
+after_no_time s = record s { wire = taken_for s.since 0 s.wire; last = begin_moment s }

@@ -5,8 +5,8 @@
 //! memory: bits are counted, not kept. How long an attempt lasts that fails is a choice of this project, since a
 //! verdict names no bit.
 //!
-//! [`Wire`] says when attempts begin and end on a bus with bit rates, and [`Schedule`] when those of a server's driver
-//! do; [`Load`] is how busy they keep it.
+//! [`Wire`] says when attempts begin and end on a bus with bit rates, and [`Schedule`] when those of a server's driver, or
+//! of a bench, do one after another; [`Load`] is how busy they keep it.
 #![tactic(auto)]
 
 pub mod attempts;

@@ -1,6 +1,6 @@
 ghost use Rattle.std.specs.Prelude.{◌≡◌, ◌≤◌, ◌-◌, ◌*◌, max};
 ghost use Rattle.std.specs.Option.{option_map};
-ghost use Rattle.can_wire.specs.Schedules.{after_idle, after_tried, next_begin, next_moment, nothing_yet};
+ghost use Rattle.can_wire.specs.Schedules.{after_idle, after_no_time, after_tried, begin_moment, next_begin, next_moment, nothing_yet};
 
 use crate::load::Load;
 use crate::timing::Timing;
@@ -10,8 +10,8 @@ use can_fault::Verdict;
 use can_frame::{Frame, Moment};
 use std::marker::Model;
 
-/// When the attempts are that a driver makes on a bus with bit rates, one after another: each begins once there is
-/// something to attempt and the wire is free, so that a driver that is late loses nothing.
+/// When the attempts are that a driver or a bench makes on a bus with bit rates, one after another: each begins once there
+/// is something to attempt and the wire is free, so that a driver that is late loses nothing.
 #[derive(Debug, Clone, Copy, PartialEq, Eq)]
 pub struct Schedule {
     wire: Wire,
@@ -45,6 +45,13 @@ impl Schedule {
             last: start,
             load: Load::none(),
         }
+    }
+
+    /// Its wire.
+    pub fn wire(&self) -> Wire
+        ensures { result ≡ self.now.wire }
+    {
+        self.wire
     }
 
     /// How busy its attempts keep the wire. Those for which no frame waited do not.
@@ -90,6 +97,14 @@ impl Schedule {
         later_of(self.last, self.wire.moment_after(self.since, lasts))
     }
 
+    /// The moment of the next attempt where it takes no time: that of its begin. It is never before that of the last.
+    pub fn begin_moment(&self) -> Moment
+        ensures moment { result ≡ begin_moment self.now }
+        ensures rising { self.now.last ≤ result }
+    {
+        later_of(self.last, self.wire.moment_after(self.since, 0))
+    }
+
     /// Goes on after an attempt to send a frame, which was struck by this verdict and ended in this class.
     pub fn note_tried(&mut self, frame: &Frame, class: Class, verdict: Verdict)
         ensures { self.new ≡ after_tried frame.now class verdict self.old }
@@ -108,6 +123,14 @@ impl Schedule {
         let lasts = self.wire.timing().idle_nanos();
         self.last = self.next_moment(None);
         self.wire = self.wire.taken_for(self.since, lasts);
+    }
+
+    /// Goes on after an attempt that took no time.
+    pub fn note_no_time(&mut self)
+        ensures { self.new ≡ after_no_time self.old }
+    {
+        self.last = self.begin_moment();
+        self.wire = self.wire.taken_for(self.since, 0);
     }
 }
 

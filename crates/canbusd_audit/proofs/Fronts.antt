@@ -1,5 +1,5 @@
 -- What was written of a text's events before a fault.
-use Rattle.std.proofs.Common.{◌≡◌, ◌⊎◌, ℕ, inl, inr, Bool, List, [], ◌++◌, Option, Some, None, Result, Ok, Err, arith, append-nil, length, refl, sym, ap, subst, ◌∙◌}
+use Rattle.std.proofs.Common.{◌≡◌, ◌≢◌, ◌+◌, ◌⊎◌, ℕ, inl, inr, Bool, List, [], ◌∷◌, ◌++◌, Option, Some, None, Result, Ok, Err, arith, append-nil, length, refl, sym, ap, subst, ◌∙◌}
 use Rattle.std.specs.Prelude.{reverse}
 use Rattle.std.proofs.lemmas.Option.{none-some, same_Some}
 use Rattle.std.specs.Io.KnownBytes.{Appends, Consumes}
@@ -9,6 +9,12 @@ use Rattle.can_bus.specs.Legal.{IsLegal}
 use Rattle.can_events.specs.EventsText.{events_front}
 use Rattle.can_events.specs.declared.wanted.Wanted.{Wanted}
 use Rattle.can_record_text.specs.declared.fault.ReadFault.{ReadFault}
+use Rattle.can_record_text.specs.declared.fault.ReadFault.TheVariants as read
+use Rattle.can_record_text.specs.RecordFaults.{LacksEntry, Reads}
+use Rattle.can_record_text.specs.RecordFaults.{IsFirstWrong as IsWrongLine}
+use Rattle.can_record_text.specs.declared.version.Version.{Version}
+use Rattle.can_record_text.specs.Spelling.{end_words, entry_lines, first_line, spell}
+use Rattle.can_record_text.proofs.Whole.{text-then}
 use Rattle.can_replay.specs.Audits.{IsFirstWrong}
 use Rattle.can_replay.specs.Histories.{before}
 use Rattle.can_replay.specs.declared.entry_audit.EntryAudit.{EntryAudit}
@@ -20,21 +26,26 @@ use Rattle.can_replay.specs.declared.text_fault.TextFault.{TextFault}
 use Rattle.can_replay.specs.declared.text_fault.TextFault.TheVariants as found
 use Rattle.can_replay.specs.declared.text_fault.WrongLine.{WrongLine}
 use Rattle.can_replay.specs.EventTexts.{AreWritten, HasWritten, has_events, held_events, legal_part, wrong_so_far}
-use Rattle.can_replay.specs.inner.EntryAudits.{IsSettled}
+use Rattle.can_replay.specs.TextAudits.{AreTaken, EndsLine, FailsNext, HasCome, IsLine, LacksFront}
+use Rattle.can_replay.specs.inner.EntryAudits.{IsGoing, IsSettled}
 use Rattle.can_replay.proofs.Before.{before_all}
 use Rattle.can_replay.proofs.GoingOn.{last_of, read_rest}
+use Rattle.can_replay.proofs.Lacking.{LacksNext, line_lacks, next_wrong}
 use Rattle.canbusd_io.specs.declared.program_error.ProgramError.{ProgramError}
 use Rattle.canbusd_io.specs.declared.program_error.ProgramError.TheVariants as fault
 use Rattle.canbusd_io.specs.Files.{IsOfReading}
-use Rattle.canbusd_audit.specs.Audited.{IsAfter, IsFrontWritten, IsOfLine, IsPut, IsTextIn, IsTold, IsUnderway, LeavesFront, Puts, StopsAfter, output_of}
-use Rattle.canbusd_audit.proofs.Underway.{puts_more, same_output}
+use Rattle.canbusd_audit.specs.Audited.{BeginsWrong, HasNoEvents, IsAfter, IsFrontWritten, IsLeft, IsOfLine, IsPut, IsRead, IsTextIn, IsToldFault, IsUnderway, IsUnread, LeavesFront, Puts, StopsAfter, output_of}
+use Rattle.canbusd_audit.proofs.Underway.{follows, puts_more, same_output}
 
--- ---- which entry a fault names
+-- ---- which fault it is
 
--- where it names one it is the first wrong one of those that were read
+-- one of an audit; where it names an entry, this is the first wrong one of those that were read
 abbrev pub Names : ProgramError → Phase → Type 0
 Names (fault.WrongEntry k) p = (w : WrongLine) × (wrong_so_far p ≡ Some w) × (w.place ≡ k)
-Names _ p = Unit {0}
+Names (fault.Record what) p = Unit {0}
+Names fault.Read p = Unit {0}
+Names fault.NoMemory p = Unit {0}
+Names why p = ⊥
 
 pub names_reading : (why : ProgramError) (p : Phase) → IsOfReading why → Names why p
 names_reading fault.Read p h = tt
@@ -45,10 +56,68 @@ pub names_line : (what : ReadFault) (why : ProgramError) (p : Phase) → IsOfLin
 names_line what why p (inl is) = subst (λ (w : ProgramError). Names w p) (sym is) tt
 names_line what why p (inr h) = names_reading why p h
 
-pub names_told : {A : Type 0} (r : Result A TextFault) (why : ProgramError) (p : Phase) → ((w : WrongLine) → r ≡ Err (found.Wrong w) → wrong_so_far p ≡ Some w) → IsTold r why → Names why p
-names_told (Ok count) why p wrong is = subst (λ (w : ProgramError). Names w p) (sym is) tt
-names_told (Err (found.Read what)) why p wrong is = subst (λ (w : ProgramError). Names w p) (sym is) tt
-names_told (Err (found.Wrong w)) why p wrong is = subst (λ (x : ProgramError). Names x p) (sym is) (w, wrong w refl, refl)
+pub names_told : (what : TextFault) (why : ProgramError) (p : Phase) → ((w : WrongLine) → what ≡ found.Wrong w → wrong_so_far p ≡ Some w) → IsToldFault what why → Names why p
+names_told (found.Read what) why p wrong is = subst (λ (w : ProgramError). Names w p) (sym is) tt
+names_told (found.Wrong w) why p wrong is = subst (λ (x : ProgramError). Names x p) (sym is) (w, wrong w refl, refl)
+
+-- ---- where the lines stop that were taken
+
+-- what the fault of a line says of a text
+abbrev pub Says : List ℕ → ProgramError → Type 0
+Says text (fault.Record what) = Reads text (Err what)
+Says text why = Unit {0}
+
+-- at a fault of a file or of memory, or at what is no more of a record's
+abbrev pub Stops : (text rest : List ℕ) → Phase → ProgramError → Type 0
+Stops text rest p why = IsUnread why ⊎ (((come : HasCome text p) → LacksNext text rest p come) × Says (text ++ rest) why)
+
+pub unread : (why : ProgramError) → IsOfReading why → IsUnread why
+unread fault.Read h = tt
+unread fault.NoMemory h = tt
+unread why h = absurd h
+
+pub line_stops : (text line rest : List ℕ) (audit : TextAudit) (what : ReadFault) (why : ProgramError) → AreTaken text audit → IsLine line → EndsLine line → FailsNext AreTaken audit line what → IsOfLine what why → Stops text (line ++ rest) audit.phase why
+line_stops text line rest audit what why taken is end fails (inr reading) = inl (unread why reading)
+line_stops text line rest audit read.NoMemory why taken is end fails (inl same) = inl (subst IsUnread (sym same) tt)
+line_stops text line rest audit read.BadVersion why taken is end fails (inl same) =
+    let may = λ (more : List ℕ). follows line more is end in
+    subst (Stops text (line ++ rest) audit.phase) (sym same)
+    (inr (line_lacks text line rest read.BadVersion (λ no. absurd cc) is end (may rest) (λ more. fails text more taken is (may more)) audit.phase, fails text rest taken is (may rest)))
+line_stops text line rest audit (read.BadLine n) why taken is end fails (inl same) =
+    let may = λ (more : List ℕ). follows line more is end in
+    subst (Stops text (line ++ rest) audit.phase) (sym same)
+    (inr (line_lacks text line rest (read.BadLine n) (λ no. absurd cc) is end (may rest) (λ more. fails text more taken is (may more)) audit.phase, fails text rest taken is (may rest)))
+
+-- ---- a text that does not begin as that of a record
+
+pub unread_none : (text : List ℕ) (why : ProgramError) → IsUnread why → HasNoEvents text why
+unread_none text (fault.Record read.NoMemory) h = tt
+unread_none text (fault.Record read.BadVersion) h = absurd h
+unread_none text (fault.Record (read.BadLine n)) h = absurd h
+unread_none text why h = h
+
+second : (text : List ℕ) (n : ℕ) → LacksFront text → IsWrongLine text n → n ≡ 2
+second text n lacks (inl h) = h.second
+second text n lacks (inr (inl h)) = absurd (lacks h.version h.config (entry_lines h.entries h.rest) h.whole.bus h.begins)
+second text n lacks (inr (inr h)) =
+    absurd (lacks h.version h.config (entry_lines h.entries (spell (end_words (length h.entries)) h.rest)) h.whole.bus (h.begins ∙ text-then h.version h.config h.entries h.rest))
+
+no_events : (text : List ℕ) (why : ProgramError) (p : Phase) → Names why p → wrong_so_far p ≡ None → LacksFront text → Says text why → HasNoEvents text why
+no_events text (fault.Record read.NoMemory) p names none lacks says = tt
+no_events text (fault.Record read.BadVersion) p names none lacks says = lacks
+no_events text (fault.Record (read.BadLine n)) p names none lacks says = (second text n lacks says, lacks)
+no_events text fault.Read p names none lacks says = tt
+no_events text fault.NoMemory p names none lacks says = tt
+no_events text (fault.WrongEntry k) p names none lacks says = absurd (none-some names.0 (sym none ∙ names.1))
+no_events text why p names none lacks says = absurd names
+
+none_at_start : (text rest : List ℕ) (why : ProgramError) (come : text ≡ []) → Names why phase.Start → Stops text rest phase.Start why → HasNoEvents (text ++ rest) why
+none_at_start text rest why come names (inl h) = unread_none (text ++ rest) why h
+none_at_start text rest why come names (inr h) = no_events (text ++ rest) why phase.Start names refl (h.0 come) h.1
+
+none_at_front : (text rest : List ℕ) (version : Version) (why : ProgramError) (come : text ≡ first_line version) → Names why (phase.Front version) → Stops text rest (phase.Front version) why → HasNoEvents (text ++ rest) why
+none_at_front text rest version why come names (inl h) = unread_none (text ++ rest) why h
+none_at_front text rest version why come names (inr h) = no_events (text ++ rest) why (phase.Front version) names refl (h.0 come) h.1
 
 -- ---- the entries that were read, as far as they are legal
 
@@ -69,22 +138,42 @@ part_of c es None settled =
     record { legal = subst (IsLegal c) (sym all) settled; last = inl refl; part = sym all }
 part_of c es (Some w) settled = record { legal = settled.told.first.legal_before; last = inr settled.told.first; part = refl }
 
-counted : (why : ProgramError) (b : EntryAudit) (es : List Entry) (o : Option WrongLine) → b.wrong ≡ o → Names why (phase.Entries b) → IsAfter why (part_count es o)
-unfolding part_count
-counted (fault.WrongEntry k) b es None is names = absurd (none-some names.0 (sym is ∙ names.1))
-counted (fault.WrongEntry k) b es (Some w) is names = ap (λ (x : WrongLine). x.place) (same_Some w names.0 (sym is ∙ names.1)) ∙ names.2
-counted why b es o is names = tt
+-- what follows them, as it stops
+After : (text rest : List ℕ) (b : EntryAudit) → IsGoing text b → ProgramError → Type 0
+After text rest b g why = IsUnread why ⊎ (LacksEntry b.version b.config (last_of b.is_ended g.read.entries ++ rest) × Says (text ++ rest) why)
+
+after_so : (text rest : List ℕ) (b : EntryAudit) (g : IsGoing text b) (why : ProgramError) → Stops text rest (phase.Entries b) why → After text rest b g why
+unfolding After
+after_so text rest b g why (inl h) = inl h
+after_so text rest b g why (inr h) = inr (h.0 g, h.1)
+
+all_there : (text rest : List ℕ) (b : EntryAudit) (g : IsGoing text b) (why : ProgramError) → After text rest b g why → IsUnread why ⊎ LacksEntry b.version b.config (last_of b.is_ended g.read.entries ++ rest)
+unfolding After
+all_there text rest b g why (inl h) = inl h
+all_there text rest b g why (inr h) = inr h.0
+
+counted : (text rest : List ℕ) (why : ProgramError) (b : EntryAudit) (g : IsGoing text b) (o : Option WrongLine) → b.wrong ≡ o → Names why (phase.Entries b) → After text rest b g why → IsAfter why (length g.read.entries) (part_count g.read.entries o)
+unfolding part_count After
+counted text rest (fault.WrongEntry k) b g None is names after = absurd (none-some names.0 (sym is ∙ names.1))
+counted text rest (fault.WrongEntry k) b g (Some w) is names after = ap (λ (x : WrongLine). x.place) (same_Some w names.0 (sym is ∙ names.1)) ∙ names.2
+counted text rest (fault.Record (read.BadLine n)) b g o is names (inl h) = absurd h
+counted text rest (fault.Record (read.BadLine n)) b g o is names (inr h) =
+    next_wrong (text ++ rest) (last_of b.is_ended g.read.entries ++ rest) n b.version b.config g.read.entries g.read.good (read_rest text rest b g) h.0 h.1
+counted text rest (fault.Record read.BadVersion) b g o is names after = tt
+counted text rest (fault.Record read.NoMemory) b g o is names after = tt
+counted text rest why b g o is names after = tt
 
 -- ---- what was written
 
-front_at : (v : Wanted) (text rest cleared : List ℕ) (p : Phase) (e : EventsText) (why : ProgramError) (old new : Option (List ℕ)) → AreWritten v text cleared p (Some e) → Names why p → Appends old new (cleared ++ e.text.items)
-    → Appends old new [] ⊎ IsFrontWritten v (text ++ rest) why old new
-front_at v text rest cleared phase.Start e why old new w names wrote = inl (subst (Appends old new) w.complete wrote)
-front_at v text rest cleared (phase.Front version) e why old new w names wrote = inl (subst (Appends old new) w.complete wrote)
-front_at v text rest cleared (phase.Entries b) e why old new w names wrote =
+front_at : (v : Wanted) (text rest cleared : List ℕ) (p : Phase) (e : EventsText) (why : ProgramError) (old new : Option (List ℕ)) → AreWritten v text cleared p (Some e) → Names why p → Stops text rest p why → Appends old new (cleared ++ e.text.items)
+    → (HasNoEvents (text ++ rest) why × Appends old new []) ⊎ IsFrontWritten v (text ++ rest) why old new
+front_at v text rest cleared phase.Start e why old new w names stops wrote = inl (none_at_start text rest why w.taken names stops, subst (Appends old new) w.complete wrote)
+front_at v text rest cleared (phase.Front version) e why old new w names stops wrote = inl (none_at_front text rest version why w.taken names stops, subst (Appends old new) w.complete wrote)
+front_at v text rest cleared (phase.Entries b) e why old new w names stops wrote =
     let g = w.taken in
     let es = g.read.entries in
     let p = part_of b.config es b.wrong g.read.settled in
+    let after = after_so text rest b g why stops in
     inr (record {
       version = b.version;
       config = b.config;
@@ -93,53 +182,89 @@ front_at v text rest cleared (phase.Entries b) e why old new w names wrote =
       count = part_count es b.wrong;
       good = g.read.good;
       begins = read_rest text rest b g;
+      all = all_there text rest b g why after;
       legal = p.legal;
       last = p.last;
-      names = counted why b es b.wrong refl names;
+      names = counted text rest why b g b.wrong refl names after;
       wrote = subst (Appends old new) (w.complete ∙ ap (events_front v b.version b.config) p.part) wrote;
     })
-front_at v text rest cleared (phase.Failed what) e why old new w names wrote = absurd w.taken
+front_at v text rest cleared (phase.Failed what) e why old new w names stops wrote = absurd w.taken
 
 by_kind : {W : Type 0} (v : Wanted) (first : Option (List ℕ)) (text rest events : List ℕ) (p : Phase) (held : Option EventsText) (why : ProgramError) (contents : W → Option (List ℕ)) (start out : W) → AreWritten v text events p held
-    → Names why p → IsTextIn first (text ++ rest) → Puts (has_events held) contents start out (events ++ held_events held) → LeavesFront (output_of v held) first why contents start out
-by_kind v first text rest events p None why contents start out w names is put = put
-by_kind v first text rest events p (Some e) why contents start out w names is put = (text ++ rest, is, front_at v text rest events p e why (contents start) (contents out) w names put)
+    → Names why p → IsTextIn first (text ++ rest) → Stops text rest p why → Puts (has_events held) contents start out (events ++ held_events held) → LeavesFront (output_of v held) first why contents start out
+by_kind v first text rest events p None why contents start out w names is stops put = put
+by_kind v first text rest events p (Some e) why contents start out w names is stops put = (text ++ rest, is, front_at v text rest events p e why (contents start) (contents out) w names stops put)
 
 -- all events of these lines were put out
 pub leaves_front : {W : Type 0} (v : Wanted) (first : Option (List ℕ)) (text rest events : List ℕ) (audit : TextAudit) (why : ProgramError) (contents : W → Option (List ℕ)) (start out : W) → HasWritten v text events audit
-    → Names why audit.phase → IsTextIn first (text ++ rest) → Puts (has_events audit.events) contents start out (events ++ held_events audit.events) → LeavesFront (output_of v audit.events) first why contents start out
-leaves_front v first text rest events audit why contents start out w names is put = by_kind v first text rest events audit.phase audit.events why contents start out w names is put
+    → Names why audit.phase → IsTextIn first (text ++ rest) → Stops text rest audit.phase why → Puts (has_events audit.events) contents start out (events ++ held_events audit.events) → LeavesFront (output_of v audit.events) first why contents start out
+leaves_front v first text rest events audit why contents start out w names is stops put = by_kind v first text rest events audit.phase audit.events why contents start out w names is stops put
 
--- the text of which these bytes were read
+pub none_more : {W : Type 0} (has : Bool) (contents : W → Option (List ℕ)) (start out : W) (events held : List ℕ) → held ≡ [] → Puts has contents start out events → Puts has contents start out (events ++ held)
+none_more has contents start out events held none put = subst (Puts has contents start out) (sym (ap (λ (x : List ℕ). events ++ x) none ∙ append-nil events)) put
+
+-- the same where nothing is held
+leaves_put : {W : Type 0} (v : Wanted) (first : Option (List ℕ)) (text rest events : List ℕ) (begun : Option EventsText) (audit : TextAudit) (why : ProgramError) (contents : W → Option (List ℕ)) (start out : W) → has_events begun ≡ has_events audit.events
+    → held_events audit.events ≡ [] → HasWritten v text events audit → Names why audit.phase → IsTextIn first (text ++ rest) → Stops text rest audit.phase why → Puts (has_events audit.events) contents start out events → LeavesFront (output_of v begun) first why contents start out
+leaves_put v first text rest events begun audit why contents start out kind none w names is stops put =
+    subst (λ (asked : Option Wanted). LeavesFront asked first why contents start out) (sym (same_output v begun audit.events kind))
+    (leaves_front v first text rest events audit why contents start out w names is stops (none_more (has_events audit.events) contents start out events (held_events audit.events) none put))
+
+-- ---- the text of which these bytes were read
+
 text_with : (first now : Option (List ℕ)) (text : List ℕ) → Consumes first now text → (rest : List ℕ) × IsTextIn first (text ++ rest)
 text_with None now text h = ([], tt)
 text_with (Some all) None text h = absurd h
 text_with (Some all) (Some rest) text h = (rest, sym h)
 
-pub leaves_underway : {W : Type 0} (v : Wanted) (first now : Option (List ℕ)) (events : List ℕ) (audit : TextAudit) (why : ProgramError) (contents : W → Option (List ℕ)) (start out : W) → IsUnderway v first now audit events
-    → Names why audit.phase → Puts (has_events audit.events) contents start out (events ++ held_events audit.events) → LeavesFront (output_of v audit.events) first why contents start out
-leaves_underway v first now events audit why contents start out u names put =
+-- the next line of it is known
+text_read : (first now after : Option (List ℕ)) (text line : List ℕ) → Consumes first now text → Consumes now after line → (rest : List ℕ) × IsTextIn first (text ++ (line ++ rest))
+text_read None now after text line h k = ([], tt)
+text_read (Some all) None after text line h k = absurd h
+text_read (Some all) (Some xs) None text line h k = absurd k
+text_read (Some all) (Some xs) (Some rest) text line h k = (rest, sym (h ∙ ap (λ (x : List ℕ). text ++ x) k))
+
+-- what is left of it is known
+text_left : (first old new : Option (List ℕ)) (before text left : List ℕ) → Consumes first old before → Consumes first new text → IsLeft old new left → IsTextIn first (text ++ left)
+text_left None old new before text left h k is = tt
+text_left (Some all) None new before text left h k is = absurd h
+text_left (Some all) (Some xs) None before text left h k is = absurd k
+text_left (Some all) (Some xs) (Some rest) before text left h k is = sym (k ∙ ap (λ (x : List ℕ). text ++ x) is)
+
+-- ---- a fault while lines are read
+
+-- reading failed, or memory was refused
+pub leaves_unread : {W : Type 0} (v : Wanted) (first now : Option (List ℕ)) (begun : Option EventsText) (audit : TextAudit) (why : ProgramError) (contents : W → Option (List ℕ)) (start out : W) → has_events begun ≡ has_events audit.events → held_events audit.events ≡ []
+    → IsPut v first now audit contents start out → IsOfReading why → LeavesFront (output_of v begun) first why contents start out
+leaves_unread v first now begun audit why contents start out kind none p reading =
+    let u = p.underway in
     let t = text_with first now u.text u.consumed in
-    leaves_front v first u.text t.0 events audit why contents start out u.written names t.1 put
+    leaves_put v first u.text t.0 p.events begun audit why contents start out kind none u.written (names_reading why audit.phase reading) t.1 (inl (unread why reading)) p.put
 
-pub none_more : {W : Type 0} (has : Bool) (contents : W → Option (List ℕ)) (start out : W) (events held : List ℕ) → held ≡ [] → Puts has contents start out events → Puts has contents start out (events ++ held)
-none_more has contents start out events held none put = subst (Puts has contents start out) (sym (ap (λ (x : List ℕ). events ++ x) none ∙ append-nil events)) put
+-- the line is at fault that was read
+pub leaves_line : {W : Type 0} (v : Wanted) (first now after : Option (List ℕ)) (line : List ℕ) (begun : Option EventsText) (audit : TextAudit) (what : ReadFault) (why : ProgramError) (contents : W → Option (List ℕ)) (start out : W) → has_events begun ≡ has_events audit.events
+    → held_events audit.events ≡ [] → IsPut v first now audit contents start out → IsRead now after line → FailsNext AreTaken audit line what → IsOfLine what why → LeavesFront (output_of v begun) first why contents start out
+leaves_line v first now after line begun audit what why contents start out kind none p read fails of =
+    let u = p.underway in
+    let t = text_read first now after u.text line u.consumed read.consumed in
+    leaves_put v first u.text (line ++ t.0) p.events begun audit why contents start out kind none u.written (names_line what why audit.phase of) t.1
+    (line_stops u.text line t.0 audit what why u.written.taken read.is_line read.ended fails of) p.put
 
-pub leaves_put : {W : Type 0} (v : Wanted) (first now : Option (List ℕ)) (begun : Option EventsText) (audit : TextAudit) (why : ProgramError) (contents : W → Option (List ℕ)) (start out : W) → has_events begun ≡ has_events audit.events → held_events audit.events ≡ []
-    → IsPut v first now audit contents start out → Names why audit.phase → LeavesFront (output_of v begun) first why contents start out
-leaves_put v first now begun audit why contents start out kind none p names =
-    subst (λ (asked : Option Wanted). LeavesFront asked first why contents start out) (sym (same_output v begun audit.events kind))
-    (leaves_underway v first now p.events audit why contents start out p.underway names (none_more (has_events audit.events) contents start out p.events (held_events audit.events) none p.put))
+left_stops : (text left : List ℕ) (audit : TextAudit) (what : ReadFault) (why : ProgramError) → AreTaken text audit → BeginsWrong audit left what → IsOfLine what why → Stops text left audit.phase why
+left_stops text left audit what why taken w of =
+    subst (λ (x : List ℕ). Stops text x audit.phase why) (sym w.begins) (line_stops text w.line w.rest audit what why taken w.is_line w.ended w.wrong of)
 
 -- the events of the lines before a fault were put out too
-pub leaves_stopped : {W : Type 0} (v : Wanted) (first old new : Option (List ℕ)) (begun : Option EventsText) (before after : TextAudit) (why : ProgramError) (contents : W → Option (List ℕ)) (start out end : W) → has_events before.events ≡ has_events begun
-    → has_events after.events ≡ has_events before.events → IsPut v first old before contents start out → StopsAfter old new before after → Puts (has_events after.events) contents out end (held_events after.events) → ((p : Phase) → Names why p)
+pub leaves_stopped : {W : Type 0} (v : Wanted) (first old new : Option (List ℕ)) (begun : Option EventsText) (before after : TextAudit) (what : ReadFault) (why : ProgramError) (contents : W → Option (List ℕ)) (start out end : W) → has_events before.events ≡ has_events begun
+    → has_events after.events ≡ has_events before.events → IsPut v first old before contents start out → StopsAfter old new before what after → Puts (has_events after.events) contents out end (held_events after.events) → IsOfLine what why
     → LeavesFront (output_of v begun) first why contents start end
-leaves_stopped v first old new begun before after why contents start out end kind same p stops put names =
+leaves_stopped v first old new begun before after what why contents start out end kind same p stops put of =
     let last = stops.0 in
+    let left = stops.4.0 in
+    let u = stops.1 v first p.events p.underway in
     let so_far : Puts (has_events last.events) contents start out p.events = subst (λ (b : Bool). Puts b contents start out p.events) (sym stops.2) p.put in
     let more : Puts (has_events last.events) contents out end (held_events last.events) =
     subst (Puts (has_events last.events) contents out end) stops.3 (subst (λ (b : Bool). Puts b contents out end (held_events after.events)) (same ∙ sym stops.2) put) in
     subst (λ (asked : Option Wanted). LeavesFront asked first why contents start end) (same_output v last.events begun (stops.2 ∙ kind))
-    (leaves_underway v first new p.events last why contents start end (stops.1 v first p.events p.underway) (names last.phase)
-    (puts_more (has_events last.events) contents start out end p.events (held_events last.events) so_far more))
+    (leaves_front v first u.text left p.events last why contents start end u.written (names_line what why last.phase of) (text_left first old new p.underway.text u.text left p.underway.consumed u.consumed stops.4.1)
+    (left_stops u.text left last what why u.written.taken stops.4.2 of) (puts_more (has_events last.events) contents start out end p.events (held_events last.events) so_far more))

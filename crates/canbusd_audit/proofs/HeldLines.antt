@@ -3,11 +3,11 @@ use Rattle.std.proofs.Common.{◌≡◌, ◌≢◌, ◌+◌, ◌-◌, ◌<◌, �
 use Rattle.std.proofs.Math.Seq.{take-add}
 use Rattle.std.proofs.Transfers.{StopsAt-take}
 use Rattle.std.proofs.BufReadLemmas.{through_part}
-use Rattle.std.proofs.lemmas.List.{take-append-drop, take_more}
+use Rattle.std.proofs.lemmas.List.{append_cancel_left, take-append-drop, take_more}
 use Rattle.std.proofs.lemmas.List.Elements.{All-from_get_or}
 use Rattle.std.specs.Io.{IsEmptyOrEndsWith, StartsWith, StopsAt}
 use Rattle.std.specs.Io.KnownBytes.{Consumes}
-use Rattle.std.specs.Prelude.{IfSome, IsSome}
+use Rattle.std.specs.Prelude.{IfSome}
 use Rattle.memchr.specs.Find.{IsFirstByte, is_byte}
 use Rattle.can_events.specs.declared.wanted.Wanted.{Wanted}
 use Rattle.can_record_text.specs.declared.fault.ReadFault.{ReadFault}
@@ -16,7 +16,7 @@ use Rattle.can_replay.specs.declared.text_audit.TextAudit.{TextAudit}
 use Rattle.can_replay.specs.EventTexts.{HasWritten}
 use Rattle.can_replay.specs.TextAudits.{AreTaken, EndsLine, FaultsUncut, IsLine, MayFollow}
 use Rattle.can_replay.proofs.Uncut.{line_uncut}
-use Rattle.canbusd_audit.specs.Audited.{GoesOn, HoldsBefore, IsAtFault, IsWrongNext, StopsAfter, TakesMore}
+use Rattle.canbusd_audit.specs.Audited.{BeginsWrong, GoesOn, HoldsBefore, IsAtFault, IsLeft, IsWrongNext, StopsAfter, TakesMore}
 use Rattle.canbusd_audit.proofs.Underway.{more_read}
 
 -- ---- a line that is cut behind its LF, which is the first one
@@ -82,6 +82,21 @@ fails_in held len place old now why found taken step =
           subst (λ (x : List ℕ). Reads x (Err why)) (with_more held len place text after) (step (text ++ take len held) after (taken w text events start).taken (is_line left place found) (may_follow left place found after));
     }
 
+-- and the next one of what was not taken
+pub begins_wrong : (held : List ℕ) (len place : ℕ) (now : TextAudit) (why : ReadFault) → IsFirstByte (is_byte 10) (drop len held) (Some place)
+    → ((text after : List ℕ) → AreTaken text now → IsLine (take (place + 1) (drop len held)) → MayFollow (take (place + 1) (drop len held)) after → Reads (text ++ (take (place + 1) (drop len held) ++ after)) (Err why))
+    → BeginsWrong now (drop len held) why
+begins_wrong held len place now why found step =
+    let left = drop len held in
+    record {
+      line = take (place + 1) left;
+      rest = drop (place + 1) left;
+      begins = sym (take-append-drop (place + 1) left);
+      is_line = is_line left place found;
+      ended = line_ends left place found;
+      wrong = step;
+    }
+
 -- ---- what a reader shows
 
 pub goes_on_by : (old new : Option (List ℕ)) (before after : TextAudit) (bytes : List ℕ) → Consumes old new bytes → TakesMore before bytes after → GoesOn old new before after
@@ -112,9 +127,33 @@ may_be_at_fault old audit (Some w) why held is shows fails =
     let same : w ≡ why = cc in
     at_fault old audit why held shows (subst (λ (x : ReadFault). IsWrongNext audit held x) same fails)
 
+-- what it has left after some of that
+left_of : (old new : Option (List ℕ)) (held : List ℕ) (len : ℕ) → IfSome old (λ xs. StartsWith xs held) → Consumes old new (take len held) → (more : List ℕ) × IsLeft old new (drop len held ++ more)
+left_of None new held len shows consumed = ([], tt)
+left_of (Some xs) None held len shows consumed = ([], tt)
+left_of (Some xs) (Some ys) held len shows consumed =
+    let more = drop (length held) xs in
+    let whole : xs ≡ take len held ++ (drop len held ++ more) =
+    sym (ap (λ (x : List ℕ). x ++ more) (sym shows) ∙ take-append-drop (length held) xs) ∙ ap (λ (x : List ℕ). x ++ more) (sym (take-append-drop len held))
+    ∙ append_assoc (take len held) (drop len held) more in
+    (more, append_cancel_left (take len held) ys (drop len held ++ more) (sym consumed ∙ whole))
+
+begins_more : (audit : TextAudit) (next more : List ℕ) (why : ReadFault) → BeginsWrong audit next why → BeginsWrong audit (next ++ more) why
+begins_more audit next more why w = record {
+  line = w.line;
+  rest = w.rest ++ more;
+  begins = ap (λ (x : List ℕ). x ++ more) w.begins ∙ append_assoc w.line w.rest more;
+  is_line = w.is_line;
+  ended = w.ended;
+  wrong = w.wrong;
+}
+
 -- the lines before a fault were taken
-pub stops_after : (old new : Option (List ℕ)) (before after : TextAudit) (bytes : List ℕ) (found : Option ReadFault) (why : ReadFault) → found ≡ Some why → Consumes old new bytes → (IsSome found → HoldsBefore before bytes after) → StopsAfter old new before after
-stops_after old new before after bytes None why is consumed holds = absurd cc
-stops_after old new before after bytes (Some w) why is consumed holds =
-    let h = holds refl in
-    (h.0, goes_on_by old new before h.0 bytes consumed h.1, h.2, h.3)
+pub stops_after : (old new : Option (List ℕ)) (before after : TextAudit) (held : List ℕ) (len : ℕ) (found : Option ReadFault) (why : ReadFault) → found ≡ Some why → Consumes old new (take len held) → IfSome old (λ xs. StartsWith xs held)
+    → IfSome found (λ why. HoldsBefore before (take len held) (drop len held) why after) → StopsAfter old new before why after
+stops_after old new before after held len None why is consumed shows holds = absurd cc
+stops_after old new before after held len (Some w) why is consumed shows holds =
+    let same : w ≡ why = cc in
+    let left = left_of old new held len shows consumed in
+    let wrong = subst (BeginsWrong holds.0 (drop len held)) same holds.4 in
+    (holds.0, goes_on_by old new before holds.0 (take len held) consumed holds.1, holds.2, holds.3, (drop len held ++ left.0, left.1, begins_more holds.0 (drop len held) left.0 why wrong))

@@ -1,12 +1,12 @@
 -- What is told of a text that has ended.
-use Rattle.std.proofs.Common.{◌≡◌, ◌⊎◌, ◌<◌, ℕ, inl, inr, Bool, true, false, nat_le, List, [], ◌∷◌, ◌++◌, Option, Some, None, Result, Ok, Err, IfErr, IfOk, OnOk, ap, append-nil, arith, get_or, if◌then◌else◌, length, map, refl, rules, sym, ◌∙◌, subst}
+use Rattle.std.proofs.Common.{◌≡◌, ◌≢◌, ◌⊎◌, ◌<◌, ℕ, inl, inr, Bool, true, false, nat_le, List, [], ◌∷◌, ◌++◌, Option, Some, None, Result, Ok, Err, IfErr, IfOk, OnOk, ap, append-nil, arith, get_or, if◌then◌else◌, length, map, refl, rules, sym, ◌∙◌, subst}
 use Rattle.std.specs.Result.{IsErrAnd}
 use denote.Ref.{Bor}
 use Rattle.std.specs.List.{Contains}
 use Rattle.std.specs.Io.KnownBytes.{Appends}
 use Rattle.std.proofs.KnownBytes.{Appends-nil, Appends-trans}
 use Rattle.std.proofs.lemmas.List.{get_or-map, length-map}
-use Rattle.std.proofs.lemmas.List.Elements.{All-get_or}
+use Rattle.std.proofs.lemmas.List.Elements.{All-get_or, All-nil}
 use Rattle.std.proofs.lemmas.Option.{get_or_from_slice_get, slice_get_within}
 use Rattle.can_event.specs.declared.bus_config.BusConfig.{BusConfig}
 use Rattle.can_event.specs.declared.entry.Entry.{Entry}
@@ -14,7 +14,9 @@ use Rattle.can_event.specs.declared.reply.Reply.{Reply}
 use Rattle.can_event.specs.Spelled.{FitsReply}
 use Rattle.can_bus.specs.Legal.{legal_reply}
 use Rattle.can_bus.proofs.Fitting.{legal_is_spelled}
+use Rattle.can_record_text.specs.declared.fault.ReadFault.{ReadFault}
 use Rattle.can_record_text.specs.declared.fault.ReadFault.TheVariants as read
+use Rattle.can_record_text.specs.RecordFaults.{Reads}
 use Rattle.can_record_text.specs.declared.version.Version.{Version}
 use Rattle.can_record_text.specs.Spelling.{version_of}
 use Rattle.can_record_text.specs.Values.{HasLine, HasLines}
@@ -27,7 +29,8 @@ use Rattle.can_replay.specs.declared.text_fault.TextFault.TheVariants as found
 use Rattle.can_replay.specs.declared.text_fault.WrongLine.{WrongLine}
 use Rattle.can_replay.specs.EventTexts.{EndsCutEvents, EndsEvents, HasWritten, end_line, has_events, held_events, wrong_so_far}
 use Rattle.can_replay.specs.EventTexts.{cut_line as cut_end_line}
-use Rattle.can_replay.specs.TextAudits.{AreTaken, EndsNoLine, IsCutText, IsLegalText, Reports, ReportsCut}
+use Rattle.can_replay.specs.TextAudits.{AreTaken, EndsNoLine, FaultsUncut, IsCutText, IsLegalText, Reports, ReportsCut}
+use Rattle.can_replay.proofs.Lacking.{torn_lacks}
 use Rattle.can_replay.specs.inner.EntryAudits.{IsWrongIn}
 use Rattle.can_replay.specs.declared.events_text.EventsText.{EventsText}
 use Rattle.can_replay.specs.declared.text_audit.TextAudit.{TextAudit}
@@ -37,8 +40,8 @@ use Rattle.canbusd_io.specs.declared.program_error.ProgramError.TheVariants as f
 use Rattle.canbusd_io.specs.Files.{IsOfFile}
 use Rattle.canbusd_options.specs.declared.audit_options.AuditOutput.{AuditOutput}
 use Rattle.canbusd_options.specs.declared.audit_options.AuditOutput.TheVariants as writes
-use Rattle.canbusd_audit.specs.Audited.{Audits, AuditsBy, AuditsCut, AuditsFiles, AuditsSome, Faults, FaultsBy, FaultsCut, FaultsFiles, FaultsInput, FaultsLast, FaultsLine, FaultsWhole, FitsLines, HasNote, IsAskedBy, IsAudited, IsAuditedBy, IsAuditedCut, IsBlamedCut, IsCutWritten, IsInputTaken, IsOfAsked, IsOfFiles, IsOfSomeLine, IsQuiet, IsTextIn, IsTold, IsWritten, Leaves, LeavesFiles, LeavesFront, Puts, StopsEvents, TakesLast, are_events, asks_events, cut_line, entries_line, last_cut_line, last_line, wanted_of}
-use Rattle.canbusd_audit.proofs.Fronts.{Names, leaves_front, names_line, names_told, none_more}
+use Rattle.canbusd_audit.specs.Audited.{Audits, AuditsBy, AuditsCut, AuditsFiles, AuditsSome, Faults, FaultsBy, FaultsCut, FaultsFiles, FaultsInput, FaultsLast, FaultsLine, FaultsWhole, FitsLines, HasNote, IsAskedBy, IsAudited, IsAuditedBy, IsAuditedCut, IsBlamedCut, IsCutWritten, IsInputTaken, IsOfAsked, IsOfFiles, IsOfSomeLine, IsQuiet, IsTextIn, IsTold, IsToldFault, IsUnread, IsWritten, Leaves, LeavesFiles, LeavesFront, Puts, StopsEvents, TakesLast, are_events, asks_events, cut_line, entries_line, last_cut_line, last_line, wanted_of}
+use Rattle.canbusd_audit.proofs.Fronts.{Names, Says, leaves_front, names_line, names_told, none_more, unread_none}
 use Rattle.canbusd_audit.proofs.Underway.{asked_so, puts_more}
 
 -- a reply that is told is the legal one
@@ -182,22 +185,76 @@ pub all_told : {W : Type 0} (w : Wanted) (first : Option (List ℕ)) (audit : Te
 all_told w first audit contents start out found (Ok u) t tells h = tt
 all_told w first audit contents start out found (Err failure) t tells h = (t.text, subst (IsTextIn first) (append-nil t.text) t.is_text, told t.text found failure.error (tells t.text t.written.taken) h)
 
--- what was written before the text's fault was found
+-- ---- what was written before the text's fault was found
+
+-- what a fault says of a text
+SaysOfText : List ℕ → TextFault → Type 0
+SaysOfText text (found.Read what) = Reads text (Err what)
+SaysOfText text (found.Wrong w) = Unit {0}
+
+says_so : (text : List ℕ) (what : TextFault) (why : ProgramError) → SaysOfText text what → IsToldFault what why → Says text why
+unfolding SaysOfText
+says_so text (found.Read what) why h is = subst (Says text) (sym is) h
+says_so text (found.Wrong w) why h is = subst (Says text) (sym is) tt
+
+says_whole : (text : List ℕ) (r : Result ℕ TextFault) → Reports text r → (what : TextFault) → r ≡ Err what → SaysOfText text what
+unfolding SaysOfText
+says_whole text (Ok count) h what is = absurd cc
+says_whole text (Err (found.Read why)) h what is =
+    let same : found.Read why ≡ what = cc in
+    subst (SaysOfText text) same h
+says_whole text (Err (found.Wrong w)) h what is =
+    let same : found.Wrong w ≡ what = cc in
+    subst (SaysOfText text) same tt
+
+reads_uncut : (text : List ℕ) (why : ReadFault) → FaultsUncut text why → Reads text (Err why)
+reads_uncut text read.NoMemory h = tt
+reads_uncut text read.BadVersion h = h.0
+reads_uncut text (read.BadLine n) h = h.0
+
+says_cut : (text : List ℕ) (r : Result Cut TextFault) → ReportsCut text r → (what : TextFault) → r ≡ Err what → SaysOfText text what
+unfolding SaysOfText
+says_cut text (Ok how) h what is = absurd cc
+says_cut text (Err (found.Read why)) h what is =
+    let same : found.Read why ≡ what = cc in
+    subst (SaysOfText text) same (reads_uncut text why h)
+says_cut text (Err (found.Wrong w)) h what is =
+    let same : found.Wrong w ≡ what = cc in
+    subst (SaysOfText text) same tt
+
+says_last : (text : List ℕ) (why : ProgramError) → Faults text why → Says text why
+says_last text (fault.Record what) h = h
+says_last text why h = tt
+
 all_left : {W : Type 0} (asked : Option Wanted) (first : Option (List ℕ)) (audit : TextAudit) (torn : List ℕ) (contents : W → Option (List ℕ)) (start out new : W) (why : ProgramError) → has_events audit.events ≡ asks_events asked
-    → IsReady (wanted_of asked) first audit torn contents start out → Names why audit.phase → IsQuiet why out new → Leaves asked first why contents start new
-all_left asked first audit torn contents start out new why kind t names (inl is) = inl is
-all_left asked first audit torn contents start out new why kind t names (inr same) =
+    → EndsNoLine torn → (t : IsReady (wanted_of asked) first audit torn contents start out) → Names why audit.phase → Says (t.text ++ torn) why → IsQuiet why out new → Leaves asked first why contents start new
+all_left asked first audit torn contents start out new why kind unended t names says (inl is) = inl is
+all_left asked first audit torn contents start out new why kind unended t names says (inr same) =
     inr (subst (LeavesFront asked first why contents start) (sym same)
     (subst (λ (o : Option Wanted). LeavesFront o first why contents start out) (sym (asked_so asked audit.events kind))
-    (leaves_front (wanted_of asked) first t.text torn t.events audit why contents start out t.written names t.is_text
+    (leaves_front (wanted_of asked) first t.text torn t.events audit why contents start out t.written names t.is_text (inr ((λ come. torn_lacks t.text torn audit.phase come unended), says))
     (none_more (has_events audit.events) contents start out t.events (held_events audit.events) t.none_held t.put))))
 
-pub left : {W A : Type 0} (asked : Option Wanted) (first : Option (List ℕ)) (audit : TextAudit) (torn : List ℕ) (contents : W → Option (List ℕ)) (start out new : W) (what : Result A TextFault) (r : Result (Unit {0}) Report) → has_events audit.events ≡ asks_events asked
-    → IsReady (wanted_of asked) first audit torn contents start out → ((w : WrongLine) → what ≡ Err (found.Wrong w) → wrong_so_far audit.phase ≡ Some w) → IfErr r (λ failure. IsTold what failure.error) → IfErr r (λ failure. IsQuiet failure.error out new)
-    → IfErr r (λ failure. Leaves asked first failure.error contents start new)
-left asked first audit torn contents start out new what (Ok u) kind t wrong tells quiet = tt
-left asked first audit torn contents start out new what (Err failure) kind t wrong tells quiet =
-    all_left asked first audit torn contents start out new failure.error kind t (names_told what failure.error audit.phase wrong tells) quiet
+left : {W A : Type 0} (asked : Option Wanted) (first : Option (List ℕ)) (audit : TextAudit) (torn : List ℕ) (contents : W → Option (List ℕ)) (start out new : W) (what : Result A TextFault) (r : Result (Unit {0}) Report) → has_events audit.events ≡ asks_events asked
+    → EndsNoLine torn → (t : IsReady (wanted_of asked) first audit torn contents start out) → ((f : TextFault) → what ≡ Err f → SaysOfText (t.text ++ torn) f) → ((w : WrongLine) → what ≡ Err (found.Wrong w) → wrong_so_far audit.phase ≡ Some w)
+    → IfErr r (λ failure. IsTold what failure.error) → IfErr r (λ failure. IsQuiet failure.error out new) → IfErr r (λ failure. Leaves asked first failure.error contents start new)
+left asked first audit torn contents start out new what (Ok u) kind unended t says wrong tells quiet = tt
+left asked first audit torn contents start out new (Ok count) (Err failure) kind unended t says wrong tells quiet = inl tells
+left asked first audit torn contents start out new (Err what) (Err failure) kind unended t says wrong tells quiet =
+    all_left asked first audit torn contents start out new failure.error kind unended t (names_told what failure.error audit.phase (λ w is. wrong w (ap Err is)) tells) (says_so (t.text ++ torn) what failure.error (says what refl) tells) quiet
+
+pub left_whole : {W : Type 0} (asked : Option Wanted) (first : Option (List ℕ)) (audit : TextAudit) (contents : W → Option (List ℕ)) (start out new : W) (what : Result ℕ TextFault) (r : Result (Unit {0}) Report) → has_events audit.events ≡ asks_events asked
+    → IsReady (wanted_of asked) first audit [] contents start out → ((text : List ℕ) → AreTaken text audit → Reports text what) → ((w : WrongLine) → what ≡ Err (found.Wrong w) → wrong_so_far audit.phase ≡ Some w)
+    → IfErr r (λ failure. IsTold what failure.error) → IfErr r (λ failure. IsQuiet failure.error out new) → IfErr r (λ failure. Leaves asked first failure.error contents start new)
+left_whole asked first audit contents start out new what r kind t tells wrong told quiet =
+    left asked first audit [] contents start out new what r kind (All-nil (λ b. b ≢ 10)) t
+    (λ f is. subst (λ (x : List ℕ). SaysOfText x f) (sym (append-nil t.text)) (says_whole t.text what (tells t.text t.written.taken) f is)) wrong told quiet
+
+pub left_cut : {W : Type 0} (asked : Option Wanted) (first : Option (List ℕ)) (audit : TextAudit) (torn : List ℕ) (contents : W → Option (List ℕ)) (start out new : W) (what : Result Cut TextFault) (r : Result (Unit {0}) Report) → has_events audit.events ≡ asks_events asked
+    → EndsNoLine torn → IsReady (wanted_of asked) first audit torn contents start out → ((text : List ℕ) → AreTaken text audit → EndsNoLine torn → ReportsCut (text ++ torn) what) → ((w : WrongLine) → what ≡ Err (found.Wrong w) → wrong_so_far audit.phase ≡ Some w)
+    → IfErr r (λ failure. IsTold what failure.error) → IfErr r (λ failure. IsQuiet failure.error out new) → IfErr r (λ failure. Leaves asked first failure.error contents start new)
+left_cut asked first audit torn contents start out new what r kind unended t tells wrong told quiet =
+    left asked first audit torn contents start out new what r kind unended t (λ f is. says_cut (t.text ++ torn) what (tells t.text t.written.taken unended) f is) wrong told quiet
 
 -- the last line is at fault
 pub last_told : {W : Type 0} (w : Wanted) (first : Option (List ℕ)) (torn : List ℕ) (audit : TextAudit) (contents : W → Option (List ℕ)) (start out : W) (why : ProgramError) → IsInputTaken w first audit torn contents start out → FaultsLast audit torn why
@@ -248,10 +305,19 @@ files_left asked first contents old new (Err failure) (inl is) = inl is
 files_left asked first contents old new (Err failure) (inr h) = inr (front_of_some asked first failure.error contents old new h)
 
 -- before any line was read
-pub nothing_left : {W : Type 0} (asked : Option Wanted) (first : Option (List ℕ)) (why : ProgramError) (contents : W → Option (List ℕ)) (out : W) → Leaves asked first why contents out out
-nothing_left None first why contents out = inr refl
-nothing_left (Some w) None why contents out = inr ([], tt, inl (Appends-nil (contents out)))
-nothing_left (Some w) (Some all) why contents out = inr (all, refl, inl (Appends-nil (contents out)))
+pub nothing_left : {W : Type 0} (asked : Option Wanted) (first : Option (List ℕ)) (why : ProgramError) (contents : W → Option (List ℕ)) (out : W) → IsUnread why → Leaves asked first why contents out out
+nothing_left None first why contents out h = inr refl
+nothing_left (Some w) None why contents out h = inr ([], tt, inl (unread_none [] why h, Appends-nil (contents out)))
+nothing_left (Some w) (Some all) why contents out h = inr (all, refl, inl (unread_none all why h, Appends-nil (contents out)))
+
+of_file_unread : (path : List ℕ) (why : ProgramError) → IsOfFile path why → IsUnread why
+of_file_unread path (fault.CannotOpen named) h = tt
+of_file_unread path fault.Read h = tt
+of_file_unread path fault.NoMemory h = tt
+of_file_unread path why h = absurd h
+
+pub files_unread : (paths : List (List ℕ)) (why : ProgramError) → IsOfFiles paths why → IsUnread why
+files_unread paths why h = of_file_unread h.0 why h.2
 
 -- a failure is passed on
 pub passed_on : {A : Type 0} (P : Report → Type 0) (failure : Report) (r : Result A Report) → IsErrAnd r (λ x. x ≡ failure) → P failure → IfErr r P
@@ -317,9 +383,10 @@ writer_left (Some w) first why contents start out stops = inl stops
 
 -- the last line is at fault, whose events are none
 pub last_left : {W : Type 0} (asked : Option Wanted) (first : Option (List ℕ)) (audit : TextAudit) (torn : List ℕ) (contents : W → Option (List ℕ)) (start out : W) (why : ProgramError) → has_events audit.events ≡ asks_events asked
-    → IsInputTaken (wanted_of asked) first audit torn contents start out → IsOfSomeLine why → Leaves asked first why contents start out
-last_left asked first audit torn contents start out why kind t line =
-    all_left asked first audit torn contents start out out why kind (ready (wanted_of asked) first audit torn contents start out t) (names_line line.0 why audit.phase line.1) (inr refl)
+    → IsInputTaken (wanted_of asked) first audit torn contents start out → FaultsLast audit torn why → IsOfSomeLine why → Leaves asked first why contents start out
+unfolding ready
+last_left asked first audit torn contents start out why kind t faults line =
+    all_left asked first audit torn contents start out out why kind t.unended (ready (wanted_of asked) first audit torn contents start out t) (names_line line.0 why audit.phase line.1) (says_last (t.lines ++ torn) why (faults t.lines t.written.taken)) (inr refl)
 
 -- ---- the same of files
 

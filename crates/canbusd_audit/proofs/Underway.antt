@@ -113,7 +113,7 @@ last_of [] = refl
 last_of (x ∷ q) = last_of q
 
 -- anything may follow it
-follows : (line after : List ℕ) → IsLine line → EndsLine line → MayFollow line after
+pub follows : (line after : List ℕ) → IsLine line → EndsLine line → MayFollow line after
 follows line after is end =
     let size : length line ≡ length end.0 + 1 = ap length end.1 ∙ length-append end.0 (10 ∷ []) in
     let last : get_or line (length line - 1) 0 ≡ 10 = ap (λ (n : ℕ). get_or line n 0) (omega (arith, size)) ∙ ap (λ (l : List ℕ). get_or l (length end.0) 0) end.1 ∙ last_of end.0 in

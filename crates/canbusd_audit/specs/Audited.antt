@@ -1,4 +1,4 @@
-use Rattle.std.specs.Prelude.{◌≡◌, ◌⊎◌, ℕ, Bool, true, false, List, [], ◌∷◌, ◌++◌, length}
+use Rattle.std.specs.Prelude.{◌≡◌, ◌⊎◌, ℕ, ◌+◌, Bool, true, false, List, [], ◌∷◌, ◌++◌, length}
 use Rattle.std.specs.Prelude.{reverse, codes, decimal, unwrap_or, Option, Some, None, Result, Ok, Err}
 use Rattle.std.specs.List.{Contains}
 use Rattle.std.specs.Io.KnownBytes.{Appends, Consumes, IsAtEnd}
@@ -11,8 +11,9 @@ use Rattle.can_rules.specs.RunFaults.{RunSeen}
 use Rattle.can_events.specs.EventsText.{cut_events_text, events_front, events_text, nothing_wanted}
 use Rattle.can_events.specs.declared.wanted.Wanted.{Wanted}
 use Rattle.can_record_text.specs.declared.fault.ReadFault.{ReadFault}
+use Rattle.can_record_text.specs.declared.fault.ReadFault.TheVariants as read
 use Rattle.can_record_text.specs.declared.version.Version.{Version}
-use Rattle.can_record_text.specs.RecordFaults.{IsTextOf, Reads}
+use Rattle.can_record_text.specs.RecordFaults.{IsTextOf, LacksEntry, Reads}
 use Rattle.can_record_text.specs.Spelling.{entry_lines, front_lines, version_of}
 use Rattle.can_record_text.specs.Values.{HasLines}
 use Rattle.can_replay.specs.Audits.{IsFirstWrong}
@@ -26,7 +27,8 @@ use Rattle.can_replay.specs.declared.text_audit.TextAudit.{TextAudit}
 use Rattle.can_replay.specs.EventTexts.{HasWritten, end_line, has_events, held_events}
 use Rattle.can_replay.specs.EventTexts.{cut_line as cut_end_line}
 use Rattle.can_replay.specs.Histories.{before}
-use Rattle.can_replay.specs.TextAudits.{AreTaken, EndsLine, EndsNoLine, FaultsUncut, IsFrontOf, IsLine, MayFollow}
+use Rattle.can_replay.specs.TextAudits.{AreTaken, EndsLine, EndsNoLine, FailsNext, FaultsUncut, IsFrontOf, IsLine}
+use Rattle.can_replay.specs.TextAudits.{LacksFront, MayFollow}
 use Rattle.canbusd_options.specs.declared.audit_options.AuditOutput.{AuditOutput}
 use Rattle.canbusd_options.specs.declared.audit_options.AuditOutput.TheVariants as writes
 use Rattle.canbusd_options.specs.declared.bus_word.FaultsWord.{FaultsWord}
@@ -222,13 +224,29 @@ abbrev pub Puts : {W : Type 0} → Bool → (W → Option (List ℕ)) → W → 
 Puts false contents old new events = new ≡ old
 Puts true contents old new events = Appends (contents old) (contents new) events
 
--- where a fault names a wrong entry, it is the one after this many
-abbrev pub IsAfter : ProgramError → ℕ → Type 0
-IsAfter (fault.WrongEntry k) count = count ≡ k
-IsAfter _ count = Unit {0}
+-- a fault of a file or of memory, up to which a text was read
+abbrev pub IsUnread : ProgramError → Type 0
+IsUnread (fault.CannotOpen path) = Unit {0}
+IsUnread fault.Read = Unit {0}
+IsUnread fault.NoMemory = Unit {0}
+IsUnread (fault.Record read.NoMemory) = Unit {0}
+IsUnread why = ⊥
 
--- the entries that a text begins with were read up to a fault, and the events were written, with what else is wanted,
--- of those before the first wrong one, or of all
+-- the fault of a text that has no events: its first line or its second is at fault, or it was not read so far
+abbrev pub HasNoEvents : List ℕ → ProgramError → Type 0
+HasNoEvents text (fault.Record read.BadVersion) = LacksFront text
+HasNoEvents text (fault.Record (read.BadLine n)) = (n ≡ 2) × LacksFront text
+HasNoEvents text why = IsUnread why
+
+-- where a fault names a wrong entry, it is the one after those with events; a wrong line is that after all entries, or
+-- after these and the end
+abbrev pub IsAfter : ProgramError → (all count : ℕ) → Type 0
+IsAfter (fault.WrongEntry k) all count = count ≡ k
+IsAfter (fault.Record (read.BadLine n)) all count = (n ≡ all + 3) ⊎ (n ≡ all + 4)
+IsAfter why all count = Unit {0}
+
+-- all entries that a text begins with were read, or those up to a fault of a file or of memory; and the events were
+-- written, with what else is wanted, of those before the first wrong one, or of all
 pub record IsFrontWritten (w : Wanted) (text : List ℕ) (why : ProgramError) (old new : Option (List ℕ)) : Type 0 where
   pub version : Version
   pub config : BusConfig
@@ -237,19 +255,21 @@ pub record IsFrontWritten (w : Wanted) (text : List ℕ) (why : ProgramError) (o
   pub count : ℕ
   pub good : HasLines version config entries
   pub begins : text ≡ front_lines version config (entry_lines entries rest)
+  pub all : IsUnread why ⊎ LacksEntry version config rest
   pub legal : IsLegal config (before entries count)
   pub last : (count ≡ length entries) ⊎ IsFirstWrong config entries count
-  pub names : IsAfter why count
+  pub names : IsAfter why (length entries) count
   pub wrote : Appends old new (events_front w version config (before entries count))
 
 -- what a fault of the text that a reader had leaves: an audit without events has written nothing, one with events those
--- of the legal entries before it, or nothing where a text does not begin as that of a record
+-- of the legal entries before it, and none only where a text does not begin as that of a record, or was not read
 abbrev pub LeavesFront : {W : Type 0} → Option Wanted → Option (List ℕ) → ProgramError → (W → Option (List ℕ)) → W → W
     → Type 0
 LeavesFront None input why contents old new = new ≡ old
 LeavesFront (Some w) input why contents old new =
     (text : List ℕ) × IsTextIn input text
-    × (Appends (contents old) (contents new) [] ⊎ IsFrontWritten w text why (contents old) (contents new))
+    × ((HasNoEvents text why × Appends (contents old) (contents new) [])
+    ⊎ IsFrontWritten w text why (contents old) (contents new))
 
 -- the same of any fault; that of the writer says nothing
 abbrev pub Leaves : {W : Type 0} → Option Wanted → Option (List ℕ) → ProgramError → (W → Option (List ℕ)) → W → W
@@ -288,11 +308,20 @@ TakesLast before torn after = TakesMore before torn after
 abbrev pub FaultsLast : TextAudit → List ℕ → ProgramError → Type 0
 FaultsLast audit torn why = (lines : List ℕ) → AreTaken lines audit → Faults (lines ++ torn) why
 
--- an audit holds the events of these lines, after which it found a fault
-abbrev pub HoldsBefore : TextAudit → List ℕ → TextAudit → Type 0
-HoldsBefore before lines after =
+-- a line is at fault as the next one of a text that was taken, whatever follows it; bytes begin with it
+pub record BeginsWrong (audit : TextAudit) (next : List ℕ) (why : ReadFault) : Type 0 where
+  pub line : List ℕ
+  pub rest : List ℕ
+  pub begins : next ≡ line ++ rest
+  pub is_line : IsLine line
+  pub ended : EndsLine line
+  pub wrong : FailsNext AreTaken audit line why
+
+-- an audit holds the events of these lines, after which it found a fault in the bytes that follow them
+abbrev pub HoldsBefore : TextAudit → (lines next : List ℕ) → ReadFault → TextAudit → Type 0
+HoldsBefore before lines next why after =
     (last : TextAudit) × TakesMore before lines last × (has_events last.events ≡ has_events before.events)
-    × (held_events after.events ≡ held_events last.events)
+    × (held_events after.events ≡ held_events last.events) × BeginsWrong last next why
 
 -- bytes begin with whole lines that are at fault after the lines that were taken, whatever follows them
 pub record IsWrongNext (audit : TextAudit) (next : List ℕ) (why : ReadFault) : Type 0 where
@@ -353,17 +382,23 @@ IsAtFault now audit why =
     (w : Wanted) (first : Option (List ℕ)) (events : List ℕ) → IsUnderway w first now audit events
     → (text : List ℕ) × IsTextIn first text × FaultsUncut text why
 
+-- what a reader has left is this, where it is known what it had
+abbrev pub IsLeft : Option (List ℕ) → Option (List ℕ) → List ℕ → Type 0
+IsLeft (Some all) (Some rest) left = rest ≡ left
+IsLeft _ _ left = Unit {0}
+
 -- a reader and an audit went on to lines before a fault, whose events the audit holds
-abbrev pub StopsAfter : Option (List ℕ) → Option (List ℕ) → TextAudit → TextAudit → Type 0
-StopsAfter old new before after =
+abbrev pub StopsAfter : Option (List ℕ) → Option (List ℕ) → TextAudit → ReadFault → TextAudit → Type 0
+StopsAfter old new before why after =
     (last : TextAudit) × GoesOn old new before last × (has_events last.events ≡ has_events before.events)
     × (held_events after.events ≡ held_events last.events)
+    × ((left : List ℕ) × IsLeft old new left × BeginsWrong last left why)
 
 -- what a reader held was taken by an audit
 abbrev pub BecomesOf : Buffered → Option (List ℕ) → Option (List ℕ) → TextAudit → TextAudit → Type 0
 BecomesOf held.End old new before after = IsAtEnd old × (after ≡ before)
 BecomesOf held.Lines old new before after = GoesOn old new before after
-BecomesOf (held.Wrong why) old new before after = IsAtFault old before why × StopsAfter old new before after
+BecomesOf (held.Wrong why) old new before after = IsAtFault old before why × StopsAfter old new before why after
 
 -- a wrong entry has a line, and so has its event with the legal reply
 pub record FitsLines (w : WrongLine) : Type 0 where

@@ -1,4 +1,4 @@
-ghost use Rattle.std.specs.Prelude.{◌≡◌, ◌≤◌, IfOk, IfSome, IsNone, IsSome, OnErr, length, take};
+ghost use Rattle.std.specs.Prelude.{◌≡◌, ◌≤◌, IfOk, IfSome, IsNone, OnErr, drop, length, take};
 ghost use Rattle.can_replay.specs.EventTexts.{has_events};
 ghost use Rattle.canbusd_audit.specs.Audited.{BecomesOf, HoldsBefore, IsWrongNext, TakesMore};
 
@@ -69,7 +69,8 @@ fn carry_held(
     ensures within { result.0 ≤ length held.now }
     ensures taken { IsNone result.1 → TakesMore audit.old (take result.0 held.now) audit.new }
     ensures fault { IfSome result.1 (λ why. IsWrongNext audit.old held.now why) }
-    ensures before { IsSome result.1 → HoldsBefore audit.old (take result.0 held.now) audit.new }
+    ensures before { IfSome result.1 (λ why.
+        HoldsBefore audit.old (take result.0 held.now) (drop result.0 held.now) why audit.new) }
     ensures asked { has_events audit.new.events ≡ has_events audit.old.events }
 {
     let mut len = 0;

@@ -18,11 +18,11 @@ pub fn record_note(
     let (number, form) = match fault {
         ReadFault::BadVersion => (
             1,
-            "the first line of a record is canbus record 1 or 2, or, with an FD frame or the option fd, canbus record 3, or, of a long run, canbus record 4, or, with a flag of an FD frame, canbus record 5",
+            "the first line of a record is canbus record 1 or 2, or, with an FD frame or the option fd, canbus record 3, or, of a long run, canbus record 4, or, with a flag of an FD frame, canbus record 5, or, with an interface that goes down, canbus record 6",
         ),
         ReadFault::BadLine(2) => (
             2,
-            "the second line is bus IFACES ACK REPORTING TXCAPACITY LIMIT, followed by RESTART in versions 2 to 5",
+            "the second line is bus IFACES ACK REPORTING TXCAPACITY LIMIT, followed by RESTART in versions 2 to 6",
         ),
         ReadFault::BadLine(number) => (number, entry_form(line)),
         ReadFault::NoMemory => return Ok(String::new(alloc)),

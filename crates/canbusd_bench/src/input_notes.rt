@@ -1,9 +1,13 @@
 //! What is reported of a wrong line of the bench's input.
 use can_session::lines::LONGEST_LINE;
 use can_session::{Order, SessionNumber, read_order};
-use canbusd_io::{SourceLine, WITH_CR, fixed_note, rule_note};
+use canbusd_io::{Shown, SourceLine, WITH_CR, fixed_note, has_name, rule_note};
 use std::alloc::{AllocError, Global};
 use std::str;
+
+// The form of a line that takes an interface down or brings it up.
+const CHANGE_FORM: &str =
+    "down NAME or up NAME: one space comes before the name of an interface, as down can0";
 
 /// The line of the bench's input that is wrong, and why, for a bus with these names that has bit rates or none.
 pub fn input_note(
@@ -26,6 +30,7 @@ pub fn input_note(
         }
         Some(Order::Run(_)) => fixed_note(alloc, run_note(is_timed))?,
         Some(Order::Fault(rule)) => rule_note(alloc, str::from_utf8(rule).unwrap_or(""), bus)?,
+        Some(Order::Down(name) | Order::Up(name)) => iface_note(alloc, name, bus)?,
         _ => fixed_note(alloc, form_of(line, is_timed))?,
     };
     let line = SourceLine::new(place, u64::from(number), line);
@@ -40,6 +45,21 @@ fn started_note(alloc: Global, session: SessionNumber) -> Result<String, AllocEr
 fn missing_note(alloc: Global, session: SessionNumber) -> Result<String, AllocError> {
     let number = session.number();
     format!(in alloc; "  no line before it starts session {number}\n")
+}
+
+// Why an interface is not taken down or brought up: there is none of this name, or it is up.
+fn iface_note(alloc: Global, name: &[u8], bus: &str) -> Result<String, AllocError> {
+    if let [.., b'\r'] = name {
+        return fixed_note(alloc, WITH_CR);
+    }
+    let shown = Shown::cut(name);
+    if has_name(bus, str::from_utf8(name).unwrap_or("")) {
+        format!(in alloc; "  {shown} is neither bus off nor down\n")
+    } else if name.is_empty() {
+        fixed_note(alloc, CHANGE_FORM)
+    } else {
+        format!(in alloc; "  {shown} is none of {bus}\n")
+    }
 }
 
 // Why a bench does not run to a moment.
@@ -69,9 +89,10 @@ fn form_of(line: &[u8], is_timed: bool) -> &'static str {
             "feed S BYTES: S is 1 to 64 without leading zeros, and one space comes before BYTES",
         b"attempt" => "nothing may follow attempt: each line makes one attempt",
         b"fault" => "fault RULE: one space comes before RULE",
+        b"down" | b"up" => CHANGE_FORM,
         _ if is_timed =>
-            "a line begins with at, session, feed, drain, end, fault, attempt or run; see canbusd help bench",
+            "a line begins with at, session, feed, drain, end, fault, attempt, down, up or run; see canbusd help bench",
         _ =>
-            "a line begins with at, session, feed, drain, end, fault or attempt; see canbusd help bench",
+            "a line begins with at, session, feed, drain, end, fault, attempt, down or up; see canbusd help bench",
     }
 }

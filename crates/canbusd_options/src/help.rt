@@ -20,6 +20,8 @@ pub const BENCH_HELP: &str = "Lines of standard input, carried out one after the
   end S              End session S
   attempt            Put the frame that wins arbitration on the bus, and write what became of it
   fault RULE         Add a rule of faults, as in a script, from here on
+  down NAME          Take this interface down, at the moment set
+  up NAME            Bring this interface up, or back from bus off, at the moment set
   run SECONDS.MICROS With --bitrate: make attempts while there is work and one begins before this moment, then set it
 Empty lines and lines that begin with # do nothing. A line has at most 4096 bytes, and all lines 16777216.
 
@@ -44,7 +46,8 @@ Messages of a session (socketcand's raw mode), in the order of a first run:
   < status >                 Write < status STATE TEC REC >, from the error counters of the interface
   < load >                   Write < load PERMILLE MICROS BITRATE DBITRATE >: how busy a bus of a server was in the last
                              whole second and in microseconds since its start, and its --bitrate and --dbitrate; else 0
-  < restart >                Bring the interface back that is bus off, before --auto-restart does
+  < restart >                Bring the interface back that is bus off, before --auto-restart does, or up where it is down
+  < down >                   Take the interface down: until < restart > it takes no part
   < close >                  Close the socket, and write < closed UNREAD DROPPED >
 Once an interface is taken, with a socket or without:
   < fault RULE >             Add a rule of faults to its bus, as in a script

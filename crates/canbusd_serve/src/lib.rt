@@ -12,6 +12,7 @@ mod file_keeper;
 mod host;
 mod listening;
 mod live_files;
+mod lock_file;
 mod notices;
 mod serve_files;
 mod serve_job;

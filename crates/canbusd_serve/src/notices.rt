@@ -32,8 +32,8 @@ fn notice_text(alloc: Global, buses: &[BusWord<'_>], notice: Notice) -> Result<S
             let from = from_text(alloc, from)?;
             format!(in alloc; "session {session}: turned away{from}, too many sessions")
         }
-        Notice::Requested { session } => {
-            format!(in alloc; "session {session}: closed, a request of HTTP")
+        Notice::Strange { session } => {
+            format!(in alloc; "session {session}: closed, not a client of canbusd")
         }
         Notice::Opened {
             session,
@@ -56,6 +56,7 @@ fn notice_text(alloc: Global, buses: &[BusWord<'_>], notice: Notice) -> Result<S
             name_at(buses, bus, iface),
             "restarted",
         ),
+        Notice::WentDown { bus, iface } => bus_text(alloc, name_at(buses, bus, iface), "down"),
         Notice::Late { bus, millis } => {
             let what = late_text(alloc, millis)?;
             bus_text(alloc, first_name_at(buses, bus), &what)

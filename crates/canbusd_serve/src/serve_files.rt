@@ -2,6 +2,7 @@
 ghost use Rattle.std.specs.Prelude.{IfErr, IsTrue};
 ghost use Rattle.canbusd_serve.specs.Served.{IsOfServing};
 
+use crate::lock_file::LockFile;
 use can_bus::Record;
 use can_station::Settled;
 use canbusd_io::{
@@ -11,35 +12,35 @@ use canbusd_io::{
 use canbusd_options::{BusWord, Recording, ServeOptions};
 use std::alloc::{AllocError, Global};
 use std::fs;
-use std::fs::{File, TryLockError};
+use std::fs::File;
 use std::io::{Error, ErrorKind, Write};
 use std::rt::Files;
 
 /// The most bytes of a record's text that has no entry and no end: its first two lines.
 const MOST_OF_FRONT: u64 = 61;
 
-/// Locks the folder for this server. `CannotOpen` where another one has it. `None` where it is no folder that can be read,
-/// or its file system has no locks.
+/// Locks the folder for this server, by a file in it. `CannotOpen` where another one has it. `None` where it takes no file, or
+/// its file system has no locks.
 pub fn lock_folder<'a, H: Files<File = File>>(
     rt: &H,
     alloc: Global,
     folder: &'a str,
-) -> Result<Option<File>, Report<'a>>
+) -> Result<Option<LockFile>, Report<'a>>
     ensures { IfErr result (λ failure. IsOfServing failure.error) }
 {
-    if !matches!(fs::metadata(rt, folder), Ok(found) if found.is_dir()) {
-        return Ok(None);
-    }
-    let Ok(file) = fs::open(rt, folder) else {
-        return Ok(None);
+    let Ok(path) = format!(in alloc; "{folder}/.canbusd.lock") else {
+        return Err(Report::new(alloc, ProgramError::NoMemory));
     };
-    match file.try_lock() {
-        Ok(()) => Ok(Some(file)),
-        Err(TryLockError::WouldBlock) => {
+    match LockFile::take(rt, alloc, &path) {
+        Ok(lock) => Ok(Some(lock)),
+        Err(error) if error.kind() == ErrorKind::AddrInUse => {
             let error = Error::new(ErrorKind::WouldBlock, "another server writes to it");
             Err(open_failure(alloc, folder, folder, &error))
         }
-        Err(TryLockError::Error(_)) => Ok(None),
+        Err(error) if error.kind() == ErrorKind::InvalidInput => {
+            Err(open_failure(alloc, folder, folder, &error))
+        }
+        Err(_) => Ok(None),
     }
 }
 

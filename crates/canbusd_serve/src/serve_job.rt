@@ -14,6 +14,7 @@ use crate::file_keeper::{FileKeeper, KeptFiles};
 use crate::host::{Host, Start};
 use crate::listening::{Listening, leave, listen, listen_failure};
 use crate::live_files::{LiveFiles, finish_all, open_all};
+use crate::lock_file::LockFile;
 use crate::notices::first_name_at;
 use crate::serve_files::{
     drafts_of, lock_folder, look_at_folder, open_failure, save_all, set_all_aside,
@@ -87,15 +88,9 @@ pub fn run_serve<'a, H: ServerRuntime, R: Read + Drop + Send + 'static, W: Write
         lock: OnceLock::new(),
         faults: Mutex::new(Vec::new(alloc)),
     };
-    let benches = run.read_benches()?;
-    let has_reported = match options.recording {
-        Recording::AtEnd => run.run_whole::<Brand, _, _, _>(benches, input, output, errors)?,
-        Recording::Live | Recording::Never => {
-            run.run_live::<Brand, _, _, _>(benches, input, output, errors)?
-                .0
-        }
-    };
-    Ok(!has_reported && !run.has_lost.load(Ordering::SeqCst))
+    let outcome = run.serve_buses(input, output, errors);
+    run.free_folder();
+    outcome
 }
 
 // What is there after serving: the passes of each bus, and its files with the scroll of what they were given.
@@ -115,12 +110,41 @@ struct ServerRun<'r, 'a, H: ServerRuntime> {
     // Whether a bus has lost its driver, which was reported.
     has_lost: AtomicBool,
     // The folder, locked until the last file is written.
-    lock: OnceLock<File>,
+    lock: OnceLock<LockFile>,
     // The faults of each bus, where its record is wanted; while it is served its keeper has them.
     faults: Mutex<Vec<LiveFaults>>,
 }
 
 impl<'r, 'a, H: ServerRuntime> ServerRun<'r, 'a, H> {
+    // Serves, and writes the files.
+    fn serve_buses<R: Read + Drop + Send + 'static, W: Write, E: Write + Send>(
+        &self,
+        input: R,
+        output: &mut W,
+        errors: &mut E,
+    ) -> Result<bool, Report<'a>>
+        ensures served { IfOk result (λ whole. IsTrue whole →
+            IsServed W.contents self.now.options.now output.old output.new) }
+        ensures fault { IfErr result (λ failure. IsOfServer self.now.options.now failure.error) }
+    {
+        let benches = self.read_benches()?;
+        let has_reported = match self.options.recording {
+            Recording::AtEnd => self.run_whole::<Brand, _, _, _>(benches, input, output, errors)?,
+            Recording::Live | Recording::Never => {
+                self.run_live::<Brand, _, _, _>(benches, input, output, errors)?
+                    .0
+            }
+        };
+        Ok(!has_reported && !self.has_lost.load(Ordering::SeqCst))
+    }
+
+    // Removes the lock file of the folder.
+    fn free_folder(&self) {
+        if let Some(lock) = self.lock.get() {
+            lock.remove(self.rt);
+        }
+    }
+
     // What the buses of the options are made of.
     fn read_benches(&self) -> Result<Vec<Bench<Perfect, Open>>, Report<'a>>
         ensures made { IfOk result (λ benches. AreAllBenches self.now.options.now benches.items) }
@@ -501,6 +525,9 @@ impl<'r, 'a, H: ServerRuntime> ServerRun<'r, 'a, H> {
         // With room for those that come back at the end.
         let room = Vec::with_capacity(self.alloc, hub.count())?;
         let faults = mem::replace(&mut *self.faults.lock(self.rt), room);
+        if faults.is_empty() {
+            self.keep_no_changes(hub);
+        }
         let mut kept = keepers_of(self.alloc, host, files, faults, scrolls)?;
         // With a name of its own the iterator lends each keeper for as long as there are scribes.
         let each = kept.iter_mut();
@@ -520,6 +547,14 @@ impl<'r, 'a, H: ServerRuntime> ServerRun<'r, 'a, H> {
             run.scrolls.push_reserved(scroll);
         }
         Ok(run)
+    }
+
+    // Keeps nothing of what becomes of the rules of the buses, since no file of a run's faults is written.
+    fn keep_no_changes<N: BusName, L: Leaves>(&self, hub: &Hub<N, Perfect, Open, L>) {
+        let buses = hub.buses();
+        for bus in 0..buses.count() {
+            buses.station(bus).keep_no_changes(self.rt);
+        }
     }
 
     // Writes what became of the rules of a bus and was not taken yet, now that nobody makes calls any more.

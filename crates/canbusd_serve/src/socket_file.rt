@@ -3,33 +3,24 @@
 //! Beside the socket PATH a server locks the file PATH.lock, and removes both at its end. A server that was killed leaves
 //! them, unlocked, for the next one. Nobody connects to a server that holds the lock, to see whether it is alive.
 
-use std::alloc::{AllocError, Global};
-use std::fs::{File, Metadata, TryLockError};
-use std::io::{Error, ErrorKind};
+use crate::lock_file::LockFile;
+use std::alloc::Global;
+use std::fs::File;
+use std::io::ErrorKind;
 use std::net::Net;
 use std::os::unix::fs::{FileTypeExt, MetadataExt};
 use std::os::unix::net::{UnixListener, UnixStream};
 use std::rt::Files;
 use std::{fs, io};
 
-/// How often a lock is tried, each time at a file that another server has just removed.
-const TRIES: u32 = 16;
-
 /// The file of a socket, with its lock.
 #[derive(Drop)]
 pub struct SocketFile {
     path: String,
-    lock: Lock,
+    lock: LockFile,
     /// Which file of which device the socket is. As long as the socket is open no other file is the same.
     device: u64,
     file: u64,
-}
-
-/// A file that is locked.
-#[derive(Drop)]
-struct Lock {
-    path: String,
-    file: File,
 }
 
 impl SocketFile {
@@ -40,7 +31,8 @@ impl SocketFile {
         alloc: Global,
         path: &str,
     ) -> io::Result<(UnixListener, SocketFile)> {
-        let lock = Lock::take(rt, alloc, path)?;
+        let beside = format!(in alloc; "{path}.lock")?;
+        let lock = LockFile::take(rt, alloc, &beside)?;
         match bind(rt, path) {
             Ok(listener) => {
                 let found = fs::symlink_metadata(rt, path)?;
@@ -67,51 +59,6 @@ impl SocketFile {
             }
         }
         self.lock.remove(rt);
-    }
-}
-
-impl Lock {
-    /// Locks the file beside a path. `AddrInUse` where another server has it.
-    fn take<H: Files<File = File>>(rt: &H, alloc: Global, path: &str) -> io::Result<Lock> {
-        let path = lock_path(alloc, path)?;
-        for _ in 0..TRIES {
-            let file = File::options()
-                .read(true)
-                .write(true)
-                .create(true)
-                .open(rt, &path)?;
-            match file.try_lock() {
-                Ok(()) => {}
-                Err(TryLockError::WouldBlock) => return Err(Error::from(ErrorKind::AddrInUse)),
-                Err(TryLockError::Error(error)) => return Err(error),
-            }
-            if is_at(rt, &path, &file.metadata()?) {
-                return Ok(Lock { path, file });
-            }
-        }
-        Err(Error::from(ErrorKind::AddrInUse))
-    }
-
-    /// Removes the file, which nobody has written to, and unlocks it.
-    fn remove<H: Files>(self, rt: &H) {
-        let Ok(found) = self.file.metadata() else {
-            return;
-        };
-        if found.len() == 0 && is_at(rt, &self.path, &found) {
-            let _ = fs::remove_file(rt, &self.path);
-        }
-    }
-}
-
-fn lock_path(alloc: Global, path: &str) -> Result<String, AllocError> {
-    format!(in alloc; "{path}.lock")
-}
-
-// Whether this file is the one at a path.
-fn is_at<H: Files>(rt: &H, path: &str, file: &Metadata) -> bool {
-    match fs::symlink_metadata(rt, path) {
-        Ok(found) => found.dev() == file.dev() && found.ino() == file.ino(),
-        Err(_) => false,
     }
 }
 

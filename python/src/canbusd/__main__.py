@@ -19,6 +19,8 @@ COMMANDS = {
     "watch": ("canbusd.commands.watch", "show a running server in the browser"),
     "fault": ("canbusd.commands.fault", "give a running bus a rule of faults"),
     "restart": ("canbusd.commands.restart", "bring interfaces back from bus off"),
+    "down": ("canbusd.commands.down", "take interfaces off the bus"),
+    "up": ("canbusd.commands.up", "bring interfaces up"),
     "restbus": ("canbusd.commands.restbus", "send what the other nodes of a DBC file send"),
     "convert": ("canbusd.commands.convert", "make an ASC, BLF, pcapng or candump log of another"),
     "extcap": ("canbusd.commands.extcap", "show the interfaces of a server in Wireshark"),

@@ -11,12 +11,19 @@ import time
 from collections.abc import Callable, Mapping, Sequence
 from dataclasses import dataclass, field
 from pathlib import Path
-from typing import NamedTuple, Optional
+from typing import TYPE_CHECKING, NamedTuple, Optional
 
 from canbusd.faults import Script, lines_of, script_bytes
 
+if TYPE_CHECKING:
+    from canbusd._process.program_run import Ack
+    from canbusd._process.rates import Rates
+
 #: A bus of a test: the number of its server or bench, in the order of their starts, and its first interface.
 BusKey = tuple[int, str]
+
+
+Keep = Callable[[BusKey, Sequence[str], int, Path, "Optional[Rates]"], None]
 
 
 #: Seconds by which a frame is late.
@@ -45,6 +52,21 @@ class AtSockets(NamedTuple):
         return is_it and self.kind == "full" and time.time() >= float(self.moment)
 
 
+class Outage(NamedTuple):
+    """Interfaces of a server that are down for some time."""
+
+    #: `down`: this one is. `noack`: all others of its bus are, so that nobody acknowledges its frames.
+    kind: str
+    interface: str
+    moment: float
+    seconds: float
+
+    def among(self, buses: Sequence[Sequence[str]]) -> list[str]:
+        """Returns which interfaces of a server with these buses are down."""
+        own = next((names for names in buses if self.interface in names), ())
+        return [name for name in own if (name == self.interface) == (self.kind == "down")]
+
+
 class Reset(NamedTuple):
     """A program of a test that is killed at a moment, and starts anew."""
 
@@ -63,12 +85,15 @@ class Placement:
     #: Lines of a script for a bus, which go before its own.
     lines: Mapping[BusKey, Sequence[str]] = field(default_factory=dict)
     #: Called with each record that a run leaves: its bus, the names of its interfaces, how many of its first sockets are the
-    #: package's own, and its path.
-    keep: Callable[[BusKey, Sequence[str], int, Path], None] = lambda *_: None
+    #: package's own, its path, and its bit rates if it has any.
+    keep: "Keep" = lambda *_: None
     at_sockets: Sequence[AtSockets] = ()
     resets: Sequence[Reset] = ()
+    outages: Sequence[Outage] = ()
     #: How many programs the test has started.
     programs: int = 0
+    #: Why a fault could not be carried out.
+    failure: str = ""
     #: How many servers and benches the test has started, and the first bus of the first of them.
     runs: int = 0
     first: Optional[BusKey] = None
@@ -125,6 +150,27 @@ def at_sockets_of(interface: str) -> Optional[AtSockets]:
     return next((one for one in _current.at_sockets if one.interface == interface), None) if _current else None
 
 
+def acknowledged_by(usual: "Ack") -> "Ack":
+    """Returns who acknowledges frames: the other nodes of the bus only, where the placement takes these off the bus."""
+    is_noack = _current is not None and any(one.kind == "noack" for one in _current.outages)
+    return "peers" if is_noack else usual
+
+
+def note_server(buses: Sequence[Sequence[str]], take_down: Callable[[Sequence[str], float, float], None]) -> None:
+    """Notes that the test has started a server with these buses. It is called with interfaces that are down from a moment on
+    for so many seconds."""
+    for outage in _current.outages if _current else ():
+        names = outage.among(buses)
+        if names:
+            threading.Thread(target=take_down, args=(names, outage.moment, outage.seconds), daemon=True).start()
+
+
+def note_failure(reason: Exception) -> None:
+    """Notes that a fault of the placement could not be carried out: its run says nothing of the test."""
+    if _current is not None:
+        _current.failure = str(reason)
+
+
 def note_program(restart: Callable[[], None]) -> None:
     """Notes that the test has started a program, which is called so to be killed and to start anew."""
     if _current is None:
@@ -137,22 +183,28 @@ def note_program(restart: Callable[[], None]) -> None:
 
 
 def _restart_at(moment: float, restart: Callable[[], None]) -> None:
-    time.sleep(max(0.0, moment - time.time()))
+    sleep_until(moment)
     restart()
 
 
-def keep(bus: BusKey, names: Sequence[str], own: int, record: Path) -> None:
+def sleep_until(moment: float) -> None:
+    """Waits until this moment of the clock."""
+    time.sleep(max(0.0, moment - time.time()))
+
+
+def keep(bus: BusKey, names: Sequence[str], own: int, record: Path, rates: "Optional[Rates]") -> None:
     """Hands a record that is whole to the sweep, if there is one."""
     if _current and record.exists():
-        _current.keep(bus, names, own, record)
+        _current.keep(bus, names, own, record, rates)
 
 
-def copy_to(folder: Path) -> Callable[[BusKey, Sequence[str], int, Path], None]:
-    """Returns a function that copies each record into this folder, with the names of its bus beside it."""
+def copy_to(folder: Path) -> "Keep":
+    """Returns a function that copies each record into this folder, with what else is known of its bus beside it."""
 
-    def copy(bus: BusKey, names: Sequence[str], own: int, record: Path) -> None:
+    def copy(bus: BusKey, names: Sequence[str], own: int, record: Path, rates: "Optional[Rates]") -> None:
         target = folder / f"{bus[0]}-{bus[1]}.rec"
         shutil.copyfile(record, target)
-        target.with_suffix(".bus").write_text(f"{own} {','.join(names)}")
+        numbers = [] if rates is None else [one for one in (rates.bitrate, rates.dbitrate) if one is not None]
+        target.with_suffix(".bus").write_text(" ".join(map(str, [own, ",".join(names), *numbers])))
 
     return copy

@@ -23,6 +23,7 @@ from canbusd._expect.bench_time import PassesTime
 from canbusd._process.dialogue import MOST_INPUT as MOST_INPUT, BenchError as BenchError, Dialogue, moment_text
 from canbusd._process.program import audited
 from canbusd._process.program_run import Ack, bus_of, option_words, rates_of
+from canbusd._restbus.node import Node
 from canbusd._restbus.nodes import database_of
 from canbusd._restbus.simulated_nodes import HasRestBus
 from canbusd._run.log import read_log
@@ -65,7 +66,8 @@ class Bench(PassesTime, Dialogue, HasRestBus["BenchRestBus"], NamesWhatThereIs):
 
     _INSTEAD = {
         "session": "bus('can0') returns a session",
-        **dict.fromkeys(("status", "stats", "load", "restart"), "a session has it: bus('can0')"),
+        **dict.fromkeys(("status", "stats", "load"), "a session has it: bus('can0')"),
+        "restart": "up('can0'), or bus('can0').restart()",
         **dict.fromkeys(("send", "receive", "recv"), "a session sends and receives: bus('can0').send(0x123)"),
         "tick": "attempt() makes one, run() all",
     }
@@ -98,6 +100,7 @@ class Bench(PassesTime, Dialogue, HasRestBus["BenchRestBus"], NamesWhatThereIs):
         Dialogue.__init__(self, out)
         script = script_bytes(placement.script_of((self._number, self.names[0]), faults))
         self._sessions = 0
+        self._rest_buses: "list[BenchRestBus]" = []
         self._sent: dict[str, list[Frame]] = {name: [] for name in self.names}
         words += ["--record", str(self._path("rec")), "--log", str(self._path("log")), "--"]
         bus = ",".join(self.names)
@@ -173,6 +176,11 @@ class Bench(PassesTime, Dialogue, HasRestBus["BenchRestBus"], NamesWhatThereIs):
         self._due.append(rest)
         return rest
 
+    @explained()
+    def node(self, name: str) -> Node:
+        """Returns the node of this interface, which comes and goes: ``bench.node("ecu").power_off()``."""
+        return Node(self, self._named(str(name), "name"))
+
     def _attempt_now(self) -> Optional[Attempt]:
         return self.attempt(at=self.now)
 
@@ -196,6 +204,11 @@ class Bench(PassesTime, Dialogue, HasRestBus["BenchRestBus"], NamesWhatThereIs):
                 self._write(f"fault {rule}")
                 self._in_step = True
                 self._given.add(rule)
+
+    def rules_left(self, interface: Optional[str] = None) -> int:
+        # Without those of a sweep.
+        planted = self._given.among(len(placement.rules_of((self._number, self.names[0]))))
+        return super().rules_left(interface) - planted
 
     def attempt(self, at: Union[str, float, None] = None) -> Optional[Attempt]:
         """Puts the frame that wins arbitration on the bus, at this moment if one is given; None if no frame waits.
@@ -276,7 +289,8 @@ class Bench(PassesTime, Dialogue, HasRestBus["BenchRestBus"], NamesWhatThereIs):
         try:
             super()._finish(fault)
         finally:
-            placement.keep((self._number, self.names[0]), self.names, self._own_sessions, self._path("rec"))
+            bus = self._number, self.names[0]
+            placement.keep(bus, self.names, self._own_sessions, self._path("rec"), self._rates)
 
     def _path(self, ending: str) -> Path:
         return self._out / f"{self.names[0]}.{ending}"

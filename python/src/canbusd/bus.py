@@ -63,6 +63,7 @@ BUS_STATES = {
     "warning": BusState.ACTIVE,
     "passive": BusState.PASSIVE,
     "off": BusState.ERROR,
+    "down": BusState.ERROR,
 }
 # Arguments that python-can and its tools hand to all interfaces.
 OF_PYTHON_CAN = {"single_handle", "timing", "ignore_config", "config_context", "poll_interval"}
@@ -257,7 +258,7 @@ class CanbusdBus(InjectsFaults, NamesWhatThereIs, BusABC):
 
         :param timeout: seconds in which a full transmit queue may make room; none: a full one is an error at once
         :raises ~can.exceptions.CanOperationError: where the server refuses it; the ``error_code`` of ``no buffers`` is
-            ``ENOBUFS``, of ``bus off`` ``ENETDOWN``
+            ``ENOBUFS``, of ``bus off`` and ``interface down`` ``ENETDOWN``
         :raises ~can.exceptions.CanTimeoutError: where the queue was full until the timeout, or no answer came
         :raises ValueError: where this is no message that can be sent here
         """
@@ -296,21 +297,35 @@ class CanbusdBus(InjectsFaults, NamesWhatThereIs, BusABC):
 
     @property
     def state(self) -> BusState:
-        """The state of the interface: ACTIVE up to error warning, PASSIVE, or ERROR where it is bus off.
+        """The state of the interface: ACTIVE up to error warning, PASSIVE, or ERROR where it is bus off or down.
 
-        Setting ACTIVE brings it back from bus off; no other state can be set.
+        Setting ACTIVE brings it back from both; no other state can be set.
         """
         return BUS_STATES[self.error_counters().state]
 
     @state.setter
     def state(self, new_state: BusState) -> None:
         if new_state is not BusState.ACTIVE:
-            raise NotImplementedError(f"{new_state} can't be set: there is no listen-only mode, and no switching off")
+            raise NotImplementedError(
+                f"{new_state} can't be set: there is no listen-only mode; down() takes it off the bus"
+            )
         self._session.restart(is_needed=False)
 
     def restart(self) -> None:
-        """Brings the interface back from bus off; CanOperationError where it is not bus off."""
+        """Brings the interface back from bus off, or up; CanOperationError where it is neither bus off nor down."""
         self._session.restart()
+
+    def down(self) -> None:
+        """Takes the interface off the bus, as `ip link set can0 down` does; what waits in its transmit queue is lost.
+
+        It sends, accepts and acknowledges nothing until `up`, and a send is refused as `interface down`. The sockets of the
+        interface stay open. One that is down stays so.
+        """
+        self._session.down()
+
+    def up(self) -> None:
+        """Brings the interface up, or back from bus off; both error counts are 0 then. One that is up stays so."""
+        self._session.up()
 
     def error_counters(self) -> ErrorCounters:
         """Returns the state of the interface and its error counts."""

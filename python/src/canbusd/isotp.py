@@ -18,7 +18,7 @@ import time
 from collections.abc import Callable
 from typing import TYPE_CHECKING, Any, Optional
 
-from canbusd._isotp.end import ERRORS, LONGEST_TRANSFER, MOST_BYTES, check
+from canbusd._isotp.end import ERRORS, LONGEST_TRANSFER, MOST_BYTES, OUTAGES, check
 from canbusd._isotp.end import IsoTp as IsoTp, IsoTpError as IsoTpError
 from canbusd._isotp.options import Options
 from canbusd._isotp.python_end import PythonIsoTp
@@ -178,8 +178,8 @@ class SocketIsoTp(IsoTp):
             return packet[1:]
         number = int(packet[1:])
         if number:
-            is_off = is_bus_off(self._address, self._channel)
-            text = f"{self._channel} is bus off" if is_off else ERRORS.get(number, os.strerror(number))
+            outage = outage_of(self._address, self._channel)
+            text = f"{self._channel} is {outage}" if outage else ERRORS.get(number, os.strerror(number))
             raise IsoTpError(text, number)
         return b""
 
@@ -237,11 +237,11 @@ class SocketIsoTp(IsoTp):
         return self._child.stderr.read().decode(errors="replace").strip().split("\n")[-1] or "without a word"
 
 
-def is_bus_off(address: str, channel: str) -> bool:
-    """Whether an interface is bus off now, as far as the server says so."""
+def outage_of(address: str, channel: str) -> str:
+    """Why an interface takes no part now, as far as the server says so: `bus off`, `down`, or nothing where it takes part."""
     # Of python-can, where there is python-can: no answer is none.
     with contextlib.suppress(Exception):
         session = ObservingSession(address, channel, has_frames=False)
         session.close()
-        return session.first.state == "off"
-    return False
+        return OUTAGES.get(session.first.state, "")
+    return ""

@@ -94,7 +94,7 @@ class Program(NamesWhatThereIs):
         self, words: Sequence[str], command: Sequence[str], output: Path, may_end: bool, **kwargs: Any
     ) -> None:
         self._words, self._path, self._output = list(words), output, Output(output)
-        self._may_end, self._is_stopped = may_end, False
+        self._may_end, self._is_stopped, self._is_off = may_end, False, False
         # Not in the terminal's foreground: Ctrl-C is the test's.
         how: dict[str, Any] = {"stdin": subprocess.DEVNULL, "start_new_session": True, **kwargs}
         self._command, self._how = [*command, *words], how
@@ -123,6 +123,20 @@ class Program(NamesWhatThereIs):
             self._kill()
             self._child.wait()
             self._guard.release()
+            self._start()
+
+    def _power_off(self) -> None:
+        """Kills it, if it runs, as a node that loses its power; that is no fault of it."""
+        if self.status is None:
+            self._is_off = True
+            self._kill()
+            self._child.wait()
+            self._guard.release()
+
+    def _power_on(self) -> None:
+        """Starts it anew, where `_power_off` has killed it."""
+        if self._is_off:
+            self._is_off = False
             self._start()
 
     @property
@@ -204,7 +218,7 @@ class Program(NamesWhatThereIs):
 
     def fault(self) -> Optional[str]:
         """Returns what is wrong where it has ended by itself and was not to; else None."""
-        if self.status is None or self._may_end or self._is_stopped:
+        if self.status is None or self._may_end or self._is_stopped or self._is_off:
             return None
         return f"{self._name()} ended before the test did; pass may_end=True if it may\n{self.shown()}"
 

@@ -29,7 +29,7 @@ Path = Union[str, "os.PathLike[str]"]
 Outcome = Literal["done", "lastbit", "destroyed", "noack", "idle"]
 Fate = Literal["taken", "waiting", "unread", "dropped"]
 # How records begin, and how many bytes of one that does not are shown to the program.
-BEGINNING, LINE = re.compile(b"canbus record [1-5]\n"), 256
+BEGINNING, LINE = re.compile(b"canbus record [1-6]\n"), 256
 
 
 @dataclass(frozen=True)
@@ -119,7 +119,7 @@ def attempts_of(run: Replay, names: Sequence[str], first: int = 0) -> list[Attem
     for place in range(first, len(steps)):
         entry = steps.entries[place]
         again = restarts.get(entry, ()) if restarts else ()
-        if steps.kinds[place] != RESTART:
+        if steps.kinds[place] < RESTART:
             attempts.append(attempt_at(run, names, place, again))
         elif entry != last and entry in run.idle_verdicts:
             moment = float(moment_of(steps.moments[place]))

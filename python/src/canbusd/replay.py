@@ -17,9 +17,11 @@ from canbusd._process.rates import Rates
 from canbusd._run.event_lines import OTHER, RECEIVE, SEND, STEP, WORDS, Lines, receivers_of, senders_of
 from canbusd._run.event_parts import Outcomes, Parts
 from canbusd._run.run_parts import OFF, Bus, Interface, Socket, bus_of, frame_in
-from canbusd._run.steps import DONE, Items, Places, Rows, Steps
+from canbusd._run.steps import DONE, DOWN, RESTART, Items, Places, Rows, Steps
 
 FIRST_LINE = "canbus events 1"
+#: The replies to a send that the bus did not accept.
+REFUSED = ("bus-off", "interface-down", "no-buffers")
 #: In place of the text of an item that found no room, where no line says what it was.
 UNKNOWN = "?"
 #: The interfaces, as lines have them.
@@ -41,9 +43,9 @@ class Replay:
         #: Frames of steps and error message frames, by their places; the first is no frame.
         self.texts = Places("")
         self.steps, self.items = Steps(self.texts, self.ifaces), Items(self.sockets)
-        #: The number and the frame of all that bus off took out of a transmit queue, by the step.
-        self.lost: dict[int, list[tuple[int, str]]] = {}
-        #: The last steps before sends were refused, by the interface and the reply, `no-buffers` or `bus-off`.
+        #: The number and the frame of all that were taken out of a transmit queue, at bus off or down, by the step.
+        self.lost = self.steps.lost
+        #: The last steps before sends were refused, by the interface and the reply: one of REFUSED.
         self.refused: dict[tuple[int, str], list[int]] = {}
         #: The verdicts of idle attempts that restarted interfaces, by their entries.
         self.idle_verdicts: dict[int, str] = {}
@@ -60,8 +62,8 @@ class Replay:
         self._counts = array("H")
         # How many frames wait, as one number.
         self._waiting = 0
-        # The interfaces that are not bus off, bit i for interface i.
-        self._on = 0
+        # The interfaces that are down, bit i for interface i.
+        self._down = 0
         # How many attempts were idle before a step.
         self._idle: dict[int, int] = {}
 
@@ -152,7 +154,7 @@ class Replay:
     def _refuse(self, line: str, steps: int, __: int) -> None:
         """A send had another reply than a number."""
         number, _, _, reply = line.split(" ")[1:]
-        if reply in ("bus-off", "no-buffers"):
+        if reply in REFUSED:
             iface = self.ifaces[self.sockets[int(number)].iface]
             iface.refused += reply == "no-buffers"
             self.refused.setdefault((iface.number, reply), []).append(steps - 1)
@@ -185,7 +187,7 @@ class Replay:
         deque(map(array.append, map(columns.__getitem__, sockets), steps), maxlen=0)
 
     def _take_steps(self, lines: Lines, units: Sequence[int]) -> None:
-        """Attempts try frames, and interfaces are restarted; `units` is what the sends add to the frames that wait."""
+        """Attempts try frames, interfaces are restarted or go down; `units` is what the sends add to the frames that wait."""
         words = lines.words
         if not words:
             self._waiting += sum(units)
@@ -196,7 +198,7 @@ class Replay:
         leaving = map(operator.mul, left, map([-iface.unit for iface in self.ifaces].__getitem__, ifaces))
         *waiting, self._waiting = lines.in_queues(units, leaving, self._waiting)
         entries = [*lines.entries_of(STEP)]
-        rows = Rows(kinds, accepted, off, entries, moments, verdicts, ifaces, numbers, frames, wires, waiting)
+        rows = Rows(kinds, accepted, off, entries, moments, verdicts, ifaces, numbers, frames, wires, waiting, left)
         errors = self._take_parts(rows, parts, handed)
         for iface in self.ifaces:
             iface.leave(self._waiting)
@@ -211,10 +213,12 @@ class Replay:
         """Takes what few steps bring about, and returns the error message frames among the items, by their places."""
         local = {verdict for verdict in {*rows.verdicts} if ":" in verdict}
         errors: list[tuple[int, str]] = []
-        if not local and not any(parts):
+        if not local and not any(parts) and not self._down and DOWN not in rows.kinds:
             return errors
         items = [*itertools.accumulate(handed, initial=len(self.items))]
         for row, (part, verdict) in enumerate(zip(parts, rows.verdicts)):
+            if rows.kinds[row] >= RESTART:
+                self._set_down(rows, row)
             if verdict in local:
                 rows.hit[row] = int(verdict[-4:], 16) & self._others_on(rows.ifaces[row])
             if part is None:
@@ -233,15 +237,28 @@ class Replay:
                 errors += found
         for iface in self.ifaces:
             iface.tec, iface.rec = self._counts[2 * iface.number : 2 * iface.number + 2]
+            iface.is_down = bool(self._down >> iface.number & 1)
         return errors
 
+    def _set_down(self, rows: Rows, row: int) -> None:
+        """An interface is down from this step on, or is no longer."""
+        bit = 1 << rows.ifaces[row]
+        down = self._down | bit if rows.kinds[row] == DOWN else self._down & ~bit
+        if down != self._down:
+            self._down = rows.down[row] = down
+
     def _others_on(self, sender: int) -> int:
-        """The set of the other interfaces that are not bus off."""
-        return sum(1 << iface for iface, tec in enumerate(self._counts[::2]) if tec < OFF and iface != sender)
+        """The set of the other interfaces that are neither bus off nor down."""
+        on = sum(1 << iface for iface, tec in enumerate(self._counts[::2]) if tec < OFF and iface != sender)
+        return on & ~self._down
 
     def _lose(self, rows: Rows, row: int, count: int) -> None:
-        """Bus off takes all frames out of the transmit queue of the sender, of which that of the step is the first."""
+        """All frames are taken out of the transmit queue of an interface that goes bus off, of which that of the step is the
+        first, or down."""
         iface, first = self.ifaces[rows.ifaces[row]], int(rows.numbers[row])
+        if rows.kinds[row] == DOWN:
+            before = zip(rows.ifaces[:row], rows.left)
+            first = iface.gone + sum(left for one, left in before if one == iface.number)
         place = first - iface.gone
         lines = iface.queue[place : place + count]
         self.lost[len(self.steps) + row] = list(enumerate(map(frame_in, lines), first))

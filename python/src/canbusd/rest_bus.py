@@ -21,6 +21,7 @@ from canbusd._database.formats import DatabaseError, MessageFormat, Value
 from canbusd._restbus.nodes import has, is_sendable, phases_of, sender
 from canbusd._restbus.schedule import MICROS, Schedule, micros
 from canbusd._protected import profile_of
+from canbusd._session.protocol import PASSING as PASSING
 from canbusd.e2e import Profile, Protection
 from canbusd.frames import Frame
 from canbusd.shapes import Shape
@@ -28,8 +29,6 @@ from canbusd.signals import Database, frame_of
 
 Self = TypeVar("Self", bound="RestBus")
 
-#: What a refused frame of a cyclic message is refused for: it is counted, and the message goes on.
-PASSING = ("no buffers", "bus off")
 # In one moment values come first.
 VALUES, FRAMES = -1, 0
 
@@ -39,7 +38,7 @@ class Counts(NamedTuple):
 
     #: Those that the bus accepted into a transmit queue.
     accepted: int = 0
-    #: Those that it did not: the queue was full, or the interface bus off.
+    #: Those that it did not: the queue was full, or the interface bus off or down.
     refused: int = 0
     #: Those that were left out, since this process came a whole cycle too late.
     skipped: int = 0
@@ -375,6 +374,23 @@ class RestBus(NamesWhatThereIs):
         """Stops a node, or a message where no node has this name; without a name all. Values stay, events go on."""
         for one in self._named(name):
             one.stop()
+
+    def _silence(self, interface: str) -> list[RestMessage]:
+        """Stops the messages that go by an interface; returns those that were sent by their cycle times, none of a rest bus
+        that has ended."""
+        with self._lock:
+            ceased = [one for one in self.messages if one.interface == interface and one.is_running]
+            if self._is_closed:
+                return []
+            for one in ceased:
+                one.stop()
+            return ceased
+
+    def _resume(self, messages: Sequence[RestMessage]) -> None:
+        """Starts these messages, unless it has ended."""
+        with self._lock:
+            for one in () if self._is_closed else messages:
+                one.start()
 
     def counts(self, message: Optional[str] = None) -> Counts:
         """Returns what became of the frames of a message, or of all."""

@@ -216,6 +216,10 @@ class RulesLeft:
         """Ends all rules."""
         self._left.clear()
 
+    def among(self, first: int) -> int:
+        """Returns how many of the first so many rules are left."""
+        return sum(number <= first for number in self._left)
+
     def gave(self, number: int) -> None:
         """Counts a verdict of the rule of this number."""
         left = self._left.get(number)
@@ -245,6 +249,10 @@ class GivenRules:
     def __len__(self) -> int:
         """How many rules are left."""
         return len(self._left)
+
+    def among(self, first: int) -> int:
+        """Returns how many of the first so many rules are left."""
+        return self._left.among(first)
 
     def add(self, rule: Rule) -> None:
         """Adds a rule after the others."""

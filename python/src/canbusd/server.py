@@ -25,18 +25,19 @@ from canbusd import _placement as placement
 from canbusd._process.program import ServerError as ServerError, audited
 from canbusd._process.program_run import RUNNING, Ack, ProgramRun, option_words, rates_of
 from canbusd._process.serve_words import Recorded, bus_words, record_options
-from canbusd._restbus.simulated_nodes import SimulatesNodes
+from canbusd._restbus.node import Node
 from canbusd._restbus.nodes import database_of
+from canbusd._restbus.simulated_nodes import SimulatesNodes
 from canbusd._run.live import LiveLog, LiveRecord, left_by
 from canbusd._run.log import read_log
 from canbusd._session.address import parse_address, reason_of
 from canbusd._session.connection import SessionRefused
-from canbusd._session.injection import RuleSession
-from canbusd._session.raw_session import CURES, RECORD_FULL
+from canbusd._session.injection import TIMEOUT, RuleSession
+from canbusd._session.raw_session import CURES, RECORD_FULL, RawSession
 from canbusd.faults import Script, rules_of
 from canbusd.programs import Program, RunsPrograms
 from canbusd.record import Attempt, Record, read_record
-from canbusd.rules import check_rules
+from canbusd.rules import check_rules, parse_rule
 from canbusd.signals import Database
 from canbusd.virtual import note_rate
 
@@ -44,6 +45,7 @@ if TYPE_CHECKING:
     from can.message import Message
 
     from canbusd.bus import CanbusdBus
+    from canbusd.rest_bus import RestBus
 
 #: Seconds in which a server has to listen, and to end. Long records take their time.
 START, END = 10.0, 60.0
@@ -97,7 +99,7 @@ class Server(Expectations, SimulatesNodes, RunsPrograms, ProgramRun, NamesWhatTh
         "load": "server.bus('can0').load()",
         "receive": "server.bus('can0').recv(timeout=1), or expect(..)",
         "recv": "server.bus('can0').recv(timeout=1), or expect(..)",
-        "restart": "server.bus('can0').restart()",
+        "restart": "up('can0'), or server.bus('can0').restart()",
         "send": "server.bus('can0').send(can.Message(..))",
         "stats": "server.bus('can0').stats()",
     }
@@ -132,7 +134,7 @@ class Server(Expectations, SimulatesNodes, RunsPrograms, ProgramRun, NamesWhatTh
         parse_address(str(listen), "listen", least_port=0)
         options, numbers = record_options(record, limit, flush, sync)
         numbers.update(auto_restart=auto_restart, pace_ms=pace_ms, write_bytes=write_bytes)
-        options += option_words(ack, report, txqueue=txqueue, rxqueue=rxqueue, **numbers)
+        options += option_words(placement.acknowledged_by(ack), report, txqueue=txqueue, rxqueue=rxqueue, **numbers)
         self._rates = rates_of(bitrate, data_bitrate, dbitrate)
         options += self._rates.words if self._rates else []
         note_rate(bitrate)
@@ -148,6 +150,22 @@ class Server(Expectations, SimulatesNodes, RunsPrograms, ProgramRun, NamesWhatTh
         self.address = self._listening()
         if self._observed:
             self._observing()
+        placement.note_server(self._names(), self._take_down)
+
+    def _take_down(self, names: Sequence[str], moment: float, seconds: float) -> None:
+        """Has interfaces be down from a moment on for so many seconds, if it still runs."""
+        placement.sleep_until(moment)
+        try:
+            sessions = [RawSession(self.address, name, ["filter 0"], TIMEOUT) for name in names]
+            for session in sessions:
+                session.down()
+            placement.sleep_until(moment + seconds)
+            for session in sessions:
+                session.up()
+                session.close()
+        except Exception as reason:  # noqa: B902  it may have ended
+            if self._result is None and self._child.poll() is None:
+                placement.note_failure(reason)
 
     def _prepare(self, record: str) -> None:
         """What is known of the run before it begins."""
@@ -156,6 +174,9 @@ class Server(Expectations, SimulatesNodes, RunsPrograms, ProgramRun, NamesWhatTh
         self._logs = {name: LiveLog(self._out / f"{name}.log") for name in self._by_bus}
         self._records = {name: LiveRecord(self._out / f"{name}.rec", bus[:-1]) for name, bus in self._by_bus.items()}
         self._programs: list[Program] = []
+        self._rest_buses: "list[RestBus]" = []
+        # The first interfaces of the buses of which all rules were ended.
+        self._rules_ended: set[str] = set()
         self._observer: Optional[Observer] = None
         self._ending = threading.Lock()
         self._result: Optional[Result] = None
@@ -187,6 +208,17 @@ class Server(Expectations, SimulatesNodes, RunsPrograms, ProgramRun, NamesWhatTh
         return bus
 
     @explained()
+    def node(self, name: str, *programs: Program) -> Node:
+        """Returns the node of this interface, which comes and goes, with the programs that are it, as :meth:`start` returns them:
+        ``server.node("ecu", server.start("./ecu can0"))``.
+
+        ``node.power_off()`` and ``power_on()`` kill the programs and start them anew, ``sleep()``, ``wake()`` and
+        ``with node.unplugged():`` let them go on.
+        """
+        self._first(str(name))
+        return Node(self, name, programs)
+
+    @explained()
     def inject(self, faults: Script, interface: Optional[str] = None) -> None:
         """Gives a bus these rules of faults while it runs, after those that it has, from the next attempt on.
 
@@ -202,13 +234,23 @@ class Server(Expectations, SimulatesNodes, RunsPrograms, ProgramRun, NamesWhatTh
 
     def rules_left(self, interface: Optional[str] = None) -> int:
         """Returns how many rules of faults a bus has that are not used up, those without end too."""
-        with self._rule_session(self._first(interface, "interface", "rules_left({})")) as session:
-            return session.rules_left()
+        first = self._first(interface, "interface", "rules_left({})")
+        with self._rule_session(first) as session:
+            left = session.rules_left()
+        return max(0, left - self._planted_left(first)) if left else 0
+
+    def _planted_left(self, first: str) -> int:
+        """How many of the rules that are left are a sweep's kind `busoff`: one of a sender that has not lost a frame by it."""
+        planted = [] if first in self._rules_ended else map(parse_rule, placement.rules_of((self._number, first)))
+        senders = [rule.senders[0] for rule in planted if rule.senders and rule.identifier is None]
+        return sum(not self._observing().session(sender).stats().lost for sender in senders)
 
     def end_rules(self, interface: Optional[str] = None) -> None:
         """Ends all rules of faults of a bus; lines of its script by the numbers of attempts stay."""
-        with self._rule_session(self._first(interface, "interface", "end_rules({})")) as session:
+        first = self._first(interface, "interface", "end_rules({})")
+        with self._rule_session(first) as session:
             session.end_rules()
+        self._rules_ended.add(first)
 
     def stop(self) -> Result:
         """Ends the server, after the programs that it started; logs and records are written. Again it returns the same.
@@ -419,5 +461,5 @@ class Server(Expectations, SimulatesNodes, RunsPrograms, ProgramRun, NamesWhatTh
             RUNNING.discard(self)
         for name, bus in self._by_bus.items():
             own = sum(one in self._observed for one in bus[:-1])
-            placement.keep((self._number, name), bus[:-1], own, self._out / f"{name}.rec")
+            placement.keep((self._number, name), bus[:-1], own, self._out / f"{name}.rec", self._rates)
         return self._child.returncode, written.decode()

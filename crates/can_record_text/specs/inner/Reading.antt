@@ -25,7 +25,7 @@ use Rattle.can_event.specs.declared.opt.Opt.{Opt}
 use Rattle.can_event.specs.declared.opt.Opt.TheVariants as opt
 use Rattle.can_event.specs.declared.event.Event.{Event}
 use Rattle.can_event.specs.declared.event.Event.TheVariants.{Open, Close, SetFilters, SetOption}
-use Rattle.can_event.specs.declared.event.Event.TheVariants.{Send, Receive, Attempt, Restart}
+use Rattle.can_event.specs.declared.event.Event.TheVariants.{Send, Receive, Attempt, Restart, Down}
 use Rattle.can_event.specs.declared.refusal.Refusal.{Refusal}
 use Rattle.can_event.specs.declared.refusal.Refusal.TheVariants as refusal
 use Rattle.can_event.specs.declared.reply.Reply.{Reply}
@@ -161,6 +161,7 @@ refusal_in w =
     else if bytes_eq w (codes "bus-off") then Some refusal.BusOff
     else if bytes_eq w (codes "no-buffers") then Some refusal.NoBuffers
     else if bytes_eq w (codes "not-bus-off") then Some refusal.NotBusOff
+    else if bytes_eq w (codes "interface-down") then Some refusal.Down
     else None
 
 -- the counts of a closed socket
@@ -281,6 +282,8 @@ setting_at w t =
     then (socket_at t >>= λ s. option_at s.1 >>= λ o. Some (SetOption s.0 o.0, o.1))
     else if bytes_eq w (codes "restart")
     then (number_at 16 t >>= λ i. moment_at i.1 >>= λ m. Some (Restart i.0 m.0, m.1))
+    else if bytes_eq w (codes "down")
+    then (number_at 16 t >>= λ i. moment_at i.1 >>= λ m. Some (Down i.0 m.0, m.1))
     else None
 
 -- of the other events, but for one that sets filters
@@ -328,6 +331,7 @@ auto_restart_at version.Two t = number_at (2 ^ 32) t
 auto_restart_at version.Three t = number_at (2 ^ 32) t
 auto_restart_at version.Four t = number_at (2 ^ 32) t
 auto_restart_at version.Five t = number_at (2 ^ 32) t
+auto_restart_at version.Six t = number_at (2 ^ 32) t
 
 -- the configuration of a bus
 unfoldable pub config_at : Version → List ℕ → Option BusConfig

@@ -1,5 +1,6 @@
 use Rattle.std.specs.Prelude.{◌≡◌, ◌<◌, ◌≤◌, ℕ, false, slice_set}
-use Rattle.can_confine.specs.Confinement.{at_start, state_of, is_off}
+use Rattle.can_confine.specs.Confinement.{at_start, state_of, stepped, is_silent}
+use Rattle.can_confine.specs.Confinement.Step.{TakenDown}
 use Rattle.can_attempt.specs.declared.ack_mode.AckMode.{AckMode}
 use Rattle.can_attempt.specs.declared.nodes.Nodes.{Nodes}
 use Rattle.can_attempt.specs.Attempts.{attempt_between, counts_at, judged}
@@ -7,7 +8,7 @@ use Rattle.can_fault.specs.declared.verdict.Verdict.{Verdict}
 use Rattle.can_bus.specs.Changes.{begun_anew}
 use Rattle.can_event.specs.declared.bus_config.BusConfig.{BusConfig}
 use Rattle.can_event.specs.declared.event.Event.{Event}
-use Rattle.can_event.specs.declared.event.Event.TheVariants.{Attempt, Restart}
+use Rattle.can_event.specs.declared.event.Event.TheVariants.{Attempt, Restart, Down}
 use Rattle.can_event.specs.declared.reply.Reply.{Reply}
 use Rattle.can_event.specs.declared.reply.Reply.TheVariants as reply
 use Rattle.can_event.specs.declared.attempt.Tried.{Tried}
@@ -15,13 +16,13 @@ use Rattle.can_event.specs.declared.attempt.Attempt.TheVariants as attempt
 
 -- What an entry does to the error counts of all interfaces (Bosch CAN Specification 2.0, fault confinement): an
 -- attempt of a live interface counts as its faults have it, a restart sets one interface's counts to 0, and an attempt
--- those of the interfaces that it restarts.
+-- those of the interfaces that it restarts. One that is taken down keeps its counts, and is down.
 
--- the interface is there, and not bus off
+-- the interface is there, and neither bus off nor down
 pub record IsLive (nodes : Nodes) (i : ℕ) : Type 0 where
   pub few : nodes.count ≤ 16
   pub there : i < nodes.count
-  pub live : is_off (state_of (counts_at nodes i)) ≡ false
+  pub live : is_silent (state_of (counts_at nodes i)) ≡ false
 
 -- the error counts after an attempt of this interface
 abbrev pub judged_nodes : Nodes → ℕ → Verdict → AckMode → Nodes
@@ -36,4 +37,6 @@ abbrev pub Counts : BusConfig → Event → Reply → Nodes → Nodes → Type 0
 Counts c (Attempt m v) (reply.Attempted (attempt.Tried t)) old new = CountsTried c t v old new
 Counts c (Attempt m v) (reply.Attempted (attempt.Idle restarted)) old new = new ≡ begun_anew restarted old
 Counts c (Restart i m) reply.Done old new = new ≡ record old { counters = slice_set old.counters i at_start }
+Counts c (Down i m) reply.Done old new =
+    new ≡ record old { counters = slice_set old.counters i (stepped (counts_at old i) TakenDown) }
 Counts c _ _ old new = new ≡ old

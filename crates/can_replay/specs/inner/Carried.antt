@@ -17,7 +17,7 @@ use Rattle.can_record_text.specs.Values.{HasLine}
 pub record IsNext (c : BusConfig) (past : List Entry) (line : List ℕ) (needs : Needs) (bus : Lean) : Type 0 where
   pub entry : Entry
   pub rest : List ℕ
-  pub good : HasLine version.Five c entry
+  pub good : HasLine version.Six c entry
   pub needed : needs ≡ needs_of entry
   pub is_line : line ≡ entry_line entry rest
   pub after : IsAfter bus (entry ∷ past)

@@ -46,6 +46,19 @@ class Watch:
         """Ends all rules of the bus."""
         self._session.end_rules()
 
+    def down(self) -> None:
+        """Takes the interface off the bus."""
+        self._session.down(self._moment())
+
+    def up(self) -> None:
+        """Brings the interface up."""
+        self._session.up(self._moment())
+
+    def _moment(self) -> Optional[float]:
+        """The moment up to which time has passed; on a bench with a bit rate it is set."""
+        bench = self._session._bench
+        return bench.now if bench._rates is None else None
+
     def hand_on(self, add: Callable[[str, str], None]) -> None:
         """Hands on what has come, as messages of the protocol."""
         for message in self._session.handed_over():

@@ -108,8 +108,22 @@ class Expectations(Supervision):
 
     @explained()
     def state(self, name: str) -> State:
-        """Returns the state of an interface while the server runs: `active`, `warning`, `passive` or `off`."""
+        """Returns the state of an interface while the server runs: `active`, `warning`, `passive`, `off` or `down`."""
         return self.error_counters(name).state
+
+    @explained()
+    def down(self, name: str) -> None:
+        """Takes an interface off the bus, as `ip link set can0 down` does; what waits in its transmit queue is lost.
+
+        It sends, accepts and acknowledges nothing until `up`, and a send is refused as `interface down`. Its sockets stay
+        open. One that is down stays so.
+        """
+        self._observing().session(name).down()
+
+    @explained()
+    def up(self, name: str) -> None:
+        """Brings an interface up, or back from bus off; both error counts are 0 then. One that is up stays so."""
+        self._observing().session(name).up()
 
     @explained()
     def bus_off(self, name: str, timeout: float = 5.0) -> ErrorCounters:
@@ -226,7 +240,8 @@ class Expectations(Supervision):
     def expect_state(self, name: str, state: State, *, within: float = 1.0) -> ErrorCounters:
         """Returns once an interface is in this state, or was since the last state of it that was expected, however shortly.
 
-        That is known by the error message frames that its interface received. AssertionError if it does not come into it
+        That is known by the error message frames that its interface received; of `down` there is none, so it has to be down
+        when it is looked at, from time to time. AssertionError if it does not come into it
         within these seconds; its text says in which states it was. Returns its error counts: as they are, where it still
         is in this state, else those when it came into it, of which the receive count at bus off is not known, and 0.
         """
@@ -235,7 +250,10 @@ class Expectations(Supervision):
             raise ValueError(f"state is one of {', '.join(STATES)}, not {state!r}")
         check_within(within)
         observer = self._observing()
-        found = observer.find_state(name, state, within)
+        if state == "down":
+            found = self._wait(lambda: observer.came_into(name, state), within)
+        else:
+            found = observer.find_state(name, state, within)
         now = self.error_counters(name)
         if found is None:
             was = observer.states_since(name)
@@ -260,7 +278,7 @@ class Drive:
         counters, stats = self._bus.error_counters(), self._bus.stats()
         if counters.state == "off":
             return counters
-        if stats.lost > self._stats.lost:
+        if stats.lost > self._stats.lost and counters.state != "down":
             # It went off since it was asked for its counts.
             return self._bus.error_counters()
         if self._injected is None or (left <= self._injected[0] and stats.done > self._injected[1]):
@@ -288,6 +306,8 @@ class Drive:
         return left == 1 and self._injected is not None and self._injected[0] == 0
 
     def _reason(self, counters: ErrorCounters, stats: Stats) -> str:
+        if counters.state == "down":
+            return f"it sends nothing while it is down; up({self._name!r}) brings it up"
         if counters.tec > self._counters.tec:
             return "fewer frames of it were tried than that takes"
         if stats.done > self._stats.done:

@@ -84,6 +84,12 @@ class Watching(Protocol):
     def end_rules(self) -> None:
         """Ends all rules of the bus."""
 
+    def down(self) -> None:
+        """Takes the interface off the bus."""
+
+    def up(self) -> None:
+        """Brings the interface up."""
+
     def hand_on(self, add: Callable[[str, str], None]) -> None:
         """Hands on what has come."""
 
@@ -299,7 +305,18 @@ class Observer:
             counters = state_in(seen.words)
             return name in seen.channels and counters is not None and counters.state == state
 
-        return self.wait(lambda: self.received.expected_state(name, state), may_be, within)
+        return self.wait(lambda: self.came_into(name, state, is_settled=True), may_be, within)
+
+    def came_into(self, name: str, state: str, is_settled: bool = False) -> Optional[StateSeen]:
+        """Returns when an interface came into a state, since the last that was expected; None where it did not."""
+        if not is_settled:
+            self.settle()
+        counters = self.session(name).error_counters()
+        with self._lock:
+            # No error message frame says that it went down.
+            if counters.state == "down":
+                self.received.note_down(name, counters)
+            return self.received.expected_state(name, state)
 
     def skip_to_state(self, name: str, state: str) -> Optional[StateSeen]:
         """Returns the last time that an interface came into this state, if it did since the one that was expected last; the

@@ -71,7 +71,7 @@ def without_copies(frames: Iterable[Seen]) -> Iterator[Seen]:
 class StateSeen(NamedTuple):
     """A state of an interface, and its error counts when it came into it."""
 
-    #: In microseconds; None of the state in which it was found first.
+    #: In microseconds; None of a state in which it was found.
     moment: Optional[int]
     counters: ErrorCounters
 
@@ -190,6 +190,11 @@ class Received:
     def begin(self, name: str, counters: ErrorCounters) -> None:
         """Notes in which state an interface is found first, if nothing came of it yet."""
         self.states.setdefault(name, []).insert(0, StateSeen(None, counters))
+
+    def note_down(self, name: str, counters: ErrorCounters) -> None:
+        """Notes that an interface is down, unless that was its last state."""
+        if self.states[name][-1].counters.state != counters.state:
+            self._note(name, StateSeen(None, counters))
 
     def _note(self, name: str, state: StateSeen) -> None:
         states = self.states.setdefault(name, [])

@@ -20,8 +20,10 @@ ERRORS = {
     errno.EILSEQ: "a consecutive frame has the wrong number",
     errno.EBADMSG: "a frame has a wrong length, or is a wrong flow control",
     errno.EMSGSIZE: "the other end has no room for as many bytes",
-    errno.ENETDOWN: "the interface is bus off",
+    errno.ENETDOWN: "the interface is bus off or down",
 }
+#: In words the states of an interface in which it takes no part.
+OUTAGES = {"off": "bus off", "down": "down"}
 
 
 class IsoTpError(RuntimeError):

@@ -11,7 +11,7 @@ from collections import deque
 from collections.abc import Callable, Iterator
 from typing import TYPE_CHECKING, Optional, Union
 
-from canbusd._isotp.end import ERRORS, LONGEST_TRANSFER, IsoTp, IsoTpError, check
+from canbusd._isotp.end import ERRORS, LONGEST_TRANSFER, OUTAGES, IsoTp, IsoTpError, check
 from canbusd._isotp.options import Options
 from canbusd._isotp.segments import (
     CONSECUTIVE,
@@ -31,6 +31,7 @@ from canbusd._isotp.segments import (
     segments_of,
     with_fault,
 )
+from canbusd._session.protocol import DOWN
 from canbusd._session.waits import seconds_until
 from canbusd.frames import Frame
 
@@ -188,7 +189,8 @@ class PythonIsoTp(IsoTp):
         """The error of a transfer that a fault of the bus is."""
         code = getattr(fault, "error_code", None)
         if code == errno.ENETDOWN:
-            return IsoTpError(f"{self._channel} is bus off", code)
+            is_down = str(fault).startswith(DOWN)
+            return IsoTpError(f"{self._channel} is {'down' if is_down else 'bus off'}", code)
         return IsoTpError(f"this end was closed: {fault}" if code is None else f"{fault}", code)
 
     def _await_carried(self, number: int, deadline: float) -> None:
@@ -198,13 +200,14 @@ class PythonIsoTp(IsoTp):
             self._news.wait_for(lambda: self._carried >= number or self._end, seconds_until(is_over))
             if self._carried >= number:
                 return
-            # A frame that was lost at bus off does not come any more.
+            # A frame that was lost, at bus off or when the interface went down, does not come any more.
             self._carried = self._given
             end = self._end
         if end is not None:
             raise self._error(end)
-        if self._bus.error_counters().state == "off":
-            raise IsoTpError(f"{self._channel} is bus off", errno.ENETDOWN)
+        outage = OUTAGES.get(self._bus.error_counters().state)
+        if outage:
+            raise IsoTpError(f"{self._channel} is {outage}", errno.ENETDOWN)
         raise IsoTpError(ERRORS[errno.ECOMM], errno.ECOMM)
 
     def _await_control(self, deadline: float) -> tuple[int, float]:

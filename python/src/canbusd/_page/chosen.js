@@ -51,7 +51,7 @@ function countersAround(step) {
   const part = i => [isAttempt(step) && steps.iface[step] === i && "sent", steps.hit[step] >> i & 1 && "local fault",
     steps.accepted[step] >> i & 1 && "accepted"].filter(Boolean).join(", ");
   const state = i => {
-    const now = severity(Math.max(tec[i].all[step], rec[i].all[step]));
+    const now = steps.down[step] >> i & 1 ? IS_DOWN : severity(Math.max(tec[i].all[step], rec[i].all[step]));
     return element("td", stateWords(STATES[now]), { className: now ? "bad" : "" });
   };
   const rows = names.map((name, i) =>

@@ -1,12 +1,14 @@
 "use strict";
 // What both pages share: elements, words, colours, columns of numbers and places along the time line.
 
-const KINDS = ["done", "lastbit", "destroyed", "noack", "restart", "idle"];
-const KIND_WORDS = ["done", "last bit", "destroyed", "no acknowledgement", "restart", "idle"];
-const RESTART = 4, IDLE = 5;
-const STATES = ["active", "warning", "passive", "off"];
+const KINDS = ["done", "lastbit", "destroyed", "noack", "restart", "down", "idle"];
+const KIND_WORDS = ["done", "last bit", "destroyed", "no acknowledgement", "restart", "down", "idle"];
+// Those before RESTART are attempts.
+const RESTART = 4, DOWN = 5, IDLE = 6;
+const STATES = ["active", "warning", "passive", "off", "down"];
+const IS_OFF = 3, IS_DOWN = 4;
 // Spelled as in CAN documents; not parted at the end of a line.
-const stateWords = state => state === "off" ? "bus\u00a0off" : `error\u00a0${state}`;
+const stateWords = state => ({ off: "bus\u00a0off", down: "down" })[state] || `error\u00a0${state}`;
 const LIMITS = [[96, "warning"], [128, "passive"], [256, "bus off"]];
 const WARNING = 96, PASSIVE = 128, OFF = 256;
 
@@ -78,7 +80,10 @@ const HATCH = {
   destroyed: by => [by, 6, by + 6, 0],
   noack: by => [0, by + 3, 6, by + 3],
   off: by => [by, 0, by + 6, 6],
+  down: by => [0, by + 3, 6, by + 3],
 };
+// Hatching over the page, as of a node that takes no part.
+const isHollow = name => name === "off" || name === "down";
 const COLOURS = ["text", "soft", "line", "on", "stripe", "tec", "rec", "queue", "accepted", "hit", "off", "warning",
   "passive", "page", "panel", ...KINDS];
 let theme = {};
@@ -89,9 +94,9 @@ function readTheme() {
 function hatched(pen, name) {
   const tile = document.createElement("canvas"), brush = tile.getContext("2d");
   tile.width = tile.height = 6;
-  brush.fillStyle = name === "off" ? theme.page : theme[name];
+  brush.fillStyle = isHollow(name) ? theme.page : theme[name];
   brush.fillRect(0, 0, 6, 6);
-  brush.strokeStyle = name === "off" ? theme.off : theme.stripe;
+  brush.strokeStyle = isHollow(name) ? theme[name] : theme.stripe;
   brush.lineWidth = 1.4;
   brush.beginPath();
   for (const by of [-6, 0, 6]) {

@@ -122,10 +122,11 @@ function waitingArea(plot, queue, left, top, height, most) {
 }
 // Error active is a line, every other state a bar with its name, warning a frame, or low where it is short; of the states in
 // a pixel the worst is shown.
-function band(plot, tec, rec, top, fills) {
+function band(plot, tec, rec, top, fills, down) {
   const { pen } = plot, worst = new Uint8Array(plot.width);
   pixels(plot, tec, (x, _, high) => { worst[x] = severity(high); });
   pixels(plot, rec, (x, _, high) => { worst[x] = Math.max(worst[x], severity(high)); });
+  if (down) pixels(plot, down, (x, _, high) => { if (high) worst[x] = IS_DOWN; });
   block(pen, theme.line, 0, top + BAND - 3, plot.width, 2);
   for (let x = 0; x < plot.width;) {
     let end = x + 1;
@@ -135,15 +136,15 @@ function band(plot, tec, rec, top, fills) {
   }
 }
 function stateBar(pen, state, x, top, wide, fills) {
-  const text = ["", "warning", "passive", "bus off"][state];
+  const text = ["", "warning", "passive", "bus off", "down"][state];
   const isFrame = state === 1 && wide > 5;
   if (state === 1 && !isFrame) block(pen, theme.warning, x, top + BAND / 2, wide, BAND / 2 - 1);
-  else block(pen, state === 3 ? fills.off : theme[text], x, top, wide, BAND - 1);
+  else block(pen, state >= IS_OFF ? fills[STATES[state]] : theme[text], x, top, wide, BAND - 1);
   if (isFrame) block(pen, theme.page, x + 1.5, top + 1.5, wide - 3, BAND - 4);
   pen.font = "11px system-ui, 'DejaVu Sans', sans-serif";
   const room = pen.measureText(text).width + 6;
   if (room <= wide) {
-    if (state === 3) block(pen, theme.page, x + 1, top + 1, room, BAND - 3);
+    if (state >= IS_OFF) block(pen, theme.page, x + 1, top + 1, room, BAND - 3);
     write(pen, text, x + 4, top + BAND / 2, state === 2 ? theme.on : theme.text);
   }
   pen.font = "12px system-ui, 'DejaVu Sans', sans-serif";
@@ -162,7 +163,7 @@ function plate(pen, texts, x, wide, y, back, tint) {
 class NodeLane {
   constructor(number, name, columns, strip) {
     Object.assign(this, { number, name, strip, ...columns });
-    this.isFolded = this.isQuiet = !this.tec.most && !this.rec.most && this.queue.most < 2;
+    this.isFolded = this.isQuiet = !this.tec.most && !this.rec.most && this.queue.most < 2 && !this.down?.most;
     this.canFold = true;
   }
   get height() { return STRIP + BAND + (this.isFolded ? 0 : CURVES) + SPACE; }
@@ -170,7 +171,7 @@ class NodeLane {
     this.strip(plot, this.number, top, fills);
     // Counts and states are those after a step.
     const after = plot.ends ? { ...plot, edges: plot.ends } : plot;
-    band(after, this.tec, this.rec, top + STRIP + 2, fills);
+    band(after, this.tec, this.rec, top + STRIP + 2, fills, this.down);
     if (!this.isFolded) this.curves(plot, after, top + STRIP + BAND + 4, CURVES - 2);
     across(plot, top + this.height - 4, theme.line);
   }

@@ -4,9 +4,13 @@ All local users and all web sites that are open in a browser can connect to 127.
 begin with a token that only the URL of the page has, and the request has to name this machine as its host: a site whose name
 leads here is another one. Where the server is at a Unix path, which file permissions protect, the browser has to be of the user
 who runs the command.
+
+What the page does, such as sending a frame, it asks for by POST, with the token in a header too, which no other site can have a
+browser send, and as its own origin. Nothing is done by GET.
 """
 
 import base64
+import contextlib
 import errno
 import hashlib
 import itertools
@@ -26,7 +30,8 @@ from http import HTTPStatus
 from http.server import BaseHTTPRequestHandler, ThreadingHTTPServer
 from typing import Any, BinaryIO, Optional
 
-from canbusd._page.report import filled
+from canbusd._page.acts import Acts
+from canbusd._page.report import filled, part
 
 SCRIPTS = (
     "core.js",
@@ -36,15 +41,20 @@ SCRIPTS = (
     "signals.js",
     "watch_signals.js",
     "watch_loads.js",
-    "watch.js",
 )
+# What a page has beside these, unless it only reads: its controls, and their script and style.
+ACTS, ACT_SCRIPTS, ACT_STYLES = "watch_acts.html", ("watch_acts.js",), ("watch_acts.css",)
 # How much a page gets that is opened later: ticks, and frames.
 MOST_TICKS, MOST_FRAMES = 2400, 4000
 # Seconds in which pages are sent that the server has ended, after which a silent connection is closed, and between two looks
 # for a file descriptor where there are no more.
 CLOSE_TIMEOUT, REQUEST_TIMEOUT, PAUSE = 2.0, 10.0, 0.2
-# How many connections may have asked nothing yet, and how many bytes a request may have.
-MOST_WAITING, MOST_BYTES = 64, 65536
+# Seconds after which a page is told so where there is no news: by that a page that is closed is known.
+BEAT = 1.0
+# How many connections may have asked nothing yet, how many bytes a request may have, and of these what an act is asked for by.
+MOST_WAITING, MOST_BYTES, MOST_BODY = 64, 65536, 16384
+# The header with the token.
+TOKEN = "X-Canbusd-Token"
 # The headers of each answer, by which nothing is kept, taken for something else, shown to other sites, or sent to them.
 HEADERS = {
     "Cache-Control": "no-store",
@@ -94,18 +104,20 @@ class Board:
             self._changed.wait_for(lambda: not self._readers, CLOSE_TIMEOUT)
 
     def news(self) -> Iterator[Json]:
-        """Yields what a page gets: first all that is kept, then each tick, at the end why there are no more."""
+        """Yields what a page gets: first all that is kept, then each tick, or nothing new; at the end why there are no more."""
         with self._changed:
             self._readers += 1
         try:
             seen = -1
             while True:
                 with self._changed:
-                    self._changed.wait_for(lambda: self._last[0] != seen or self._end is not None)
+                    has_news = self._changed.wait_for(lambda: self._last[0] != seen or self._end is not None, BEAT)
                     if self._end is not None:
                         break
                     number, news = self._last
-                    if seen < 0 or number != seen + 1:
+                    if not has_news:
+                        news = {"ticks": [], "frames": []}
+                    elif seen < 0 or number != seen + 1:
                         # A page that is new, or reads slowly, begins with all that is kept.
                         rows = sorted(itertools.chain(*self._kept), key=operator.itemgetter(0))
                         news = {"start": True, "ticks": list(self._ticks), "frames": rows}
@@ -125,14 +137,16 @@ class Pages(ThreadingHTTPServer):
     daemon_threads = True
     request_queue_size = 128
 
-    def __init__(self, port: int, board: Board, known: Json, is_own: bool) -> None:
-        """`is_own` says that the page is only for the user who serves it."""
+    def __init__(self, port: int, board: Board, known: Json, is_own: bool, acts: Optional[Acts]) -> None:
+        """`is_own` says that the page is only for the user who serves it; without `acts` it only reads."""
         self._waiting: dict[socket.socket, None] = {}
         self._lock = threading.Lock()
         super().__init__(("127.0.0.1", port), Request)
-        self.board, self._is_own = board, is_own
+        self.board, self.acts, self._is_own = board, acts, is_own
         self._token = secrets.token_urlsafe()
-        text = filled("watch.html", SCRIPTS)
+        scripts, styles = (ACT_SCRIPTS, ACT_STYLES) if acts else ((), ())
+        text = filled("watch.html", (*SCRIPTS, *scripts, "watch.js"), ("page.css", *styles))
+        text = text.replace("/*ACTS*/", part(ACTS) if acts else "")
         self.policy = policy_of(text)
         self.page = text.replace("/*RUN*/", json.dumps(known).replace("<", "\\u003c")).encode()
 
@@ -147,6 +161,11 @@ class Pages(ThreadingHTTPServer):
         is_here = hosts in ([f"127.0.0.1:{port}"], [f"localhost:{port}"])
         has_token = secrets.compare_digest(token.encode(), self._token.encode())
         return is_here and has_token and not (self._is_own and user_of(client, ("127.0.0.1", port)) != os.geteuid())
+
+    def trusts(self, host: str, origins: list[str], tokens: list[str]) -> bool:
+        """Whether an act is asked for by the page at this host: by its origin, and the token in a header."""
+        has_token = len(tokens) == 1 and secrets.compare_digest(tokens[0].encode(), self._token.encode())
+        return has_token and origins == [f"http://{host}"]
 
     def get_request(self) -> tuple[Any, Any]:
         """Takes a connection. Where there is no file descriptor for it, it waits for one, and burns no processor."""
@@ -190,10 +209,10 @@ def shut_down(connection: socket.socket) -> None:
         pass
 
 
-def opened(port: int, board: Board, known: Json, is_own: bool) -> Pages:
+def opened(port: int, board: Board, known: Json, is_own: bool, acts: Optional[Acts] = None) -> Pages:
     """Returns the pages on this port; the fault of a port that can't be had names it."""
     try:
-        return Pages(port, board, known, is_own)
+        return Pages(port, board, known, is_own, acts)
     except OSError as fault:
         hint = "; --port 0 takes a free one" if fault.errno == errno.EADDRINUSE else ""
         raise OSError(fault.errno, f"{fault.strerror}{hint}", f"127.0.0.1:{port}") from None
@@ -226,8 +245,8 @@ def words_of(host: str) -> str:
     return "".join(f"{word:08X}" for word in struct.unpack(f"={len(packed) // 4}I", packed))
 
 
-class Head:
-    """The lines of a request, as if it ended after its most bytes."""
+class Bounded:
+    """A request, as if it ended after its most bytes."""
 
     def __init__(self, file: BinaryIO) -> None:
         self._file, self._left = file, MOST_BYTES
@@ -238,6 +257,12 @@ class Head:
         line = self._file.readline(min(most, self._left))
         self._left -= len(line)
         return line
+
+    def read(self, size: int) -> bytes:
+        """Reads these bytes, or those that are left."""
+        found = self._file.read(min(size, self._left))
+        self._left -= len(found)
+        return found
 
 
 class Request(BaseHTTPRequestHandler):
@@ -251,7 +276,7 @@ class Request(BaseHTTPRequestHandler):
     def setup(self) -> None:
         """Begins to read."""
         super().setup()
-        self.rfile = Head(self.rfile)
+        self.rfile = Bounded(self.rfile)
 
     def parse_request(self) -> bool:
         """Reads a request, and refuses one that is not admitted, whatever it asks for."""
@@ -276,6 +301,37 @@ class Request(BaseHTTPRequestHandler):
         else:
             self.send_error(HTTPStatus.NOT_FOUND)
 
+    def do_POST(self) -> None:
+        """Does what the page asks for. Where nothing can be asked for, there is no such method."""
+        acts = self.server.acts
+        if acts is None or self.path not in acts.by_name:
+            self.send_error(HTTPStatus.NOT_IMPLEMENTED, f"Unsupported method ({self.command!r})")
+            return
+        host, *_ = self.headers.get_all("Host", [])
+        if not self.server.trusts(host, self.headers.get_all("Origin", []), self.headers.get_all(TOKEN, [])):
+            self.send_error(HTTPStatus.FORBIDDEN, explain=REFUSAL)
+            return
+        size = self.headers.get("Content-Length", "")
+        if not re.fullmatch("[0-9]{1,9}", size):
+            self.send_error(HTTPStatus.LENGTH_REQUIRED)
+        elif int(size) > MOST_BODY:
+            self.send_error(HTTPStatus.REQUEST_ENTITY_TOO_LARGE)
+        else:
+            self.act(acts, self.rfile.read(int(size)))
+
+    def act(self, acts: Acts, text: bytes) -> None:
+        """Does what this text asks for, an object of JSON, and sends what became of it."""
+        try:
+            asked = json.loads(text)
+        except (ValueError, RecursionError):
+            asked = None
+        if not isinstance(asked, dict):
+            self.send_error(HTTPStatus.BAD_REQUEST)
+            return
+        answer = json.dumps(acts.do(self.path, asked)).encode()
+        self.start("application/json")
+        self.wfile.write(answer)
+
     def start(self, kind: str) -> None:
         """Sends the header of an answer."""
         self.send_response(HTTPStatus.OK)
@@ -290,8 +346,11 @@ class Request(BaseHTTPRequestHandler):
 
     def send_news(self) -> None:
         """Sends the news until there are no more, or the browser goes away."""
-        for news in self.server.board.news():
-            self.wfile.write(b"data: " + json.dumps(news, separators=(",", ":")).encode() + b"\n\n")
+        acts = self.server.acts
+        with acts.page() if acts else contextlib.nullcontext(Json) as of_page:
+            for news in self.server.board.news():
+                text = json.dumps({**news, **of_page()}, separators=(",", ":"))
+                self.wfile.write(f"data: {text}\n\n".encode())
 
     def version_string(self) -> str:
         """Returns the name of the program that serves the page."""

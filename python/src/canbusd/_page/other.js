@@ -59,12 +59,12 @@ class OtherLane {
   }
   outages(plot, top, fills) {
     block(plot.pen, theme.line, 0, top + BAND - 3, plot.width, 2);
-    for (const [iface, first, begin, last, end] of run.other.away) {
+    for (const [iface, state, first, begin, last, end] of run.other.away) {
       if (iface !== this.number) continue;
       const border = number => number < other.count ? other.spans[0][0][number] : axis.length;
       const [from, to] = (byTime.isOn ? [begin, end] : [border(first), border(last)]).map(place => placeOf(plot, place));
       const left = Math.max(from, 0), wide = Math.min(to, plot.width) - left;
-      if (to >= 0 && from < plot.width) stateBar(plot.pen, 3, left, top, Math.max(wide, 2), fills);
+      if (to >= 0 && from < plot.width) stateBar(plot.pen, state, left, top, Math.max(wide, 2), fills);
     }
   }
   values() { return []; }

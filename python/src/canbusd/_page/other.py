@@ -6,7 +6,8 @@ from typing import Any, Optional
 from canbusd._process.rates import Rates
 from canbusd._run.comparison import Comparison, outcome_of, places
 from canbusd._run.slots import slots_of
-from canbusd._run.steps import KINDS, RESTART, numbers_in
+from canbusd._run.steps import DOWN, KINDS, RESTART, numbers_in
+from canbusd._session.protocol import STATES
 from canbusd.record import timed
 from canbusd.replay import Replay
 
@@ -46,21 +47,24 @@ def spans_of(run: Replay, rates: Optional[Rates]) -> list[tuple[int, int]]:
     if rates is not None:
         return [(slot.begin, slot.over) for slot in slots_of(timed(run, rates))]
     steps = run.steps
-    return [(1000 * moment, 1000 * moment) for moment, kind in zip(steps.moments, steps.kinds) if kind != RESTART]
+    return [(1000 * moment, 1000 * moment) for moment, kind in zip(steps.moments, steps.kinds) if kind < RESTART]
 
 
 def away_of(run: Replay, spans: list[tuple[int, int]], start: int) -> list[list[float]]:
-    """Returns the outages: the interface, the attempts and the seconds between which it was bus off."""
+    """Returns the outages: the interface, its state, and the attempts and the seconds between which it was bus off or down."""
     steps, attempt = run.steps, 0
     found: list[list[float]] = []
-    since: dict[int, tuple[int, float]] = {}
+    since: dict[int, tuple[int, int, float]] = {}
     for kind, iface, off, moment in zip(steps.kinds, steps.ifaces, steps.off, steps.moments):
-        if kind == RESTART:
+        seconds = (1000 * moment - start) / 1e9
+        if kind >= RESTART:
             if iface in since:
-                found.append([iface, *since.pop(iface), attempt, (1000 * moment - start) / 1e9])
+                found.append([iface, *since.pop(iface), attempt, seconds])
+            if kind == DOWN:
+                since[iface] = STATES.index("down"), attempt, seconds
             continue
         for one in numbers_in(off):
-            since[one] = attempt + 1, (spans[attempt][1] - start) / 1e9
+            since[one] = STATES.index("off"), attempt + 1, (spans[attempt][1] - start) / 1e9
         attempt += 1
     last = (spans[-1][1] - start) / 1e9 if spans else 0.0
     return found + [[iface, *began, attempt, last] for iface, began in since.items()]

@@ -92,7 +92,7 @@ const LEGEND = [["done", "done", "the frame was sent, and accepted by all that s
   ["restart", "restart", "a node came back from bus off"], ["accepted", "accepted", "this node accepted the frame"],
   ["hit", "local fault", "only this node and others with this mark saw a fault"],
   ["warning", "error warning", "a count of 96 or more"], ["passive", "error passive", "a count of 128 or more"],
-  ["off", "bus off", "a transmit count of 256 or more"]];
+  ["off", "bus off", "a transmit count of 256 or more"], ["down", "down", "a node was taken off the bus"]];
 function showWords() {
   document.title = `${run.heading} (${run.title})`;
   at("title").textContent = run.heading;

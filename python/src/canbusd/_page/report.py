@@ -138,8 +138,12 @@ class Timeline:
         return found
 
     def counts(self, place: int) -> "array[int]":
-        """A column of the counts after each row; after idle attempts they are as before."""
-        found = self.shown(self.steps.counts[place :: 2 * self.ifaces])
+        """A column of the counts after each row."""
+        return self.lasting(self.steps.counts[place :: 2 * self.ifaces])
+
+    def lasting(self, column: "array[int]") -> "array[int]":
+        """Returns a column of the steps by rows, where idle attempts leave it as it was."""
+        found = self.shown(column)
         for row, _ in self.idle:
             found[row] = found[row - 1] if row else 0
         return found
@@ -152,7 +156,7 @@ class Timeline:
         texts: Places[str] = Places()
         ruled = array("I")
         for kind, attempt, verdict in zip(steps.kinds, steps.attempts, steps.verdicts):
-            rule = rules[attempt] if kind != RESTART and attempt < len(rules) else ""
+            rule = rules[attempt] if kind < RESTART and attempt < len(rules) else ""
             text = steps.verdict_texts.all[verdict]
             ruled.append(texts[f"{text}\n{rule}" if rule else text])
         return self.rows(ruled), texts.all
@@ -170,6 +174,7 @@ class Timeline:
             "accepted": block.column("H", self.rows(steps.accepted)),
             "hit": block.column("H", self.rows(steps.hit)),
             "off": block.column("H", self.rows(steps.off)),
+            "down": block.column("H", self.lasting(self.steps.down)),
             "seconds": block.column("d", map(operator.floordiv, moments, itertools.repeat(1000000))),
             "micros": block.column("I", map(operator.mod, moments, itertools.repeat(1000000))),
         }
@@ -202,7 +207,7 @@ def items_of(items: Items, most: int, timeline: Timeline, block: Block) -> Json:
 
 
 def ifaces_of(run: Replay) -> list[Json]:
-    """The interfaces at the end of the run, with the sends that were refused: since the queue was full, or it off."""
+    """The interfaces at the end of the run, with the sends that were refused: since the queue was full, or it off or down."""
     return [
         {
             "sent": one.sent,
@@ -211,6 +216,7 @@ def ifaces_of(run: Replay) -> list[Json]:
             "lost": one.lost,
             "full": one.refused,
             "off": len(run.refused.get((number, "bus-off"), [])),
+            "down": len(run.refused.get((number, "interface-down"), [])),
             "tec": one.tec,
             "rec": one.rec,
             "state": STATES[one.state()],
@@ -259,7 +265,7 @@ def event_of(event: Event, places: Sequence[int]) -> Column:
 
 
 def lost_frames(run: Replay, places: Sequence[int]) -> Json:
-    """The number and text of each frame that bus off took out of a transmit queue, by the place of the step."""
+    """The number and text of each frame that was taken out of a transmit queue, at bus off or down, by the place of the step."""
     return {str(places[step]): [[number, run.texts[text]] for number, text in lost] for step, lost in run.lost.items()}
 
 

@@ -1,15 +1,15 @@
 // The page of a run: what the replay found, in columns. Only the showing is done here.
 
 // The kinds of events, the worst first.
-const EVENTS = ["bus off", "lost", "dropped", "refused", "passive", "warning", "active", "restart", "second copy"];
+const EVENTS = ["bus off", "down", "lost", "dropped", "refused", "passive", "warning", "active", "restart", "second copy"];
 const FATES = ["taken", "waiting", "unread", "dropped"];
 const FATE_WORDS = ["taken by the client", "waiting at the end", "unread at the close", "dropped: no room"];
 const DROPPED = 3;
 const ARRAYS = { B: Uint8Array, H: Uint16Array, I: Uint32Array, d: Float64Array };
-const STEP_WIDTH = { 4: 0.8, 5: 0.5 };
+const STEP_WIDTH = { [RESTART]: 0.8, [DOWN]: 0.8, [IDLE]: 0.5 };
 // Which axis is shown: by attempts, or by time. Where attempts have no length on it they are instants there.
 const byTime = { isOn: false, lengthOf: null, ends: null };
-let run, steps, items, names, tec, rec, queues, attemptOf, moments, axes, tallies, failures, firstMoment = 0;
+let run, steps, items, names, tec, rec, queues, downs, attemptOf, moments, axes, tallies, failures, firstMoment = 0;
 let chips, showTab, tab = "tab-events";
 const lists = {};
 
@@ -56,6 +56,8 @@ function take({ header, column }) {
   steps = columnsOf(run.steps, column);
   items = columnsOf(run.items, column);
   [tec, rec, queues] = [run.tec, run.rec, run.waiting].map(columns => columns.map(one => new Numbers(column(one))));
+  // Of each node where it is down; nothing where none ever is.
+  downs = steps.down.some(set => set) ? names.map((_, i) => new Numbers(steps.down.map(set => set >> i & 1))) : [];
   placeSteps();
   sumUp();
   happened("taken", column);
@@ -126,7 +128,7 @@ const isFault = step => steps.kind[step] > 0 && steps.kind[step] < RESTART || st
 const faultOf = step => run.verdicts[steps.verdict[step]];
 
 function titleOf(step) {
-  if (steps.kind[step] === RESTART) return "restart";
+  if (steps.kind[step] === RESTART || steps.kind[step] === DOWN) return KINDS[steps.kind[step]];
   if (steps.kind[step] === IDLE) return `${grouped(steps.number[step])} idle`;
   return `attempt ${grouped(attemptOf[step])}`;
 }
@@ -134,6 +136,7 @@ const placeWords = step => titleOf(step) + (momentOf(step) && ` at ${momentOf(st
 function sentence(step) {
   const who = names[steps.iface[step]], kind = steps.kind[step];
   if (kind === RESTART) return `${who} is restarted: it is back on the bus, with both counts 0.`;
+  if (kind === DOWN) return `${who} goes down: it takes no part until it is up, and its transmit queue is empty.`;
   if (kind === IDLE) return `No node on the bus had a frame to send.${awayWords(step)}`;
   const off = steps.off[step] ? ` ${who} goes bus off.` : "";
   return `${who} wins with its frame ${steps.number[step]}, ${textOf(step)}. `
@@ -141,8 +144,8 @@ function sentence(step) {
     + `Accepted by ${listed(steps.accepted[step])}.${off}`;
 }
 function awayWords(step) {
-  const away = names.filter((_, i) => tec[i].all[step] >= OFF);
-  return away.length ? ` Bus off: ${away.join(", ")}.` : "";
+  const down = members(steps.down[step]), away = names.filter((name, i) => tec[i].all[step] >= OFF && !down.includes(name));
+  return (away.length ? ` Bus off: ${away.join(", ")}.` : "") + (down.length ? ` Down: ${down.join(", ")}.` : "");
 }
 function tipWords(first, last) {
   const lines = tipLines(first, last);

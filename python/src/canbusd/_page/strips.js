@@ -44,6 +44,7 @@ function stack(plot, i, sums, top, x, wide, fills, whole) {
     block(plot.pen, fills[KINDS[kind]], x, y -= high, wide, high);
   }
   if (won(sums, i, RESTART)) block(plot.pen, theme.restart, x, top, wide, 4);
+  if (won(sums, i, DOWN)) block(plot.pen, theme.down, x, top, wide, 4);
 }
 // How much room there is for words after an instant.
 function labelRoom(plot, step, x) {
@@ -62,7 +63,7 @@ function bar(plot, i, step, top, left, wide, fills, room = 0) {
   if (steps.hit[step] >> i & 1) block(pen, theme.hit, left, top, wide, 4);
   if (steps.iface[step] !== i) return;
   block(pen, fills[KINDS[kind]], left, top + 2, wide, high);
-  const words = kind === RESTART ? ["restart"] : [textOf(step), textOf(step).split("#")[0]];
+  const words = isAttempt(step) ? [textOf(step), textOf(step).split("#")[0]] : [KINDS[kind]];
   if (!room) plate(pen, words, left, wide, top + 2 + high / 2, theme[KINDS[kind]], theme.on);
   else {
     const text = words.find(one => pen.measureText(one).width < room);
@@ -92,7 +93,7 @@ function secondTicks(most) {
   }));
 }
 
-// The whole run in a strip: what share failed, and where a node was bus off.
+// The whole run in a strip: what share failed, and where a node was bus off or down.
 
 function drawOverview() {
   const canvas = at("overview"), width = canvas.parentElement.clientWidth, key = [width, byTime.isOn].join();
@@ -102,6 +103,7 @@ function drawOverview() {
   const fills = fillsOf(pen), plot = { pen, width, edges };
   block(pen, theme.panel, 0, 0, width, 24);
   tec.forEach(numbers => pixels(plot, numbers, (x, _, high) => { if (high >= OFF) block(pen, fills.off, x, 0, 2, 24); }));
+  downs.forEach(numbers => pixels(plot, numbers, (x, _, high) => { if (high) block(pen, fills.down, x, 0, 2, 24); }));
   for (let x = 0; x < width; x++) {
     const count = edges[x + 1] - edges[x];
     shares[x] = count ? failures.of(edges[x], edges[x + 1])[1] / count : 0;
@@ -114,14 +116,14 @@ function drawOverview() {
 
 function makeLanes() {
   const queueMost = Math.max(...queues.map(one => one.most));
-  lanes = names.map((name, i) => new NodeLane(i, name, { tec: tec[i], rec: rec[i], queue: queues[i], leftOf, queueMost }, strip));
+  lanes = names.map((name, i) => new NodeLane(i, name, { tec: tec[i], rec: rec[i], queue: queues[i], down: downs[i], leftOf, queueMost }, strip));
   const worst = run.sockets[run.socket];
   if (worst && worst.dropped) lanes.push(socketLane(worst));
   happened("lanes made");
 }
 // How many frames of a node wait after each step.
 function leftOf(i) {
-  return new Numbers(queues[i].all.map((waiting, step) => steps.off[step] >> i & 1 ? 0
+  return new Numbers(queues[i].all.map((waiting, step) => (steps.off[step] | steps.down[step]) >> i & 1 ? 0
     : waiting - (steps.kind[step] === 0 && steps.iface[step] === i)));
 }
 // How full the receive queue of a socket was after each step, and in which steps it lost items.

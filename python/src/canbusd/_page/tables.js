@@ -1,6 +1,6 @@
 // Lists.
 
-const attemptCell = step => isAttempt(step) ? grouped(attemptOf[step]) : steps.kind[step] === IDLE ? "idle" : "restart";
+const attemptCell = step => isAttempt(step) ? grouped(attemptOf[step]) : KINDS[steps.kind[step]];
 function makeLists() {
   const moment = ["moment", `${Math.max(8, axis.count ? momentOf(axis.count - 1).length : 0)}ch`, "n"];
   // A bench's moments begin with the run; of those of the clock long lists have the time since the start instead.
@@ -45,7 +45,7 @@ const kindCell = kind => isWorst(kind) ? badText(kind) : kind;
 function attemptCells(step, time) {
   const kind = steps.kind[step];
   if (kind === IDLE) return ["idle", ...time, "", "", times(steps.number[step], "idle attempt"), "", "", ""];
-  if (kind === RESTART) return ["restart", ...time, names[steps.iface[step]], "", "", outcome(kind), "", ""];
+  if (kind >= RESTART) return [KINDS[kind], ...time, names[steps.iface[step]], "", "", outcome(kind), "", ""];
   const fault = faultOf(step).replace(/, by .*/, "").replace(/^none$/, "");
   return [grouped(attemptOf[step]), ...time, names[steps.iface[step]], grouped(steps.number[step]),
     [textOf(step), messageOf(steps.frame[step])], outcome(kind), fault,
@@ -158,10 +158,10 @@ function follow() {
 }
 function showIfaces() {
   const heads = ["node", "state", "transmit count", "receive count", "sent", "done", "waiting", "lost",
-    "refused: queue full", "refused: bus off"];
+    "refused: queue full", "refused: bus off", "refused: down"];
   // Long names leave less room for the other columns.
   at("ifaces").classList.toggle("long", names.some(name => name.length > 8));
   at("ifaces").replaceChildren(...rowsOf(heads, run.ifaces.map((one, i) => [names[i],
     element("td", stateWords(one.state), { className: one.state === "active" ? "" : "bad" }),
-    one.tec, one.rec, one.sent, one.done, one.waiting, loss(one.lost), loss(one.full), loss(one.off)])));
+    one.tec, one.rec, one.sent, one.done, one.waiting, loss(one.lost), loss(one.full), loss(one.off), loss(one.down)])));
 }

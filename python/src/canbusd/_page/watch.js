@@ -1,6 +1,6 @@
 // The live page: ticks and frames as they come from `canbusd watch`, on the time line of the page of a run.
 
-const { names, source, isDecoded, isTimed } = JSON.parse(at("run").textContent);
+const { names, source, isDecoded, isTimed, messages = [] } = JSON.parse(at("run").textContent);
 const MOST = 4000, MOST_TICKS = 2400, FOLLOWED = 60;
 // The kinds of events, the worst first.
 const EVENTS = ["bus off", "error passive", "error warning", "error active", "restarted", "no acknowledgement",
@@ -58,6 +58,7 @@ function takeFrame(moment, text, seen, says, sender, busy, decoded) {
   const key = `${moment} ${text}`, known = isError(text) ? undefined : byKey.get(key);
   if (known && !(known.seen & seen)) {
     known.seen |= seen;
+    if (sender >= 0) known.sender = byIdentifier.get(text.split("#")[0]).sender = sender;
     joinBuses(known.seen);
     return;
   }
@@ -102,7 +103,8 @@ function measure() {
   view.step = chosenAt === null ? Math.max(0, ticks.length - 1) : tickAt(chosenAt);
   const column = place => names.map((_, i) => new Numbers(Uint16Array.from(ticks, tick => tick.ifaces[i][place])));
   const [tec, rec, queue] = [1, 2, QUEUE].map(column), queueMost = Math.max(...queue.map(one => one.most));
-  nodeLanes.forEach((lane, i) => Object.assign(lane, { tec: tec[i], rec: rec[i], queue: queue[i], queueMost }));
+  const down = names.map((_, i) => new Numbers(Uint8Array.from(ticks, tick => tick.ifaces[i][0] === "down")));
+  nodeLanes.forEach((lane, i) => Object.assign(lane, { tec: tec[i], rec: rec[i], queue: queue[i], down: down[i], queueMost }));
   measureLoads();
 }
 function tickAt(seconds) {
@@ -164,7 +166,9 @@ function drawOverview() {
   block(pen, theme.panel, 0, 0, width, 24);
   ticks.forEach((tick, k) => {
     const x = axis.start[k] / axis.length * width, wide = Math.max((axis.start[k + 1] - axis.start[k]) / axis.length * width, 2);
-    if (tick.ifaces.some(([state]) => state === "off")) block(pen, fills.off, x, 0, wide, 24);
+    for (const name of ["off", "down"]) {
+      if (tick.ifaces.some(([state]) => state === name)) block(pen, fills[name], x, 0, wide, 24);
+    }
     const failed = tick.rates.reduce((sum, [, ...kinds]) => sum + kinds.reduce((a, b) => a + b, 0), 0);
     const high = Math.min(failed / busiest, 1) * 20;
     if (failed) block(pen, theme.destroyed, x, 24 - Math.max(high, 3), wide, Math.max(high, 3));
@@ -267,15 +271,17 @@ function sayNow() {
     + (isPaused ? ` Paused at ${clock(last.time)}.` : "");
   sayOffs(last);
 }
-// Which nodes are bus off, and the last times that any went; whatever else happens they stay here.
+// Which nodes are bus off or down, and the last times that any went off; whatever else happens they stay here.
 function sayOffs(last) {
-  const off = names.filter((_, i) => last.ifaces[i][0] === "off"), shown = offs.slice(-3).reverse();
-  at("offs").hidden = !off.length && !offs.length;
+  const [off, down] = ["off", "down"].map(state => names.filter((_, i) => last.ifaces[i][0] === state));
+  const shown = offs.slice(-3).reverse();
+  at("offs").hidden = !off.length && !down.length && !offs.length;
   const more = offs.length > 3 ? ` and ${grouped(offs.length - 3)} before` : "";
   const buttons = shown.map(one => element("button", `${names[one.iface]} ${momentWords(one.moment)}`, {
     type: "button", title: "choose this moment", onclick: () => { chosen = one; chooseAt(one.moment); showTab("tab-events"); },
   }));
   at("offs").replaceChildren(off.length ? `Bus off now: ${off.join(", ")}. ` : "No node is bus off now. ",
+    down.length ? `Down now: ${down.join(", ")}. ` : "",
     shown.length ? "Went bus off: " : "", ...buttons, more);
 }
 
@@ -353,12 +359,13 @@ const LEGEND = [["done", "done", "the frame was sent"],
   ["destroyed", "destroyed", "an error frame destroyed it: it is sent again"],
   ["noack", "no acknowledgement", "nobody acknowledged it: it is sent again"],
   ["warning", "error warning", "a count of 96 or more"], ["passive", "error passive", "a count of 128 or more"],
-  ["off", "bus off", "a transmit count of 256 or more"]];
+  ["off", "bus off", "a transmit count of 256 or more"], ["down", "down", "a node was taken off the bus"]];
 
 function listenToNews() {
   const news = new EventSource("news");
   news.onmessage = event => {
     const said = JSON.parse(event.data);
+    happened("news", said);
     if (said.end !== undefined) {
       at("facts").textContent = `The server has ended: ${said.end}`;
       news.close();
@@ -370,7 +377,10 @@ function listenToNews() {
     }
     document.body.dataset.drawn = ticks.length;
   };
-  news.onerror = () => { at("facts").textContent = "`canbusd watch` has ended, or can't be reached."; };
+  news.onerror = () => {
+    at("facts").textContent = "`canbusd watch` has ended, or can't be reached.";
+    happened("news", {});
+  };
 }
 function begin() {
   document.title = `${names.join(", ")}: canbusd`;
@@ -388,6 +398,7 @@ function begin() {
   showTab = makeTabs("tabs", showList);
   showTab("tab-frames");
   keepDrawn(show, () => {});
+  happened("begun");
   listenToNews();
 }
 begin();

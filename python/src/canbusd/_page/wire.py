@@ -8,7 +8,7 @@ from typing import TYPE_CHECKING, Any
 
 from canbusd._process.rates import Rates
 from canbusd._run.slots import Slot, slots_of
-from canbusd._run.steps import DONE, RESTART
+from canbusd._run.steps import DONE, DOWN, RESTART
 from canbusd.record import timed
 from canbusd.replay import Replay
 
@@ -60,7 +60,9 @@ def since_of(run: Replay, places: Sequence[int]) -> "array[int]":
     steps, since = run.steps, array("I")
     firsts: dict[int, int] = {}
     for step, (place, kind, iface, off) in enumerate(zip(places, steps.kinds, steps.ifaces, steps.off)):
-        if kind == RESTART:
+        if kind >= RESTART:
+            if kind == DOWN:
+                firsts.pop(iface, None)
             since.append(0)
             continue
         for one in steps.met(step):

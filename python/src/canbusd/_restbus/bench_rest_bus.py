@@ -7,10 +7,10 @@ from canbusd._calls import explained
 from canbusd._restbus.schedule import MICROS, micros
 from canbusd._session.arguments import check_within
 from canbusd._session.injection import Refused
-from canbusd._session.protocol import NO_FRAMES
+from canbusd._session.protocol import NO_FRAMES, PASSING
 from canbusd.frames import Frame
 from canbusd.record import Attempt
-from canbusd.rest_bus import PASSING, RestBus, RestMessage
+from canbusd.rest_bus import RestBus, RestMessage
 from canbusd.signals import Database
 
 if TYPE_CHECKING:

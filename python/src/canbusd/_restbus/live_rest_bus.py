@@ -10,11 +10,11 @@ from can.exceptions import CanError
 
 from canbusd._restbus.punctuality import PUNCTUALITY
 from canbusd._restbus.schedule import MICROS
-from canbusd._session.protocol import NO_FRAMES
+from canbusd._session.protocol import NO_FRAMES, PASSING
 from canbusd._session.raw_session import refusal
 from canbusd.bus import CanbusdBus
 from canbusd.frames import Frame, command_of
-from canbusd.rest_bus import PASSING, RestBus, RestMessage
+from canbusd.rest_bus import RestBus, RestMessage
 from canbusd.signals import Database
 from canbusd.virtual import is_virtual
 

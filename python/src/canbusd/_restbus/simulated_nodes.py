@@ -20,6 +20,16 @@ class HasRestBus(Generic[R]):
     """What a bench and a server have of a rest bus."""
 
     database: "Optional[Database]"
+    # The rest buses that were made.
+    _rest_buses: "list[R]"
+
+    def down(self, name: str) -> None:
+        """Takes an interface off the bus."""
+        raise NotImplementedError
+
+    def up(self, name: str) -> None:
+        """Brings an interface up."""
+        raise NotImplementedError
 
     @property
     def interfaces(self) -> list[str]:
@@ -49,7 +59,13 @@ class HasRestBus(Generic[R]):
         found = interfaces_of(known, without, nodes or {}, interface, self.interfaces)
         # Expectations then know its names, too.
         self.database = known if self.database is None else self.database.with_more(known)
-        return self._make_rest_bus(known, found)
+        rest = self._make_rest_bus(known, found)
+        self._rest_buses = [*self._open_rest_buses(), rest]
+        return rest
+
+    def _open_rest_buses(self) -> "list[R]":
+        """The rest buses that have not ended."""
+        return [one for one in self._rest_buses if not one._is_closed]
 
 
 class SimulatesNodes(HasRestBus["RestBus"]):

@@ -11,11 +11,11 @@ from collections.abc import Iterable, Iterator, Sequence
 from typing import Literal, NamedTuple, Optional
 
 from canbusd._run.alignment import Pair, Sent, pairs_of
-from canbusd._run.steps import RESTART, numbers_in
+from canbusd._run.steps import DOWN, RESTART, numbers_in
 from canbusd._text import times
 from canbusd.record import Attempt, Record, attempts_of, is_named, number_named
 
-Kind = Literal["only here", "only there", "other data", "other outcome", "later", "earlier", "restarts"]
+Kind = Literal["only here", "only there", "other data", "other outcome", "later", "earlier", "restarts", "downs"]
 #: By how many seconds the moments of a frame may differ, counted from the first frame of both runs.
 TOLERANCE = 0.01
 # How many differences are listed as text.
@@ -66,6 +66,7 @@ class Comparison:
         #: The attempts of both runs that had a frame, which are numbered from 0.
         self.one, self.other = ([attempt for attempt in run if attempt.outcome != "idle"] for run in made)
         self._restarted = [collections.Counter(name for attempt in run for name in attempt.restarted) for run in made]
+        self._downed = [downs_of(record, names) for record, names in zip(self.records, self.names)]
         self._rows = list(pairs_of(self.one, self.other))
 
     def reversed(self, title: str) -> "Comparison":
@@ -74,7 +75,7 @@ class Comparison:
         turned.records, turned.names = self.records[::-1], self.names[::-1]
         turned.title, turned.tolerance = title, self.tolerance
         turned.one, turned.other = self.other, self.one
-        turned._restarted = self._restarted[::-1]
+        turned._restarted, turned._downed = self._restarted[::-1], self._downed[::-1]
         turned._rows = [[Pair(other, one) for one, other in row] for row in self._rows]
         return turned
 
@@ -93,7 +94,11 @@ class Comparison:
         # Where a frame that only the other run has would be.
         here, there = places(self.partners, len(self.other)), places(reversed_pairs(self.partners), len(self.one))
         found = [one for row in self._rows for one in self._in_row(row, here, there)]
-        return sorted([*found, *self._restarts()], key=lambda one: (one.attempt, one.other))
+        more = [
+            *self._counted("restarts", "was restarted", self._restarted),
+            *self._counted("downs", "went down", self._downed),
+        ]
+        return sorted([*found, *more], key=lambda one: (one.attempt, one.other))
 
     def _in_row(self, row: Sequence[Pair], here: Sequence[int], there: Sequence[int]) -> Iterator[Difference]:
         shown_late = 0.0
@@ -133,12 +138,12 @@ class Comparison:
             about = "" if kinds[0][0] == "other data" else f"{texts[0]}: "
             yield Difference(kinds[0][0], one.first, other.first, about + "; ".join(words for _, words in kinds))
 
-    def _restarts(self) -> Iterator[Difference]:
-        counts = self._restarted
+    def _counted(self, kind: Kind, did: str, counts: "Sequence[collections.Counter[str]]") -> Iterator[Difference]:
+        """Yields what an interface did in one run oftener than in the other."""
         for name in sorted(set(counts[0]) | set(counts[1])):
             if counts[0][name] != counts[1][name]:
-                words = f"{name} was restarted {times(counts[0][name], 'time')} against {counts[1][name]}"
-                yield Difference("restarts", max(len(self.one) - 1, 0), max(len(self.other) - 1, 0), words)
+                words = f"{name} {did} {times(counts[0][name], 'time')} against {counts[1][name]}"
+                yield Difference(kind, max(len(self.one) - 1, 0), max(len(self.other) - 1, 0), words)
 
     def _late(self, one: Sent, other: Sent) -> float:
         moments = self.one[one.attempts[-1]].timestamp, self.other[other.attempts[-1]].timestamp
@@ -230,13 +235,22 @@ def accepted(run: Sequence[Attempt], sent: Sent, gone: "frozenset[str]") -> list
     return [set(run[place].accepted) - gone for place in sent.attempts]
 
 
+def downs_of(record: Record, names: Sequence[str]) -> "collections.Counter[str]":
+    """Returns how often each interface of a run went down."""
+    steps = record.replay.steps
+    return collections.Counter(names[steps.ifaces[place]] for place in steps.places_of(DOWN))
+
+
 def away(record: Record, names: Sequence[str]) -> "list[frozenset[str]]":
-    """Returns for each attempt of a run who was bus off then."""
+    """Returns for each attempt of a run who was bus off or down then."""
     steps, gone = record.replay.steps, frozenset[str]()
     found = []
     for kind, iface, off in zip(steps.kinds, steps.ifaces, steps.off):
         if kind == RESTART:
             gone -= {names[iface]}
+            continue
+        if kind == DOWN:
+            gone |= {names[iface]}
             continue
         found.append(gone)
         gone = gone.union(names[number] for number in numbers_in(off)) if off else gone

@@ -7,8 +7,8 @@ from collections.abc import Iterable, Iterator, Sequence
 from canbusd._run.steps import numbers_in
 
 #: Kinds of lines by their third letters, as of `attempt`: frames that came into a queue, items that were taken, steps, and
-#: restarts, whose lines become those of steps; all others are read one by one.
-SEND, RECEIVE, STEP, RESTART = b"ncts"
+#: restarts and downs, whose lines become those of steps; all others are read one by one.
+SEND, RECEIVE, STEP, RESTART, DOWN = b"nctsw"
 OTHER = ord("o")
 #: By which bytes of kinds are translated: of each kind to 1 for it and 0 for others, and without what is in no queue.
 IS = {kind: bytes(kind == other for other in range(256)) for kind in (SEND, RECEIVE, STEP)}
@@ -19,8 +19,8 @@ NO_QUEUE = bytes(other for other in range(256) if other not in (SEND, STEP))
 USUAL = {SEND: " = number ", STEP: " = tried "}
 #: How many words the line of a step has before what became of it.
 WORDS = 8
-#: A restart as the line of a step, which has no verdict and no frame.
-RESTART_LINE = "attempt {}  = tried {} 0  restart 0000 0000{}"
+#: A restart or a down as the line of a step, which has no verdict and no frame.
+NO_ATTEMPT = "attempt {}  = tried {} 0  {} 0000 0000{}"
 #: What an attempt says after its frame, before the set of the interfaces that it restarts.
 RESTARTED = " restarted "
 #: Before parts of which only those of some interfaces are meant.
@@ -60,9 +60,9 @@ class Lines:
         self.kinds = bytearray("".join(map(third_letter, self.all)).encode())
         #: The entry of each line.
         self.entries: Sequence[int] = range(first, first + len(self.all))
-        if RESTART in self.kinds or may_restart and RESTARTED in text:
+        if RESTART in self.kinds or DOWN in self.kinds or may_restart and RESTARTED in text:
             for place in reversed(range(len(self.all))):
-                if self.kinds[place] == RESTART or RESTARTED in self.all[place]:
+                if self.kinds[place] in (RESTART, DOWN) or RESTARTED in self.all[place]:
                     self._spread(place)
         # No other reply to a send is without a hyphen.
         if "-" in text and self.kinds.count(SEND) != text.count(USUAL[SEND]):
@@ -142,13 +142,13 @@ def lines_of(line: str) -> Iterator[str]:
     """Yields the lines of the steps of an entry, or the line as it is."""
     event, semicolon, parts = line.partition("; ")
     words = event.split(" ")
-    if words[0] == "restart" and words[-1] == "ok":
-        yield RESTART_LINE.format(words[2], words[1], semicolon + parts)
+    if words[0] in ("restart", "down") and words[-1] == "ok":
+        yield NO_ATTEMPT.format(words[2], words[1], words[0], semicolon + parts)
     elif words[0] == "attempt":
         members = int(words[-1], 16) if words[-2] == "restarted" else 0
         is_tried = words[4] == "tried"
         yield f"{' '.join(words[:-2])}{ONLY.format(0xFFFF & ~members)}{semicolon}{parts}" if is_tried else line
         for number in numbers_in(members):
-            yield RESTART_LINE.format(words[1], number, ONLY.format(1 << number) + semicolon + parts)
+            yield NO_ATTEMPT.format(words[1], number, "restart", ONLY.format(1 << number) + semicolon + parts)
     else:
         yield line

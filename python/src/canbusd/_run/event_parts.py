@@ -17,7 +17,7 @@ class Parts(NamedTuple):
 
     #: Of the error counts, two of each interface, those that change, by their numbers.
     counts: list[tuple[int, int]]
-    #: How many frames bus off took out of the transmit queue of the sender.
+    #: How many frames bus off took out of the transmit queue of the sender, or that an interface went down out of its own.
     lost: int
     #: Error message frames, by their places among the items of the step.
     errors: Sequence[tuple[int, str]]

@@ -70,7 +70,7 @@ def names_in_log(steps: Steps, log: Path) -> dict[int, str]:
     A log has a line for each tried attempt: `(MOMENT) NAME FRAME`, with the winner's name.
     """
     columns = zip(steps.kinds, steps.moments, steps.ifaces)
-    tried = ((moment_of(moment), winner) for kind, moment, winner in columns if kind != RESTART)
+    tried = ((moment_of(moment), winner) for kind, moment, winner in columns if kind < RESTART)
     names: dict[int, str] = {}
     with open(log, encoding="ascii", errors="replace") as file:
         # A line of a run that was killed may be torn.

@@ -87,9 +87,10 @@ class Interface:
         #: What a frame that waits here adds to the number that says how many wait at each interface.
         self.unit = 1 << WAITING_BITS * number
         self.tec = self.rec = 0
+        self.is_down = False
         #: The lines of the sends of the frames that wait.
         self.queue: list[str] = []
-        #: How many frames left its queue, and how many of them bus off took out.
+        #: How many frames left its queue, and how many of them were taken out as it went bus off or down.
         self.gone = self.lost = 0
         #: How many sends were refused since its queue was full.
         self.refused = 0
@@ -116,8 +117,8 @@ class Interface:
         self.gone += left
 
     def state(self) -> int:
-        """0 active, 1 warning, 2 passive, 3 off."""
-        return severity(max(self.tec, self.rec))
+        """0 active, 1 warning, 2 passive, 3 off, 4 down."""
+        return 4 if self.is_down else severity(max(self.tec, self.rec))
 
 
 def frame_in(line: str) -> str:

@@ -49,7 +49,7 @@ def slots_of(run: Replay) -> list[Slot]:
     for place, (kind, moment, frame, busy) in enumerate(
         zip(steps.kinds, steps.moments, steps.frame_nanos, steps.busy_nanos)
     ):
-        if kind == RESTART:
+        if kind >= RESTART:
             continue
         begin = moment * 1000 - frame
         free = over if slots and moment != LAST_MOMENT else begin

@@ -14,9 +14,9 @@ from typing import Optional, TypeVar, Union, overload
 from canbusd._run.run_parts import WAITING_BITS, Interface, Socket
 from canbusd.frames import EXTENDED, REMOTE, is_fd
 
-#: What a step is, by its number in the column and on a page; the last is only on pages.
-KINDS = ("done", "lastbit", "destroyed", "noack", "restart", "idle")
-DONE, LASTBIT, DESTROYED, NOACK, RESTART, IDLE = range(6)
+#: What a step is, by its number in the column and on a page; those before `restart` are attempts, the last is only on pages.
+KINDS = ("done", "lastbit", "destroyed", "noack", "restart", "down", "idle")
+DONE, LASTBIT, DESTROYED, NOACK, RESTART, DOWN, IDLE = range(7)
 #: What became of an item, by its number; `waiting` is at the end of the run, `unread` at the close of its socket.
 FATES = ("taken", "waiting", "unread", "dropped")
 TAKEN, WAITING, UNREAD, DROPPED = range(4)
@@ -76,7 +76,7 @@ def arbitration_bits(identifier: str, rtr: str) -> str:
 
 @dataclass
 class Step:
-    """A tried attempt or a restart. Interfaces are numbers here.
+    """A tried attempt, a restart, or that an interface went down. Interfaces are numbers here.
 
     An attempt that restarts interfaces is followed by a step for each, with the same entry.
     """
@@ -98,13 +98,13 @@ class Step:
         "waiting",
         "idle",
     )
-    #: done, lastbit, destroyed, noack or restart.
+    #: done, lastbit, destroyed, noack, restart or down.
     kind: str
     entry: int
     moment: str
-    #: The winner, or who was restarted.
+    #: The winner, or who was restarted or went down.
     iface: int
-    #: Its number among the attempts; of a restart that of the next attempt.
+    #: Its number among the attempts; of a restart or a down that of the next attempt.
     attempt: int
     number: int
     text: str
@@ -141,12 +141,16 @@ class Rows:
     wires: Sequence[Optional[tuple[int, ...]]]
     #: How many frames waited.
     waiting: Sequence[int]
+    #: How many frames left the queue of who won, or went down.
+    left: Sequence[int]
     #: The error message frames that it brought about, in the order of the steps.
     errors: dict[int, list[str]] = field(default_factory=dict)
     #: Who was hit.
     hit: dict[int, int] = field(default_factory=dict)
     #: The error counts after it, where they changed, as bytes of the column.
     counts: dict[int, bytes] = field(default_factory=dict)
+    #: The interfaces that are down after it, where they changed.
+    down: dict[int, int] = field(default_factory=dict)
 
 
 class Steps(Sequence[Step]):
@@ -168,6 +172,10 @@ class Steps(Sequence[Step]):
         self.changed = array("I")
         #: Sets of interfaces, bit i for interface i.
         self.accepted, self.off, self.hit = array("H"), array("H"), array("H")
+        #: The number and the frame of all that were taken out of a transmit queue, at bus off or down, by the step.
+        self.lost: dict[int, list[tuple[int, str]]] = {}
+        #: Those that are down after it.
+        self.down = array("H")
         #: How many nanoseconds the frame takes the wire, and the attempt until the next one may begin; how many bits of the
         #: frame go at the nominal bit rate, and at the one for data. All are 0 where the line does not say it.
         self.frame_nanos, self.busy_nanos = array("I"), array("I")
@@ -198,6 +206,7 @@ class Steps(Sequence[Step]):
         self.waiting.extend(by_iface(rows.waiting, len(self._all_ifaces)))
         self._count(rows.counts, first)
         self._note(self.hit, rows.hit, first)
+        self._go_on(self.down, rows.down, first)
         self._note(self.idle, {step: count for step, count in idle.items() if step < len(self)})
         wires = {row: wire for row, wire in enumerate(rows.wires) if wire} if any(rows.wires) else {}
         for place, column in enumerate((self.frame_nanos, self.busy_nanos, self.nominal_bits, self.fast_bits)):
@@ -213,18 +222,25 @@ class Steps(Sequence[Step]):
         return places + self.texts.places_of(rows.frames[first:])
 
     def _numbered(self, kinds: "array[int]") -> Iterable[int]:
-        """The numbers of these attempts; a restart has that of the next one."""
+        """The numbers of these attempts; a restart or a down has that of the next one."""
         first = self.tried
-        self.tried += len(kinds) - kinds.count(RESTART)
+        self.tried += len(kinds) - kinds.count(RESTART) - kinds.count(DOWN)
         if self.tried - first == len(kinds):
             return range(first, self.tried)
-        return itertools.accumulate(map(RESTART.__ne__, kinds[:-1]), initial=first)
+        return itertools.accumulate(map(RESTART.__gt__, kinds[:-1]), initial=first)
 
     def _note(self, column: "array[int]", numbers: dict[int, int], first: int = 0) -> None:
         """Makes a column as long as the others: with these numbers, by the steps from this one on, else with 0."""
         column.frombytes(bytes(column.itemsize * (len(self) - len(column))))
         for row, number in numbers.items():
             column[first + row] = number
+
+    def _go_on(self, column: "array[int]", numbers: dict[int, int], first: int) -> None:
+        """Makes a column as long as the others: from these steps on it has these numbers, before that its last one."""
+        last = column[-1] if column else 0
+        for row, number in [*numbers.items(), (len(self) - first, 0)]:
+            column.extend(array(column.typecode, [last]) * (first + row - len(column)))
+            last = number
 
     def _count(self, counts: dict[int, bytes], first: int) -> None:
         """Makes the column of the counts as long as the others: from these steps on they are these."""
@@ -269,9 +285,9 @@ class Steps(Sequence[Step]):
         """Returns where the attempt of this number is among the steps, if it is there."""
         if attempt is None:
             return None
-        # A restart has the number of the attempt after it.
+        # A restart or a down has the number of the attempt after it.
         place = bisect.bisect_right(self.attempts, attempt) - 1
-        return place if place >= 0 and self.attempts[place] == attempt and self.kinds[place] != RESTART else None
+        return place if place >= 0 and self.attempts[place] == attempt and self.kinds[place] < RESTART else None
 
     def places_of(self, kind: int, first: int = 0) -> list[int]:
         """Returns which of the steps from the first one on are of this kind."""
@@ -284,11 +300,11 @@ class Steps(Sequence[Step]):
         return self.kinds.tobytes().count(kind)
 
     def text(self, place: int) -> str:
-        """Returns the frame of a step; the empty text of a restart."""
+        """Returns the frame of a step; the empty text of one that is no attempt."""
         return self.texts.all[self.frames[place]]
 
     def verdict(self, place: int) -> str:
-        """Returns the verdict of a step; the empty text of a restart."""
+        """Returns the verdict of a step; the empty text of one that is no attempt."""
         return self.verdict_texts.all[self.verdicts[place]]
 
     def counts_row(self, place: int) -> "array[int]":
@@ -312,7 +328,7 @@ class Steps(Sequence[Step]):
 
     def met(self, place: int) -> list[int]:
         """Returns who took part in a step: each interface at which a frame waits."""
-        if self.kinds[place] == RESTART:
+        if self.kinds[place] >= RESTART:
             return []
         return [iface for iface, count in enumerate(self.waiting_before(place)) if count]
 
@@ -321,19 +337,21 @@ class Steps(Sequence[Step]):
         return [(iface, WireFrame(self._next(iface, place))) for iface in self.met(place)]
 
     def _next(self, iface: int, place: int) -> str:
-        """The frame that an interface tries next, from a step on; one that it never tries waits first in the end."""
+        """The frame that an interface tries next, from a step on, or loses as it goes down; else it waits first in the end."""
         if self.ifaces[place] == iface:
             return self.text(place)
         self._sort_tries()
         tries = self._tries[iface]
         later = bisect.bisect_left(tries, place)
-        return self.text(tries[later]) if later < len(tries) else self._all_ifaces[iface].waiting[0]
+        if later == len(tries):
+            return self._all_ifaces[iface].waiting[0]
+        return self.text(tries[later]) if self.kinds[tries[later]] < RESTART else self.lost[tries[later]][0][1]
 
     def _sort_tries(self) -> None:
-        """Makes the lists of who tried frames as long as the run is."""
+        """Makes the lists of who tried frames, or lost them untried, as long as the run is."""
         self._tries = self._tries or [array("I") for _ in self._all_ifaces]
         for place in range(self._sorted, len(self)):
-            if self.kinds[place] != RESTART:
+            if self.kinds[place] < RESTART or place in self.lost:
                 self._tries[self.ifaces[place]].append(place)
         self._sorted = len(self)
 

@@ -9,7 +9,7 @@ from collections.abc import Iterable, Iterator, Sequence
 from typing import NamedTuple
 
 from canbusd._run.run_parts import WARNING, severity
-from canbusd._run.steps import DONE, KINDS, LASTBIT, NOACK, RESTART, Steps, numbers_in
+from canbusd._run.steps import DONE, DOWN, KINDS, LASTBIT, NOACK, RESTART, Steps, numbers_in
 from canbusd._session.protocol import STATES
 from canbusd._text import times
 from canbusd.record import members_of
@@ -20,7 +20,11 @@ OUTCOMES = {"done": "done", "lastbit": "failed in the last bit", "destroyed": "d
 GAP = 8
 # Steps in a row in which a count is as bad.
 SAME_LEVEL = re.compile(rb"\x00+|\x01+|\x02+|\x03+")
-REASONS = {"no-buffers": "its transmit queue was full", "bus-off": "it was bus off"}
+REASONS = {
+    "no-buffers": "its transmit queue was full",
+    "bus-off": "it was bus off",
+    "interface-down": "it was down",
+}
 
 
 class Event(NamedTuple):
@@ -44,20 +48,36 @@ def events_of(run: Replay, names: Sequence[str]) -> list[Event]:
 
 
 def state_events(run: Replay, names: Sequence[str]) -> Iterator[Event]:
-    """Changes of state, frames lost by bus off, and restarts."""
+    """Changes of state, frames lost by bus off or down, and restarts."""
     steps = run.steps
-    # The step in which each interface last went bus off.
+    # The step in which each interface last went bus off, or down.
     went: dict[int, int] = {}
-    for number in sorted({*steps.places_of(RESTART), *level_changes(steps, len(names))}):
+    no_attempts = steps.places_of(RESTART) + steps.places_of(DOWN)
+    for number in sorted({*no_attempts, *level_changes(steps, len(names))}):
         iface, now = steps.ifaces[number], steps.counts_row(number)
         if steps.kinds[number] == RESTART:
             back = f"{names[iface]} is back on the bus, with both counts 0"
             yield Event(number, "restart", iface, back + outage_of(steps, went[iface], number))
             continue
+        if steps.kinds[number] == DOWN:
+            if not (number and steps.down[number - 1] >> iface & 1):
+                went[iface] = number
+                yield from down_of(run, number, names[iface])
+            continue
         before = states_of(steps.counts_before(number))
         for i in itertools.compress(itertools.count(), map(operator.ne, before, states_of(now))):
             went[i] = number
             yield from change_of(steps, number, i, names)
+
+
+def down_of(run: Replay, number: int, name: str) -> Iterator[Event]:
+    """That an interface goes down in a step."""
+    iface, lost = run.steps.ifaces[number], len(run.lost.get(number, []))
+    yield Event(number, "down", iface, f"{name} went down: it takes no part until it is up")
+    if lost:
+        yield Event(
+            number, "lost", iface, f"{name} lost {times(lost, 'frame')}: its transmit queue is empty once it is down"
+        )
 
 
 def level_changes(steps: Steps, ifaces: int) -> Iterator[int]:
@@ -76,12 +96,15 @@ def states_of(counts: Sequence[int]) -> list[int]:
 
 
 def outage_of(steps: Steps, went: int, back: int) -> str:
-    """How long an interface was off, from one step to another: `; it was off for 203.1 ms, attempts 836 to 1,012`."""
+    """How long an interface was off or down, from one step to another: `; it was off for 203.1 ms, attempts 836 to 1,012`."""
     micros = steps.moments[back] - steps.moments[went]
     duration = f" for {duration_words(micros)}" if micros > 0 else ""
     first, last = steps.attempts[went], steps.attempts[back] - 1
-    attempts = f"attempts {first:,} to {last:,}" if last > first else "and no frame was tried"
-    return f"; it was off{duration}, {attempts}"
+    # The first is that in which it went off, or that after it went down.
+    is_down = steps.kinds[went] == DOWN
+    is_tried = last >= first if is_down else last > first
+    attempts = f"attempts {first:,} to {last:,}" if is_tried else "and no frame was tried"
+    return f"; it was {'down' if is_down else 'off'}{duration}, {attempts}"
 
 
 def duration_words(micros: int) -> str:
@@ -116,7 +139,7 @@ def climb_to(steps: Steps, last: int, iface: int) -> Climb:
     found: list[int] = []
     for place in reversed(range(bisect.bisect_right(steps.changed, last))):
         number = steps.changed[place]
-        if steps.ifaces[number] == iface and steps.kinds[number] != RESTART:
+        if steps.ifaces[number] == iface and steps.kinds[number] < RESTART:
             found.append(number)
             if not steps.counts_before(number)[2 * iface]:
                 break
@@ -223,6 +246,7 @@ def facts_of(run: Replay) -> str:
     outcomes = [f"{counts[kind]:,} {words}" for kind, words in OUTCOMES.items() if counts[kind]]
     facts = [f"{times(run.attempts, 'attempt')}: {joined(outcomes)}"] if outcomes else []
     facts += [times(run.idle, "idle attempt")] if run.idle else []
+    facts += [f"Down {times(counts['down'], 'time')}"] if counts["down"] else []
     facts += [times(counts["restart"], "restart")] if counts["restart"] else []
     end = ", which is cut off" if not run.is_whole else ""
     return ". ".join([*facts, f"{times(run.entries, 'entry', 'entries')} in the record{end}."])
@@ -252,9 +276,12 @@ def worst_of(run: Replay, names: Sequence[str], events: Sequence[Event]) -> tupl
     if "dropped" in firsts:
         dropped = sum(socket.dropped for socket in run.sockets)
         return f"{times(dropped, 'item')} dropped, since receive queues were full", firsts["dropped"].step
+    if "down" in firsts:
+        first = firsts["down"]
+        return f"{names[first.iface]} went down before attempt {run.steps.attempts[first.step]:,}", first.step
     kinds = run.steps.kinds
-    failed = len(kinds) - run.steps.count_of(DONE) - run.steps.count_of(RESTART)
+    failed = run.attempts - run.steps.count_of(DONE)
     if failed:
-        return f"{failed:,} failed", next(k for k, kind in enumerate(kinds) if kind not in (DONE, RESTART))
+        return f"{failed:,} failed", next(k for k, kind in enumerate(kinds) if DONE < kind < RESTART)
     refused = sum(iface.refused for iface in run.ifaces)
     return f"all done, {times(refused, 'send')} refused" if refused else "all done", 0

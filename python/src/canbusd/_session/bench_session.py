@@ -11,6 +11,11 @@ from canbusd._session.arguments import check_within
 from canbusd._session.injection import InjectsFaults, Refused
 from canbusd._session.protocol import (
     LONGEST_MESSAGE,
+    NO_BUFFERS,
+    NO_DOWN,
+    NOT_BUS_OFF,
+    PASSING,
+    UNKNOWN,
     ErrorCounters,
     Filters,
     Load,
@@ -25,7 +30,6 @@ from canbusd.frames import Frame, MessageLike, command_of, frame_like, frame_of,
 if TYPE_CHECKING:
     from canbusd.bench import Bench
 
-NO_BUFFERS, BUS_OFF = "no buffers", "bus off"
 CLOSED = re.compile(r"[0-9]+ < closed ([0-9]+) ([0-9]+) >")
 
 
@@ -54,7 +58,7 @@ class PeriodicSend:
             try:
                 self._session._put(self._frame)
             except Refused as fault:
-                if str(fault) not in (NO_BUFFERS, BUS_OFF):
+                if str(fault) not in PASSING:
                     raise
             self._next += self._period
 
@@ -160,7 +164,7 @@ class Session(InjectsFaults, NamesWhatThereIs):
 
     def send_periodic(self, msgs: MessageLike, period: float, duration: Optional[float] = None) -> "PeriodicSend":
         """Sends a frame each `period` seconds of the bus, while time passes, from now on and for the `duration`, until `stop()`
-        of what is returned. A full queue, or bus off, does not end it."""
+        of what is returned. A full queue, bus off, or an interface that is down does not end it."""
         check_within(period, "period")
         if not period > 0:
             raise ValueError(f"period is a number of seconds above 0, not {period!r}")
@@ -208,6 +212,26 @@ class Session(InjectsFaults, NamesWhatThereIs):
             self._bench._ask(f"feed {number} < restart >< echo >", at)
         except Refused as fault:
             raise Refused(f"{self.channel}: {fault}, but {self.status().state}") from None
+
+    def down(self, at: Union[str, float, None] = None) -> None:
+        """Takes the interface off the bus, at this moment if one is given; what waits in its transmit queue is lost.
+
+        It sends, accepts and acknowledges nothing until `up`, and a send is refused as `interface down`. One that is down
+        stays so.
+        """
+        try:
+            self._bench._ask(f"feed {self._live()} < down >< echo >", at)
+        except Refused as fault:
+            raise Refused(f"{self.channel}: {NO_DOWN if str(fault) == UNKNOWN else fault}") from None
+
+    def up(self, at: Union[str, float, None] = None) -> None:
+        """Brings the interface up, at this moment if one is given, or back from bus off; both error counts are 0 then. One
+        that is up stays so."""
+        try:
+            self._bench._ask(f"feed {self._live()} < restart >< echo >", at)
+        except Refused as fault:
+            if str(fault) != NOT_BUS_OFF:
+                raise
 
     def call(self, message: str) -> list[str]:
         """Feeds a message of the protocol, such as `recvown 1`, and returns the answers to it; a refusal is raised."""

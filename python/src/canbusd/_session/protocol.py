@@ -11,11 +11,19 @@ from canbusd.frames import EXTENDED, INVERTED
 # What may be between `<` and `>`, and in an answer: the names of 256 interfaces.
 LONGEST_MESSAGE, LONGEST_ANSWER = 1024, 4120
 ALL_CLASSES = 0x1FFFFFFF
-# The states of an interface, by how bad they are.
-State = Literal["active", "warning", "passive", "off"]
-STATES: tuple[State, ...] = ("active", "warning", "passive", "off")
+# The states of an interface: those of its error counts, by how bad they are, and that of one that is down.
+State = Literal["active", "warning", "passive", "off", "down"]
+STATES: tuple[State, ...] = ("active", "warning", "passive", "off", "down")
 # Filters that no frame passes: everything, inverted.
 NO_FRAMES = [{"can_id": INVERTED, "can_mask": 0}]
+
+# Refusals of a send and of a restart; of an older program, any message that it does not know.
+NO_BUFFERS, BUS_OFF, DOWN = "no buffers", "bus off", "interface down"
+NOT_BUS_OFF, UNKNOWN = "not bus off", "unknown command"
+# What a cyclic message goes on after: a full transmit queue, and an interface that is off the bus.
+PASSING = (NO_BUFFERS, BUS_OFF, DOWN)
+# What an older program has to be told, in place of UNKNOWN.
+NO_DOWN = "the program is older, and has no interfaces that go down"
 
 Filters = Sequence[Mapping[str, Any]]
 A_FILTER = "{'can_id': 0x123, 'can_mask': 0x7FF}"
@@ -24,7 +32,7 @@ A_FILTER = "{'can_id': 0x123, 'can_mask': 0x7FF}"
 class ErrorCounters(NamedTuple):
     """How an interface is: its state and its error counts."""
 
-    #: `active`, `warning`, `passive` or `off`.
+    #: `active`, `warning`, `passive` or `off`, or `down` of an interface that was taken off the bus.
     state: State
     #: The transmit error count.
     tec: int
@@ -52,7 +60,7 @@ class Stats(NamedTuple):
     done: int
     #: Of the interface: frames that wait in the transmit queue.
     waiting: int
-    #: Of the interface: frames that were lost at bus off.
+    #: Of the interface: frames that were lost at bus off, or when it went down.
     lost: int
     #: Of the interface: frames that a full transmit queue refused.
     refused: int

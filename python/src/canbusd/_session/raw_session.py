@@ -13,17 +13,32 @@ from typing import Optional
 from canbusd._placement import DELAY, AtSockets
 from canbusd._session.connection import LONGEST_POLL, POLL, Connection, NoAnswer, SessionRefused
 from canbusd._session.injection import NO_INTERFACE, InjectsFaults, no_interface
-from canbusd._session.protocol import ErrorCounters, Load, Stats, counters_of, load_of, refusal_in, stats_of
+from canbusd._session.protocol import (
+    BUS_OFF,
+    DOWN,
+    NO_BUFFERS,
+    NO_DOWN,
+    NOT_BUS_OFF,
+    UNKNOWN,
+    ErrorCounters,
+    Load,
+    Stats,
+    counters_of,
+    load_of,
+    refusal_in,
+    stats_of,
+)
 from canbusd._session.waits import seconds_until
 from canbusd._text import times
 
-NO_BUFFERS, BUS_OFF, NOT_BUS_OFF, RECORD_FULL = "no buffers", "bus off", "not bus off", "record full"
+RECORD_FULL = "record full"
 # What the system's own CAN sockets report.
-ERROR_CODES = {NO_BUFFERS: errno.ENOBUFS, BUS_OFF: errno.ENETDOWN}
+ERROR_CODES = {NO_BUFFERS: errno.ENOBUFS, BUS_OFF: errno.ENETDOWN, DOWN: errno.ENETDOWN}
 # What to do, where it can be said in a few words.
 CURES = {
     NO_BUFFERS: ": the transmit queue is full; send(msg, timeout=1) waits for room, and a server's txqueue= makes more",
     BUS_OFF: ": restart() brings the interface back, as the server's auto_restart= does",
+    DOWN: ": up() brings the interface up",
     RECORD_FULL: ": start the server again with a higher limit= (--limit), or with record='live' (--record live)",
 }
 
@@ -195,6 +210,16 @@ class RawSession(InjectsFaults):
         if answer and (is_needed or answer != NOT_BUS_OFF):
             state = f", but {self.error_counters().state}" if answer == NOT_BUS_OFF else ""
             raise refusal(f"{self.channel}: {answer}{state}")
+
+    def down(self) -> None:
+        """Takes the interface off the bus; one that is down stays so."""
+        answer = self.answer("down")
+        if answer:
+            raise refusal(f"{self.channel}: {NO_DOWN if answer == UNKNOWN else answer}")
+
+    def up(self) -> None:
+        """Brings the interface up; one that is up stays so."""
+        self.restart(is_needed=False)
 
     def error_counters(self) -> ErrorCounters:
         """Returns the state of the interface and its error counts."""

@@ -6,6 +6,7 @@ from dataclasses import dataclass
 from pathlib import Path
 
 from canbusd._placement import BusKey
+from canbusd._process.rates import Rates
 from canbusd._run.steps import TAKEN
 from canbusd.record import Record, read_record
 
@@ -34,6 +35,10 @@ class Attempted:
     fault: str
     #: The other interfaces at which a socket of the test took the frame.
     receivers: tuple[str, ...] = ()
+    #: When its frame began; without a bit rate that is its moment.
+    began: str = "0.000000"
+    #: Whether its sender is the only interface of the bus.
+    is_alone: bool = False
 
     @property
     def identifier(self) -> str:
@@ -50,10 +55,17 @@ def attempts_in(folder: Path) -> list[Attempted]:
 
 
 def attempts_of(path: Path) -> Iterator[Attempted]:
-    """Yields the attempts of the bus whose record this is, with the names of its interfaces beside it."""
+    """Yields the attempts of the bus whose record this is, with its facts beside it."""
     run, _, first = path.stem.partition("-")
-    own, _, names = path.with_suffix(".bus").read_text().partition(" ")
-    yield from attempts_on((int(run), first), read_record(path, names.split(",")), int(own))
+    own, names, *numbers = path.with_suffix(".bus").read_text().split(" ")
+    rates = Rates(*map(int, numbers)) if numbers else None
+    yield from attempts_on((int(run), first), read_record(path, names.split(","), rates=rates), int(own))
+
+
+def nanos_before(moment: str, nanos: int) -> str:
+    """Returns the moment that is so many nanoseconds before this one, which was rounded down."""
+    micros = (int(moment.replace(".", "")) * 1000 - nanos) // 1000
+    return f"{micros // 1_000_000}.{micros % 1_000_000:06}"
 
 
 def receivers_in(record: Record, own: int) -> dict[int, set[int]]:
@@ -74,7 +86,7 @@ def attempts_on(bus: BusKey, record: Record, own: int = 0) -> Iterator[Attempted
     of_sender: Counter[int] = Counter()
     since: dict[tuple[int, str], str] = {}
     for place, step in enumerate(record.replay.steps):
-        if step.kind != "restart":
+        if step.kind not in ("restart", "down"):
             key = step.iface, step.text.partition("#")[0]
             yield Attempted(
                 bus,
@@ -89,6 +101,8 @@ def attempts_on(bus: BusKey, record: Record, own: int = 0) -> Iterator[Attempted
                 step.kind,
                 step.verdict,
                 tuple(names[one] for one in sorted(receivers[place] - {step.iface})),
+                nanos_before(step.moment, record.replay.steps.frame_nanos[place]),
+                len(names) == 1,
             )
             since[key] = step.moment
             of_identifier[key] += 1

@@ -8,6 +8,8 @@
     late ecu 123 1767225600.005089           they have it 10 ms later
     full tester 123 1767225600.005089        the first send of such a frame by tester from this moment on finds its queue full
     reset 0 1767225600.005089                the first program of the test is killed at this moment, and starts anew
+    down ecu 1767225600.005089 0.100000      the interface is down from this moment on for so many seconds
+    noack ecu 1767225600.004958 0.000133     all others of its bus are, so that nobody acknowledges its frames
 """
 
 import re
@@ -15,7 +17,7 @@ from collections.abc import Iterable
 from dataclasses import dataclass
 from typing import Optional
 
-from canbusd._placement import FIRST, AtSockets, BusKey, Reset
+from canbusd._placement import FIRST, AtSockets, BusKey, Outage, Reset
 from canbusd._text import NAME, shown
 from canbusd.rules import VERDICT, is_rule, parse_rule
 
@@ -24,6 +26,10 @@ AT_SOCKETS = re.compile(
     rf"(missed|late|full) ({NAME.pattern}) ([0-9A-F]{{3}}|[0-9A-F]{{8}}) ([0-9]{{1,10}}\.[0-9]{{6}})"
 )
 RESET = re.compile(r"reset ([0-9]{1,4}) ([0-9]{1,10}\.[0-9]{6})")
+OUTAGE = re.compile(
+    rf"(?P<kind>down|noack) (?P<name>{NAME.pattern}) (?P<moment>[0-9]{{1,10}}\.[0-9]{{6}}) "
+    r"(?P<seconds>[0-9]{1,10}\.[0-9]{6})"
+)
 NUMBERED = re.compile(rf"(?P<first>[0-9]{{1,8}})(?:-(?P<last>[0-9]{{1,8}}))? (?:{VERDICT.pattern})")
 
 
@@ -52,9 +58,15 @@ class Fault:
         return Reset(int(found[1]), float(found[2])) if found else None
 
     @property
+    def outage(self) -> Optional[Outage]:
+        """The interfaces that are down for some time, if it is such a fault."""
+        found = OUTAGE.fullmatch(self.line)
+        return Outage(found["kind"], found["name"], float(found["moment"]), float(found["seconds"])) if found else None
+
+    @property
     def lines(self) -> list[str]:
         """The lines of a script."""
-        if self.at_sockets or self.reset:
+        if self.at_sockets or self.reset or self.outage:
             return []
         numbers, _, verdict = self.line.partition(" ")
         first, dash, last = numbers.partition("-")
@@ -70,7 +82,7 @@ def parse_fault(text: str) -> Fault:
     if is_rule(line):
         parse_rule(line)
         return Fault(bus, line)
-    if AT_SOCKETS.fullmatch(line) or RESET.fullmatch(line):
+    if any(form.fullmatch(line) for form in (AT_SOCKETS, RESET, OUTAGE)):
         return Fault(bus, line)
     numbered = NUMBERED.fullmatch(line)
     if not numbered:

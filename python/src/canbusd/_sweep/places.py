@@ -11,6 +11,9 @@ from canbusd._sweep.faults_given import Fault
 
 #: How many attempts in a row a burst destroys.
 BURST = 16
+#: For how many microseconds a sender is down. How long before a frame begins others go down, so that they do not acknowledge it,
+#: and how long after its end they come up: before it can be sent again.
+DOWN_MICROS, MICROS_BEFORE, MICROS_AFTER = 100_000, 2, 1
 #: By how much a failed attempt raises the transmit error count (ISO 11898-1), and the count at which its sender is bus off.
 STEP, OFF = 8, 256
 
@@ -59,7 +62,11 @@ OTHERS = {
     "late": "a node has the frame 10 ms later, as one that does other work",
     "full": "the sender's transmit queue has no room for the frame",
     "reset": "a program that the test has started is killed at this moment, and starts anew",
+    "down": f"the sender's interface goes down with this frame, and up {DOWN_MICROS // 1000} ms later",
+    "noack": "nobody acknowledges the frame: all others of the bus are down for this attempt",
 }
+#: Kinds of servers only: a bench has no moments at which something else happens.
+OF_SERVERS = ("down", "noack")
 #: The word before the receiver.
 BY = {"missed": "by", "late": "at"}
 ALL_KINDS = (*KINDS, *OTHERS)
@@ -175,6 +182,17 @@ def pairs_of(places: Sequence[Place], count: int, draw: random.Random) -> Iterat
             yield pair
 
 
+def micros_of(moment: str) -> int:
+    """Returns a moment in microseconds."""
+    return int(moment.replace(".", ""))
+
+
+def seconds_of(micros: int) -> str:
+    """Returns microseconds as a moment is written, which is 0 at least."""
+    whole, rest = divmod(max(0, micros), 1_000_000)
+    return f"{whole}.{rest:06}"
+
+
 def faults_at(kind: str, one: Attempted, programs: int) -> Iterator[tuple[str, str]]:
     """Yields the faults of a kind at an attempt: the kind, with what the fault is at, and the fault's line."""
     if kind in ("missed", "late"):
@@ -185,7 +203,14 @@ def faults_at(kind: str, one: Attempted, programs: int) -> Iterator[tuple[str, s
     elif kind == "reset":
         for program in range(programs):
             # Before the frame is there.
-            yield f"reset of program {program}", f"reset {program} {float(one.moment) - 0.000001:.6f}"
+            yield f"reset of program {program}", f"reset {program} {seconds_of(micros_of(one.moment) - 1)}"
+    elif kind == "down":
+        yield kind, f"down {one.sender} {seconds_of(micros_of(one.moment) - 1)} {seconds_of(DOWN_MICROS)}"
+    elif kind == "noack":
+        began = micros_of(one.began) - MICROS_BEFORE
+        took = micros_of(one.moment) + MICROS_AFTER - began
+        if not one.is_alone:
+            yield kind, f"noack {one.sender} {seconds_of(began)} {seconds_of(took)}"
     else:
         yield kind, KINDS[kind].line(one)
 

@@ -13,7 +13,7 @@ from typing import Optional
 from canbusd._sweep import worker
 from canbusd._sweep.attempts import attempts_in
 from canbusd._sweep.faults_given import Fault
-from canbusd._sweep.places import Place, pairs_of, places_at
+from canbusd._sweep.places import OF_SERVERS, Place, pairs_of, places_at
 from canbusd._sweep.pool import Job, Outcome, Pool
 from canbusd._sweep.results import Facts, read_results, test_facts, write_page, write_results
 from canbusd._sweep.telling import Telling
@@ -105,7 +105,8 @@ class Sweep:
                 continue
             if test.base is None or test.base.outcome != "passed":
                 continue
-            places = list(places_at(test.attempts, test.kinds, test.senders, test.ids, test.base.programs))
+            kinds = [kind for kind in test.kinds if test.task.is_virtual or kind not in OF_SERVERS]
+            places = list(places_at(test.attempts, kinds, test.senders, test.ids, test.base.programs))
             places += [Place("order", (), (), seed, options.jitter) for seed in range(1, options.seeds + 1)]
             if options.shard is not None:
                 number, count = options.shard

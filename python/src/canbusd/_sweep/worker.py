@@ -120,6 +120,8 @@ def start(task: Task, order: Order, room: Path, processor: int) -> int:
         given = placement_of(order.faults, room)
         placement.carry_out(given)
         result, modules = task.carry_out(order, given, room)
+        if given.failure:
+            result = Result("failed", f"the sweep itself failed: {given.failure}")
         result.programs, result.records = given.programs, sum_of(room)
         write_result(room, result, modules)
         status = 0
@@ -136,6 +138,7 @@ def placement_of(faults: Sequence[Fault], room: Path) -> placement.Placement:
         placement.copy_to(room),
         [fault.at_sockets for fault in faults if fault.at_sockets],
         [fault.reset for fault in faults if fault.reset],
+        [fault.outage for fault in faults if fault.outage],
     )
 
 

@@ -1,4 +1,4 @@
-"""Replays a record, and lists its attempts and restarts."""
+"""Replays a record, and lists its attempts and restarts, and which interfaces went down."""
 
 import argparse
 import itertools
@@ -7,7 +7,7 @@ import sys
 from collections.abc import Iterator, Sequence
 
 from canbusd._run.slots import Load, load_of, load_words, overlaps_of, slots_of
-from canbusd._run.steps import RESTART, moment_of
+from canbusd._run.steps import DOWN, RESTART, moment_of
 from canbusd.commands import add_rates, rates_of
 from canbusd.commands._command import add_record, note_of_names, replayed
 from canbusd.record import Attempt, Record, attempt_at, verdict_of
@@ -46,7 +46,7 @@ def add_arguments(parser: argparse.ArgumentParser) -> None:
 
 
 def run(options: argparse.Namespace) -> int:
-    """Writes a line for each attempt and restart, what there is to say of their times, and the verdict."""
+    """Writes a line for each attempt, restart and down, what there is to say of their times, and the verdict."""
     rates = rates_of(options)
     record = replayed(options.record, options.names, options.cut, rates)
     slots = slots_of(record.replay) if rates else []
@@ -92,7 +92,7 @@ def objects_of(record: Record) -> Iterator[dict[str, object]]:
         yield {"type": "attempt", "attempt": number, **vars(attempt)}
     steps = record.replay.steps
     for item, step in zip(record.items, record.replay.items.steps):
-        number = None if steps.kinds[step] == RESTART else steps.attempts[step]
+        number = None if steps.kinds[step] >= RESTART else steps.attempts[step]
         moment, frame = float(moment_of(steps.moments[step])), None if item.frame is None else str(item.frame)
         yield {"type": "item", "attempt": number, "timestamp": moment, **vars(item), "frame": frame}
 
@@ -105,6 +105,8 @@ def lines_of(record: Record) -> Iterator[str]:
         front, after = f"({moment_of(moment)}) {names[iface]}", f"counts {tec}/{rec}"
         if kind == RESTART:
             yield f"{front} restarted, {after}"
+        elif kind == DOWN:
+            yield f"{front} down, {after}"
         else:
             yield f"{front} {steps.text(place)} {words_of(attempt_at(run, names, place))}, {after}"
 

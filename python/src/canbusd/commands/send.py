@@ -89,7 +89,10 @@ def run(options: argparse.Namespace) -> None:
         except CanOperationError as fault:
             if fault.error_code != errno.ENETDOWN:
                 raise
+            is_down = bus.error_counters().state == "down"
             raise ValueError(
-                f"bus off: `canbusd restart {options.interface}` brings the interface back, as the server's "
+                f"interface down: `canbusd up {options.interface}` brings the interface up"
+                if is_down
+                else f"bus off: `canbusd restart {options.interface}` brings the interface back, as the server's "
                 "--auto-restart does"
             ) from None

@@ -12,6 +12,7 @@ import canbusd._python_can  # noqa: F401  it says what is missing, so it comes f
 
 from can.exceptions import CanOperationError
 
+from canbusd._page.acts import Acts
 from canbusd._page.live import MOST_FRAMES, Board, Json, Row, is_frame, opened
 from canbusd._process.program import ProgramNotFound
 from canbusd._process.rates import Rates
@@ -33,8 +34,12 @@ was started with --report.
 Of a server with a bit rate it has the bus load, and what each identifier takes of it.
 A session on each interface receives everything: each frame that it gets is an entry of the record.
 
+The page also sends frames, once and cyclically, gives rules of faults, and takes interfaces down and up, each with the line of
+Python that does the same. What is sent cyclically ends when the page is closed. With --read-only it does none of this.
+
   canbusd watch
   canbusd watch --port 0 -a ./bench.socket can0
+  canbusd watch --read-only --dbc car.dbc
 """
 BUS_ERROR, NOT_ACKNOWLEDGED, END_OF_FRAME, FORM = 0x080, 0x020, 0x1A, 0x02
 
@@ -156,6 +161,7 @@ def add_arguments(parser: argparse.ArgumentParser) -> None:
         metavar="S",
         help="seconds between two looks at the counts (default 0.25)",
     )
+    parser.add_argument("--read-only", action="store_true", help="the page only shows, and changes nothing")
     add_database(parser)
     add_address(parser)
 
@@ -165,15 +171,18 @@ def run(options: argparse.Namespace) -> None:
     if options.port > 65535:
         raise BadWords(f"--port is a number from 0 to 65535, not {options.port}")
     names: list[str] = options.interfaces or interfaces(options.address)
-    watcher, board = Watcher(names, options.address, database_of(options)), Board()
+    database = database_of(options)
+    watcher, board = Watcher(names, options.address, database), Board()
+    acts = None if options.read_only else Acts(names, options.address, database)
     known = {
         "names": names,
         "source": watcher.buses[0].address,
         "isDecoded": watcher.database is not None,
         "isTimed": watcher.wire is not None,
+        **({"messages": acts.messages()} if acts else {}),
     }
     has_path = parse_address(watcher.buses[0].address)[0] is not None
-    with opened(options.port, board, known, is_own=has_path) as pages:
+    with opened(options.port, board, known, is_own=has_path, acts=acts) as pages:
         threading.Thread(target=pages.serve_forever, daemon=True).start()
         print(f"watching {', '.join(names)} on {pages.url}", flush=True)
         try:

@@ -1,4 +1,4 @@
-use Rattle.std.proofs.Common.{◌≡◌, ℕ, zero, suc, ◌+◌, ◌*◌, nat_le, replicate, arith, ◌∙◌}
+use Rattle.std.proofs.Common.{◌≡◌, ℕ, zero, suc, false, refl, ◌+◌, ◌*◌, nat_le, replicate, arith, ◌∙◌}
 use Rattle.can_confine.specs.Confinement.{ErrorCounts, stepped, all_stepped, at_start, state_of, is_off}
 use Rattle.can_confine.specs.Confinement.Step.{TransmitError}
 use Rattle.can_confine.proofs.laws.thirty_two_errors_take_off.Goals as goal
@@ -13,11 +13,16 @@ errors_add_8 (suc n) c =
 off_from_256 : (n t : ℕ) → t ≡ 8 * n → nat_le 256 t ≡ nat_le 32 n
 off_from_256 n t e = grind arith
 
--- only the transmit count decides whether it is off
-off_by_transmit_count : (c : ErrorCounts) → is_off (state_of c) ≡ nat_le 256 c.tec
-off_by_transmit_count c = grind arith
+-- errors take nobody down
+errors_keep_up : (n : ℕ) (c : ErrorCounts) → (all_stepped c (replicate n TransmitError)).down ≡ c.down
+errors_keep_up zero c = refl
+errors_keep_up (suc n) c = errors_keep_up n (stepped c TransmitError)
+
+-- of what is not down, only the transmit count decides whether it is off
+off_by_transmit_count : (c : ErrorCounts) → c.down ≡ false → is_off (state_of c) ≡ nat_le 256 c.tec
+off_by_transmit_count c up = rw up (grind arith)
 
 pub returns : goal.returns
 returns c n =
-    off_by_transmit_count (all_stepped at_start (replicate n TransmitError))
+    off_by_transmit_count (all_stepped at_start (replicate n TransmitError)) (errors_keep_up n at_start)
     ∙ off_from_256 n _ (omega (arith, errors_add_8 n at_start))

@@ -5,4 +5,4 @@ use Rattle.can_record_text.specs.Values.{HasLine}
 use Rattle.can_record_text.proofs.text_laws.hold_lines.Given as goal
 
 abbrev pub invariant-loop-place : goal.invariant-loop-place
-invariant-loop-place l = All (HasLine version.Five l.config) (take l.place (reverse l.kept.history))
+invariant-loop-place l = All (HasLine version.Six l.config) (take l.place (reverse l.kept.history))

@@ -11,7 +11,7 @@ use Rattle.can_record_text.proofs.text_laws.read_back.Goals.{After-drop-text}
 
 -- the record has a text
 whole : (c : After-drop-text) → HasText c.args.kept.now.config (reverse c.args.kept.now.history)
-whole c = has_text c.args.kept.now.config (reverse c.args.kept.now.history) (subst (HasBusLine version.Five) c.config.ensures.config c.hold_config.ensures) c.hold_lines.ensures
+whole c = has_text c.args.kept.now.config (reverse c.args.kept.now.history) (subst (HasBusLine version.Six) c.config.ensures.config c.hold_config.ensures) c.hold_lines.ensures
 
 same : (c : After-drop-text) → (c.in-Ok.read.config ≡ c.args.kept.now.config) × (reverse c.in-Ok.read.history ≡ reverse c.args.kept.now.history)
 same c = c.in-Ok.ensures.back c.args.kept.now.config (reverse c.args.kept.now.history) (subst IsConfig c.config.ensures.config c.config.ensures.proper) (whole c, c.deref.ensures.value ∙ c.in_ok-text.ensures)

@@ -8,3 +8,6 @@ returns-in-Send c = λ h. subst (λ (e : Event). IfOk c.send_reply.result (λ r.
 
 pub returns-in-Restart : goal.returns-in-Restart
 returns-in-Restart c = λ h. c.restart_reply.ensures c.in-Restart.field-1 h ∙ ap (legal_reply c.args.config (reverse c.args.past.now)) (sym c.in-Restart.is)
+
+pub returns-in-Down : goal.returns-in-Down
+returns-in-Down c = λ h. c.down_reply.ensures (reverse c.args.past.now) c.in-Down.field-1 ∙ ap (legal_reply c.args.config (reverse c.args.past.now)) (sym c.in-Down.is)

@@ -2,8 +2,8 @@ use Rattle.std.proofs.Common.{◌≡◌, Bool, true, false, List, [], None, ℕ,
 use Rattle.canbusd_io.specs.declared.report.Report.{Report}
 use Rattle.canbusd_io.specs.declared.program_error.ProgramError.{ProgramError}
 use Rattle.canbusd_io.specs.declared.program_error.ProgramError.TheVariants as fault
-use Rattle.canbusd_audit.specs.Audited.{Faults, FaultsFiles, FaultsWhole, Leaves, asks_events}
-use Rattle.canbusd_audit.proofs.Telling.{cut_files_told, files_left, files_told, files_written, nothing_left, passed_on, paths_of}
+use Rattle.canbusd_audit.specs.Audited.{Faults, FaultsFiles, FaultsWhole, IsUnread, Leaves, asks_events}
+use Rattle.canbusd_audit.proofs.Telling.{cut_files_told, files_left, files_told, files_unread, files_written, nothing_left, passed_on, paths_of}
 use Rattle.canbusd_audit.proofs.audit_job.audit_asked.Goals as goal
 
 pub returns-then-options-clause-legal : goal.returns-then-options-clause-legal
@@ -31,13 +31,13 @@ pub returns-in_err-files-clause-written : goal.returns-in_err-files-clause-writt
 returns-in_err-files-clause-written g c =
     let failure = c.in_err-files.field-0.0 in
     passed_on (λ (x : Report). Leaves c.args.asked None x.error g.W.Write.contents c.args.output.now c.args.output.now) failure c.from_residual.result c.from_residual.ensures.1
-    (nothing_left c.args.asked None failure.error g.W.Write.contents c.args.output.now)
+    (nothing_left c.args.asked None failure.error g.W.Write.contents c.args.output.now (files_unread _ failure.error c.in_err-files.ensures))
 
 pub returns-in_default-clause-written : goal.returns-in_default-clause-written
-returns-in_default-clause-written g c = nothing_left c.args.asked None _ g.W.Write.contents c.args.output.now
+returns-in_default-clause-written g c = nothing_left c.args.asked None _ g.W.Write.contents c.args.output.now (subst IsUnread (sym c.new.ensures) tt)
 
 pub returns-in_default-new-clause-written : goal.returns-in_default-new-clause-written
-returns-in_default-new-clause-written g c = nothing_left c.args.asked None _ g.W.Write.contents c.args.output.now
+returns-in_default-new-clause-written g c = nothing_left c.args.asked None _ g.W.Write.contents c.args.output.now (subst IsUnread (sym c.new-in_default-new.ensures) tt)
 
 -- no memory for the files
 memory_of_files : (is_cut : Bool) (paths : List (List ℕ)) (why : ProgramError) → why ≡ fault.NoMemory → FaultsFiles is_cut paths why

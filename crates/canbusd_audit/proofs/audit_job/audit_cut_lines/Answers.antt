@@ -3,9 +3,9 @@ use Rattle.can_events.specs.declared.wanted.Wanted.{Wanted}
 use Rattle.can_replay.specs.EventTexts.{EndsCutEvents, HasWritten}
 use Rattle.can_replay.specs.TextAudits.{AreTaken, EndsNoLine, ReportsCut}
 use Rattle.canbusd_io.specs.declared.report.Report.{Report}
-use Rattle.canbusd_audit.specs.Audited.{FaultsCut, FaultsLine, Leaves, asks_events, wanted_of}
+use Rattle.canbusd_audit.specs.Audited.{FaultsCut, FaultsLine, IsUnread, Leaves, asks_events, wanted_of}
 use Rattle.canbusd_audit.proofs.Underway.{asked_so}
-use Rattle.canbusd_audit.proofs.Telling.{Either, all_told_cut, cut_written, left, line_or_cut, memory_told_cut, noted_cut, nothing_left, or_text, passed_on, ready}
+use Rattle.canbusd_audit.proofs.Telling.{Either, all_told_cut, cut_written, left_cut, line_or_cut, memory_told_cut, noted_cut, nothing_left, or_text, passed_on, ready}
 use Rattle.canbusd_audit.proofs.audit_job.audit_cut_lines.Goals as goal
 
 pub tell_cut-requires : goal.tell_cut-requires
@@ -25,7 +25,7 @@ returns-in_err-audit-clause-written g c =
     let first = g.R.Read.remaining c.args.input.now in
     let failure = c.in_err-audit.field-0.0 in
     passed_on (λ (x : Report). Leaves c.args.asked first x.error g.W.Write.contents c.args.output.now c.args.output.now) failure c.from_residual.result c.from_residual.ensures.1
-    (nothing_left c.args.asked first failure.error g.W.Write.contents c.args.output.now)
+    (nothing_left c.args.asked first failure.error g.W.Write.contents c.args.output.now (subst IsUnread (sym c.in_err-audit.ensures.fault) tt))
 
 pub returns-in_err-take_lines-clause-fault : goal.returns-in_err-take_lines-clause-fault
 returns-in_err-take_lines-clause-fault g c =
@@ -69,5 +69,8 @@ returns-clause-written g c =
     let first = g.R.Read.remaining c.args.input.now in
     let torn = c.take_lines.new.torn.items in
     let audit = c.take_lines.new.audit in
-    left c.args.asked first audit torn g.W.Write.contents c.args.output.now c.take_lines.new.output c.tell_cut.new.output c.finish_cut-found.result c.tell_cut.result (c.take_lines.ensures.asked ∙ c.in_ok-audit.ensures.asked)
-    (ready (wanted_of c.args.asked) first audit torn g.W.Write.contents c.args.output.now c.take_lines.new.output (c.in_ok-take_lines.ensures.taken (wanted_of c.args.asked) c.in_ok-audit.ensures.written)) c.finish_cut-found.ensures.wrong c.tell_cut.ensures.fault c.tell_cut.ensures.quiet
+    let taken = c.in_ok-take_lines.ensures.taken (wanted_of c.args.asked) c.in_ok-audit.ensures.written in
+    left_cut c.args.asked first audit torn g.W.Write.contents c.args.output.now c.take_lines.new.output c.tell_cut.new.output c.finish_cut-found.result c.tell_cut.result (c.take_lines.ensures.asked ∙ c.in_ok-audit.ensures.asked) taken.unended
+    (ready (wanted_of c.args.asked) first audit torn g.W.Write.contents c.args.output.now c.take_lines.new.output taken)
+    (subst (λ (l : List ℕ). (text : List ℕ) → AreTaken text audit → EndsNoLine l → ReportsCut (text ++ l) c.finish_cut-found.result) c.deref.ensures.value c.finish_cut-found.ensures.told)
+    c.finish_cut-found.ensures.wrong c.tell_cut.ensures.fault c.tell_cut.ensures.quiet

@@ -5,7 +5,7 @@ use Rattle.can_record_text.specs.RecordFaults.{Reads}
 use Rattle.can_replay.specs.EventTexts.{HasWritten}
 use Rattle.can_replay.specs.TextAudits.{AreTaken, IsLine, MayFollow}
 use Rattle.canbusd_audit.specs.Audited.{TakesMore}
-use Rattle.canbusd_audit.proofs.HeldLines.{fails_in, takes_more}
+use Rattle.canbusd_audit.proofs.HeldLines.{begins_wrong, fails_in, takes_more}
 use Rattle.canbusd_audit.proofs.buffered.carry_held.Goals as goal
 
 whole_rest : (xs : List ℕ) (n : ℕ) → take (length xs - n) (drop n xs) ≡ drop n xs
@@ -29,7 +29,19 @@ returns-in-Err-clause-fault c =
     (subst (λ (n : ℕ). (text after : List ℕ) → AreTaken text c.loop-place.audit → IsLine (take n (drop len held)) → MayFollow (take n (drop len held)) after → Reads (text ++ (take n (drop len held) ++ after)) (Err c.in-Err.fault)) size c.in-Err.ensures.fault)
 
 pub returns-in-Err-clause-before : goal.returns-in-Err-clause-before
-returns-in-Err-clause-before c = λ some. (c.loop-place.audit, c.loop-place.invariant.taken, c.loop-place.invariant.asked, c.in-Err.ensures.held)
+returns-in-Err-clause-before c =
+    let held = c.args.held.now in
+    let len = c.loop-place.len in
+    let place = c.in-Some.place in
+    let found : IsFirstByte (is_byte 10) (drop len held) (Some place) = rw whole_rest at c.in-Some.ensures in
+    let size : len + place + 1 - len ≡ place + 1 = omega arith in (
+      c.loop-place.audit,
+      c.loop-place.invariant.taken,
+      c.loop-place.invariant.asked,
+      c.in-Err.ensures.held,
+      begins_wrong held len place c.loop-place.audit c.in-Err.fault found
+          (subst (λ (n : ℕ). (text after : List ℕ) → AreTaken text c.loop-place.audit → IsLine (take n (drop len held)) → MayFollow (take n (drop len held)) after → Reads (text ++ (take n (drop len held) ++ after)) (Err c.in-Err.fault)) size c.in-Err.ensures.fault),
+    )
 
 pub loop-place-preserved : goal.loop-place-preserved
 loop-place-preserved c =

@@ -22,5 +22,5 @@ returns-in-Some-clause-became g c =
     let filled = subst (FillKeeps _ (g.R.Read.remaining rested) (g.R.BufRead.consumable_len rested)) c.in-Ok.is c.fill_buf.follows.holds-at-none in
     let moved = Consumes_shown _ _ _ _ shown len c.carry_held-len.ensures.within c.in-Ok.ensures.front c.in-Ok.ensures.end filled.0 filled.1 c.consume.ensures.bytes in (
       may_be_at_fault _ c.args.audit.now c.carry_held-len.result.1 c.in-Some.fault c.in-Ok.held.now c.in-Some.is c.in-Ok.ensures.front c.carry_held-len.ensures.fault,
-      stops_after _ _ c.args.audit.now c.carry_held-len.new.audit _ c.carry_held-len.result.1 c.in-Some.fault c.in-Some.is moved.0 c.carry_held-len.ensures.before,
+      stops_after _ _ c.args.audit.now c.carry_held-len.new.audit shown len c.carry_held-len.result.1 c.in-Some.fault c.in-Some.is moved.0 c.in-Ok.ensures.front c.carry_held-len.ensures.before,
     )

@@ -2,14 +2,13 @@ use Rattle.std.proofs.Common.{◌++◌, Bool, true, false, Err, List, Option, []
 use Rattle.std.proofs.KnownBytes.{Appends-nil, Consumes-nil}
 use Rattle.can_events.specs.declared.wanted.Wanted.{Wanted}
 use Rattle.can_record_text.specs.RecordFaults.{Reads}
-use Rattle.can_replay.specs.declared.text_audit.Phase.{Phase}
 use Rattle.can_replay.specs.declared.text_audit.TextAudit.{TextAudit}
 use Rattle.can_replay.specs.EventTexts.{HasWritten, has_events}
 use Rattle.can_replay.specs.TextAudits.{AreTaken, IsLine, MayFollow}
 use Rattle.canbusd_io.specs.Files.{IsOfReading}
 use Rattle.canbusd_audit.specs.Audited.{BecomesOf, IsInputTaken, IsNextLine, Puts}
 use Rattle.canbusd_audit.specs.declared.buffered.Buffered.{Buffered}
-use Rattle.canbusd_audit.proofs.Fronts.{leaves_put, leaves_stopped, names_line, names_reading}
+use Rattle.canbusd_audit.proofs.Fronts.{leaves_line, leaves_stopped, leaves_unread}
 use Rattle.canbusd_audit.proofs.Underway.{ends, ends_torn, fails_held, fails_so, goes_on, put_more, put_on, stops}
 use Rattle.canbusd_audit.proofs.line_taking.take_lines.Goals as goal
 
@@ -50,16 +49,16 @@ returns-in-Ok-Wrong-clause-written g c = λ w start.
     let now = g.R.Read.remaining c.loop.input in
     let after = g.R.Read.remaining c.take_held.new.input in
     let became = subst (λ (h : Buffered). BecomesOf h now after c.loop.audit c.take_held.new.audit) c.in-Ok-Wrong.field-0-is c.in-Ok-Wrong.ensures.became in
-    inr (leaves_stopped w (g.R.Read.remaining c.args.input.now) now after c.args.audit.now.events c.loop.audit c.take_held.new.audit c.held_failure.result.error g.W.Write.contents c.args.output.now c.loop.output c.put_events-in-Ok-Wrong.new.output
-    c.loop.invariant.asked c.take_held.ensures.asked (c.loop.invariant.put w start) became.1 c.in_ok-put_events-in-Ok-Wrong.ensures.put (λ (p : Phase). names_line c.in-Ok-Wrong.fault c.held_failure.result.error p c.held_failure.ensures))
+    inr (leaves_stopped w (g.R.Read.remaining c.args.input.now) now after c.args.audit.now.events c.loop.audit c.take_held.new.audit c.in-Ok-Wrong.fault c.held_failure.result.error g.W.Write.contents c.args.output.now c.loop.output c.put_events-in-Ok-Wrong.new.output
+    c.loop.invariant.asked c.take_held.ensures.asked (c.loop.invariant.put w start) became.1 c.in_ok-put_events-in-Ok-Wrong.ensures.put c.held_failure.ensures)
 
 pub returns-in-Err-clause-fault : goal.returns-in-Err-clause-fault
 returns-in-Err-clause-fault g c = inr (stops (g.R.Read.remaining c.args.input.now) c.read_failure.result.error c.read_failure.ensures)
 
 pub returns-in-Err-clause-written : goal.returns-in-Err-clause-written
 returns-in-Err-clause-written g c = λ w start.
-    inr (leaves_put w (g.R.Read.remaining c.args.input.now) (g.R.Read.remaining c.loop.input) c.args.audit.now.events c.loop.audit c.read_failure.result.error g.W.Write.contents c.args.output.now c.loop.output (sym c.loop.invariant.asked)
-    c.loop.invariant.none (c.loop.invariant.put w start) (names_reading c.read_failure.result.error c.loop.audit.phase c.read_failure.ensures))
+    inr (leaves_unread w (g.R.Read.remaining c.args.input.now) (g.R.Read.remaining c.loop.input) c.args.audit.now.events c.loop.audit c.read_failure.result.error g.W.Write.contents c.args.output.now c.loop.output (sym c.loop.invariant.asked)
+    c.loop.invariant.none (c.loop.invariant.put w start) c.read_failure.ensures)
 
 -- what the reader held was taken, and its events put out
 pub returns-in-Ok-false-clause-taken : goal.returns-in-Ok-false-clause-taken
@@ -89,8 +88,8 @@ returns-in-Err-next_line-clause-written g c = λ w start.
     let on = put_on w first now held c.loop.audit c.take_held.new.audit contents c.args.output.now c.loop.output c.take_held.ensures.asked (became w first) (c.loop.invariant.put w start) in
     let put = put_more w first held c.take_held.new.audit c.put_events.new.audit contents c.args.output.now c.loop.output c.put_events.new.output c.put_events.ensures.asked c.in_ok-put_events-in-Ok-Lines.ensures.written c.in_ok-put_events-in-Ok-Lines.ensures.put on in
     let kind = sym (c.put_events.ensures.asked ∙ (c.take_held.ensures.asked ∙ c.loop.invariant.asked)) in
-    inr (leaves_put w first held c.args.audit.now.events c.put_events.new.audit c.in-Err-next_line.failure.error contents c.args.output.now c.put_events.new.output kind c.in_ok-put_events-in-Ok-Lines.ensures.none put
-    (names_reading c.in-Err-next_line.failure.error c.put_events.new.audit.phase c.in-Err-next_line.ensures.fault))
+    inr (leaves_unread w first held c.args.audit.now.events c.put_events.new.audit c.in-Err-next_line.failure.error contents c.args.output.now c.put_events.new.output kind c.in_ok-put_events-in-Ok-Lines.ensures.none put
+    c.in-Err-next_line.ensures.fault)
 
 pub returns-in-Err-carry-clause-fault : goal.returns-in-Err-carry-clause-fault
 returns-in-Err-carry-clause-fault g c =
@@ -114,13 +113,16 @@ returns-in-Err-carry-clause-written g c = λ w start.
     let first = g.R.Read.remaining c.args.input.now in
     let now = g.R.Read.remaining c.loop.input in
     let held = g.R.Read.remaining c.take_held.new.input in
+    let after = g.R.Read.remaining c.next_line.new.input in
+    let line = c.next_line.new.line.items in
     let contents = g.W.Write.contents in
     let became = subst (λ (h : Buffered). BecomesOf h now held c.loop.audit c.take_held.new.audit) c.in-Ok-Lines.field-0-is c.in-Ok-Lines.ensures.became in
     let on = put_on w first now held c.loop.audit c.take_held.new.audit contents c.args.output.now c.loop.output c.take_held.ensures.asked (became w first) (c.loop.invariant.put w start) in
     let put = put_more w first held c.take_held.new.audit c.put_events.new.audit contents c.args.output.now c.loop.output c.put_events.new.output c.put_events.ensures.asked c.in_ok-put_events-in-Ok-Lines.ensures.written c.in_ok-put_events-in-Ok-Lines.ensures.put on in
     let kind = sym (c.put_events.ensures.asked ∙ (c.take_held.ensures.asked ∙ c.loop.invariant.asked)) in
-    inr (leaves_put w first held c.args.audit.now.events c.put_events.new.audit c.line_failure.result.error contents c.args.output.now c.put_events.new.output kind c.in_ok-put_events-in-Ok-Lines.ensures.none put
-    (names_line c.in-Err-carry.fault c.line_failure.result.error c.put_events.new.audit.phase c.line_failure.ensures))
+    inr (leaves_line w first held after line c.args.audit.now.events c.put_events.new.audit c.in-Err-carry.fault c.line_failure.result.error contents c.args.output.now c.put_events.new.output kind c.in_ok-put_events-in-Ok-Lines.ensures.none put
+    (subst (λ (b : Bool). IsNextLine b held after line) c.in-Ok-true.field-0-test c.in-Ok-true.ensures.read)
+    (subst (λ (l : List ℕ). (text rest : List ℕ) → AreTaken text c.put_events.new.audit → IsLine l → MayFollow l rest → Reads (text ++ (l ++ rest)) (Err c.in-Err-carry.fault)) c.deref.ensures.value c.in-Err-carry.ensures.fault) c.line_failure.ensures)
 
 pub loop-preserved : goal.loop-preserved
 loop-preserved g c = record {
@@ -147,5 +149,5 @@ returns-clause-fault g c = inr (stops (g.R.Read.remaining c.args.input.now) c.ne
 
 pub returns-clause-written : goal.returns-clause-written
 returns-clause-written g c = λ w start.
-    inr (leaves_put w (g.R.Read.remaining c.args.input.now) (g.R.Read.remaining c.loop.input) c.args.audit.now.events c.loop.audit c.new.result.error g.W.Write.contents c.args.output.now c.loop.output (sym c.loop.invariant.asked)
-    c.loop.invariant.none (c.loop.invariant.put w start) (names_reading c.new.result.error c.loop.audit.phase (subst IsOfReading (sym c.new.ensures) tt)))
+    inr (leaves_unread w (g.R.Read.remaining c.args.input.now) (g.R.Read.remaining c.loop.input) c.args.audit.now.events c.loop.audit c.new.result.error g.W.Write.contents c.args.output.now c.loop.output (sym c.loop.invariant.asked)
+    c.loop.invariant.none (c.loop.invariant.put w start) (subst IsOfReading (sym c.new.ensures) tt))

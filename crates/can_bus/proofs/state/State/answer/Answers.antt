@@ -2,13 +2,14 @@ use Rattle.std.proofs.Common.{refl, sym, subst}
 use Rattle.can_event.specs.Events.{with_option}
 use Rattle.can_event.specs.declared.event.Event.{Event}
 use Rattle.can_event.specs.declared.event.Event.TheVariants as event
-use Rattle.can_bus.specs.Changes.{Attempts, Closes, Receives, Restarts, Sends, Sets, pending_of}
+use Rattle.can_bus.specs.Changes.{Attempts, Closes, Receives, Restarts, Sends, Sets, TakesDown, pending_of}
 use Rattle.can_bus.specs.Lean.{Carries}
 use Rattle.can_bus.specs.State.{Parts}
-use Rattle.can_bus.proofs.Attempting.{attempt_follows, never_left, sixteen_nodes, ready, few_nodes}
+use Rattle.can_bus.proofs.Attempting.{attempt_follows, never_left, sixteen_nodes, ready, few_nodes, nodes_there}
 use Rattle.can_bus.proofs.Bounds.{small_opened, small_sent, small_refused, known_ifaces, small_taken, small_gone, small_done, small_dropped, small_dropped_one, small_tried}
 use Rattle.can_bus.proofs.Carrying.{carried, carried-open, carried-filters}
 use Rattle.can_bus.proofs.Closing.{closed_follows}
+use Rattle.can_bus.proofs.Downing.{taken_down_follows}
 use Rattle.can_bus.proofs.Receiving.{received_follows}
 use Rattle.can_bus.proofs.Restarting.{restarted_follows}
 use Rattle.can_bus.proofs.Sending.{sent_follows}
@@ -44,6 +45,9 @@ attempt-requires g c = record {
 
 pub restart-requires : goal.restart-requires
 restart-requires g c = small_dropped_one _ _ c.requires.kept
+
+pub down-requires : goal.down-requires
+down-requires g c = nodes_there _ _ c.requires.kept
 
 pub returns-in-Open : goal.returns-in-Open
 returns-in-Open g c = λ past kept room.
@@ -87,3 +91,8 @@ pub returns-in-Restart : goal.returns-in-Restart
 returns-in-Restart g c = λ past kept room.
     carried c.args.config past (event.Restart c.in-Restart.iface c.in-Restart.moment) _ (λ (p : Parts). Restarts p c.in-Restart.iface c.in-Restart.moment c.restart.result c.restart.new.self)
     c.in-Restart.is kept room c.restart.ensures refl (restarted_follows _ _ c.in-Restart.iface c.in-Restart.moment _ _ kept.legal kept.proper.few_ifaces)
+
+pub returns-in-Down : goal.returns-in-Down
+returns-in-Down g c = λ past kept room.
+    carried c.args.config past (event.Down c.in-Down.iface _) _ (λ (p : Parts). TakesDown p c.in-Down.iface c.down.result c.down.new.self)
+    c.in-Down.is kept room c.down.ensures refl (taken_down_follows _ _ c.in-Down.iface _ _ _ kept.proper.few_ifaces)

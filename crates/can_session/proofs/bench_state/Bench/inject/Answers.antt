@@ -7,7 +7,7 @@ pub returns-in_default : goal.returns-in_default
 returns-in_default c =
     let stood = c.self.inside in
     let new = c.take_rule.new.self in
-    let old : BenchState = record { capacity = stood.capacity; shows_faults = stood.shows_faults; bus = stood.port; sessions = stood.sessions.items; moment = stood.moment; wire = stood.wire; ignored = stood.ignored } in
+    let old : BenchState = record { capacity = stood.capacity; shows_faults = stood.shows_faults; bus = stood.port; sessions = stood.sessions.items; moment = stood.moment; ignored = stood.ignored } in
     let after : BenchState = record old { bus = new } in
     subst (λ (b : BenchState). IsInjected c.args.rule.now b after) c.self.view_is
     (record { plan = new.plan; takes = c.in_default.ensures.takes; after_is = ap (λ (bus : NamedBus). record old { bus = bus }) c.take_rule.ensures.same })

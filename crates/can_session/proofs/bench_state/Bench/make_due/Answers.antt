@@ -19,7 +19,7 @@ returns-then-not-branch-clause-made g c =
         mid = b;
         last = put.0;
         tried = inv.2;
-        ends = inr (due, stops_full v c.args.moment b put.0 c.attempt.new.self due none, none.0);
+        ends = inr (due, stops_full v b put.0 c.attempt.new.self none, none.0);
         said = refl;
       },
       put.2 ∙ ap (λ (t : List ℕ). t ++ put.0) inv.3 ∙ append_assoc c.args.said.now.items inv.1 put.0,

@@ -10,7 +10,7 @@ use Rattle.can_session.proofs.bench_state.Bench.run_act.Goals as goal
 pub returns-in_ok-end_output-in-Some : goal.returns-in_ok-end_output-in-Some
 returns-in_ok-end_output-in-Some c =
     let stood = c.self.inside in
-    let old : BenchState = record { capacity = stood.capacity; shows_faults = stood.shows_faults; bus = stood.port; sessions = stood.sessions.items; moment = stood.moment; wire = stood.wire; ignored = stood.ignored } in
+    let old : BenchState = record { capacity = stood.capacity; shows_faults = stood.shows_faults; bus = stood.port; sessions = stood.sessions.items; moment = stood.moment; ignored = stood.ignored } in
     let heard : BenchState = noted c.args.act c.args.session old in
     let after = λ (u : IgnoredInput). record heard { sessions = slice_set stood.sessions.items c.place.result (Some c.carry_out.new.session); bus = c.carry_out.new.port; ignored = u } in
     let within = subst (λ (n : ℕ). c.place.result < n) (sym c.self.invariant) c.place.ensures.within in

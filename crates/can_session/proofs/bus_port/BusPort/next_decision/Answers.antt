@@ -9,7 +9,7 @@ use Rattle.can_session.proofs.bus_port.BusPort.next_decision.Goals as goal
 pub returns-in-None-clause-verdict : goal.returns-in-None-clause-verdict
 returns-in-None-clause-verdict g c =
     let stood = c.self.inside in
-    let old : NamedBus = record { names = stood.names; journal = stood.bus; plan = stood.plan; used = stood.used } in
+    let old : NamedBus = record { names = stood.names; journal = stood.bus; plan = stood.plan; schedule = stood.schedule } in
     let head = c.next_head.result in
     ap (λ (d : Decision). d.verdict) c.decision_of_rules.ensures.decision
     ∙ ruled-decided stood.plan.rules (head_in head)

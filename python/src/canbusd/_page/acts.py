@@ -1,0 +1,243 @@
+"""What the live page does when its user asks: it sends, gives rules of faults and ends them, and takes interfaces down and up.
+
+Each act returns the line of Python that does the same. A frame is sent cyclically only while the page that asked for it is open.
+"""
+
+import contextlib
+import json
+import re
+import secrets
+import threading
+import time
+from collections.abc import Callable, Iterator, Sequence
+from typing import Any, Optional
+
+import canbusd._python_can  # noqa: F401  it says what is missing, so it comes first
+
+from can.exceptions import CanError
+
+from canbusd._session.protocol import NO_FRAMES
+from canbusd.bus import CanbusdBus
+from canbusd.frames import Frame, command_of
+from canbusd.rules import parse_rule
+from canbusd.signals import Database
+
+#: How many frames are sent cyclically at once, and the least and most seconds between two of one.
+MOST_CYCLES, LEAST_PERIOD, MOST_PERIOD = 64, 0.001, 3600.0
+# A number as Python spells it, too.
+NUMBER = re.compile(r"-?(?:0|[1-9][0-9]*)(?:\.[0-9]+)?")
+
+Json = dict[str, Any]
+
+
+class Cycle:
+    """A frame that is sent again and again until it is stopped."""
+
+    def __init__(self, bus: CanbusdBus, frame: Frame, period: float, text: str) -> None:
+        self.bus, self.period, self.text = bus, period, text
+        #: Why the last one was refused; the empty text if it was not.
+        self.fault = ""
+        self._frame, self._has_ended = frame, threading.Event()
+        self._thread = threading.Thread(target=self._run, name="canbusd cycle", daemon=True)
+        self._thread.start()
+
+    def stop(self) -> None:
+        """Ends it; nothing is sent once this has returned."""
+        self._has_ended.set()
+        self._thread.join()
+
+    def _run(self) -> None:
+        due = time.monotonic()
+        while not self._has_ended.wait(max(0.0, due - time.monotonic())):
+            try:
+                self.bus.send(self._frame)
+                self.fault = ""
+            except CanError as fault:
+                self.fault = words_of(fault)
+            # Those that are late are left out.
+            due = max(due + self.period, time.monotonic())
+
+
+class Acts:
+    """What pages may ask of these interfaces, of the server at this address."""
+
+    def __init__(self, names: Sequence[str], address: Optional[str], database: Optional[Database] = None) -> None:
+        self._names, self._address, self._database = names, address, database
+        self._lock = threading.Lock()
+        # A session for each interface that was asked for something.
+        self._buses: dict[str, CanbusdBus] = {}
+        # The cyclic frames of each page that is open, by their numbers.
+        self._cycles: dict[str, dict[int, Cycle]] = {}
+        self._number = 0
+        #: The acts, by the names by which pages ask for them.
+        self.by_name: dict[str, Callable[[Json], str]] = {
+            "send": self._send,
+            "cycle": self._cycle,
+            "stop": self._stop,
+            "rule": self._rule,
+            "end": self._end,
+            "down": self._down,
+            "up": self._up,
+            "restart": self._restart,
+        }
+
+    def do(self, name: str, asked: Json) -> Json:
+        """Does this act, and returns the line of Python that does the same, or why it was refused."""
+        try:
+            return {"python": self.by_name[name](asked)}
+        except (CanError, ValueError) as fault:
+            return {"fault": words_of(fault)}
+
+    @contextlib.contextmanager
+    def page(self) -> Iterator[Callable[[], Json]]:
+        """A page that is open, and what it is told of itself. What is sent cyclically for it ends with it."""
+        page = secrets.token_urlsafe(8)
+        with self._lock:
+            self._cycles[page] = {}
+        try:
+            yield lambda: {"page": page, "cycles": self._shown(page)}
+        finally:
+            with self._lock:
+                cycles = self._cycles.pop(page)
+            for cycle in cycles.values():
+                cycle.stop()
+
+    def _shown(self, page: str) -> list[list[Any]]:
+        """What is sent cyclically for a page: number, interface, frame, seconds and refusal of each."""
+        with self._lock:
+            cycles = list(self._cycles[page].items())
+        return [[number, one.bus.channel, one.text, one.period, one.fault] for number, one in cycles]
+
+    def messages(self) -> list[list[Any]]:
+        """The messages of the files: name, cycle time in seconds, and of each signal name, unit, start and names of values."""
+        found = self._database.messages if self._database is not None else []
+        return [
+            [one.name, one.cycle_time, [[of.name, of.unit, of.start, [*of.choices.values()]] for of in one.signals]]
+            for one in found
+        ]
+
+    def _send(self, asked: Json) -> str:
+        frame, words = self._frame(asked)
+        bus = self._bus(asked)
+        bus.send(frame)
+        return on_bus(f"bus.send({words})", bus, frame.is_fd)
+
+    def _cycle(self, asked: Json) -> str:
+        frame, words = self._frame(asked)
+        bus, period, page = self._bus(asked), period_of(asked), text_of(asked, "page")
+        with self._lock:
+            if page not in self._cycles:
+                raise ValueError("the page has lost its connection, with which cyclic frames end")
+            if sum(map(len, self._cycles.values())) >= MOST_CYCLES:
+                raise ValueError(f"{MOST_CYCLES} frames are sent cyclically already")
+            self._number += 1
+            text = f"{asked['message']} {frame}" if "message" in asked else f"{frame}"
+            self._cycles[page][self._number] = Cycle(bus, frame, period, text)
+        return on_bus(f"task = bus.send_periodic({words}, {period:g})", bus, frame.is_fd)
+
+    def _stop(self, asked: Json) -> str:
+        page, number = text_of(asked, "page"), asked.get("cycle")
+        with self._lock:
+            cycle = self._cycles.get(page, {}).pop(number, None) if isinstance(number, int) else None
+        if cycle is None:
+            raise ValueError("it has ended already")
+        cycle.stop()
+        return "task.stop()"
+
+    def _rule(self, asked: Json) -> str:
+        rule, bus = parse_rule(text_of(asked, "rule").strip()), self._bus(asked)
+        # With a line feed it is a text, and no path.
+        bus.inject(f"{rule}\n")
+        return f"server.inject({quoted(str(rule))}, {quoted(bus.channel)})"
+
+    def _end(self, asked: Json) -> str:
+        bus = self._bus(asked)
+        bus.end_rules()
+        return f"server.end_rules({quoted(bus.channel)})"
+
+    def _down(self, asked: Json) -> str:
+        bus = self._bus(asked)
+        bus.down()
+        return f"server.down({quoted(bus.channel)})"
+
+    def _up(self, asked: Json) -> str:
+        bus = self._bus(asked)
+        bus.up()
+        return f"server.up({quoted(bus.channel)})"
+
+    def _restart(self, asked: Json) -> str:
+        bus = self._bus(asked)
+        bus.restart()
+        return on_bus("bus.restart()", bus)
+
+    def _bus(self, asked: Json) -> CanbusdBus:
+        """The session on the interface that is asked for."""
+        name = text_of(asked, "node")
+        if name not in self._names:
+            raise ValueError(f"node is one of {', '.join(self._names)}, not {name!r}")
+        with self._lock:
+            if name not in self._buses:
+                self._buses[name] = CanbusdBus(name, NO_FRAMES, address=self._address, fd=True, error_frames=False)
+            return self._buses[name]
+
+    def _frame(self, asked: Json) -> tuple[Frame, str]:
+        """The frame that is asked for, by its text or by the values of signals, and the words of Python for it."""
+        if "message" not in asked:
+            frame = Frame.parse(text_of(asked, "frame"))
+            # It says so where nobody can send it.
+            command_of(frame)
+            return frame, message_words(frame)
+        name, values = text_of(asked, "message"), asked.get("signals")
+        if self._database is None:
+            raise ValueError("the names of signals need --dbc FILE")
+        if not isinstance(values, dict) or not all(isinstance(value, str) for value in values.values()):
+            raise ValueError("signals are an object of texts")
+        given = ", ".join(f"{quoted(one)}: {value_words(value)}" for one, value in values.items())
+        return self._database.encode(name, values), f"database.encode({quoted(name)}, {{{given}}})"
+
+
+def text_of(asked: Json, name: str) -> str:
+    """Returns the text of this name that was asked for."""
+    found = asked.get(name)
+    if not isinstance(found, str):
+        raise ValueError(f"{name} is a text, not {found!r}")
+    return found
+
+
+def period_of(asked: Json) -> float:
+    """Returns the seconds between two frames that were asked for."""
+    found = asked.get("period")
+    if not isinstance(found, (int, float)) or not LEAST_PERIOD <= found <= MOST_PERIOD:
+        raise ValueError(f"a period is from {1000 * LEAST_PERIOD:g} to {1000 * MOST_PERIOD:g} ms")
+    return found
+
+
+def words_of(fault: Exception) -> str:
+    """Returns what a fault says, without the number that python-can adds."""
+    return str(fault).partition(" [Error Code ")[0]
+
+
+def quoted(text: str) -> str:
+    """Returns a text as Python spells it."""
+    return json.dumps(text, ensure_ascii=False)
+
+
+def value_words(text: str) -> str:
+    """Returns the value of a signal as Python spells it: a number, or a name."""
+    return text if NUMBER.fullmatch(text) else quoted(text)
+
+
+def on_bus(line: str, bus: CanbusdBus, is_fd: bool = False) -> str:
+    """Returns a line of Python, with which bus it is about."""
+    return f"{line}  # bus = server.bus({quoted(bus.channel)}{', fd=True' if is_fd else ''})"
+
+
+def message_words(frame: Frame) -> str:
+    """Returns the message of python-can that a frame is, in words of Python."""
+    words = [f"arbitration_id=0x{frame.arbitration_id:X}"]
+    words += [f'data=bytes.fromhex("{frame.data.hex(" ").upper()}")'] if frame.data else []
+    words += [f"dlc={frame.dlc}"] if frame.is_remote_frame else []
+    words += [] if frame.is_extended_id else ["is_extended_id=False"]
+    flags = ("is_remote_frame", "is_fd", "bitrate_switch", "error_state_indicator")
+    words += [f"{name}=True" for name in flags if getattr(frame, name)]
+    return f"can.Message({', '.join(words)})"
