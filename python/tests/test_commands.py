@@ -342,6 +342,11 @@ def test_status_has_the_load_of_buses_with_a_bit_rate():
         "can1       off     256    0     1     0        0     1        0  100.0 % ##########",
         "body0      active    0    7     0     0        0     0        0    0.0 % ..........",
     ]
+    assert table_of(rows[1:], [Load(432, 1_080_000, 5_000, 5_000), Load(0, 0, 0, 0)]) == [
+        "interface  state   TEC  REC  sent  done  waiting  lost  refused            bus load",
+        "can1       off     256    0     1     0        0     1        0   43.2 % ####......",
+        "body0      active    0    7     0     0        0     0        0                   -",
+    ]
     assert table_of(rows[:1], [Load(0, 0, 0, 0)]) == [
         "interface  state   TEC  REC  sent  done  waiting  lost  refused",
         "can0       active    0    0  1200  1190       10     0        3",

@@ -4,6 +4,8 @@ _canbusd() {
     COMPREPLY=()
     # The value of an option follows a blank or `=`, at which bash parts words unless COMP_WORDBREAKS lacks it.
     [ "$before" != = ] || before=${COMP_WORDS[COMP_CWORD - 2]}
+    # So does the number of `--bitrate NAME=`.
+    case ${COMP_WORDS[COMP_CWORD - 1]},${COMP_WORDS[COMP_CWORD - 3]} in =,--bitrate | =,--dbitrate) before=--bitrate ;; esac
     case $text in --*=*) before=${text%%=*} ;; esac
     local package="dump send status watch fault restart down up restbus convert extcap sweep report replay"
     local options="--ack --report --txqueue --rxqueue --limit --auto-restart --bitrate --dbitrate --help"

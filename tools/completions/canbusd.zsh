@@ -41,8 +41,8 @@ _canbusd() {
         '--rxqueue=[capacity of a receive queue]:items:'
         '--limit=[most events of a bus]:events:'
         '--auto-restart=[attempts from bus off to an automatic restart]:attempts:'
-        '--bitrate=[bits a second]:bits:'
-        '--dbitrate=[bits a second of the data of FD frames]:bits:'
+        '*--bitrate=[bits a second; NAME=N for the bus of an interface]:bits:'
+        '*--dbitrate=[bits a second of the data of FD frames; NAME=N for the bus of an interface]:bits:'
         '(- *)--help[show the help]'
     )
     case $line[1] in
@@ -72,8 +72,8 @@ _canbusd() {
         _arguments '(- *)--help[show the help]' \
             '--cut[audit a record that is cut off]' \
             '--events[write what each entry brought about]' \
-            '--bitrate=[bits a second, for what attempts take on the wire]:bits:' \
-            '--dbitrate=[bits a second of the data of FD frames]:bits:' \
+            '*--bitrate=[bits a second, for what attempts take on the wire]:bits:' \
+            '*--dbitrate=[bits a second of the data of FD frames]:bits:' \
             '--faults=[names and script of faults of the run]:bus:_canbusd_bus' \
             '*:record:_files'
         ;;

@@ -33,7 +33,7 @@ pub use files::{INPUT, OUTPUT, open_file, read_failure, read_text, utf8_note, wr
 pub use limited_reads::LimitedReads;
 pub use live::{LiveLog, LiveRecord};
 pub use live_faults::LiveFaults;
-pub use names::{has_name, read_names};
+pub use names::read_names;
 pub use notes::{WITH_CR, fixed_note, reason_note};
 pub use program_error::ProgramError;
 pub use report::{Report, Reporter};

@@ -22,7 +22,8 @@ from canbusd import _placement as placement
 from canbusd._expect.bench_time import PassesTime
 from canbusd._process.dialogue import MOST_INPUT as MOST_INPUT, BenchError as BenchError, Dialogue, moment_text
 from canbusd._process.program import audited
-from canbusd._process.program_run import Ack, bus_of, option_words, rates_of
+from canbusd._process.program_run import Ack, bus_of, option_words, rates_by_bus
+from canbusd._process.rates import BitRate, words_of
 from canbusd._restbus.node import Node
 from canbusd._restbus.nodes import database_of
 from canbusd._restbus.simulated_nodes import HasRestBus
@@ -84,17 +85,18 @@ class Bench(PassesTime, Dialogue, HasRestBus["BenchRestBus"], NamesWhatThereIs):
         txqueue: int = 10,
         rxqueue: int = 256,
         limit: int = 1_000_000,
-        bitrate: Optional[int] = None,
-        data_bitrate: Optional[int] = None,
-        dbitrate: Optional[int] = None,
+        bitrate: Optional[BitRate] = None,
+        data_bitrate: Optional[BitRate] = None,
+        dbitrate: Optional[BitRate] = None,
         out: Union[str, "os.PathLike[str]", None] = None,
         observe: Union[str, Sequence[str], None] = None,
         database: Union[Database, str, "os.PathLike[str]", None] = None,
     ) -> None:
         words = option_words(ack, report, auto_restart=auto_restart, txqueue=txqueue, rxqueue=rxqueue, limit=limit)
-        self._rates = rates_of(bitrate, data_bitrate, dbitrate)
-        words += self._rates.words if self._rates else []
         self.names, faults = bus_of(names, faults)
+        self._rates_by_bus = rates_by_bus({self.names[0]: self.names}, bitrate, data_bitrate, dbitrate)
+        self._rates = self._rates_by_bus[self.names[0]]
+        words += words_of(self._rates_by_bus)
         self.database = None if database is None else database_of(database)
         PassesTime.__init__(self, observe)
         Dialogue.__init__(self, out)
