@@ -173,6 +173,7 @@ HELP = [
     ("bench -h", "Carry out the lines"),
     ("help bench", "Carry out the lines"),
     ("help audit", "Check that a record"),
+    ("help bits", "Write the bits of a frame"),
     ("serve -h", "Serve clients on buses\n"),
     ("help serve", "Serve clients on buses\n"),
 ]

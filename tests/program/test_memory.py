@@ -260,6 +260,8 @@ def test_faults_without_memory(refusing):
         ["--version"],
         ["audit"],
         ["audit", "none"],
+        ["bits", "123#11", "124#"],
+        ["bits", "123"],
     ]
     for line in lines:
         ample, asked = refusing.run(line, "session 1\nsession x\n")

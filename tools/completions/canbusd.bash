@@ -10,7 +10,7 @@ _canbusd() {
     case $COMP_CWORD,$before,${COMP_WORDS[1]} in
     # A file follows a redirection.
     *,*[\<\>]*,*) compopt -o default ;;
-    1,*) _canbusd_offer "bench serve audit $package help --help --version" ;;
+    1,*) _canbusd_offer "bench serve audit bits $package help --help --version" ;;
     *,audit)
         case $before,$text in
         --bitrate,* | --dbitrate,*) ;;
@@ -20,13 +20,14 @@ _canbusd() {
         *) compopt -o default ;;
         esac
         ;;
+    *,bits) _canbusd_offer "--bitrate --dbitrate --help" ;;
     *,extcap) _canbusd_offer "--install --address --help" ;;
     *,restbus | *,convert | *,sweep | *,report | *,replay) compopt -o default ;;
     *,dump)
         # Interfaces are not completed, but the file of a capture is.
         case $before in --pcapng | --dbc) compopt -o default ;; *) _canbusd_offer "--pcapng --dbc --address --help" ;; esac
         ;;
-    *,help) _canbusd_offer "bench serve audit $package" ;;
+    *,help) _canbusd_offer "bench serve audit bits $package" ;;
     *,bench) _canbusd_word "$options --record --log --strict --show-faults" ;;
     *,serve) _canbusd_word "$options --listen --sessions --pace --write --out --record --flush --sync --until-eof --verbose" ;;
     esac

@@ -11,13 +11,14 @@ function __canbusd_scripts
 end
 
 set -l package dump send status watch fault restart down up restbus convert extcap sweep report replay
-set -l commands bench serve audit $package help
+set -l commands bench serve audit bits $package help
 set -l first "not __fish_seen_subcommand_from $commands"
 set -l runs "__fish_seen_subcommand_from bench serve"
 complete -c canbusd --no-files
 complete -c canbusd -n $first -a bench -d "Run a bus from lines of standard input"
 complete -c canbusd -n $first -a serve -d "Serve clients on buses"
 complete -c canbusd -n $first -a audit -d "Check a record"
+complete -c canbusd -n $first -a bits -d "Write the bits of a frame on the wire"
 complete -c canbusd -n $first -a dump -d "Print frames as they come"
 complete -c canbusd -n $first -a send -d "Send frames"
 complete -c canbusd -n $first -a status -d "Print the state and the counts of interfaces"
@@ -35,7 +36,7 @@ complete -c canbusd -n $first -a replay -d "Replay a record"
 complete -c canbusd -n $first -a help -d "Show the help of a command"
 complete -c canbusd -n $first -l version -d "Show the version"
 complete -c canbusd -l help -d "Show the help"
-complete -c canbusd -n "__fish_seen_subcommand_from help" -a "bench serve audit $package"
+complete -c canbusd -n "__fish_seen_subcommand_from help" -a "bench serve audit bits $package"
 complete -c canbusd -n "__fish_seen_subcommand_from restbus convert sweep report replay" -F
 complete -c canbusd -n "__fish_seen_subcommand_from dump" -r -F -l pcapng -d "Write a capture for Wireshark"
 complete -c canbusd -n "__fish_seen_subcommand_from dump" -r -F -l dbc -d "Names of signals"
@@ -47,6 +48,8 @@ complete -c canbusd -n "__fish_seen_subcommand_from audit" -x -l bitrate -d "Bit
 complete -c canbusd -n "__fish_seen_subcommand_from audit" -x -l dbitrate -d "Bits a second of the data of FD frames"
 complete -c canbusd -n "__fish_seen_subcommand_from audit" -x -l faults -a "(__canbusd_scripts)" \
     -d "Names and script of faults of the run"
+complete -c canbusd -n "__fish_seen_subcommand_from bits" -x -l bitrate -d "Bits a second, for the time of the frame"
+complete -c canbusd -n "__fish_seen_subcommand_from bits" -x -l dbitrate -d "Bits a second of the data of FD frames"
 complete -c canbusd -n $runs -a "(__canbusd_scripts)"
 complete -c canbusd -n $runs -x -l ack -a "always peers" -d "Who acknowledges frames"
 complete -c canbusd -n $runs -l report -d "Make error message frames for each fault"

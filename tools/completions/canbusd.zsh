@@ -16,6 +16,7 @@ _canbusd() {
             bench\:"run a bus from lines of standard input"
             serve\:"serve clients on buses"
             audit\:"check a record"
+            bits\:"write the bits of a frame on the wire"
             dump\:"print frames as they come"
             send\:"send frames"
             status\:"print the state and the counts of interfaces"
@@ -77,10 +78,15 @@ _canbusd() {
             '--faults=[names and script of faults of the run]:bus:_canbusd_bus' \
             '*:record:_files'
         ;;
+    bits)
+        _arguments '(- *)--help[show the help]' \
+            '--bitrate=[bits a second, for the time of the frame]:bits:' \
+            '--dbitrate=[bits a second of the data of FD frames]:bits:'
+        ;;
     dump) _arguments '--pcapng=[write a capture for Wireshark]:file:_files' '--dbc=[names of signals]:file:_files' ;;
     extcap) _arguments '--install[install it for this user]' ;;
     restbus | convert | sweep | report | replay) _arguments '*:file:_files' ;;
-    help) _arguments '1:command:(bench serve audit dump send status watch fault restart down up restbus convert extcap sweep report replay)' ;;
+    help) _arguments '1:command:(bench serve audit bits dump send status watch fault restart down up restbus convert extcap sweep report replay)' ;;
     esac
 }
 

@@ -41,3 +41,4 @@ done-kept contents (job.Serve o) input old mid new done kept = record {
   address = done.address;
   wrote = Appends-kept (contents old) (contents mid) (contents new) _ done.wrote kept;
 }
+done-kept contents (job.Bits o) input old mid new (text, is, wrote) kept = (text, is, Appends-kept (contents old) (contents mid) (contents new) _ wrote kept)

@@ -1,3 +1,4 @@
+pub mod BitsOptions
 pub mod BusWords
 pub mod Help
 pub mod Options

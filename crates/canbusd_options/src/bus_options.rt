@@ -10,6 +10,7 @@ ghost use Rattle.canbusd_options.specs.Program.{default_rule, flag_rule, option_
 use crate::audit_options::audit_command;
 use crate::bench_options::bench_command;
 use crate::bit_rates::with_bit_rates;
+use crate::bits_options::bits_command;
 use crate::serve_options::serve_command;
 use can_attempt::AckMode;
 use clap::error::ErrorKind;
@@ -60,6 +61,7 @@ pub enum Subcommand {
     Bench,
     Serve,
     Audit,
+    Bits,
 }
 
 impl Subcommand {
@@ -71,6 +73,7 @@ impl Subcommand {
             Subcommand::Bench => bench_command(alloc)?.bin_name("canbusd bench")?,
             Subcommand::Serve => serve_command(alloc)?.bin_name("canbusd serve")?,
             Subcommand::Audit => audit_command(alloc)?.bin_name("canbusd audit")?,
+            Subcommand::Bits => bits_command(alloc)?.bin_name("canbusd bits")?,
         };
         command.error(ErrorKind::ValueValidation, message)
     }

@@ -149,3 +149,29 @@ Example, with what it writes:
   send 0 123#ABCD = number 0
   attempt 0.000000 good = tried 0 0 123#ABCD done 0000 0000; wire 124000 130000 62 0
   end 3";
+
+pub const BITS_HELP: &str =
+    "Prints the bits of a frame as they are on a bus that acknowledges it: a line for each field, with stuff bits in parentheses, and
+then how many bits there are to the end of intermission, and how many of them go at the bit rate for data. 0 is dominant.
+With --bitrate it prints the nanoseconds from the frame's start to end of frame; with --dbitrate an FD frame with BRS switches.
+
+For each OTHER that loses arbitration to the frame it prints `silent FIELD bit N, OTHER`: its sender falls silent in bit N
+of the frame, counted from 0 with stuff bits. For one that does not lose it prints `not silent OTHER`.
+
+Example, with what it writes:
+  $ canbusd bits 123#11 124#
+  SOF            0
+  identifier     00100100011
+  RTR            0
+  IDE            0
+  reserved       0
+  DLC            00(1)01
+  data           00010001
+  CRC            000100001101001
+  CRC delimiter  1
+  ACK slot       0
+  ACK delimiter  1
+  EOF            1111111
+  intermission   111
+  total          56 bits, 1 of them stuff bits, 0 at the data bit rate
+  silent         identifier     bit 9, 124#";

@@ -33,6 +33,7 @@ PROGRAM = {
     "serve": "serve buses to clients",
     "bench": "run a script of sessions and attempts, the same at each run",
     "audit": "check a record",
+    "bits": "write the bits of a frame on the wire",
 }
 TEXT = """\
 commands:

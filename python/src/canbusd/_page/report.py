@@ -38,7 +38,7 @@ from canbusd.signals import Database
 
 # The scripts of a page, in their order, before the last one, which begins.
 SCRIPTS = (
-    *("core", "lanes", "moves", "lists", "run", "strips", "signals", "chosen", "cursors", "run_signals", "identifiers"),
+    *("core", "lanes", "moves", "lists", "run", "strips", "signals", "chosen", "bits", "cursors", "run_signals", "identifiers"),
     *("tables", "address"),
 )
 
