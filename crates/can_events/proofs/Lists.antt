@@ -109,6 +109,11 @@ three t t1 t2 t3 a b c e1 e2 e3 = e3 ∙ ap (λ (x : List ℕ). x ++ c) (two t t
 pub four : (t t1 t2 t3 t4 a b c d : List ℕ) → t1 ≡ t ++ a → t2 ≡ t1 ++ b → t3 ≡ t2 ++ c → t4 ≡ t3 ++ d → t4 ≡ t ++ (a ++ b ++ c ++ d)
 four t t1 t2 t3 t4 a b c d e1 e2 e3 e4 = e4 ∙ ap (λ (x : List ℕ). x ++ d) (three t t1 t2 t3 a b c e1 e2 e3) ∙ append_assoc t (a ++ b ++ c) d
 
+-- the same where the second step writes two
+pub five : (t t1 t2 t3 t4 t5 r u p w n e : List ℕ) → t1 ≡ t ++ r → t2 ≡ t1 ++ (u ++ p) → t3 ≡ t2 ++ w → t4 ≡ t3 ++ n → t5 ≡ t4 ++ e → t5 ≡ t ++ (r ++ u ++ p ++ w ++ n ++ e)
+five t t1 t2 t3 t4 t5 r u p w n e e1 e2 e3 e4 e5 =
+    four t t2 t3 t4 t5 (r ++ u ++ p) w n e (two t t1 t2 r (u ++ p) e1 e2 ∙ ap (λ (x : List ℕ). t ++ x) (sym (append_assoc r u p))) e3 e4 e5
+
 -- a loop that takes one more of a list
 pub taken_next : {X Y : Type 0} (f : X → Y) (xs : List X) (now new : List Y) (i : ℕ) (y : Y) → now ≡ take i (map f xs) → Some y ≡ option_map f (slice_get xs i) → new ≡ now ++ y ∷ [] → new ≡ take (i + 1) (map f xs)
 taken_next {Y = Y} f xs now new i y before at next =

@@ -18,12 +18,13 @@ use Rattle.can_rules.specs.Rules.{head_of}
 use Rattle.can_rules.specs.RunFaults.{RunSeen, asked_run, rule_given}
 use Rattle.can_wire.specs.Timings.{BusTiming}
 use Rattle.can_events.specs.declared.wanted.Wanted.{Wanted}
+use Rattle.can_events.specs.TakenRules.{first_rules, last_rules, next_rules}
 use Rattle.can_events.specs.Brought.{is_step, put_to, dropped_by, lost_by}
 use Rattle.can_events.specs.Words.{counts_part, lost_part, named, numbered, part, put_word, dropped_words, wire_words}
 
 -- The text of a record's events: each entry's line with what the entry brought about; where the timing of the bus is
 -- given, with the times and the bits of each frame that was tried; and where the run's faults are, with the rule that
--- gave the attempt its verdict (own choice).
+-- gave the attempt its verdict, and a line for each rule where the bus takes it (own choice).
 
 -- the error counts that the entry changed, by interface
 abbrev pub counts_parts : BusConfig → List Entry → Entry → List ℕ
@@ -71,10 +72,24 @@ abbrev pub rule_by : RunSeen → Event → Reply → Option ℕ
 rule_by run (Attempt m v) (reply.Attempted (attempt.Tried a)) = rule_given run (head_of a.winner (word_of a.frame)) v
 rule_by run _ _ = None
 
--- the last part of an entry's line, by the faults as they are before the entry
-unfoldable pub rule_part : Option RunSeen → Entry → List ℕ
-rule_part None e = []
-rule_part (Some run) e = numbered (codes "rule") (rule_by run e.event e.reply)
+-- the same by the faults as they are before the entry, where there may be none
+unfoldable pub rule_in : Option RunSeen → Entry → Option ℕ
+rule_in None e = None
+rule_in (Some run) e = rule_by run e.event e.reply
+
+-- the last part of an entry's line
+abbrev pub rule_part : Option RunSeen → Entry → List ℕ
+rule_part faults e = numbered (codes "rule") (rule_in faults e)
+
+-- the lines before that of an entry: the rules that the bus takes before an attempt that tried a frame, and where all end
+abbrev pub rules_by : RunSeen → Event → Reply → List ℕ
+rules_by run (Attempt m v) (reply.Attempted (attempt.Tried a)) = next_rules run
+rules_by run _ _ = []
+
+-- the same, where there may be no faults
+unfoldable pub rules_before : Option RunSeen → Entry → List ℕ
+rules_before None e = []
+rules_before (Some run) e = rules_by run e.event e.reply
 
 -- the faults after an entry: an attempt that tried a frame asks the rules, no other entry does
 abbrev pub asked_by : RunSeen → Event → Reply → RunSeen
@@ -103,10 +118,11 @@ nothing_wanted = record { timing = None; faults = None }
 abbrev pub unended : List ℕ → List ℕ
 unended line = take (length line - 1) line
 
--- a line, and before its LF what the entry brought about, and what else is wanted of it
+-- a line, and before its LF what the entry brought about, and what else is wanted of it; before it those of rules
 unfoldable pub with_parts : Wanted → BusConfig → List Entry → Entry → List ℕ → List ℕ
 with_parts w c past e line =
-    unended line ++ parts_of c past e ++ wire_part w.timing e ++ rule_part w.faults e ++ 10 ∷ []
+    rules_before w.faults e ++ unended line ++ parts_of c past e ++ wire_part w.timing e ++ rule_part w.faults e
+    ++ 10 ∷ []
 
 -- the line of an entry in the record, with what the entry brought about
 abbrev pub events_line : Wanted → BusConfig → List Entry → Entry → List ℕ
@@ -121,9 +137,23 @@ events_lines w c (e ∷ past) = events_lines w c past ++ events_line w c past e
 abbrev pub first_line : List ℕ
 first_line = codes "canbus events 1" ++ 10 ∷ []
 
+-- the lines of the rules of the script
+unfoldable pub rules_at_start : Option RunSeen → List ℕ
+rules_at_start None = []
+rules_at_start (Some run) = first_rules run
+
+-- the lines of what comes after all attempts: rules that the bus takes, and where all end
+unfoldable pub rules_at_end : Option RunSeen → List ℕ
+rules_at_end None = []
+rules_at_end (Some run) = last_rules run
+
 -- the text up to a history's last entry: the second line is the bus's, as the record has it
 abbrev pub events_front : Wanted → Version → BusConfig → List Entry → List ℕ
-events_front w v c past = first_line ++ spell (bus_words v c) [] ++ events_lines w c past
+events_front w v c past = first_line ++ spell (bus_words v c) [] ++ rules_at_start w.faults ++ events_lines w c past
+
+-- what follows the last entry: rules that no attempt was to see, and the last line
+abbrev pub events_end : Wanted → List Entry → List (List ℕ) → List ℕ
+events_end w past words = rules_at_end (wanted_after w past).faults ++ spell words []
 
 -- the last line of a record's text that is cut off: how many entries there were
 abbrev pub cut_words : ℕ → List (List ℕ)
@@ -131,8 +161,8 @@ cut_words count = codes "cut" ∷ decimal count ∷ []
 
 -- the text of a history's events
 abbrev pub events_text : Wanted → Version → BusConfig → List Entry → List ℕ
-events_text w v c past = events_front w v c past ++ spell (end_words (length past)) []
+events_text w v c past = events_front w v c past ++ events_end w past (end_words (length past))
 
 -- the same where the record's text is cut off after these entries
 abbrev pub cut_events_text : Wanted → Version → BusConfig → List Entry → List ℕ
-cut_events_text w v c past = events_front w v c past ++ spell (cut_words (length past)) []
+cut_events_text w v c past = events_front w v c past ++ events_end w past (cut_words (length past))

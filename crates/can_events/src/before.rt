@@ -8,7 +8,7 @@ ghost use Rattle.can_events.specs.inner.Seen.{HasSeen, seen_in, told_parts};
 
 use crate::changed::changed_sockets;
 use crate::parts::{put_all_counts, put_all_lost, put_queued, put_refused};
-use crate::ruled::put_rule;
+use crate::ruled::{put_rule, put_rules};
 use crate::wanted::Wanted;
 use crate::wire::put_wire;
 use can_bus::{LeanRingBus, RingState};
@@ -91,8 +91,9 @@ impl Before {
         Ok(())
     }
 
-    /// The same of this entry, with what else is wanted of it. Where it is of an attempt that tried a frame, the rules of
-    /// the faults are asked, so each such entry of a run has to come here, one after another.
+    /// The same of this entry, with what else is wanted of it, and before it the lines of rules that the bus takes there.
+    /// Where it is of an attempt that tried a frame, the rules of the faults are asked, so each such entry of a run has to
+    /// come here, one after another.
     pub fn put_wanted_line(
         &self,
         out: &mut Vec<u8>,
@@ -108,9 +109,10 @@ impl Before {
         ensures asked { OnOk result (wanted.new
             ≡ record wanted.old { faults = asked_of wanted.old.faults entry.now }) }
     {
+        let rule = put_rules(out, &mut wanted.faults, entry)?;
         self.put_front(out, bus, line)?;
         put_wire(out, wanted.timing, entry)?;
-        put_rule(out, &mut wanted.faults, entry)?;
+        put_rule(out, rule)?;
         out.extend_from_slice(b"\n")?;
         Ok(())
     }

@@ -6,7 +6,8 @@ use can_wire::Timing;
 pub struct Wanted {
     /// The timing of the bus: with it each frame that was tried has its times and its bits on the wire.
     pub timing: Option<Timing>,
-    /// The faults of the run: with them an attempt has the number of the rule that gave it its verdict.
+    /// The faults of the run: with them each rule that the bus takes has a line, and an attempt has the number of the rule
+    /// that gave it its verdict.
     pub faults: Option<RunFaults>,
 }
 

@@ -8,6 +8,7 @@ use Rattle.can_events.specs.Brought.{is_step}
 use Rattle.can_events.specs.declared.wanted.Wanted.{Wanted}
 use Rattle.can_events.specs.EventsText.{asked_of, wanted_after, with_parts}
 use Rattle.can_events.specs.EventsText.{cut_events_text, cut_words, events_front, events_text}
+use Rattle.can_events.specs.EventsText.{rules_at_end, rules_at_start}
 use Rattle.can_events.specs.inner.Seen.{HasSeen}
 use Rattle.can_record_text.specs.declared.fault.Unread.{Unread}
 use Rattle.can_record_text.specs.declared.fault.Unread.TheVariants as unread
@@ -46,6 +47,16 @@ pub record IsCutEventsText (w : Wanted) (text events : List ℕ) : Type 0 where
   pub front : IsFrontOf text config entries
   pub legal : IsLegal config (reverse entries)
   pub are : events ≡ cut_events_text w front.version config (reverse entries)
+
+-- the lines of the rules of the script, where there are events
+abbrev pub rules_first : Option EventsText → List ℕ
+rules_first None = []
+rules_first (Some e) = rules_at_start e.wanted.faults
+
+-- the lines of rules that come after the last entry
+abbrev pub rules_last : Option EventsText → List ℕ
+rules_last None = []
+rules_last (Some e) = rules_at_end e.wanted.faults
 
 -- the last line, where the record is whole
 abbrev pub end_line : ℕ → List ℕ
@@ -168,14 +179,15 @@ abbrev pub wrong_so_far : Phase → Option WrongLine
 wrong_so_far (phase.Entries b) = b.wrong
 wrong_so_far _ = None
 
--- with this last line all events of a legal record are written, where there are any
+-- with the last rules and this last line all events of a legal record are written, where there are any
 abbrev pub EndsEvents : Wanted → Option EventsText → List ℕ → List ℕ → ℕ → Type 0
 EndsEvents w None text cleared count = Unit {0}
-EndsEvents w (Some e) text cleared count = IsEventsText w text ((cleared ++ e.text.items) ++ end_line count)
+EndsEvents w (Some e) text cleared count =
+    IsEventsText w text ((cleared ++ e.text.items) ++ (rules_last (Some e) ++ end_line count))
 
 -- the same of a text that may be cut off
 abbrev pub EndsCutEvents : Wanted → Option EventsText → List ℕ → List ℕ → Cut → Type 0
 EndsCutEvents w held text cleared (cut.Whole count) = EndsEvents w held text cleared count
 EndsCutEvents w None text cleared (cut.Off count) = Unit {0}
 EndsCutEvents w (Some e) text cleared (cut.Off count) =
-    IsCutEventsText w text ((cleared ++ e.text.items) ++ cut_line count)
+    IsCutEventsText w text ((cleared ++ e.text.items) ++ (rules_last (Some e) ++ cut_line count))

@@ -2,13 +2,14 @@
 ghost use Rattle.std.specs.Prelude.{◌≡◌, ◌++◌, ◌↔◌, [], true, false, IfErr, IfOk, IsTrue, List, OnOk, ℕ};
 ghost use Rattle.can_event.specs.declared.entry.Entry.{Entry as AnEntry};
 ghost use Rattle.can_events.specs.Brought.{is_step};
-ghost use Rattle.can_events.specs.EventsText.{nothing_wanted, first_line as events_first_line};
+ghost use Rattle.can_events.specs.EventsText.{nothing_wanted, rules_at_end, rules_at_start, first_line as events_first_line};
 ghost use Rattle.can_record_text.specs.Spelling.{entry_line};
 ghost use Rattle.can_replay.specs.EventTexts.{WritesOn, WritesParts, is_legal_yet};
 ghost use Rattle.can_replay.specs.TextAudits.{FailsNext, TakesOn};
 ghost use Rattle.can_replay.specs.inner.EntryAudits.{IsGoing};
 
 use crate::entry_audit::EntryAudit;
+use can_events::ruled::{put_first_rules, put_last_rules};
 use can_events::{Before, Wanted, first_line};
 use can_record_text::ReadFault;
 use can_record_text::rooms::Rooms;
@@ -56,17 +57,26 @@ impl EventsText {
         self.text.clear();
     }
 
-    /// Writes the line of the format and the bus's, which is this one.
+    /// Writes the line of the format and the bus's, which is this one, and those of the rules of the script.
     pub fn begin(&mut self, line: &[u8]) -> Result<(), AllocError>
-        ensures begun { OnOk result
-            (self.new.text.items ≡ self.old.text.items ++ (events_first_line ++ line.now)) }
+        ensures begun { OnOk result (self.new.text.items ≡ self.old.text.items ++
+            (events_first_line ++ line.now ++ rules_at_start self.old.wanted.faults)) }
         ensures kept { IfErr result (λ why. self.new.text.items ≡ self.old.text.items) }
         ensures wanted { self.new.wanted ≡ self.old.wanted }
     {
         self.line.clear();
         self.line.extend_from_slice(first_line())?;
         self.line.extend_from_slice(line)?;
+        put_first_rules(&mut self.line, &self.wanted.faults)?;
         self.text.extend_from_slice(&self.line)
+    }
+
+    /// Writes the lines of the rules that the bus takes after the last entry, and of where all end. No entry may follow.
+    pub fn put_last_rules(&mut self, out: &mut Vec<u8>) -> Result<(), AllocError>
+        ensures { OnOk result
+            (out.new.items ≡ out.old.items ++ rules_at_end self.old.wanted.faults) }
+    {
+        put_last_rules(out, &mut self.wanted.faults)
     }
 
     /// Has an audit take the next line, and writes it with what its entry brought about, where that is legal and no entry

@@ -6,7 +6,8 @@ ghost use Rattle.can_record_text.specs.RecordFaults.{LacksFirst};
 ghost use Rattle.can_record_text.specs.Spelling.{first_line};
 ghost use Rattle.can_record_text.specs.Texts.{StartsWith};
 ghost use Rattle.can_replay.specs.declared.text_fault.WrongLine.{WrongLine as AWrongLine};
-ghost use Rattle.can_replay.specs.EventTexts.{Completes, EndsCutEvents, EndsEvents, HasWritten, IsWantedAfter, has_events, held_events, wrong_so_far};
+ghost use Rattle.can_replay.specs.declared.events_text.EventsText.{EventsText as AnEventsText};
+ghost use Rattle.can_replay.specs.EventTexts.{AreWritten, Completes, EndsCutEvents, EndsEvents, HasWritten, IsWantedAfter, has_events, held_events, rules_first, rules_last, wrong_so_far};
 ghost use Rattle.can_replay.specs.TextAudits.{AreTaken, EndsNoLine, FailsAfter, FailsNext, HasFailed, IsLine, TakesOn, Reports, ReportsCut, bus_taken, first_taken, has_end_line};
 
 use crate::entry_audit::EntryAudit;
@@ -190,12 +191,26 @@ impl TextAudit {
         Ok(())
     }
 
+    /// The text has ended: the lines of the rules that the bus takes after the last entry, and of where all end; they come before
+    /// the last line of the events, where there are any.
+    pub fn last_rules(&mut self, alloc: Global) -> Result<Vec<u8>, AllocError>
+        ensures lines { IfOk result (λ lines. lines.items ≡ rules_last self.old.events) }
+        ensures phase { self.new.phase ≡ self.old.phase }
+    {
+        let mut lines = Vec::new(alloc);
+        if let Some(events) = &mut self.events {
+            events.put_last_rules(&mut lines)?;
+        }
+        Ok(lines)
+    }
+
     /// The text has ended: how many entries its record has, where it is a legal one.
     pub fn finish(self) -> Result<usize, TextFault>
         ensures told { (text : List ℕ) → AreTaken text self → Reports text result }
         ensures again { (why : AFault) → HasFailed why self → result ≡ Err (TextFault.Read why) }
-        ensures events { (w : AWanted) (text cleared : List ℕ) → HasWritten w text cleared self →
-            IfOk result (EndsEvents w self.events text cleared) }
+        ensures events { (w : AWanted) (text cleared : List ℕ) (held : Option AnEventsText) →
+            AreWritten w text cleared self.phase held →
+            IfOk result (EndsEvents w held text cleared) }
         ensures wrong { (w : AWrongLine) → result ≡ Err (TextFault.Wrong w) →
             wrong_so_far self.phase ≡ Some w }
     {
@@ -216,9 +231,9 @@ impl TextAudit {
         ensures told { (text : List ℕ) →
             AreTaken text self → EndsNoLine torn.now → ReportsCut (text ++ torn.now) result }
         ensures again { (why : AFault) → HasFailed why self → result ≡ Err (TextFault.Read why) }
-        ensures events { (w : AWanted) (text cleared : List ℕ) → HasWritten w text cleared self →
-            EndsNoLine torn.now →
-            IfOk result (EndsCutEvents w self.events (text ++ torn.now) cleared) }
+        ensures events { (w : AWanted) (text cleared : List ℕ) (held : Option AnEventsText) →
+            AreWritten w text cleared self.phase held → EndsNoLine torn.now →
+            IfOk result (EndsCutEvents w held (text ++ torn.now) cleared) }
         ensures wrong { (w : AWrongLine) → result ≡ Err (TextFault.Wrong w) →
             wrong_so_far self.phase ≡ Some w }
     {
@@ -266,7 +281,8 @@ impl TextAudit {
 // Writes what comes before the events of entries, where there are any: the second line of the text is this one.
 fn begin_events(events: &mut Option<EventsText>, line: &[u8]) -> Result<(), ReadFault>
     ensures begun { OnOk result ((cleared : List ℕ) → Completes events.old cleared [] →
-        Completes events.new cleared (events_first_line ++ line.now)) }
+        Completes events.new cleared
+        (events_first_line ++ line.now ++ rules_first events.new)) }
     ensures held { IfErr result (λ why. held_events events.new ≡ held_events events.old) }
     ensures memory { IfErr result (λ why. why ≡ ReadFault.NoMemory) }
     ensures kind { has_events events.new ≡ has_events events.old }

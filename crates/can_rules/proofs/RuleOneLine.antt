@@ -17,15 +17,15 @@ use Rattle.can_rules.proofs.OneLine.{has_feed, feed-cut, feed-words, then-some, 
 -- What spells a rule has no line feed.
 
 -- what was read
-bound : {A B : Type 0} (r : Result A WrongWord) (f : A → Result B WrongWord) (x : B) → (r >>= f) ≡ Ok x → (a : A) × (r ≡ Ok a) × (f a ≡ Ok x)
+pub bound : {A B : Type 0} (r : Result A WrongWord) (f : A → Result B WrongWord) (x : B) → (r >>= f) ≡ Ok x → (a : A) × (r ≡ Ok a) × (f a ≡ Ok x)
 bound (Ok a) f x h = (a, refl, h)
 bound (Err e) f x h = absurd (cc h)
 
-some-read : {A : Type 0} (o : Option A) (e : WrongWord) (a : A) → ok_or o e ≡ Ok a → o ≡ Some a
+pub some-read : {A : Type 0} (o : Option A) (e : WrongWord) (a : A) → ok_or o e ≡ Ok a → o ≡ Some a
 some-read (Some b) e a h = cc
 some-read None e a h = absurd (cc h)
 
-word-read : {A : Type 0} (which : WrongWord) (r : Result A LineFault) (a : A) → as_word which r ≡ Ok a → r ≡ Ok a
+pub word-read : {A : Type 0} (which : WrongWord) (r : Result A LineFault) (a : A) → as_word which r ≡ Ok a → r ≡ Ok a
 word-read which (Ok b) a h = cc
 word-read which (Err fault) a h = absurd (cc h)
 

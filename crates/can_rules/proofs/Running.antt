@@ -144,20 +144,20 @@ neither false b h = (refl, h)
 neither true b h = absurd (cc h)
 
 -- a run that has only this plan
-abbrev pub only_plan : PlanSeen → RunSeen
-only_plan plan = record no_run { plan = plan }
+abbrev pub only_plan : List (List ℕ) → PlanSeen → RunSeen
+only_plan names plan = record (no_run names) { plan = plan }
 
 lines-none : (names lines : List (List ℕ)) (plan : PlanSeen) (n : ℕ) → list_any is_later lines ≡ false
-    → run_lines names (only_plan plan) n lines ≡ gone_on (lines_taken names plan n lines) (λ next. Ok (only_plan next))
+    → run_lines names (only_plan names plan) n lines ≡ gone_on (lines_taken names plan n lines) (λ next. Ok (only_plan names next))
 lines-none names [] plan n none = refl
 lines-none names (line ∷ more) plan n none =
     let parts = neither (is_later line) (list_any is_later more) none in
     let on : RunSeen → Result RunSeen PlanError = λ next. run_lines names next (n + 1) more in
-    ap (λ b. gone_on (if b then with_later (only_plan plan) n (later_spelling names line) else with_plan (only_plan plan) (line_taken names plan n line)) on) parts.0
-    ∙ (elim (line_taken names plan n line) as (λ r. gone_on (with_plan (only_plan plan) r) on ≡ gone_on (gone_on r (λ next. lines_taken names next (n + 1) more)) (λ next. Ok (only_plan next))) [
+    ap (λ b. gone_on (if b then with_later (only_plan names plan) n (later_spelling names line) else with_plan (only_plan names plan) (line_taken names plan n line)) on) parts.0
+    ∙ (elim (line_taken names plan n line) as (λ r. gone_on (with_plan (only_plan names plan) r) on ≡ gone_on (gone_on r (λ next. lines_taken names next (n + 1) more)) (λ next. Ok (only_plan names next))) [
       | Ok next ↦ lines-none names more next (n + 1) parts.1
       | Err why ↦ refl
     ])
 
-pub text-none : (names : List (List ℕ)) (text : List ℕ) → list_any is_later (lines_in text) ≡ false → run_spelling names text ≡ with_plan no_run (plan_spelling names text)
-text-none names text none = lines-none names (lines_in text) no_run.plan 1 none
+pub text-none : (names : List (List ℕ)) (text : List ℕ) → list_any is_later (lines_in text) ≡ false → run_spelling names text ≡ with_plan (no_run names) (plan_spelling names text)
+text-none names text none = lines-none names (lines_in text) (no_run names).plan 1 none

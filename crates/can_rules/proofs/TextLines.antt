@@ -18,7 +18,8 @@ use Rattle.can_rules.specs.RuleWords.{rule_spelling}
 use Rattle.can_rules.specs.RunFaults.{RunSeen, no_run, is_later, later_spelling, may_come, with_later, with_plan, run_line, run_lines, run_spelling}
 use Rattle.can_rules.proofs.OneLine.{has_feed, neither, feed-append}
 use Rattle.can_rules.proofs.RuleOneLine.{rule-one-line}
-use Rattle.can_rules.proofs.Reading.{given-again, ended-again, word-cut}
+use Rattle.can_rules.proofs.Cuts.{word-cut}
+use Rattle.can_rules.proofs.Reading.{given-again, ended-again}
 
 -- Lines after a text of whole lines.
 
@@ -89,8 +90,8 @@ after-text : (names : List (List ℕ)) (text line : List ℕ) (run : RunSeen) (n
     → run_spelling names (text ++ (line ++ 10 ∷ [])) ≡ Ok (with_change next run)
 after-text names text line run next whole read may lacks is later =
     let (lines, more, all) = lines-of text whole in
-    let before : run_lines names no_run 1 (lines ++ [] ∷ []) ≡ Ok run = sym (ap (run_lines names no_run 1) all) ∙ read in
-    ap (run_lines names no_run 1) (more line lacks) ∙ change-after names lines no_run run 1 line next is later may before
+    let before : run_lines names (no_run names) 1 (lines ++ [] ∷ []) ≡ Ok run = sym (ap (run_lines names (no_run names) 1) all) ∙ read in
+    ap (run_lines names (no_run names) 1) (more line lacks) ∙ change-after names lines (no_run names) run 1 line next is later may before
 
 -- no byte of these lines ends one
 no-feed : (b : ℕ) → 10 < b → has_feed (b ∷ []) ≡ false

@@ -1,10 +1,12 @@
 ghost use Rattle.std.specs.Prelude.{◌≡◌, ◌≤◌, ◌<◌, ◌-◌, ◌^◌, ℕ, true, false, List, [], ◌∷◌, ◌++◌, Option, None, Some, Ok, slice_get};
 ghost use Rattle.can_rules.specs.Rules.{Head, head_of, chosen, deciding, after_chosen, unused, verdicts, gives_at, GivesAs, times_given, AreSwapped};
-ghost use Rattle.can_rules.specs.Plans.{PlanSeen, no_plan, with_rule, without_rules, given, plan_after, decided_at, plan_spelling, IsNumbered};
+ghost use Rattle.can_rules.specs.Plans.{PlanSeen, no_plan, with_rule, without_rules, given, plan_after, decided_at, plan_spelling, IsNumbered, numbered};
 ghost use Rattle.can_rules.specs.RunFaults.{RunSeen, no_run, made_ready, rule_given, asked_run, is_later, with_plan, run_spelling, later_spelling, may_come};
 ghost use Rattle.can_rules.specs.RuleLines.{given_words, given_line, end_words, end_line, IsOfLines, with_change};
 ghost use Rattle.can_rules.specs.RuleWords.{rule_spelling};
+ghost use Rattle.can_rules.specs.RuleText.{rule_words};
 ghost use Rattle.can_frame.specs.Frames.{CanFrame, word_of};
+ghost use Rattle.can_frame.specs.Names.{AreNames};
 ghost use Rattle.can_fault.specs.Scripts.{lines_in};
 ghost use Rattle.std.specs.List.{list_any};
 ghost use Rattle.std.specs.Option.{option_map};
@@ -102,7 +104,7 @@ pub fn a_run_without_changes_asks_as_its_plan()
 pub fn a_text_without_changes_spells_its_plan()
     ensures { (names : List (List ℕ)) (text : List ℕ) →
         list_any is_later (lines_in text) ≡ false →
-        run_spelling names text ≡ with_plan no_run (plan_spelling names text) }
+        run_spelling names text ≡ with_plan (no_run names) (plan_spelling names text) }
 {}
 
 /// The line of a rule is read as that rule, given before its attempt, and the line of an end as an end of all rules.
@@ -120,6 +122,18 @@ pub fn lines_are_read_as_what_they_are_of()
 pub fn what_spells_a_rule_is_one_line()
     ensures { (names : List (List ℕ)) (words : List ℕ) (rule : Rule) →
         rule_spelling names words ≡ Ok rule → lines_in words ≡ words ∷ [] }
+{}
+
+/// The words that are written of a rule, which has a number, are read as that rule, and are one line: whatever words it was
+/// given in.
+pub fn a_written_rule_is_read_again()
+    ensures again { (names : List (List ℕ)) (given : List ℕ) (rule : Rule) (number : ℕ) →
+        AreNames names → rule_spelling names given ≡ Ok rule →
+        rule_spelling names (rule_words names (numbered number rule)) ≡ Ok rule }
+    ensures line { (names : List (List ℕ)) (given : List ℕ) (rule : Rule) (number : ℕ) →
+        AreNames names → rule_spelling names given ≡ Ok rule →
+        lines_in (rule_words names (numbered number rule)) ≡
+        rule_words names (numbered number rule) ∷ [] }
 {}
 
 /// After a text of whole lines, the line of a rule is that rule, given after the changes of the text, and the line of an

@@ -193,6 +193,20 @@ impl Plan {
         self.rules.len()
     }
 
+    /// The rules that are left, in their order.
+    pub(crate) fn rules_left(&self) -> &[Rule]
+        ensures { result.now ≡ self.now.rules }
+    {
+        self.rules.as_slice()
+    }
+
+    /// How many rules it took: the number of the last one.
+    pub(crate) fn taken(&self) -> u64
+        ensures { result ≡ self.now.taken }
+    {
+        self.taken
+    }
+
     /// Ends all rules. The lines stay.
     pub fn end_rules(&mut self)
         ensures { self.new ≡ without_rules self.old }

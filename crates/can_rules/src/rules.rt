@@ -84,6 +84,13 @@ impl Rules {
         self.rules.len()
     }
 
+    /// All of them, in their order.
+    pub fn as_slice(&self) -> &[Rule]
+        ensures { result.now ≡ self.now }
+    {
+        &self.rules
+    }
+
     /// Whether there are none.
     pub fn is_empty(&self) -> bool
         ensures { result ≡ (length self.now == 0) }

@@ -27,7 +27,7 @@ mod scripts;
 mod shown;
 mod whole_lines;
 
-pub use buses::{bus_config, limits_note, read_faults, read_plan};
+pub use buses::{KnownFaults, bus_config, limits_note, read_faults, read_plan};
 pub use draft::Draft;
 pub use files::{INPUT, OUTPUT, open_file, read_failure, read_text, utf8_note, write_failure};
 pub use limited_reads::LimitedReads;

@@ -39,11 +39,11 @@ pub fn read_run_faults<'a, H: Files>(
     alloc: Global,
     path: &'a str,
     bus: &str,
-    names: &Names,
+    names: Names,
 ) -> Result<RunFaults, Report<'a>>
     ensures faults { IfOk result (λ faults.
-        (text : List ℕ) × ReadsRunFaults names.now text (Ok faults)) }
-    ensures fault { IfErr result (λ failure. IsOfRunFile path.now names.now failure.error) }
+        (text : List ℕ) × ReadsRunFaults names text (Ok faults)) }
+    ensures fault { IfErr result (λ failure. IsOfRunFile path.now names failure.error) }
 {
     let text = read_script_file(rt, alloc, path)?;
     run_faults_in(alloc, path, &text, bus, names)
@@ -97,10 +97,10 @@ fn run_faults_in<'a>(
     path: &str,
     text: &str,
     bus: &str,
-    names: &Names,
+    names: Names,
 ) -> Result<RunFaults, Report<'a>>
-    ensures faults { IfOk result (λ faults. ReadsRunFaults names.now text.now (Ok faults)) }
-    ensures fault { IfErr result (λ failure. IsOfRunText names.now text.now failure.error) }
+    ensures faults { IfOk result (λ faults. ReadsRunFaults names text.now (Ok faults)) }
+    ensures fault { IfErr result (λ failure. IsOfRunText names text.now failure.error) }
 {
     match RunFaults::read(alloc, text, names) {
         Ok(faults) => Ok(faults),

@@ -7,7 +7,6 @@
 The program has them decide; here is what they are.
 """
 
-import math
 import re
 from collections.abc import Iterable, Sequence
 from dataclasses import dataclass
@@ -194,55 +193,13 @@ def check_rules(rules: Iterable[Rule], names: Sequence[str]) -> None:
             raise ValueError(f"rule '{rule}': {unknown} is no interface of its bus, {','.join(names)}")
 
 
-class RulesLeft:
-    """How many verdicts the rules of a bus still give, by the numbers that the program calls them."""
-
-    def __init__(self, taken: int = 0) -> None:
-        self._taken = taken
-        # Of each rule that is not used up; None is without end.
-        self._left: dict[int, Optional[int]] = {}
-
-    def __len__(self) -> int:
-        """How many rules are left."""
-        return len(self._left)
-
-    def add(self, count: Optional[int]) -> int:
-        """Adds a rule after the others; returns its number."""
-        self._taken += 1
-        self._left[self._taken] = count
-        return self._taken
-
-    def end(self) -> None:
-        """Ends all rules."""
-        self._left.clear()
-
-    def among(self, first: int) -> int:
-        """Returns how many of the first so many rules are left."""
-        return sum(number <= first for number in self._left)
-
-    def gave(self, number: int) -> None:
-        """Counts a verdict of the rule of this number."""
-        left = self._left.get(number)
-        if left == 1:
-            del self._left[number]
-        elif left is not None:
-            self._left[number] = left - 1
-
-    def counted(self) -> dict[int, int]:
-        """How many verdicts each rule still gives that has an end, by its number."""
-        return {number: left for number, left in self._left.items() if left is not None}
-
-    def least(self) -> float:
-        """How many verdicts the rule still gives that gives the fewest."""
-        return min(self.counted().values(), default=math.inf)
-
-
 class GivenRules:
     """The rules that a bus was given, by the numbers that the program calls them, and how many of them are left."""
 
     def __init__(self, rules: Iterable[Rule] = ()) -> None:
         self._rules: list[Rule] = []
-        self._left = RulesLeft()
+        # How many verdicts each rule still gives that is not used up, by its number; None is without end.
+        self._left: dict[int, Optional[int]] = {}
         for rule in rules:
             self.add(rule)
 
@@ -252,23 +209,27 @@ class GivenRules:
 
     def among(self, first: int) -> int:
         """Returns how many of the first so many rules are left."""
-        return self._left.among(first)
+        return sum(number <= first for number in self._left)
 
     def add(self, rule: Rule) -> None:
         """Adds a rule after the others."""
         self._rules.append(rule)
-        self._left.add(rule.count)
+        self._left[len(self._rules)] = rule.count
 
     def end(self) -> None:
         """Ends all rules."""
-        self._left.end()
+        self._left.clear()
 
     def unused(self) -> list[Rule]:
         """Returns those with a number, `next 1 ..`, that gave no verdict, and that nobody ended."""
-        counted = ((self._rules[number - 1], left) for number, left in self._left.counted().items())
+        counted = ((self._rules[number - 1], left) for number, left in self._left.items() if left is not None)
         return [rule for rule, left in counted if rule.count == left]
 
     def gave(self, number: int) -> Rule:
         """Returns the rule of this number, which gave an attempt its verdict, and counts that."""
-        self._left.gave(number)
+        left = self._left.get(number)
+        if left == 1:
+            del self._left[number]
+        elif left is not None:
+            self._left[number] = left - 1
         return self._rules[number - 1]
