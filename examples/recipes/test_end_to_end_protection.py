@@ -12,7 +12,7 @@ BU_: Engine ECU
 BO_ 256 EngineData: 4 Engine
  SG_ EngineSpeed : 16|16@1+ (0.25,0) [0|16000] "rpm" ECU
 BA_DEF_ BO_ "GenMsgCycleTime" INT 0 65535;
-BA_DEF_DEF_ "GenMsgCycleTime" 10;
+BA_DEF_DEF_ "GenMsgCycleTime" 50;
 """
 
 
@@ -20,8 +20,9 @@ BA_DEF_DEF_ "GenMsgCycleTime" 10;
 def test_the_engine_is_protected(canbusd, tmp_path):
     (tmp_path / "car.dbc").write_text(DBC)
     profile = e2e.Profile1(data_id=0x123)
-    with canbusd.rest_bus(tmp_path / "car.dbc", without=["ECU"], interface="engine") as rest:
-        engine = rest.protect("EngineData", profile)
+    rest = canbusd.rest_bus(tmp_path / "car.dbc", without=["ECU"], interface="engine")
+    engine = rest.protect("EngineData", profile)
+    with rest:
         canbusd.expect_protected("EngineData", profile, count=20, within=5)
         engine.inject("repeated")
         engine.inject("wrong crc")

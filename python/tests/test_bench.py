@@ -6,7 +6,8 @@ import threading
 import can
 import pytest
 
-from canbusd.bench import MOST_INPUT, Bench, BenchError, Refused
+from canbusd._words import MOST_INPUT
+from canbusd.bench import Bench, BenchError, Refused
 from canbusd.faults import Faults
 from canbusd.frames import Frame
 

@@ -1,6 +1,7 @@
 """Server: how it starts and ends, and what it leaves."""
 
 import errno
+import fcntl
 import multiprocessing
 import os
 import re
@@ -19,6 +20,7 @@ from on_wire import nanos_of
 
 import canbusd
 from canbusd import Load
+from canbusd._process import lock_file
 from canbusd._process.program import find_program
 from canbusd._process.program_run import NUMBERS
 from canbusd._session.protocol import NO_FRAMES
@@ -345,6 +347,34 @@ def test_a_server_that_is_killed_leaves_nothing(tmp_path):
         assert server.kill().status == -signal.SIGKILL
     assert server.stop() == (-signal.SIGKILL, {})
     assert list(tmp_path.iterdir()) == []
+
+
+def test_a_lock_file_that_is_let_go_a_moment_later(tmp_path, monkeypatch):
+    """is removed: a launcher may end before its server, by the same signal"""
+    monkeypatch.setattr(lock_file, "CLOSING", WAIT)
+    file = (tmp_path / lock_file.NAME).open("wb")
+    fcntl.flock(file, fcntl.LOCK_EX)
+    threading.Timer(0.1, file.close).start()
+    lock_file.remove_left(tmp_path)
+    assert list(tmp_path.iterdir()) == []
+    lock_file.remove_left(tmp_path / "none")
+
+
+def test_the_lock_file_of_another_server(tmp_path):
+    """stays, as does a link and a file with something in it"""
+    lock = tmp_path / lock_file.NAME
+    with Server("can0", out=tmp_path):
+        with pytest.raises(ServerError, match="another server writes to it"):
+            Server("can0", out=tmp_path)
+        assert lock.exists()
+    assert not lock.exists()
+    lock.write_text("of the user\n")
+    lock_file.remove_left(tmp_path)
+    assert lock.read_text() == "of the user\n"
+    lock.rename(tmp_path / "other")
+    lock.symlink_to("other")
+    lock_file.remove_left(tmp_path)
+    assert lock.is_symlink() and lock.read_text() == "of the user\n"
 
 
 def test_a_server_that_others_kill_is_a_fault():

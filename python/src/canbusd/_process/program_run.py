@@ -16,29 +16,16 @@ from typing import Literal, Optional, TypeVar, Union
 
 from canbusd import _placement as placement
 from canbusd._process.program import find_program
-from canbusd._process.rates import LEAST_BITRATE, MOST_BITRATE, MOST_DBITRATE, Rates
+from canbusd._process.rates import Rates
 from canbusd._session.arguments import one_data_rate, truth
 from canbusd._text import NAME
+from canbusd._words import MOST_NAMES, NUMBERS
 from canbusd.faults import Script
 
 Self = TypeVar("Self", bound="ProgramRun")
 
 #: Where runs have their folders; None is the system's place for temporary files.
 FOLDERS: "ContextVar[Optional[Path]]" = ContextVar("FOLDERS", default=None)
-#: How many interfaces a bus has at most.
-MOST_NAMES = 16
-#: The options of the program that are numbers, by the names of their arguments: the least and the most of each, and of what.
-NUMBERS: dict[str, tuple[str, int, int, str]] = {
-    "auto_restart": ("--auto-restart", 0, 1_000_000, "attempts"),
-    "pace_ms": ("--pace", 0, 60_000, "milliseconds"),
-    "write_bytes": ("--write", 256, 65_536, "bytes"),
-    "txqueue": ("--txqueue", 1, 1024, "frames"),
-    "rxqueue": ("--rxqueue", 1, 65_536, "frames"),
-    "limit": ("--limit", 1, 1 << 24, "entries"),
-    "flush": ("--flush", 0, 60_000, "milliseconds"),
-    "bitrate": ("--bitrate", LEAST_BITRATE, MOST_BITRATE, "bits a second"),
-    "data_bitrate": ("--dbitrate", LEAST_BITRATE, MOST_DBITRATE, "bits a second"),
-}
 
 Ack = Literal["always", "peers"]
 

@@ -3,7 +3,10 @@
 from dataclasses import dataclass
 from typing import Optional
 
-LEAST_BITRATE, MOST_BITRATE, MOST_DBITRATE = 5000, 1000000, 20000000
+from canbusd._words import NUMBERS
+
+LEAST_BITRATE, MOST_BITRATE = NUMBERS["bitrate"][1:3]
+MOST_DBITRATE = NUMBERS["data_bitrate"][2]
 
 
 @dataclass(frozen=True)

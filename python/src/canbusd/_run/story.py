@@ -12,10 +12,10 @@ from canbusd._run.run_parts import WARNING, severity
 from canbusd._run.steps import DONE, DOWN, KINDS, LASTBIT, NOACK, RESTART, Steps, numbers_in
 from canbusd._session.protocol import STATES
 from canbusd._text import times
+from canbusd._words import OUTCOMES
 from canbusd.record import members_of
 from canbusd.replay import Replay
 
-OUTCOMES = {"done": "done", "lastbit": "failed in the last bit", "destroyed": "destroyed", "noack": "not acknowledged"}
 # Refusals and drops of one place are one event where no more steps than these are between them.
 GAP = 8
 # Steps in a row in which a count is as bad.
@@ -71,7 +71,7 @@ def state_events(run: Replay, names: Sequence[str]) -> Iterator[Event]:
 
 
 def down_of(run: Replay, number: int, name: str) -> Iterator[Event]:
-    """That an interface goes down in a step."""
+    """The events of an interface that goes down in a step."""
     iface, lost = run.steps.ifaces[number], len(run.lost.get(number, []))
     yield Event(number, "down", iface, f"{name} went down: it takes no part until it is up")
     if lost:

@@ -6,23 +6,21 @@ Frames are in canbusd.frames: `command_of` and `frame_of`. Nothing here needs py
 from collections.abc import Iterable, Mapping, Sequence
 from typing import Any, Literal, NamedTuple, Optional, Union
 
+from canbusd._words import BUS_OFF, INTERFACE_DOWN, LONGEST_MESSAGE, NO_BUFFERS
 from canbusd.frames import EXTENDED, INVERTED
 
-# What may be between `<` and `>`, and in an answer: the names of 256 interfaces.
-LONGEST_MESSAGE, LONGEST_ANSWER = 1024, 4120
+# What may be in an answer: the names of 256 interfaces.
+LONGEST_ANSWER = 4120
 ALL_CLASSES = 0x1FFFFFFF
-# The states of an interface: those of its error counts, by how bad they are, and that of one that is down.
+# The states of an interface: the states of its error counts, the best first, and `down`.
 State = Literal["active", "warning", "passive", "off", "down"]
 STATES: tuple[State, ...] = ("active", "warning", "passive", "off", "down")
 # Filters that no frame passes: everything, inverted.
 NO_FRAMES = [{"can_id": INVERTED, "can_mask": 0}]
 
-# Refusals of a send and of a restart; of an older program, any message that it does not know.
-NO_BUFFERS, BUS_OFF, DOWN = "no buffers", "bus off", "interface down"
-NOT_BUS_OFF, UNKNOWN = "not bus off", "unknown command"
-# What a cyclic message goes on after: a full transmit queue, and an interface that is off the bus.
-PASSING = (NO_BUFFERS, BUS_OFF, DOWN)
-# What an older program has to be told, in place of UNKNOWN.
+# Refusals after which a cyclic message goes on: a full transmit queue, and an interface that is off the bus.
+PASSING = (NO_BUFFERS, BUS_OFF, INTERFACE_DOWN)
+# The text for users in place of UNKNOWN_COMMAND, with which an older program refuses a newer message.
 NO_DOWN = "the program is older, and has no interfaces that go down"
 
 Filters = Sequence[Mapping[str, Any]]
