@@ -7,6 +7,7 @@ import subprocess
 import sys
 from pathlib import Path
 
+from canbusd._library import library
 from canbusd.server import Server
 
 CLONE = Path(__file__).resolve().parents[2]
@@ -43,11 +44,13 @@ def test_the_code_of_the_package(installed):
         for block in code
         if ("hypothesis" not in block or importlib.util.find_spec("hypothesis"))
         and ("candump" not in block or shutil.which("candump"))
+        and ("LocalBus" not in block or library.is_there())
     ]
     program = "\n".join(["from canbusd import Bench, Faults, Server", *runs])
     with Server("can0,can1") as server:
         env = {**installed, "CANBUSD_ADDRESS": server.address}
+        env |= {"CANBUSD_LIBRARY": library.find_library()} if library.is_there() else {}
         done = subprocess.run([sys.executable, "-c", program], env=env, capture_output=True, text=True, check=False)
     assert done.returncode == 0, done.stderr
     assert re.match("Timestamp: .* ID: +0?123 .* 01 02 03 ", done.stdout)
-    assert len(code) == 11
+    assert len(code) == 12

@@ -53,6 +53,8 @@ from canbusd.frames import (
 if TYPE_CHECKING:
     from can.typechecking import AutoDetectedConfig
 
+    from canbusd.local import LocalBus
+
 Self = TypeVar("Self", bound="CanbusdBus")
 
 LOG = logging.getLogger("can.canbusd")
@@ -145,6 +147,14 @@ class CanbusdBus(InjectsFaults, NamesWhatThereIs, BusABC):
         **dict.fromkeys(("status", "counters", "tec", "rec"), "error_counters() has the state and the counts"),
         **dict.fromkeys(("expect", "expect_no_frame", "expect_state", "bus_off", "wait_for"), "the Server has it"),
     }
+
+    def __new__(cls, *args: Any, local: Optional["LocalBus"] = None, **kwargs: Any) -> Any:
+        """A bus of a server; with `local` one of a bus inside this process, which is a `LocalCanbusdBus`."""
+        if local is None:
+            return super().__new__(cls)
+        from canbusd.local_can import LocalCanbusdBus
+
+        return LocalCanbusdBus(*args, local=local, **kwargs)
 
     @explained()
     def __init__(

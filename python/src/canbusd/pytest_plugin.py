@@ -36,6 +36,7 @@ from canbusd.virtual import begin_test, is_virtual, python_words, repeated_by, v
 if TYPE_CHECKING:
     from canbusd.programs import Program
     from canbusd.server import Server
+    from canbusd.local import LocalBus
 
 #: The buses of the fixture `canbusd` where no marker names others.
 BUSES = ("can0,can1",)
@@ -277,6 +278,15 @@ class Runs:
         for names in buses:
             self._records[out / f"{names[0]}.rec"] = run, names
 
+    def audit(self, text: bytes, name: str) -> None:
+        """Audits the record of a bus inside the process, which is left in the folder if it is wrong; a fault fails the test."""
+        path = self._folder / f"{name}.rec"
+        path.write_bytes(text)
+        said = audited(path)
+        if not re.fullmatch(r"ok \d+ entries", said):
+            pytest.fail(f"the record {path}: {said}", pytrace=False)
+        path.unlink()
+
     def end(self) -> None:
         """Ends the runs and audits their records; a fault of one of them fails the test. Warns of rules that gave nothing."""
         faults = [*self._stop(), *self._audit()]
@@ -455,3 +465,18 @@ def canbusd_bench(request: pytest.FixtureRequest, _canbusd_runs: Runs) -> Bench:
         raise refused(request, f"canbusd_bench has one bus, not {len(buses)}")
     with blamed_on_marker(request):
         return _canbusd_runs.bench(buses[0], **options)
+
+
+@pytest.fixture
+def canbusd_local(request: pytest.FixtureRequest, _canbusd_runs: Runs) -> Iterator["LocalBus"]:
+    """A bus inside the process, with the interfaces of the marker `canbusd`, else with can0 and can1. Its record is audited."""
+    from canbusd.local import LocalBus
+
+    buses, options = marked(request, LocalBus)
+    if len(buses) != 1:
+        raise refused(request, f"canbusd_local has one bus, not {len(buses)}")
+    with blamed_on_marker(request):
+        bus = LocalBus(buses[0], **options)
+    with bus:
+        yield bus
+        _canbusd_runs.audit(bus.record(), bus.names[0])

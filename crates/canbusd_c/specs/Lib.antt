@@ -1,0 +1,5 @@
+pub mod Locals
+pub mod Shapes
+pub mod Codes
+pub mod Calls
+pub mod Handles
