@@ -11,7 +11,6 @@ import time
 
 import pytest
 
-from downs import has_downs, needs_downs
 from running import (
     FAST,
     SANITIZERS,
@@ -31,8 +30,6 @@ from test_run_kernel import KERNEL, boots, check_differences, probe, unlike
 LINKS = os.path.join(ROOT, "canrun", "tests", "links")
 #: The server of the cases; the cards are can2 and can3.
 CARDS = ("--bitrate", "500000", "can0,can1", "vcan0", "can2,can3")
-#: The cases of an interface that is down.
-DOWN = ("changes:down_is_down", "changes:events_of_down", "ip:ip_down")
 #: A frame of can0 is destroyed until its sender is bus off.
 ATTACK = f"can0,can1@{ROOT}/examples/bus_off_attack.script"
 
@@ -76,7 +73,6 @@ def cases_of(program):
     """The cases of links/."""
     listed = subprocess.run([program, "--list"], stdout=subprocess.PIPE, text=True, check=True).stdout.split()
     cases = [case for case in listed if os.path.exists(os.path.join(LINKS, f"{case.split(':')[0]}.c"))]
-    cases = [case for case in cases if has_downs() or case not in DOWN]
     assert len(cases) >= 120
     return cases
 
@@ -190,7 +186,6 @@ def test_monitor(tmp_path):
 # ---- down and up ----
 
 
-@needs_downs
 @needs_gcc
 @needs_ip
 def test_down_and_up(tmp_path):
@@ -218,7 +213,6 @@ def test_down_and_up(tmp_path):
         assert re.search(r"bus-off\n\s+0 +0 +0 +0 +0 +0 ", shown), shown
 
 
-@needs_downs
 @needs_ip
 def test_down_by_others():
     """what a client of the server takes down is down, and is set up by netlink"""

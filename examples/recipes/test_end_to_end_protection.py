@@ -20,8 +20,9 @@ BA_DEF_DEF_ "GenMsgCycleTime" 10;
 def test_the_engine_is_protected(canbusd, tmp_path):
     (tmp_path / "car.dbc").write_text(DBC)
     profile = e2e.Profile1(data_id=0x123)
-    with canbusd.rest_bus(tmp_path / "car.dbc", without=["ECU"], interface="engine") as rest:
-        engine = rest.protect("EngineData", profile)
+    rest = canbusd.rest_bus(tmp_path / "car.dbc", without=["ECU"], interface="engine")
+    engine = rest.protect("EngineData", profile)
+    with rest:
         canbusd.expect_protected("EngineData", profile, count=20, within=5)
         engine.inject("repeated")
         engine.inject("wrong crc")

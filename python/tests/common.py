@@ -1,20 +1,33 @@
-"""Functions that the tests of buses and servers share, beside their fixtures."""
+"""Functions and data that the tests of buses and servers share, besides their fixtures."""
 
 import subprocess
-import sys
 from pathlib import Path
 
 import can
 import pytest
 
 from canbusd._process.program import find_program
+from canbusd.bench import Bench
+from canbusd.server import Server
 
 PYTHON = Path(__file__).resolve().parents[1]
 WAIT = 20
-# What the tests of the clone share.
-sys.path.append(str(PYTHON.parent / "tests" / "helpers"))
+#: A database of two nodes, of which one sends each 10 ms.
+DBC = """VERSION ""
+BU_: Engine ECU
+BO_ 256 EngineData: 4 Engine
+ SG_ EngineSpeed : 16|16@1+ (0.25,0) [0|16000] "rpm" ECU
+BO_ 512 EcuData: 2 ECU
+ SG_ Lamp : 0|2@1+ (1,0) [0|2] "" Engine
+BA_DEF_ BO_ "GenMsgCycleTime" INT 0 65535;
+BA_DEF_DEF_ "GenMsgCycleTime" 0;
+BA_ "GenMsgCycleTime" BO_ 256 10;
+"""
 
-from downs import needs_downs as needs_downs  # noqa: E402
+#: Makes a fixture of a function: a test runs with each kind of bus, which is a class and a bit rate.
+on_each_kind = pytest.fixture(
+    params=[(Server, 500_000), (Bench, 500_000), (Bench, None)], ids=["server", "bench", "bench without a bit rate"]
+)
 
 
 def writes_live():

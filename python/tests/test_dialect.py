@@ -9,23 +9,10 @@ from canbusd.faults import Faults
 from canbusd.frames import Frame
 from canbusd.server import Server
 from canbusd.virtual import is_virtual
-from common import WAIT
-
-DBC = """VERSION ""
-BU_: Engine ECU
-BO_ 256 EngineData: 4 Engine
- SG_ EngineSpeed : 16|16@1+ (0.25,0) [0|16000] "rpm" ECU
-BO_ 512 EcuData: 2 ECU
- SG_ Lamp : 0|2@1+ (1,0) [0|2] "" Engine
-BA_DEF_ BO_ "GenMsgCycleTime" INT 0 65535;
-BA_DEF_DEF_ "GenMsgCycleTime" 0;
-BA_ "GenMsgCycleTime" BO_ 256 10;
-"""
+from common import DBC, WAIT, on_each_kind
 
 
-@pytest.fixture(
-    params=[(Server, 500_000), (Bench, 500_000), (Bench, None)], ids=["server", "bench", "bench without a bit rate"]
-)
+@on_each_kind
 def run(request):
     """A server or a bench."""
     kind, bitrate = request.param
@@ -59,6 +46,14 @@ def test_sending_and_receiving(run, ends):
     ]
     assert tester.recv(timeout=0.05) is None and tester.recv(timeout=0) is None
     assert [frame.arbitration_id for frame in run.log()] == [0x123, 0x124, 0x125, 0x18DAF110, 0x126]
+
+
+def test_filters(run, ends):
+    ecu, _ = ends
+    with run.bus("tester", [{"can_id": 0x123, "can_mask": 0x7FF}], error_frames=False) as tester:
+        ecu.send(0x122)
+        ecu.send(0x123)
+        assert tester.recv(timeout=WAIT).arbitration_id == 0x123
 
 
 def test_expectations(run, ends):
@@ -145,6 +140,37 @@ def test_names_of_a_database(run, ends, tmp_path):
         run.frame(0x200, {"Lamp": 2})
 
 
+def test_time_passes(run, ends):
+    ecu, tester = ends
+    task = ecu.send_periodic(Frame(0x123, b"\x01"), period=0.01)
+    run.wait(0.1)
+    received = [tester.recv(timeout=0) for _ in range(3)]
+    assert [one.data[0] for one in received] == [1, 1, 1]
+    if isinstance(run, Bench):
+        assert run.now == pytest.approx(0.1, abs=1e-3)
+    with pytest.raises(ValueError, match="^seconds is a number of seconds, 0 or more, not -1$"):
+        run.wait(-1)
+    with pytest.raises(AttributeError, match=r"has no sleep: wait\(seconds\)$"):
+        run.sleep(1)
+    task.stop()
+
+
+def test_a_periodic_frame_changes(run, ends):
+    ecu, tester = ends
+    task = ecu.send_periodic(Frame(0x123, b"\x01"), period=0.01)
+    assert tester.recv(timeout=WAIT).data == b"\x01"
+    task.modify_data(Frame(0x123, b"\x02"))
+    run.expect(0x123, b"\x02", within=WAIT)
+    with pytest.raises(ValueError):
+        task.modify_data(Frame(0x124, b"\x02"))
+    task.stop()
+    # What was sent before.
+    while tester.recv(timeout=0.1):
+        pass
+    task.start()
+    assert tester.recv(timeout=WAIT).data == b"\x02"
+
+
 def test_a_full_queue(run, ends):
     ecu, _ = ends
     # More than the queue has room for.
@@ -202,6 +228,13 @@ def test_two_rest_buses_of_which_one_ends(tmp_path):
                 bench.expect("EngineData")
             assert len(bench.expect_cyclic("EngineData", period=0.01, tolerance=0.0001, count=3)) == 3
             assert rest.counts().refused == 0
+
+
+def test_calls_that_need_a_server():
+    with Bench("ecu,tester") as bench:
+        for name in ("isotp", "start", "environment"):
+            with pytest.raises(AttributeError, match=f"^Bench has no {name}: ISO-TP, UDS and programs need a Server$"):
+                getattr(bench, name)
 
 
 def test_frames_that_wait_for_ever():

@@ -17,21 +17,11 @@ from canbusd.isotp import IsoTpError
 from canbusd.record import attempts_of
 from canbusd.replay import Replay
 from canbusd.server import Server
-from common import WAIT, message, needs_downs
+from common import DBC, WAIT, message, on_each_kind
 from test_commands import call
 from test_lying_server import liar
 from test_report import data_of
 
-DBC = """VERSION ""
-BU_: Engine ECU
-BO_ 256 EngineData: 4 Engine
- SG_ EngineSpeed : 16|16@1+ (0.25,0) [0|16000] "rpm" ECU
-BO_ 512 EcuData: 2 ECU
- SG_ Lamp : 0|2@1+ (1,0) [0|2] "" Engine
-BA_DEF_ BO_ "GenMsgCycleTime" INT 0 65535;
-BA_DEF_DEF_ "GenMsgCycleTime" 0;
-BA_ "GenMsgCycleTime" BO_ 256 10;
-"""
 #: A program that says when it starts, and sends a frame when it is asked to.
 PROGRAM = """
 import can
@@ -43,9 +33,7 @@ with can.Bus(interface="socketcan", channel="ecu") as bus:
 """
 
 
-@pytest.fixture(
-    params=[(Server, 500_000), (Bench, 500_000), (Bench, None)], ids=["server", "bench", "bench without a bit rate"]
-)
+@on_each_kind
 def run(request):
     """A server or a bench."""
     kind, bitrate = request.param
@@ -61,7 +49,6 @@ def database(tmp_path):
     return path
 
 
-@needs_downs
 def test_an_interface_goes_down_and_up(run):
     with run.bus("ecu") as ecu, run.bus("tester") as tester:
         run.down("ecu")
@@ -82,7 +69,6 @@ def test_an_interface_goes_down_and_up(run):
         assert run.state("ecu") == "active"
 
 
-@needs_downs
 def test_a_session_takes_its_interface_down(run):
     with run.bus("ecu") as ecu:
         ecu.down()
@@ -97,7 +83,6 @@ def test_a_session_takes_its_interface_down(run):
             ecu.restart()
 
 
-@needs_downs
 def test_nobody_acknowledges_where_the_others_are_down():
     with Bench("ecu,tester", ack="peers") as bench:
         ecu = bench.open("ecu")
@@ -108,7 +93,6 @@ def test_nobody_acknowledges_where_the_others_are_down():
         assert (lambda one: (one.outcome, one.accepted))(bench.attempt()) == ("done", ("tester",))
 
 
-@needs_downs
 def test_a_down_takes_what_waits():
     with Bench("can0,can1,can2") as bench:
         sender, other = bench.open("can0"), bench.open("can1")
@@ -130,7 +114,6 @@ def test_a_down_takes_what_waits():
     assert bench.audit().startswith("ok ")
 
 
-@needs_downs
 def test_down_after_bus_off():
     with Bench("can0,can1", faults=Faults().destroyed(range(32)), auto_restart=3) as bench:
         sender = bench.open("can0")
@@ -144,7 +127,6 @@ def test_down_after_bus_off():
         assert sender.status() == ("active", 0, 0)
 
 
-@needs_downs
 def test_the_state_of_python_can(server):
     with server.bus("can0") as can0:
         can0.down()
@@ -156,7 +138,6 @@ def test_the_state_of_python_can(server):
         assert can0.state is can.BusState.ACTIVE
 
 
-@needs_downs
 def test_a_periodic_message_goes_on(run):
     with run.bus("ecu") as ecu, run.bus("tester") as tester:
         task = ecu.send_periodic(can.Message(arbitration_id=0x123, is_extended_id=False), 0.01)
@@ -169,7 +150,6 @@ def test_a_periodic_message_goes_on(run):
         task.stop()
 
 
-@needs_downs
 def test_a_node_and_its_rest_bus(run, database):
     with run.rest_bus(database, interface="ecu", without=["ECU"]) as rest:
         node = run.node("ecu")
@@ -187,14 +167,13 @@ def test_a_node_and_its_rest_bus(run, database):
         with node.unplugged():
             run.expect_state("ecu", "down")
         assert run.state("ecu") == "active" and rest.message("EngineData").is_running
-        # What does not run is not started.
+        # A message that does not run is not started.
         rest.stop("EngineData")
         node.sleep()
         node.wake()
         assert not rest.message("EngineData").is_running
 
 
-@needs_downs
 def test_a_rest_bus_goes_on_where_its_interface_is_down(run, database):
     with run.rest_bus(database, interface="ecu", without=["ECU"]) as rest:
         run.expect(0x100, within=WAIT)
@@ -206,7 +185,6 @@ def test_a_rest_bus_goes_on_where_its_interface_is_down(run, database):
         run.expect(0x100, within=WAIT)
 
 
-@needs_downs
 def test_a_node_with_a_program():
     with Server("ecu,tester") as server:
         program = server.start([sys.executable, "-c", PROGRAM])
@@ -227,14 +205,12 @@ def test_a_node_with_a_program():
         node.power_off()
 
 
-@needs_downs
 def test_bus_off_of_an_interface_that_is_down(server):
     server.down("can0")
     with pytest.raises(AssertionError, match=r"it sends nothing while it is down; up\('can0'\) brings it up"):
         server.bus_off("can0", timeout=0.05)
 
 
-@needs_downs
 def test_a_transfer_of_iso_tp(server):
     with server.isotp("can0", tx=0x700, rx=0x701, library="canbusd") as end:
         server.down("can0")
@@ -254,7 +230,6 @@ def test_names_that_are_none(server):
         bench.node("can9")
 
 
-@needs_downs
 def test_the_commands(server):
     assert call("down", "can0", "can1", server=server) == (0, "", "")
     assert server.state("can0") == server.state("can1") == "down"
@@ -279,7 +254,7 @@ def test_an_older_program():
 # ---- records ----
 
 NAMES = ("ecu", "tester", "other")
-#: What a run brought about in which the ECU goes down twice, and what was lost.
+#: The events of a run in which the ECU goes down twice, and loses frames.
 EVENTS = [
     "canbus events 1",
     "bus 3 always 0000 10 100 0",
@@ -369,7 +344,6 @@ def test_attempts_of_a_run_with_downs():
     ]  # fmt: skip
 
 
-@needs_downs
 def test_two_runs_of_which_one_has_a_down(tmp_path):
     records = []
     for is_down in (True, False):

@@ -72,6 +72,16 @@ WITHOUT_A_RUN = [
     ("CanbusdBus()", TypeError, "CanbusdBus: missing a required argument: 'channel'; it is CanbusdBus(channel,"),
     ("load_database()", ValueError, "load_database needs the path of a file, such as load_database('car.dbc')"),
     ("read_record(5)", TypeError, "expected str, bytes or os.PathLike object, not int"),
+    (
+        "canbusd.shapes.ramp(0, 1, duration=2)",
+        TypeError,
+        "ramp has no argument duration (seconds?); there are start, end, sec",
+    ),
+    (
+        "canbusd.shapes.ramp(0, 1, 2)",
+        TypeError,
+        "ramp: too many positional arguments; it is ramp(start=None, end=None, *, sec",
+    ),
     # Faults.
     ("Faults().last_bit().next(3)", TypeError, "last_bit: missing", "a rule comes first: Faults().next(1).last_bit()"),
     ("Faults().destroyed()", TypeError, "destroyed: missing", "a rule comes first: Faults().next(1)."),
@@ -152,7 +162,11 @@ OF_A_SERVER = [
         "filters are a list of dicts, such as [{'can_id': 0x123, 'can_mask': 0x7FF}], not 5",
     ),
     ("can0.set_filters([{'id': 1}])", ValueError, "a filter has can_id and can_mask, as {", "not {'id': 1}"),
-    ("server.bus()", TypeError, "bus: missing a required argument: 'channel'; it is bus(channel, **kwargs)"),
+    (
+        "server.bus()",
+        TypeError,
+        "bus: missing a required argument: 'channel'; it is bus(channel, can_filters=None, **kwargs)",
+    ),
     # ISO-TP.
     ("server.isotp('can0', tx=1, rx=1)", ValueError, "tx and rx are different, not both 1"),
     (

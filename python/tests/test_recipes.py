@@ -49,7 +49,7 @@ def written(installed, tmp_path_factory):
 
 
 def test_all_recipes_are_there():
-    assert len(recipes()) == 23
+    assert len(recipes()) == 26
     named = re.findall(r"\]\(\.\./examples/recipes/test_(\w+)\.py\)", DOCUMENT.read_text(encoding="utf-8"))
     assert sorted(named) == sorted(recipes())
     for name, path in recipes().items():
@@ -69,6 +69,16 @@ def test_a_recipe(written, name):
         pytest.importorskip(NEEDED[name], reason=f"{NEEDED[name]} is not installed; Debian 12 has canmatrix only")
     assert re.search(rf"^PASSED test_{name}\.py::", written, re.M), written
     assert not re.search(rf"^(FAILED|ERROR) test_{name}\.py", written, re.M), written
+
+
+def test_virtual_time(installed, tmp_path):
+    """All recipes but those whose programs use the real clock."""
+    others = ("a_virtual_ecu", "a_go_node")
+    there = [name for name in recipes() if name not in others]
+    names = [name for name in there if name not in NEEDED or importlib.util.find_spec(NEEDED[name])]
+    written = run(installed, tmp_path, names, "--canbusd-virtual")
+    assert {f"test_{name}.py" for name in names} == set(re.findall(r"^PASSED (\w+\.py)::", written, re.M)), written
+    assert not re.search("^(FAILED|ERROR) ", written, re.M), written
 
 
 @pytest.mark.skipif(not shutil.which("gcc") or not shutil.which("candump"), reason="no gcc or no can-utils")

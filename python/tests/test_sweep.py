@@ -19,7 +19,6 @@ from canbusd._process.program import find_program
 from canbusd._sweep.attempts import Attempted
 from canbusd._sweep.faults_given import Fault, parse_fault
 from canbusd._sweep.places import places_at
-from common import needs_downs
 
 pytest_plugins = ["pytester"]
 EXAMPLES = Path(__file__).resolve().parents[2] / "examples" / "sweep"
@@ -165,7 +164,6 @@ OUTAGES = """
 """
 
 
-@needs_downs
 def test_interfaces_that_are_down(sweep, pytester):
     """a sender loses what it has queued; a frame that nobody acknowledges is sent again, and counted"""
     result = sweep(OUTAGES, "--canbusd-sweep", "--canbusd-sweep-check", "6")

@@ -261,13 +261,16 @@ def test_a_periodic_task_survives_a_full_queue():
             task.stop()
 
 
-def test_a_periodic_task_ends_with_its_bus(server):
+def test_a_periodic_task_ends_with_its_bus(server, caplog):
     with server.bus("can0") as can0, server.bus("can1") as can1:
-        can0.send_periodic(message(0x123), 0.002)
+        task = can0.send_periodic(message(0x123), 0.002)
         assert can1.recv(WAIT)
         can0.shutdown()
         while can1.recv(0.1):
             pass
+        # One that it was about to send when it was stopped is no fault.
+        task.bus.send(message(0x123))
+    assert not caplog.records
 
 
 def test_the_thread_safe_bus_of_python_can(installed, server):

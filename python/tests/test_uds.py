@@ -65,6 +65,26 @@ def test_sessions(ecu, tester):
     assert ecu.session == 1
 
 
+def test_sessions_by_their_names(ecu, tester):
+    ecu.routine(0x0203, sessions="extended")(lambda data: b"\x00")
+    ecu.routine(0x0204, sessions=["programming", 3])(lambda data: b"\x01")
+    # The numbers are those of ISO 14229-1.
+    for name, number, allowed in (("default", 1, []), ("programming", 2, [0x0204]), ("extended", 3, [0x0203, 0x0204])):
+        tester.session(name)
+        assert ecu.session == number
+        for routine in (0x0203, 0x0204):
+            if routine in allowed:
+                assert tester.routine(routine) == bytes([routine & 1 ^ 1])
+            else:
+                assert refused(tester.routine, routine) in (0x31, 0x7F)
+    with pytest.raises(
+        ValueError, match="^session is a number, or one of default, programming, extended, safetySystem"
+    ):
+        tester.session("extendet")
+    with pytest.raises(ValueError, match="^session is a number from 0 to 0xFF, not 256$"):
+        tester.session(256)
+
+
 def test_a_session_ends_by_itself(car):
     with uds.Ecu(car, "ecu", tx=0x7E8, rx=0x7E0, s3=1.0) as ecu:
         with uds.Client(car, "tester", tx=0x7E0, rx=0x7E8, p2=WAIT) as tester:
@@ -241,6 +261,15 @@ def test_a_fault_of_a_function_is_the_tests(car):
     with pytest.raises(ZeroDivisionError):
         ecu.close()
     ecu.close()
+
+
+def test_a_did_that_is_a_text(car):
+    ecu = uds.Ecu(car, "ecu", tx=0x7E8, rx=0x7E0)
+    ecu.dids[0xF190] = VIN.decode()
+    with uds.Client(car, "tester", tx=0x7E0, rx=0x7E8, p2=WAIT) as tester:
+        assert refused(tester.read, 0xF190) == 0x10
+    with pytest.raises(ValueError, match="^DID F190: data is bytes, .* not 'WVWZZZ1JZXW000001'$"):
+        ecu.close()
 
 
 @pytest.mark.parametrize(

@@ -1,4 +1,4 @@
-"""What the page of canbusd watch does when its user asks: by which requests, of whom, and in a browser."""
+"""The acts of the page of canbusd watch: their requests, the users and sites that may ask, and the page in a browser."""
 
 import contextlib
 import http.client
@@ -12,7 +12,6 @@ from pathlib import Path
 import can
 import pytest
 from browser import Browser
-from common import needs_downs
 from test_watch import WAIT, Watch
 from test_watch_private import NOBODY, needs_browser, needs_root, site
 
@@ -50,7 +49,7 @@ def receiver(server):
 
 
 def headers_of(watch):
-    """Those that the page's own requests have."""
+    """The headers of the page's own requests."""
     here = f"127.0.0.1:{watch.port}"
     return {"Host": here, "Origin": f"http://{here}", TOKEN: watch.path.strip("/")}
 
@@ -68,7 +67,7 @@ def posted(watch, act, body, headers=None):
 
 
 def ask(watch, act, node="can0", **asked):
-    """What the page is told that asks for this."""
+    """The answer to the page that asks for this."""
     answer = posted(watch, act, json.dumps({"node": node, **asked}).encode())
     assert (answer.status, answer.getheader("Content-Type")) == (200, "application/json")
     return json.loads(answer.read())
@@ -205,7 +204,6 @@ def refuse(*_):
     raise refusal(DOWN)
 
 
-@needs_downs
 def test_nodes_go_down_and_up(server, watched):
     assert ask(watched, "down")["python"] == 'server.down("can0")'
     assert server.state("can0") == "down"
@@ -252,7 +250,7 @@ def test_cyclic_frames(watched, receiver):
         assert line == f'task = bus.send_periodic({python}, 0.02)  # bus = server.bus("can0")'
         got = [receiver.recv(WAIT) for _ in range(6)]
         assert {str(frame_like(one)) for one in got} == {"123#11"}
-        # One that comes late is not made up for.
+        # A late frame is not made up for.
         assert got[-1].timestamp - got[0].timestamp > 3 * 0.02
         while not (cycles := news()["cycles"]):
             pass
@@ -403,7 +401,7 @@ def test_another_user_of_a_server_at_a_unix_path(tmp_path):
 
 
 def said(browser, form):
-    """What a form says of the act that was asked for last, once it does."""
+    """The answer that a form shows to its last act; waits for it."""
     browser.until(f"at('{form}').querySelector('.said').textContent !== ''")
     text = browser.run(f"at('{form}').querySelector('.said').textContent")
     browser.run(f"at('{form}').querySelector('.said').replaceChildren()")

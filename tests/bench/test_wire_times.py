@@ -259,7 +259,7 @@ def without_moments(output: bytes) -> bytes:
     return re.sub(rb"(< (?:frame|fdframe|fdframex [0-3]|remote|error) [0-9A-F]+) [0-9]+\.[0-9]{6}", rb"\1", lines)
 
 
-# An attempt of a record: its verdict; the frame that it tried, how that ended, and who went bus off; who was restarted.
+# An attempt of a record: verdict, frame, outcome, the interfaces that went bus off, and the interfaces that were restarted.
 ATTEMPT = re.compile(r"attempt \S+ (\S+) = (?:idle|tried \d+ \d+ (\S+) (\S+) \S+ (\S+))(?: restarted (\S+))?$")
 
 

@@ -10,7 +10,6 @@ import subprocess
 import record_events
 from canbusd._run.steps import DOWN, DROPPED, RESTART
 from canbusd.replay import Replay
-from downs import needs_downs
 from random_benches import Maker
 from record_events import events_of
 from record_text import BadRecord, parse_text
@@ -57,7 +56,7 @@ DOWNS = [
     ("attempt 0.000007 good = tried 0 2 103# done 0006 0000", "; put 1"),
 ]
 BUS_OF_DOWNS = "bus 3 always 0000 10 100 0"
-# One that does not need the version of those.
+# A record in version 6 that does not need it.
 BUS_OFF_6 = "".join(f"{line}\n" for line in ["canbus record 6", *BUS_OFF[1:]]).encode()
 
 
@@ -68,7 +67,7 @@ def with_downs():
 
 
 def events_of_downs():
-    """What they brought about."""
+    """The events of these entries."""
     lines = ["canbus events 1", BUS_OF_DOWNS, *map("".join, DOWNS), f"end {len(DOWNS)}"]
     return "".join(f"{line}\n" for line in lines)
 
@@ -119,7 +118,6 @@ def test_the_model_of_downs():
         assert record_events.audit(data) == f"canbusd: {fault}"
 
 
-@needs_downs
 def test_events_of_downs():
     """the program's lines are those of the model, and so is what it says of other records"""
     assert said(with_downs(), "--events") == (events_of_downs(), 0, "")

@@ -723,8 +723,8 @@ def test_a_kill_after_rules_that_find_no_room(tmp_path):
 
 @pytest.mark.parametrize("when", [*WHEN, "none", "nowhere"])
 def test_the_most_lines_that_wait(when):
-    """64 MiB of a bus: then rules are refused, and frames go on. At the end they are written; those that are taken while the
-    server runs do not wait, and where nobody takes them none are kept"""
+    """64 MiB of a bus: then rules are refused, and frames go on. At the end they are written. Lines that are taken while the
+    server runs do not wait, and if nobody takes them none are kept"""
     name = "longest-name.15"
     rule = f"always from {','.join([name] * 60)} good"
     words = ["--record", "end" if when == "nowhere" else when, f"{name},can1"]

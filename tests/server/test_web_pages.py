@@ -1,4 +1,4 @@
-"""A page in a browser can't put frames on a bus: what it sends to the server's port begins as no client does.
+"""A page in a browser can't put frames on a bus: its requests to the server's port begin as no client does.
 
 A page of another site needs nobody's leave to send by `fetch` with mode `no-cors`, and may not read what comes back: that is
 all that it needs to send messages. After DNS rebinding a page is of the server's own site, and may choose any method.
@@ -196,7 +196,7 @@ def test_a_stranger_is_not_heard(server, first, size):
     assert sent(server) == 0
 
 
-# The first bytes of clients, up to where the messages begin: what is no message is skipped.
+# The first bytes of clients, before their messages: text outside messages is skipped.
 CLIENTS = {
     "at once": b"",
     "after a blank": b" ",

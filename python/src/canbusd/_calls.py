@@ -13,6 +13,7 @@ OTHER_NAMES = {
     "cycle": "period",
     "cycle_time": "period",
     "dbc": "database",
+    "duration": "seconds",
     "extended": "is_extended_id",
     "filters": "can_filters",
     "interface": "channel",
@@ -51,7 +52,7 @@ def no_such(kind: str, word: str, known: Iterable[str]) -> str:
 
 
 def explained(cure: str = "") -> Callable[[F], F]:
-    """Has a call of this method whose arguments do not fit say which it takes, and what to do."""
+    """Has a call of this method or function whose arguments do not fit say which it takes, and what to do."""
 
     def decorated(function: F) -> F:
         @functools.wraps(function)
@@ -71,14 +72,16 @@ def explained(cure: str = "") -> Callable[[F], F]:
 
 
 def misfit(function: Callable[..., Any], args: tuple[Any, ...], kwargs: Mapping[str, Any]) -> str:
-    """Says why these are no arguments of a method; the empty text where they are."""
+    """Says why these are no arguments of a method or a function; the empty text where they are."""
     # It takes its time, and is for mistakes only.
     import inspect
 
     signature = inspect.signature(function)
-    # The first is the object.
-    _, *parameters = [one.replace(annotation=one.empty) for one in signature.parameters.values()]
+    parameters = [one.replace(annotation=one.empty) for one in signature.parameters.values()]
     owner, _, own = function.__qualname__.rpartition(".")
+    if owner:
+        # The first is the object.
+        del parameters[0]
     name = owner if own == "__init__" else own
     names = [one.name for one in parameters if one.kind in (one.POSITIONAL_OR_KEYWORD, one.KEYWORD_ONLY)]
     takes_any = any(one.kind is one.VAR_KEYWORD for one in parameters)

@@ -13,19 +13,21 @@ out whole before the next.
 
 import os
 import re
+import weakref
 from collections.abc import Mapping, Sequence
 from pathlib import Path
 from typing import TYPE_CHECKING, Any, Optional, Union, cast
 
 from canbusd._calls import NamesWhatThereIs, explained
 from canbusd import _placement as placement
-from canbusd._expect.bench_time import PassesTime
+from canbusd._expect.bench_time import SOON, PassesTime
 from canbusd._process.dialogue import MOST_INPUT as MOST_INPUT, BenchError as BenchError, Dialogue, moment_text
 from canbusd._process.program import audited
 from canbusd._process.program_run import Ack, bus_of, option_words, rates_of
 from canbusd._restbus.node import Node
 from canbusd._restbus.nodes import database_of
 from canbusd._restbus.simulated_nodes import HasRestBus
+from canbusd._restbus.sleepers import Sleepers
 from canbusd._run.log import read_log
 from canbusd._run.summary import write_page
 from canbusd._session.bench_session import Session as Session
@@ -70,6 +72,9 @@ class Bench(PassesTime, Dialogue, HasRestBus["BenchRestBus"], NamesWhatThereIs):
         "restart": "up('can0'), or bus('can0').restart()",
         **dict.fromkeys(("send", "receive", "recv"), "a session sends and receives: bus('can0').send(0x123)"),
         "tick": "attempt() makes one, run() all",
+        **dict.fromkeys(("isotp", "start", "environment"), "ISO-TP, UDS and programs need a Server"),
+        **dict.fromkeys(("sleep", "advance"), "wait(seconds)"),
+        "attempts": "record().attempts",
     }
 
     @explained()
@@ -101,6 +106,9 @@ class Bench(PassesTime, Dialogue, HasRestBus["BenchRestBus"], NamesWhatThereIs):
         script = script_bytes(placement.script_of((self._number, self.names[0]), faults))
         self._sessions = 0
         self._rest_buses: "list[BenchRestBus]" = []
+        self._nodes: dict[str, Node] = {}
+        this: Bench = weakref.proxy(self)
+        self._sleepers = Sleepers(self._turn, lambda name: this.up(name))
         self._sent: dict[str, list[Frame]] = {name: [] for name in self.names}
         words += ["--record", str(self._path("rec")), "--log", str(self._path("log")), "--"]
         bus = ",".join(self.names)
@@ -113,6 +121,8 @@ class Bench(PassesTime, Dialogue, HasRestBus["BenchRestBus"], NamesWhatThereIs):
         self._given = GivenRules(rules_in(script.decode()))
         # The rule of each attempt, where one gave its fault.
         self._rules: list[str] = []
+        # The end of the last attempt.
+        self._busy_until = 0.0
 
     @explained()
     def open(
@@ -179,7 +189,7 @@ class Bench(PassesTime, Dialogue, HasRestBus["BenchRestBus"], NamesWhatThereIs):
     @explained()
     def node(self, name: str) -> Node:
         """Returns the node of this interface, which comes and goes: ``bench.node("ecu").power_off()``."""
-        return Node(self, self._named(str(name), "name"))
+        return self._nodes.setdefault(self._named(str(name), "name"), Node(self, str(name)))
 
     def _attempt_now(self) -> Optional[Attempt]:
         return self.attempt(at=self.now)
@@ -222,6 +232,8 @@ class Bench(PassesTime, Dialogue, HasRestBus["BenchRestBus"], NamesWhatThereIs):
             words = TRIED.fullmatch(line)
             attempt = self._attempt_of(words) if words else None
             self._in_step = True
+            if attempt is not None:
+                self._sleepers.note(attempt)
         if not words:
             raise Refused(line)
         return attempt
@@ -244,10 +256,35 @@ class Bench(PassesTime, Dialogue, HasRestBus["BenchRestBus"], NamesWhatThereIs):
             attempts.append(attempt)
         raise RuntimeError(f"frames still wait after {most} attempts")
 
-    def _run_until(self, moment: str) -> list[Attempt]:
-        """Makes the attempts that begin before a moment; an echo follows them."""
+    def _run_until(self, moment: str, until_woken: bool = False) -> list[Attempt]:
+        """Makes the attempts that begin before a moment, with `until_woken` only up to one that wakes a node."""
         if self._rates is None:
             raise ValueError("until needs a bench with a bit rate, such as Bench(.., bitrate=500000)")
+        attempts: list[Attempt] = []
+        with self._turn:
+            # The frame that wakes a node may end later.
+            while not attempts or float(self._moment) < float(moment):
+                asleep = len(self._sleepers)
+                found = self._run_to_next(moment, self._rates.bitrate) if asleep else []
+                if not found:
+                    return attempts + self._begin_before(moment)
+                attempts += found
+                if until_woken and len(self._sleepers) < asleep:
+                    break
+        return attempts
+
+    def _run_to_next(self, moment: str, bitrate: int) -> list[Attempt]:
+        """Makes the next attempt, if it begins before a moment, and wakes the nodes that it wakes, at its end."""
+        soon = max(float(self._moment), self._busy_until) + SOON / bitrate
+        attempts = self._begin_before(moment_text(soon) if soon < float(moment) else moment)
+        for attempt in attempts:
+            if self._sleepers.are_woken_by(attempt):
+                self._begin_before(moment_text(attempt.timestamp))
+                self._sleepers.note(attempt)
+        return attempts
+
+    def _begin_before(self, moment: str) -> list[Attempt]:
+        """Makes all attempts that begin before a moment, and sets it; an echo follows them."""
         lines: list[str] = []
         with self._turn:
             last = min(self._sessions, MOST_SESSIONS)
@@ -298,6 +335,7 @@ class Bench(PassesTime, Dialogue, HasRestBus["BenchRestBus"], NamesWhatThereIs):
     def _attempt_of(self, words: "re.Match[str]") -> Optional[Attempt]:
         """The attempt that these words of a line describe."""
         moment, restarted = float(words["at"] or self._moment), set_of(words["restarted"])
+        self._busy_until = moment
         if words["winner"] is None:
             return Attempt(moment, "", 0, "", "idle", "good", (), (), restarted) if restarted else None
         number, winner = int(words["number"]), words["winner"]

@@ -88,6 +88,13 @@ def interfaces(address: Optional[str] = None, timeout: float = 5.0) -> list[str]
     return names
 
 
+def as_message(given: Any) -> Any:
+    """Returns a message of python-can for a Frame, also in a list; anything else as it is."""
+    if isinstance(given, (list, tuple)):
+        return [as_message(one) for one in given]
+    return given.message() if isinstance(given, Frame) else given
+
+
 class Periodic:
     """A bus as a periodic task has it: where the transmit queue is full, or the interface off, the task goes on, as one of
     the system's own CAN sockets does. That is logged once; python-can would log each send, with a traceback.
@@ -102,6 +109,9 @@ class Periodic:
             self._bus.send(msg, timeout)
             self._is_refused = False
         except CanOperationError as fault:
+            if self._bus._is_shutdown:
+                # The task was stopped, after it had looked whether it was.
+                return
             if fault.error_code not in ERROR_CODES.values():
                 raise
             if not self._is_refused:
@@ -316,15 +326,15 @@ class CanbusdBus(InjectsFaults, NamesWhatThereIs, BusABC):
         self._session.restart()
 
     def down(self) -> None:
-        """Takes the interface off the bus, as `ip link set can0 down` does; what waits in its transmit queue is lost.
+        """Takes the interface off the bus, as `ip link set can0 down` does; the frames in its transmit queue are lost.
 
         It sends, accepts and acknowledges nothing until `up`, and a send is refused as `interface down`. The sockets of the
-        interface stay open. One that is down stays so.
+        interface stay open. It may be down already.
         """
         self._session.down()
 
     def up(self) -> None:
-        """Brings the interface up, or back from bus off; both error counts are 0 then. One that is up stays so."""
+        """Brings the interface up, or back from bus off; both error counts are 0 then. It may be up already."""
         self._session.up()
 
     def error_counters(self) -> ErrorCounters:
@@ -353,6 +363,7 @@ class CanbusdBus(InjectsFaults, NamesWhatThereIs, BusABC):
     def shutdown(self) -> None:
         """Ends the session; who waits in another thread gets a CanOperationError. It may be called again."""
         super().shutdown()
+        self._is_shutdown = True
         self._session.close()
 
     @staticmethod
@@ -383,8 +394,12 @@ class CanbusdBus(InjectsFaults, NamesWhatThereIs, BusABC):
                 timeout = max(0.0, deadline - time.monotonic())
 
     def send_periodic(self, msgs: Any, *args: Any, **kwargs: Any) -> CyclicSendTaskABC:
-        """Sends a message again and again, as python-can has it; it may be a Frame."""
-        return super().send_periodic(msgs.message() if isinstance(msgs, Frame) else msgs, *args, **kwargs)
+        """Sends a message again and again, as python-can has it; it may be a Frame, also in `modify_data` of the task."""
+        task: Any = super().send_periodic(as_message(msgs), *args, **kwargs)
+        modify = getattr(task, "modify_data", None)
+        if modify is not None:
+            task.modify_data = lambda messages: modify(as_message(messages))
+        return cast(CyclicSendTaskABC, task)
 
     def _send_periodic_internal(self, *args: Any, **kwargs: Any) -> CyclicSendTaskABC:
         # Its thread sends under this lock, so not before it has the bus on which it goes on.

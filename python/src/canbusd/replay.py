@@ -216,6 +216,7 @@ class Replay:
         if not local and not any(parts) and not self._down and DOWN not in rows.kinds:
             return errors
         items = [*itertools.accumulate(handed, initial=len(self.items))]
+        firsts = self._firsts_lost(rows)
         for row, (part, verdict) in enumerate(zip(parts, rows.verdicts)):
             if rows.kinds[row] >= RESTART:
                 self._set_down(rows, row)
@@ -228,7 +229,7 @@ class Replay:
                     self._counts[count] = number
                 rows.counts[row] = self._counts.tobytes()
             if part.lost:
-                self._lose(rows, row, part.lost)
+                self._lose(rows, row, part.lost, firsts)
             found = [(items[row] + place, text) for place, text in part.errors] if part.errors else []
             if part.dropped:
                 found += self._drop(rows, row, part, items[row + 1])
@@ -252,13 +253,24 @@ class Replay:
         on = sum(1 << iface for iface, tec in enumerate(self._counts[::2]) if tec < OFF and iface != sender)
         return on & ~self._down
 
-    def _lose(self, rows: Rows, row: int, count: int) -> None:
-        """All frames are taken out of the transmit queue of an interface that goes bus off, of which that of the step is the
-        first, or down."""
-        iface, first = self.ifaces[rows.ifaces[row]], int(rows.numbers[row])
-        if rows.kinds[row] == DOWN:
-            before = zip(rows.ifaces[:row], rows.left)
-            first = iface.gone + sum(left for one, left in before if one == iface.number)
+    def _firsts_lost(self, rows: Rows) -> dict[int, int]:
+        """For each row in which an interface goes down, the number of the first frame in its transmit queue."""
+        if DOWN not in rows.kinds:
+            return {}
+        gone, firsts = [iface.gone for iface in self.ifaces], {}
+        for row, (kind, iface, left) in enumerate(zip(rows.kinds, rows.ifaces, rows.left)):
+            if kind == DOWN:
+                firsts[row] = gone[iface]
+            gone[iface] += left
+        return firsts
+
+    def _lose(self, rows: Rows, row: int, count: int, firsts: dict[int, int]) -> None:
+        """An interface goes down or bus off, and loses all frames in its transmit queue.
+
+        At bus off the first of them is that of the step.
+        """
+        iface = self.ifaces[rows.ifaces[row]]
+        first = firsts[row] if row in firsts else int(rows.numbers[row])
         place = first - iface.gone
         lines = iface.queue[place : place + count]
         self.lost[len(self.steps) + row] = list(enumerate(map(frame_in, lines), first))

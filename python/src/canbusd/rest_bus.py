@@ -36,11 +36,11 @@ VALUES, FRAMES = -1, 0
 class Counts(NamedTuple):
     """What became of the frames of a message, or of several."""
 
-    #: Those that the bus accepted into a transmit queue.
+    #: Frames that the bus accepted into a transmit queue.
     accepted: int = 0
-    #: Those that it did not: the queue was full, or the interface bus off or down.
+    #: Frames that the bus refused: the queue was full, or the interface bus off or down.
     refused: int = 0
-    #: Those that were left out, since this process came a whole cycle too late.
+    #: Frames that were left out, because this process was a whole cycle late.
     skipped: int = 0
 
     def plus(self, other: "Counts") -> "Counts":

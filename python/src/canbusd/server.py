@@ -28,11 +28,13 @@ from canbusd._process.serve_words import Recorded, bus_words, record_options
 from canbusd._restbus.node import Node
 from canbusd._restbus.nodes import database_of
 from canbusd._restbus.simulated_nodes import SimulatesNodes
+from canbusd._restbus.sleepers import LiveSleepers
 from canbusd._run.live import LiveLog, LiveRecord, left_by
 from canbusd._run.log import read_log
 from canbusd._session.address import parse_address, reason_of
 from canbusd._session.connection import SessionRefused
 from canbusd._session.injection import TIMEOUT, RuleSession
+from canbusd._session.protocol import Filters
 from canbusd._session.raw_session import CURES, RECORD_FULL, RawSession
 from canbusd.faults import Script, rules_of
 from canbusd.programs import Program, RunsPrograms
@@ -99,6 +101,7 @@ class Server(Expectations, SimulatesNodes, RunsPrograms, ProgramRun, NamesWhatTh
         "load": "server.bus('can0').load()",
         "receive": "server.bus('can0').recv(timeout=1), or expect(..)",
         "recv": "server.bus('can0').recv(timeout=1), or expect(..)",
+        "sleep": "wait(seconds)",
         "restart": "up('can0'), or server.bus('can0').restart()",
         "send": "server.bus('can0').send(can.Message(..))",
         "stats": "server.bus('can0').stats()",
@@ -148,6 +151,7 @@ class Server(Expectations, SimulatesNodes, RunsPrograms, ProgramRun, NamesWhatTh
         self._start("serve", *words, "--", *(bus[-1] for bus in self._by_bus.values()))
         #: Where clients connect: HOST:PORT, or a Unix path.
         self.address = self._listening()
+        self._sleepers = LiveSleepers(self.address, self._names())
         if self._observed:
             self._observing()
         placement.note_server(self._names(), self._take_down)
@@ -175,6 +179,7 @@ class Server(Expectations, SimulatesNodes, RunsPrograms, ProgramRun, NamesWhatTh
         self._records = {name: LiveRecord(self._out / f"{name}.rec", bus[:-1]) for name, bus in self._by_bus.items()}
         self._programs: list[Program] = []
         self._rest_buses: "list[RestBus]" = []
+        self._nodes: dict[str, Node] = {}
         # The first interfaces of the buses of which all rules were ended.
         self._rules_ended: set[str] = set()
         self._observer: Optional[Observer] = None
@@ -192,7 +197,7 @@ class Server(Expectations, SimulatesNodes, RunsPrograms, ProgramRun, NamesWhatTh
         return [name for bus in self._by_bus.values() for name in bus[:-1]]
 
     @explained()
-    def bus(self, channel: str, **kwargs: Any) -> "CanbusdBus":
+    def bus(self, channel: str, can_filters: Optional[Filters] = None, **kwargs: Any) -> "CanbusdBus":
         """Returns a bus of python-can on the interface of this name; the arguments are those of CanbusdBus."""
         import canbusd._python_can  # noqa: F401  it says what is missing, so it comes first
         from can.exceptions import CanInitializationError
@@ -203,7 +208,7 @@ class Server(Expectations, SimulatesNodes, RunsPrograms, ProgramRun, NamesWhatTh
             raise CanInitializationError(f"{channel}: no such interface; the server has {', '.join(self.interfaces)}")
         if self._result is not None:
             raise CanInitializationError(f"{channel}: the server has ended; {ENDED_BY.format(self._ends_too)}")
-        bus = CanbusdBus(channel, address=self.address, **kwargs)
+        bus = CanbusdBus(channel, can_filters=can_filters, address=self.address, **kwargs)
         bus.window = self._txqueue
         return bus
 
@@ -213,10 +218,12 @@ class Server(Expectations, SimulatesNodes, RunsPrograms, ProgramRun, NamesWhatTh
         ``server.node("ecu", server.start("./ecu can0"))``.
 
         ``node.power_off()`` and ``power_on()`` kill the programs and start them anew, ``sleep()``, ``wake()`` and
-        ``with node.unplugged():`` let them go on.
+        ``with node.unplugged():`` let them go on. An interface has one node, to which later calls may add programs.
         """
         self._first(str(name))
-        return Node(self, name, programs)
+        node = self._nodes.setdefault(name, Node(self, name))
+        node._programs += tuple(one for one in programs if one not in node._programs)
+        return node
 
     @explained()
     def inject(self, faults: Script, interface: Optional[str] = None) -> None:
@@ -395,6 +402,7 @@ class Server(Expectations, SimulatesNodes, RunsPrograms, ProgramRun, NamesWhatTh
             super().expect_from_now()
 
     def _end_observer(self) -> None:
+        self._sleepers.close()
         if self._observer is not None:
             self._observer.close()
 

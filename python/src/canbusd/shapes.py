@@ -18,7 +18,7 @@ from functools import cached_property
 from numbers import Real
 from typing import TYPE_CHECKING, Optional, TypeVar, Union
 
-from canbusd._calls import no_such
+from canbusd._calls import explained, no_such
 
 if TYPE_CHECKING:
     from canbusd._database.formats import SignalFormat, Value
@@ -189,16 +189,19 @@ class Table(Shape):
             yield from (moment - 2e-9, moment)
 
 
+@explained()
 def ramp(start: Optional[float] = None, end: Optional[float] = None, *, seconds: float = 1.0) -> Ramp:
     """Returns a ramp from `start` to `end` in so many seconds; then it stays there."""
     return Ramp(*_ends(start, end), _seconds("seconds", seconds))
 
 
+@explained()
 def sine(low: Optional[float] = None, high: Optional[float] = None, *, period: float = 1.0) -> Sine:
     """Returns a sine between `low` and `high`, which begins in the middle, and rises."""
     return Sine(*_ends(low, high), _seconds("period", period))
 
 
+@explained()
 def square(
     low: Optional[float] = None, high: Optional[float] = None, *, period: float = 1.0, duty: float = 0.5
 ) -> Square:
@@ -208,16 +211,19 @@ def square(
     return Square(*_ends(low, high), _seconds("period", period), duty)
 
 
+@explained()
 def noise(low: Optional[float] = None, high: Optional[float] = None, *, seed: int = 0) -> Noise:
     """Returns noise between `low` and `high`: another value in each frame, and the same ones for the same seed."""
     return Noise(*_ends(low, high), 1.0, seed)
 
 
+@explained()
 def toggle(*values: "Value", period: Optional[float] = None) -> Toggle:
     """Returns these values in turn, 0 and 1 without any: another in each frame, or all of them in each period, in seconds."""
     return Toggle(values or (0, 1), 0.0 if period is None else _seconds("period", period))
 
 
+@explained()
 def table(rows: "Iterable[tuple[float, Value]]") -> Table:
     """Returns values from their moments on, such as ``[(0.0, 800), (1.5, 3000)]``, in seconds."""
     known = "pairs of seconds and values, such as [(0.0, 800), (1.5, 3000)]"
@@ -230,6 +236,7 @@ def table(rows: "Iterable[tuple[float, Value]]") -> Table:
     return Table(sorted(((float(moment), value) for moment, value in found), key=lambda row: row[0]))
 
 
+@explained()
 def csv(
     path: "Union[str, os.PathLike[str]]", column: str, *, time: Optional[str] = None, delimiter: str = ","
 ) -> Table:

@@ -141,6 +141,11 @@ class PassesTime(Expectations):
         self._reached = max([self._reached, moment, *last])
         return attempts
 
+    def wait(self, seconds: float) -> None:
+        """Lets so many seconds of the bus pass: attempts are made, and what is due is sent."""
+        check_within(seconds, "seconds")
+        self.pass_time(lambda: None, seconds)
+
     def _wait(self, predicate: Callable[[], T], timeout: float) -> Optional[T]:
         return self.pass_time(lambda: predicate() or None, timeout)
 

@@ -113,16 +113,19 @@ class Expectations(Supervision):
 
     @explained()
     def down(self, name: str) -> None:
-        """Takes an interface off the bus, as `ip link set can0 down` does; what waits in its transmit queue is lost.
+        """Takes an interface off the bus, as `ip link set can0 down` does; the frames in its transmit queue are lost.
 
         It sends, accepts and acknowledges nothing until `up`, and a send is refused as `interface down`. Its sockets stay
-        open. One that is down stays so.
+        open. It may be down already. A state that is expected next is one from now on.
         """
-        self._observing().session(name).down()
+        observer = self._observing()
+        observer.session(name).down()
+        # No error message frame says it.
+        observer.came_into(name, "down")
 
     @explained()
     def up(self, name: str) -> None:
-        """Brings an interface up, or back from bus off; both error counts are 0 then. One that is up stays so."""
+        """Brings an interface up, or back from bus off; both error counts are 0 then. It may be up already."""
         self._observing().session(name).up()
 
     @explained()
@@ -155,6 +158,12 @@ class Expectations(Supervision):
         if found is None:
             raise TimeoutError(f"the condition was not true within {seconds_words(timeout)}{self._shown()}")
         return found
+
+    @explained()
+    def wait(self, seconds: float) -> None:
+        """Lets so many seconds of the bus pass."""
+        check_within(seconds, "seconds")
+        time.sleep(seconds)
 
     def expect_from_now(self) -> None:
         """Expectations look only at what comes from now on. The pytest plugin calls it at the start of each test."""

@@ -1,6 +1,6 @@
-"""What the live page does when its user asks: it sends, gives rules of faults and ends them, and takes interfaces down and up.
+"""The acts of the live page: it sends frames, gives and ends rules of faults, and takes interfaces down and up.
 
-Each act returns the line of Python that does the same. A frame is sent cyclically only while the page that asked for it is open.
+Each act returns the line of Python that does the same. A cyclic frame is sent only while the page that asked for it is open.
 """
 
 import contextlib
@@ -22,9 +22,9 @@ from canbusd.frames import Frame, command_of
 from canbusd.rules import parse_rule
 from canbusd.signals import Database
 
-#: How many frames are sent cyclically at once, and the least and most seconds between two of one.
+#: The most cyclic frames at once, and the shortest and the longest period, in seconds.
 MOST_CYCLES, LEAST_PERIOD, MOST_PERIOD = 64, 0.001, 3600.0
-# A number as Python spells it, too.
+# A number of a signal that is also a number in Python.
 NUMBER = re.compile(r"-?(?:0|[1-9][0-9]*)(?:\.[0-9]+)?")
 
 Json = dict[str, Any]
@@ -42,7 +42,7 @@ class Cycle:
         self._thread.start()
 
     def stop(self) -> None:
-        """Ends it; nothing is sent once this has returned."""
+        """Ends it. After this returns, nothing more is sent."""
         self._has_ended.set()
         self._thread.join()
 
@@ -54,12 +54,12 @@ class Cycle:
                 self.fault = ""
             except CanError as fault:
                 self.fault = words_of(fault)
-            # Those that are late are left out.
+            # Frames that are late are skipped.
             due = max(due + self.period, time.monotonic())
 
 
 class Acts:
-    """What pages may ask of these interfaces, of the server at this address."""
+    """The acts that pages may ask for, on these interfaces of the server at this address."""
 
     def __init__(self, names: Sequence[str], address: Optional[str], database: Optional[Database] = None) -> None:
         self._names, self._address, self._database = names, address, database
@@ -90,7 +90,7 @@ class Acts:
 
     @contextlib.contextmanager
     def page(self) -> Iterator[Callable[[], Json]]:
-        """A page that is open, and what it is told of itself. What is sent cyclically for it ends with it."""
+        """An open page. It yields a call that returns the page's news; the cyclic frames of the page end with it."""
         page = secrets.token_urlsafe(8)
         with self._lock:
             self._cycles[page] = {}
@@ -103,7 +103,7 @@ class Acts:
                 cycle.stop()
 
     def _shown(self, page: str) -> list[list[Any]]:
-        """What is sent cyclically for a page: number, interface, frame, seconds and refusal of each."""
+        """The cyclic frames of a page: number, interface, frame, period in seconds and refusal of each."""
         with self._lock:
             cycles = list(self._cycles[page].items())
         return [[number, one.bus.channel, one.text, one.period, one.fault] for number, one in cycles]

@@ -3,7 +3,7 @@
 
 const KINDS = ["done", "lastbit", "destroyed", "noack", "restart", "down", "idle"];
 const KIND_WORDS = ["done", "last bit", "destroyed", "no acknowledgement", "restart", "down", "idle"];
-// Those before RESTART are attempts.
+// The kinds before RESTART are attempts.
 const RESTART = 4, DOWN = 5, IDLE = 6;
 const STATES = ["active", "warning", "passive", "off", "down"];
 const IS_OFF = 3, IS_DOWN = 4;

@@ -5,8 +5,8 @@ begin with a token that only the URL of the page has, and the request has to nam
 leads here is another one. Where the server is at a Unix path, which file permissions protect, the browser has to be of the user
 who runs the command.
 
-What the page does, such as sending a frame, it asks for by POST, with the token in a header too, which no other site can have a
-browser send, and as its own origin. Nothing is done by GET.
+The page asks for each of its acts, such as sending a frame, by POST: with its own origin, and with the token in a header too,
+which no other site can have a browser send. A GET changes nothing.
 """
 
 import base64
@@ -42,16 +42,16 @@ SCRIPTS = (
     "watch_signals.js",
     "watch_loads.js",
 )
-# What a page has beside these, unless it only reads: its controls, and their script and style.
+# The controls of a page that may act, with their script and style.
 ACTS, ACT_SCRIPTS, ACT_STYLES = "watch_acts.html", ("watch_acts.js",), ("watch_acts.css",)
 # How much a page gets that is opened later: ticks, and frames.
 MOST_TICKS, MOST_FRAMES = 2400, 4000
 # Seconds in which pages are sent that the server has ended, after which a silent connection is closed, and between two looks
 # for a file descriptor where there are no more.
 CLOSE_TIMEOUT, REQUEST_TIMEOUT, PAUSE = 2.0, 10.0, 0.2
-# Seconds after which a page is told so where there is no news: by that a page that is closed is known.
+# Seconds after which a page gets an empty list, if there is no news: the write fails if the page is closed.
 BEAT = 1.0
-# How many connections may have asked nothing yet, how many bytes a request may have, and of these what an act is asked for by.
+# The most connections that have asked nothing yet, and the most bytes of a request and of its body.
 MOST_WAITING, MOST_BYTES, MOST_BODY = 64, 65536, 16384
 # The header with the token.
 TOKEN = "X-Canbusd-Token"

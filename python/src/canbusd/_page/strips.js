@@ -93,7 +93,7 @@ function secondTicks(most) {
   }));
 }
 
-// The whole run in a strip: what share failed, and where a node was bus off or down.
+// The whole run in a strip: the share of failed attempts, and the times when a node was bus off or down.
 
 function drawOverview() {
   const canvas = at("overview"), width = canvas.parentElement.clientWidth, key = [width, byTime.isOn].join();

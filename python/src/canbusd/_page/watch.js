@@ -271,7 +271,7 @@ function sayNow() {
     + (isPaused ? ` Paused at ${clock(last.time)}.` : "");
   sayOffs(last);
 }
-// Which nodes are bus off or down, and the last times that any went off; whatever else happens they stay here.
+// The nodes that are bus off or down, and the last times that a node went bus off. They stay here whatever else happens.
 function sayOffs(last) {
   const [off, down] = ["off", "down"].map(state => names.filter((_, i) => last.ifaces[i][0] === state));
   const shown = offs.slice(-3).reverse();

@@ -4,6 +4,7 @@ from collections.abc import Mapping
 from typing import TYPE_CHECKING, Optional
 
 from canbusd._calls import explained
+from canbusd._process.dialogue import moment_text
 from canbusd._restbus.schedule import MICROS, micros
 from canbusd._session.arguments import check_within
 from canbusd._session.injection import Refused
@@ -40,11 +41,18 @@ class BenchRestBus(RestBus):
         attempts: list[Attempt] = []
         end = micros(until)
         with self.changing():
-            while (due := self._schedule.first()) is not None and due < end:
-                attempts += self._go_to(max(due, self._bench._now))
+            while True:
+                due = self._schedule.first()
+                is_due = due is not None and due < end
+                goal = max(due, self._bench._now) if due is not None and is_due else end
+                attempts += self._go_to(goal)
+                if self._now < goal:
+                    # A node woke, whose messages may be due before.
+                    continue
+                if not is_due:
+                    return attempts
                 self._put()
                 attempts += self._tried()
-            return attempts + self._go_to(end)
 
     def first_due(self) -> Optional[int]:
         """When the next frame is due, for a bench whose time passes while a test waits."""
@@ -88,9 +96,15 @@ class BenchRestBus(RestBus):
             return str(fault)
 
     def _go_to(self, moment: int) -> list[Attempt]:
-        """Makes the attempts that begin before a moment, on a bench with a bit rate, and goes there."""
+        """Makes the attempts that begin before a moment, on a bench with a bit rate, and goes there; if a node wakes, not as far."""
+        attempts: list[Attempt] = []
+        if self._bench._rates:
+            asleep = len(self._bench._sleepers)
+            attempts = self._bench._run_until(moment_text(moment / MICROS), until_woken=True)
+            if len(self._bench._sleepers) < asleep:
+                moment = min(moment, self._bench._now)
         self._now = moment
-        return self._bench.run(until=moment / MICROS) if self._bench._rates else []
+        return attempts
 
     def _tried(self) -> list[Attempt]:
         """Makes attempts at this moment, on a bench without a bit rate, until no frame waits."""

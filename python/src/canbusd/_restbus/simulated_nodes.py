@@ -7,6 +7,7 @@ from canbusd._calls import explained
 
 if TYPE_CHECKING:
     from canbusd._restbus.nodes import Source
+    from canbusd._session.protocol import Filters
     from canbusd.bus import CanbusdBus
     from canbusd.isotp import IsoTp
     from canbusd.rest_bus import RestBus
@@ -74,7 +75,7 @@ class SimulatesNodes(HasRestBus["RestBus"]):
     address: str
     _result: Any
 
-    def bus(self, channel: str, **kwargs: Any) -> "CanbusdBus":
+    def bus(self, channel: str, can_filters: "Optional[Filters]" = None, **kwargs: Any) -> "CanbusdBus":
         """Returns a bus of python-can."""
         raise NotImplementedError
 

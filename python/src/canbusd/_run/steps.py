@@ -14,7 +14,7 @@ from typing import Optional, TypeVar, Union, overload
 from canbusd._run.run_parts import WAITING_BITS, Interface, Socket
 from canbusd.frames import EXTENDED, REMOTE, is_fd
 
-#: What a step is, by its number in the column and on a page; those before `restart` are attempts, the last is only on pages.
+#: The kinds of steps, by their numbers in the column and on a page. Kinds before `restart` are attempts, `idle` is only on pages.
 KINDS = ("done", "lastbit", "destroyed", "noack", "restart", "down", "idle")
 DONE, LASTBIT, DESTROYED, NOACK, RESTART, DOWN, IDLE = range(7)
 #: What became of an item, by its number; `waiting` is at the end of the run, `unread` at the close of its socket.
@@ -102,7 +102,7 @@ class Step:
     kind: str
     entry: int
     moment: str
-    #: The winner, or who was restarted or went down.
+    #: The winner, or the interface that was restarted or went down.
     iface: int
     #: Its number among the attempts; of a restart or a down that of the next attempt.
     attempt: int
@@ -141,7 +141,7 @@ class Rows:
     wires: Sequence[Optional[tuple[int, ...]]]
     #: How many frames waited.
     waiting: Sequence[int]
-    #: How many frames left the queue of who won, or went down.
+    #: How many frames left the queue of the interface that won, or went down.
     left: Sequence[int]
     #: The error message frames that it brought about, in the order of the steps.
     errors: dict[int, list[str]] = field(default_factory=dict)
@@ -172,9 +172,9 @@ class Steps(Sequence[Step]):
         self.changed = array("I")
         #: Sets of interfaces, bit i for interface i.
         self.accepted, self.off, self.hit = array("H"), array("H"), array("H")
-        #: The number and the frame of all that were taken out of a transmit queue, at bus off or down, by the step.
+        #: By the step, the frames that bus off or down took out of a transmit queue: the number and the frame of each.
         self.lost: dict[int, list[tuple[int, str]]] = {}
-        #: Those that are down after it.
+        #: The interfaces that are down after it, as a set.
         self.down = array("H")
         #: How many nanoseconds the frame takes the wire, and the attempt until the next one may begin; how many bits of the
         #: frame go at the nominal bit rate, and at the one for data. All are 0 where the line does not say it.
@@ -337,7 +337,7 @@ class Steps(Sequence[Step]):
         return [(iface, WireFrame(self._next(iface, place))) for iface in self.met(place)]
 
     def _next(self, iface: int, place: int) -> str:
-        """The frame that an interface tries next, from a step on, or loses as it goes down; else it waits first in the end."""
+        """The next frame that an interface tries or loses, from a step on; if there is none, the first that waits in the end."""
         if self.ifaces[place] == iface:
             return self.text(place)
         self._sort_tries()
@@ -348,7 +348,7 @@ class Steps(Sequence[Step]):
         return self.text(tries[later]) if self.kinds[tries[later]] < RESTART else self.lost[tries[later]][0][1]
 
     def _sort_tries(self) -> None:
-        """Makes the lists of who tried frames, or lost them untried, as long as the run is."""
+        """Adds the steps since the last call to the lists of steps in which each interface tried a frame, or lost it untried."""
         self._tries = self._tries or [array("I") for _ in self._all_ifaces]
         for place in range(self._sorted, len(self)):
             if self.kinds[place] < RESTART or place in self.lost:

@@ -71,7 +71,7 @@ def state_events(run: Replay, names: Sequence[str]) -> Iterator[Event]:
 
 
 def down_of(run: Replay, number: int, name: str) -> Iterator[Event]:
-    """That an interface goes down in a step."""
+    """The events of an interface that goes down in a step."""
     iface, lost = run.steps.ifaces[number], len(run.lost.get(number, []))
     yield Event(number, "down", iface, f"{name} went down: it takes no part until it is up")
     if lost:

@@ -25,7 +25,16 @@ from canbusd._session.protocol import (
     load_of,
     stats_of,
 )
-from canbusd.frames import Frame, MessageLike, command_of, frame_like, frame_of, frame_to_send, without_origin
+from canbusd.frames import (
+    Frame,
+    MessageLike,
+    command_of,
+    frame_like,
+    frame_of,
+    frame_to_send,
+    identifier_word,
+    without_origin,
+)
 
 if TYPE_CHECKING:
     from canbusd.bench import Bench
@@ -40,6 +49,18 @@ class PeriodicSend:
         self._session, self._frame, self._period = session, frame, round(period * 1e6)
         self._next: Optional[int] = session._bench._now
         self._end = None if duration is None else session._bench._now + round(duration * 1e6)
+
+    def modify_data(self, message: MessageLike) -> None:
+        """Sends this frame from now on, at the same moments; it has the same identifier."""
+        frame = frame_like(message)
+        if identifier_word(frame) != identifier_word(self._frame):
+            raise ValueError(f"a periodic frame keeps its identifier: {self._frame} can't become {frame}")
+        self._frame = frame
+
+    def start(self) -> None:
+        """Begins anew, if it was ended."""
+        if self._next is None:
+            self._next = self._session._bench._now
 
     def stop(self) -> None:
         """Ends it."""
@@ -214,10 +235,10 @@ class Session(InjectsFaults, NamesWhatThereIs):
             raise Refused(f"{self.channel}: {fault}, but {self.status().state}") from None
 
     def down(self, at: Union[str, float, None] = None) -> None:
-        """Takes the interface off the bus, at this moment if one is given; what waits in its transmit queue is lost.
+        """Takes the interface off the bus, at this moment if one is given; the frames in its transmit queue are lost.
 
-        It sends, accepts and acknowledges nothing until `up`, and a send is refused as `interface down`. One that is down
-        stays so.
+        It sends, accepts and acknowledges nothing until `up`, and a send is refused as `interface down`. It may be down
+        already.
         """
         try:
             self._bench._ask(f"feed {self._live()} < down >< echo >", at)
@@ -225,8 +246,8 @@ class Session(InjectsFaults, NamesWhatThereIs):
             raise Refused(f"{self.channel}: {NO_DOWN if str(fault) == UNKNOWN else fault}") from None
 
     def up(self, at: Union[str, float, None] = None) -> None:
-        """Brings the interface up, at this moment if one is given, or back from bus off; both error counts are 0 then. One
-        that is up stays so."""
+        """Brings the interface up, at this moment if one is given, or back from bus off; both error counts are 0 then. It
+        may be up already."""
         try:
             self._bench._ask(f"feed {self._live()} < restart >< echo >", at)
         except Refused as fault:

@@ -33,6 +33,8 @@ CLOSE_TIMEOUT = 1.0
 POLL, LONGEST_POLL = 0.0002, 0.01
 # Seconds after which a thread looks for what another one has read, if that was interrupted before it woke it.
 LONGEST_NAP = 1.0
+# Seconds for which another thread has its turn to read.
+A_TURN = 0.001
 # Anybody may listen at an address, and terminals carry out what they take for a command: other characters than those
 # that messages have are `?`, and all kinds of space one.
 PRINTED = bytes(32 if byte in b"\t\n\v\f\r" else byte if 32 <= byte < 127 else ord("?") for byte in range(256))
@@ -139,11 +141,14 @@ class Connection:
     def take_frames(self, to: deque[str]) -> int:
         """Reads once what the socket has, without waiting, and moves the frames that were read to the end of `to`.
 
-        Returns how many there were. One call for many: an exception of a signal's handler finds them here or there.
+        Returns how many there were. One call for many: an exception of a signal's handler finds them here or there. Where another
+        thread reads, it has its turn first: who calls this again and again would keep it from that.
         """
         before = len(to)
         try:
-            self._read(self._never, 0.0, select.POLLIN)
+            has_read, _ = self._read(self._never, 0.0, select.POLLIN)
+            if not has_read:
+                self._await_reader(self._never, A_TURN, select.POLLIN)
         finally:
             with contextlib.suppress(IndexError):
                 to.extend(iter(self._frames.popleft, None))

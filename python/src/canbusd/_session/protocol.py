@@ -11,18 +11,18 @@ from canbusd.frames import EXTENDED, INVERTED
 # What may be between `<` and `>`, and in an answer: the names of 256 interfaces.
 LONGEST_MESSAGE, LONGEST_ANSWER = 1024, 4120
 ALL_CLASSES = 0x1FFFFFFF
-# The states of an interface: those of its error counts, by how bad they are, and that of one that is down.
+# The states of an interface: the states of its error counts, the best first, and `down`.
 State = Literal["active", "warning", "passive", "off", "down"]
 STATES: tuple[State, ...] = ("active", "warning", "passive", "off", "down")
 # Filters that no frame passes: everything, inverted.
 NO_FRAMES = [{"can_id": INVERTED, "can_mask": 0}]
 
-# Refusals of a send and of a restart; of an older program, any message that it does not know.
+# Refusals of a send and of a restart; UNKNOWN is an older program's refusal of a newer message.
 NO_BUFFERS, BUS_OFF, DOWN = "no buffers", "bus off", "interface down"
 NOT_BUS_OFF, UNKNOWN = "not bus off", "unknown command"
-# What a cyclic message goes on after: a full transmit queue, and an interface that is off the bus.
+# Refusals after which a cyclic message goes on: a full transmit queue, and an interface that is off the bus.
 PASSING = (NO_BUFFERS, BUS_OFF, DOWN)
-# What an older program has to be told, in place of UNKNOWN.
+# The text for users in place of UNKNOWN, if the program is older.
 NO_DOWN = "the program is older, and has no interfaces that go down"
 
 Filters = Sequence[Mapping[str, Any]]

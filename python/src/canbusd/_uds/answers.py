@@ -15,6 +15,14 @@ from canbusd.frames import data_bytes
 MOST_KEYS, KEY_DELAY = 3, 10.0
 
 
+def bytes_of_did(number: int, data: object) -> bytes:
+    """Returns the bytes of a DID; ValueError names one that has others."""
+    try:
+        return data_bytes(data)
+    except ValueError as fault:
+        raise ValueError(f"DID {number:04X}: {fault}") from None
+
+
 @dataclass
 class Guarded:
     """A function of a DID or of a routine, and when it may be called: in which sessions, if not in all, and with which level of
@@ -160,9 +168,9 @@ class Answers:
             reader = self._readers.get(number)
             if reader is not None and self._is_in_session(reader):
                 self._check_level(reader.level)
-                answer += request[place : place + 2] + data_bytes(reader.function())
+                answer += request[place : place + 2] + bytes_of_did(number, reader.function())
             elif reader is None and number in self.dids:
-                answer += request[place : place + 2] + self.dids[number]
+                answer += request[place : place + 2] + bytes_of_did(number, self.dids[number])
         if not answer:
             raise NegativeResponse(0x31)
         return b"\x62" + answer

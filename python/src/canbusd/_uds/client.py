@@ -4,7 +4,7 @@ import importlib
 import time
 from collections.abc import Callable
 from types import TracebackType
-from typing import TYPE_CHECKING, Any, Optional, cast
+from typing import TYPE_CHECKING, Any, Optional, Union, cast
 
 from canbusd._calls import NamesWhatThereIs, explained
 from canbusd._isotp.end import IsoTp
@@ -14,7 +14,7 @@ from canbusd._session.arguments import check_within
 from canbusd._session.waits import seconds_until
 from canbusd._text import seconds_words
 from canbusd._uds import codes
-from canbusd._uds.codes import NegativeResponse, byte_of
+from canbusd._uds.codes import NegativeResponse, byte_of, session_of
 from canbusd.frames import data_bytes
 
 if TYPE_CHECKING:
@@ -94,9 +94,9 @@ class Client(NamesWhatThereIs):
                 seconds = self._p2_star
                 deadline = time.monotonic() + seconds
 
-    def session(self, kind: int) -> None:
-        """Changes the session: 1, the default one, 2, programming, 3, the extended one."""
-        self.request(bytes([codes.SESSION, byte_of("kind", kind)]))
+    def session(self, kind: Union[int, str]) -> None:
+        """Changes the session: 1, ``"default"``, 2, ``"programming"``, 3, ``"extended"``, or another by its number."""
+        self.request(bytes([codes.SESSION, session_of(kind)]))
 
     def reset(self, kind: int = 1) -> None:
         """Resets the ECU: 1 hard, 2 as by its key, 3 soft."""

@@ -15,6 +15,8 @@ WITH_SUBFUNCTION = (SESSION, RESET, READ_DTCS, SECURITY, COMMUNICATION, ROUTINE,
 COUNT_DTCS, DTCS_BY_STATUS, SUPPORTED_DTCS, ALL_DTCS = 0x01, 0x02, 0x0A, 0xFFFFFF
 #: The bit of a subfunction that asks for no positive response.
 SUPPRESSED = 0x80
+#: The sessions of ISO 14229-1 by their names.
+SESSIONS = {"default": 1, "programming": 2, "extended": 3, "safetySystem": 4}
 CODES = {
     0x10: "generalReject",
     0x11: "serviceNotSupported",
@@ -63,6 +65,15 @@ def code_of(code: Union[int, str]) -> int:
             f"code is a number or a name, such as 'conditionsNotCorrect', not {code!r}{meant(code, CODES.values())}"
         )
     return byte_of("code", code)
+
+
+def session_of(session: Union[int, str]) -> int:
+    """Returns the number of a session, which may be given by its name."""
+    if isinstance(session, str):
+        if session not in SESSIONS:
+            raise ValueError(f"session is a number, or one of {', '.join(SESSIONS)}, not {session!r}")
+        return SESSIONS[session]
+    return byte_of("session", session)
 
 
 def byte_of(what: str, number: object) -> int:

@@ -16,7 +16,7 @@ from canbusd._session.arguments import check_within
 from canbusd._session.waits import seconds_until
 from canbusd._uds import codes
 from canbusd._uds.answers import Answers, Guarded, Lock
-from canbusd._uds.codes import NegativeResponse, byte_of, code_of
+from canbusd._uds.codes import NegativeResponse, byte_of, code_of, session_of
 
 if TYPE_CHECKING:
     from canbusd._isotp.python_end import PythonIsoTp
@@ -27,11 +27,15 @@ F = TypeVar("F", bound=Callable[..., Any])
 PART = 0.9
 
 
-def _keeper(table: dict[int, Guarded], number: int, sessions: Iterable[int], level: int) -> Callable[[F], F]:
+#: Sessions in which something is there: one or several, by their numbers or names; without any, all.
+Sessions = Union[int, str, Iterable[Union[int, str]]]
+
+
+def _keeper(table: dict[int, Guarded], number: int, sessions: Sessions, level: int) -> Callable[[F], F]:
     """Returns the decorator that keeps a function for this number."""
     if isinstance(number, bool) or not isinstance(number, int) or not 0 <= number <= 0xFFFF:
         raise ValueError(f"number is one from 0 to 0xFFFF, not {number!r}")
-    allowed = tuple(sessions)
+    allowed = tuple(map(session_of, [sessions] if isinstance(sessions, (int, str)) else sessions))
 
     def keep(function: F) -> F:
         table[number] = Guarded(function, allowed, level)
@@ -110,18 +114,18 @@ class Ecu(Answers, NamesWhatThereIs):
     # Its data and services.
 
     @explained("bytes are ecu.dids[0xF190] = b'..', and a function has the decorator @ecu.did(0xF190)")
-    def did(self, number: int, *, sessions: Iterable[int] = (), level: int = 0) -> Callable[[F], F]:
+    def did(self, number: int, *, sessions: Sessions = (), level: int = 0) -> Callable[[F], F]:
         """Makes a function return the bytes of a DID, ``def f()``; with `sessions` only in these, with a `level` only while that
         level of security is unlocked."""
         return _keeper(self._readers, number, sessions, level)
 
     @explained("a function that takes what is written has the decorator @ecu.write(0xF190)")
-    def write(self, number: int, *, sessions: Iterable[int] = (), level: int = 0) -> Callable[[F], F]:
+    def write(self, number: int, *, sessions: Sessions = (), level: int = 0) -> Callable[[F], F]:
         """Makes a function take the bytes that are written to a DID, ``def f(data)``."""
         return _keeper(self._writers, number, sessions, level)
 
     @explained("a function has the decorator @ecu.routine(0x0203)")
-    def routine(self, number: int, *, sessions: Iterable[int] = (), level: int = 0) -> Callable[[F], F]:
+    def routine(self, number: int, *, sessions: Sessions = (), level: int = 0) -> Callable[[F], F]:
         """Makes a function carry out a routine, ``def f(data)``; what it returns follows in the answer.
 
         With a second parameter it is also called to stop it (2) and for its results (3): ``def f(data, kind)``.

@@ -6,8 +6,8 @@ from canbusd.bus import CanbusdBus
 from canbusd.commands._each import add_arguments as add_arguments, do_with_each
 
 EPILOG = """\
-As `ip link set can0 down`: what is queued is lost, and until `canbusd up` the interface sends, accepts and acknowledges
-nothing. Its clients stay connected, and what they send is refused. One that is down stays so.
+This is as `ip link set can0 down`: queued frames are lost, and until `canbusd up` the interface sends, accepts and
+acknowledges nothing. Its clients stay connected, and their sends are refused. An interface that is down stays down.
 
   canbusd down can0
   canbusd up can0

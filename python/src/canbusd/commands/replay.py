@@ -46,7 +46,7 @@ def add_arguments(parser: argparse.ArgumentParser) -> None:
 
 
 def run(options: argparse.Namespace) -> int:
-    """Writes a line for each attempt, restart and down, what there is to say of their times, and the verdict."""
+    """Writes a line for each attempt, restart and down, a summary of their times, and the verdict."""
     rates = rates_of(options)
     record = replayed(options.record, options.names, options.cut, rates)
     slots = slots_of(record.replay) if rates else []

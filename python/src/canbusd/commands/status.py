@@ -12,9 +12,9 @@ from canbusd.commands import above_zero, add_address
 
 EPILOG = """\
 TEC and REC are the transmit and the receive error count: error warning from 96, error passive from 128, bus off from
-256; one that is `down` was taken off the bus. `sent` is what was accepted for sending: done, waiting, or lost at bus off
-or when the interface went down. `refused` found the transmit queue full. Of a server with a bit rate `bus load` is how
-much of the last whole second the bus was busy.
+256; a `down` interface was taken off the bus. `sent` counts the frames accepted for sending: done, waiting, or lost at
+bus off or when the interface went down. `refused` counts the frames that found the transmit queue full. On a server with
+a bit rate, `bus load` is how much of the last whole second the bus was busy.
 
   canbusd status
   canbusd status --watch can0 can1

@@ -35,7 +35,7 @@ Of a server with a bit rate it has the bus load, and what each identifier takes 
 A session on each interface receives everything: each frame that it gets is an entry of the record.
 
 The page also sends frames, once and cyclically, gives rules of faults, and takes interfaces down and up, each with the line of
-Python that does the same. What is sent cyclically ends when the page is closed. With --read-only it does none of this.
+Python that does the same. Cyclic frames end when the page is closed. With --read-only the page only shows.
 
   canbusd watch
   canbusd watch --port 0 -a ./bench.socket can0

@@ -1,0 +1,141 @@
+"""The nodes of a bench or a server that sleep until a frame wakes them."""
+
+import logging
+import threading
+from collections.abc import Callable, Sequence
+from typing import NamedTuple, Optional
+
+from canbusd._restbus.wake_up import WakeUp
+from canbusd._session.address import reason_of
+from canbusd._session.connection import SessionRefused
+from canbusd._session.injection import TIMEOUT
+from canbusd._session.protocol import NO_FRAMES, filter_message
+from canbusd._session.raw_session import RawSession, fault
+from canbusd.frames import Frame, frame_of
+from canbusd.record import Attempt
+
+LOG = logging.getLogger("can.canbusd")
+#: Wakes a node, whose interface is brought up by this function of its name.
+Wake = Callable[[Callable[[str], None]], None]
+
+
+class Sleeper(NamedTuple):
+    """A node that sleeps, which `wake` wakes."""
+
+    wake_up: WakeUp
+    wake: Wake
+    #: By an interface, how many frames its session had got when the node fell asleep.
+    before: dict[str, int]
+
+
+class Sleepers:
+    """Those of a bench, which hands on its attempts. `lock` is held while a node falls asleep or wakes."""
+
+    def __init__(self, lock: "threading.RLock", up: Callable[[str], None]) -> None:
+        self.lock, self._up = lock, up
+        # By the names of their interfaces.
+        self._asleep: dict[str, Sleeper] = {}
+
+    def __len__(self) -> int:
+        return len(self._asleep)
+
+    def add(self, name: str, wake_up: WakeUp, wake: Wake) -> None:
+        """Adds the node of an interface, which is down."""
+        self._asleep[name] = Sleeper(wake_up, wake, {})
+
+    def remove(self, name: str) -> None:
+        """Removes the node of an interface, if it is there."""
+        self._asleep.pop(name, None)
+
+    def are_woken_by(self, attempt: Attempt) -> bool:
+        """Whether this attempt has put a frame on the bus that wakes somebody."""
+        is_whole = attempt.outcome == "done" or bool(attempt.accepted)
+        return is_whole and any(one.wake_up.matches(Frame.parse(attempt.frame)) for one in self._asleep.values())
+
+    def note(self, attempt: Attempt) -> None:
+        """Wakes those that are woken by this attempt."""
+        if self.are_woken_by(attempt):
+            self._wake_by(Frame.parse(attempt.frame))
+
+    def _wake_by(self, frame: Frame, channel: str = "", number: int = 0) -> None:
+        """Wakes those whose frame this is, the session on an interface having got so many before it."""
+        for name, sleeper in list(self._asleep.items()):
+            if number >= sleeper.before.get(channel, 0) and sleeper.wake_up.matches(frame):
+                self.remove(name)
+                sleeper.wake(self._up)
+
+
+class Watch(RawSession):
+    """A session on an interface that receives what wakes a node."""
+
+    def __init__(self, address: str, name: str) -> None:
+        #: How many frames were taken here.
+        self.taken = 0
+        try:
+            super().__init__(address, name, [str(filter_message(NO_FRAMES))], TIMEOUT)
+        except (OSError, SessionRefused) as reason:
+            text = f"{name}: no session to see what wakes a node: {reason_of(reason)}"
+            raise fault("CanInitializationError", text) from None
+
+
+class LiveSleepers(Sleepers):
+    """Those of a server. While one sleeps, a session on each interface of its bus receives what wakes it: any of the others may
+    be down."""
+
+    def __init__(self, address: str, buses: Sequence[Sequence[str]]) -> None:
+        # By a session of its own: another thread may wait for what those of the server receive.
+        super().__init__(threading.RLock(), lambda name: self._watches[name].up())
+        self._address, self._buses = address, buses
+        self._watches: dict[str, Watch] = {}
+
+    def add(self, name: str, wake_up: WakeUp, wake: Wake) -> None:
+        names = next(names for names in self._buses if name in names)
+        for one in names:
+            if one not in self._watches:
+                self._watches[one] = watch = Watch(self._address, one)
+                threading.Thread(target=self._read, args=(watch,), name="canbusd wake-up", daemon=True).start()
+        super().add(name, wake_up, wake)
+        self._filter()
+        # Frames from before may still be on their way to here.
+        before = {one: self._watches[one].stats().queued for one in names}
+        self._asleep[name] = Sleeper(wake_up, wake, before)
+
+    def remove(self, name: str) -> None:
+        was_there = name in self._asleep
+        super().remove(name)
+        if was_there:
+            self._filter()
+
+    def close(self) -> None:
+        """Ends its sessions."""
+        with self.lock:
+            self._asleep.clear()
+        for watch in self._watches.values():
+            watch.close()
+
+    def _filter(self) -> None:
+        """Has the sessions receive what wakes somebody; more filters than fit into a message are applied here only."""
+        filters = [one for sleeper in self._asleep.values() for one in sleeper.wake_up.filters] or NO_FRAMES
+        message = filter_message(filters) or filter_message(None)
+        for watch in self._watches.values():
+            watch.answer(str(message))
+
+    def _read(self, watch: Watch) -> None:
+        """Hands on what a session receives, until it ends."""
+        while (frame := next_frame(watch)) is not None:
+            with self.lock:
+                number, watch.taken = watch.taken, watch.taken + 1
+                try:
+                    self._wake_by(frame, watch.channel, number)
+                except Exception as reason:
+                    # As of a server that was killed, or whose record is full.
+                    LOG.warning("a node was not woken by %s: %s", frame, reason)
+
+
+def next_frame(watch: Watch) -> Optional[Frame]:
+    """Waits for the next frame that a session receives, and returns it; None at its end."""
+    try:
+        text = watch.frame(None)
+    except Exception:
+        return None
+    return None if text is None else frame_of(text.lstrip("< "))

@@ -1,0 +1,66 @@
+"""The documents' English, as far as it can be counted: short sentences, subjects that are nouns, and few lines."""
+
+import os
+import re
+
+import pytest
+
+from serving import ROOT
+
+# The most words of a sentence, on average.
+WORDS = {"README.md": 20, "docs/GUIDE.md": 20, "docs/PYTHON.md": 20, "docs/PROVED.md": 24, "docs/SECURITY.md": 20}
+WORDS.update({"docs/RECORD.md": 20, "CONTRIBUTING.md": 20, "canbusd.1": 20, "canbusd-run.1": 20})
+LINES = 3400
+# The beginning of a sentence, or of a part of it, whose subject is a clause.
+HEADLESS = re.compile(r"(?:^|[:;] )(?:What|Who|Whoever|That of|Those of|Those that) (?!else)[a-z]")
+
+
+def read(name):
+    with open(os.path.join(ROOT, name), encoding="utf-8") as file:
+        return file.read()
+
+
+def paragraphs(text):
+    """The paragraphs and items of a document in Markdown or of a manual page, without tables, blocks of code and headings."""
+    if text.startswith(".TH"):
+        text = re.sub(r"\.nf\n.*?\.fi\n", "", text, flags=re.S)
+        text = re.sub(r"^\.TP\n.*\n|^\.(?:TH|PP|IP|SH|br).*\n", "\n\n", text, flags=re.M)
+        text = re.sub(r"\\f.|^\.[BI]R? ", "", text, flags=re.M).replace("\\-", "-")
+    text = re.sub(r"^```.*?^```$", "", text, flags=re.S | re.M)
+    text = re.sub(r"^(?:    |\||#).*$", "\n", text, flags=re.M)
+    return [
+        " ".join(part.split()) for part in re.split(r"\n\s*\n(?:- |\d+\. )?|\n\s*(?:- |\d+\. )", text) if part.split()
+    ]
+
+
+def sentences(text):
+    """The sentences of a document; a link counts as its text."""
+    text = re.sub(r"!?\[([^]]*)\]\([^)]*\)", r"\1", text).replace("**", "").replace(" ..", "")
+    found = [one for part in paragraphs(text) for one in re.split(r"(?<=[.?!])[)\"]? (?=[^a-z])|: (?=`)", part)]
+    return [one for one in found if len(one.split()) > 1]
+
+
+def test_counting():
+    """two sentences of a paragraph, one of an item; no heading, code, row of a table or picture's address"""
+    text = "# What is it\n\n[One](x.md) two. Three `a b.c` four:\n\n    code\n\n- What it does, is that.\n\n| a | b |\n"
+    assert sentences(text) == ["One two.", "Three `a b.c` four:", "What it does, is that."]
+    assert [bool(HEADLESS.search(one)) for one in sentences(text)] == [False, False, True]
+    assert sentences(".TH A 1\n.SH NAME\nOne\n\\fBtwo\\fR. Three four.\n.TP\n\\fBtag\\fR\nFive six.\n") == [
+        "One two.",
+        "Three four.",
+        "Five six.",
+    ]
+
+
+@pytest.mark.parametrize("name", WORDS)
+def test_sentences(name):
+    """they are short, and have subjects"""
+    found = sentences(read(name))
+    words = sum(len(one.split()) for one in found) / len(found)
+    assert words <= WORDS[name], f"{words:.1f} words a sentence, such as {max(found, key=len)!r}"
+    assert not [one for one in found if HEADLESS.search(one) and not one.endswith("?")]
+
+
+def test_lines():
+    """those of all documents for users are few"""
+    assert sum(len(read(name).splitlines()) for name in WORDS) <= LINES
