@@ -202,7 +202,7 @@ static void look(const struct link_request *asked, struct link_reply *reply) {
 
 static void carry_out(const struct link_request *asked, int fd, pid_t process, struct link_reply *reply) {
     if (asked->kind == LINK_WATCH) {
-        watch(fd, process, reply);
+        watch(fd, asked->process ? asked->process : process, reply);
         return;
     }
     if (fd >= 0) {

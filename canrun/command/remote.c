@@ -100,12 +100,9 @@ bool has_library(pid_t thread) {
     return has;
 }
 
-/* ---- descriptors ---- */
-
-/* A copy of the descriptor; -1 and errno where there is none, or this process may not have one. */
-int copy_descriptor(pid_t thread, int fd) {
+pid_t process_of(pid_t thread) {
     char path[64], line[128];
-    int process = thread;
+    pid_t process = thread;
     snprintf(path, sizeof path, "/proc/%d/status", thread);
     FILE *file = fopen(path, "re");
     while (file && fgets(line, sizeof line, file) && sscanf(line, "Tgid: %d", &process) != 1) {
@@ -113,6 +110,13 @@ int copy_descriptor(pid_t thread, int fd) {
     if (file) {
         fclose(file);
     }
+    return process;
+}
+
+/* ---- descriptors ---- */
+
+/* A copy of the descriptor; -1 and errno where there is none, or this process may not have one. */
+int copy_descriptor(pid_t process, int fd) {
     int pidfd = (int)syscall(SYS_pidfd_open, process, 0);
     int copy = pidfd < 0 ? -1 : (int)syscall(SYS_pidfd_getfd, pidfd, fd, 0), error = errno;
     if (pidfd >= 0) {

@@ -219,7 +219,13 @@ static bool is_plain_wait(const struct call *call) {
            type == SOCK_RAW && poll(&polled, 1, 0) == 0;
 }
 
+/* The library's: it says for whom this thread makes calls from now on. */
+__attribute__((weak)) void canbusd_run_serves(pid_t process);
+
 static int64_t make_call(const struct call *call) {
+    if (canbusd_run_serves) {
+        canbusd_run_serves(call->process);
+    }
     switch (call->asked->data.nr) {
     case SYS_bind:
     case SYS_connect: return set_address(call);
@@ -263,7 +269,8 @@ static void call_of_descriptor(struct call *call) {
     int number = call->asked->data.nr;
     bool is_can = false;
     int64_t value = 0;
-    call->fd = copy_descriptor(call->thread, (int)call->words[0]);
+    call->process = process_of(call->thread);
+    call->fd = copy_descriptor(call->process, (int)call->words[0]);
     if (call->fd < 0) {
         if (errno == EPERM) {
             note_no_access();

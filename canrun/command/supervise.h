@@ -13,7 +13,7 @@
 struct call {
     int listener;
     const struct seccomp_notif *asked;
-    pid_t thread;
+    pid_t thread, process;
     int fd; /* a copy of the program's */
     const __u64 *words;
 };
@@ -38,8 +38,11 @@ bool has_signal(const struct call *call);
 /* Whether a program has the library: then it makes its calls by itself. */
 bool has_library(pid_t thread);
 
-/* A copy of a descriptor of the program; -1 and errno where it has none, or this process may not have one. */
-int copy_descriptor(pid_t thread, int fd);
+/* The process of a thread. */
+pid_t process_of(pid_t thread);
+
+/* A copy of a descriptor of a process; -1 and errno where it has none, or this process may not have one. */
+int copy_descriptor(pid_t process, int fd);
 
 /* ---- parcels.c ---- */
 

@@ -328,9 +328,16 @@ int links_set_up(int index, bool is_up) {
     return ask_for_change(&request, &reply) ? refuse("ioctl", reply.error, reply.text) : 0;
 }
 
+/* The process whose calls this thread makes, as a supervisor does, see ../command/static.h; else 0. */
+static __thread pid_t served;
+
+EXPORT void canbusd_run_serves(pid_t process) {
+    served = process;
+}
+
 int links_watch(int fd) {
     struct link_reply reply;
-    return keeper_ask(&(struct link_request){.kind = LINK_WATCH}, fd, &reply)
+    return keeper_ask(&(struct link_request){.kind = LINK_WATCH, .process = served}, fd, &reply)
                ? refuse("netlink", reply.error, reply.text)
                : 0;
 }

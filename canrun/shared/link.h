@@ -44,7 +44,11 @@ struct link_request {
         LINK_CHANGE, /* the interface is to be as follows */
         LINK_WATCH   /* a socket, which comes with it (SCM_RIGHTS), is to get events of all interfaces */
     } kind;
-    int32_t index, count;
+    int32_t index;
+    union {
+        int32_t count;
+        int32_t process; /* LINK_WATCH: the one that has the socket; 0: the one that asks */
+    };
     uint32_t bitrate, data_bitrate;    /* 0: not asked for */
     uint32_t modes, modes_changed;     /* CAN_CTRLMODE_ */
     uint32_t link_flags, link_changed; /* IFF_UP */

@@ -162,6 +162,19 @@ def test_restart_ms(tmp_path):
         assert state_of(server) == ("ERROR-ACTIVE", "0", "0")
 
 
+@needs_ip
+def test_bit_rates_of_each_bus():
+    """`ip` shows those of the interface's bus, and takes no others for it"""
+    rates = ("--bitrate", "500000", "--bitrate", "body0=125000", "--dbitrate", "can0=2000000")
+    with bus(*rates, "can0,can1", "body0") as server:
+        for name, nominal, fast in (("can0", 500000, 2000000), ("can1", 500000, 2000000), ("body0", 125000, 125000)):
+            shown = passes(server, IP, "-details", "link", "show", name)
+            assert re.findall(r"bitrate (\d+)", shown)[:2] == [str(nominal), str(fast)], shown
+        passes(server, IP, "link", "set", "body0", "type", "can", "bitrate", "125000")
+        refused = run(server, IP, "link", "set", "body0", "type", "can", "bitrate", "500000")
+        assert refused.returncode == 2 and "125000" in refused.stderr, refused
+
+
 @needs_gcc
 @needs_ip
 def test_monitor(tmp_path):
@@ -191,7 +204,8 @@ def test_monitor(tmp_path):
 def test_down_and_up(tmp_path):
     """an interface that is set down takes no part: it sends nothing, acknowledges nothing, and loses what waits"""
     writer = compiled("send_one", str(tmp_path))
-    with bus(*FAST, "--ack", "peers", "can0,can1") as server, contextlib.closing(plain(server, "can1")) as other:
+    # With a pace: a frame that nobody acknowledges is tried again and again, and has the record be full in seconds.
+    with bus("--ack", "peers", "can0,can1") as server, contextlib.closing(plain(server, "can1")) as other:
         passes(server, IP, "link", "set", "can1", "down")
         # Nobody acknowledges the frame of can0, which waits.
         passes(server, writer, "can0")

@@ -12,7 +12,7 @@ BU_: Engine ECU
 BO_ 256 EngineData: 4 Engine
  SG_ EngineSpeed : 16|16@1+ (0.25,0) [0|16000] "rpm" ECU
 BA_DEF_ BO_ "GenMsgCycleTime" INT 0 65535;
-BA_DEF_DEF_ "GenMsgCycleTime" 10;
+BA_DEF_DEF_ "GenMsgCycleTime" 50;
 """
 
 

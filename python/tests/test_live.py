@@ -169,7 +169,7 @@ def test_a_server_is_looked_at_while_it_runs(tmp_path):
         record = server.wait_for(lambda: closed(server.record("ecu"), 2), timeout=WAIT)
         assert record.is_cut and record.names == ("ecu", "tester") and server.attempts("ecu") == record.attempts
         growing = {f"{name}.{kind}" for name in ("car0", "ecu") for kind in ("log", "rec.new", "rec.faults.new")}
-        assert {path.name for path in tmp_path.iterdir()} == growing
+        assert {path.name for path in tmp_path.iterdir()} == {*growing, ".canbusd.lock"}
         assert server.bus("ecu").shutdown() is None
     whole = server.record("ecu")
     assert not whole.is_cut and whole.lines[: len(record.lines)] == record.lines
@@ -215,7 +215,7 @@ def test_what_a_killed_server_leaves(tmp_path, by):
     page = server.report()
     assert page == tmp_path / "can0.html" and page.read_text(encoding="utf-8").endswith("</html>\n")
     # The next server keeps it, under another name.
-    with Server("can0,can1", record="live", out=tmp_path) as server:
+    with Server("can0,can1", record="live", out=tmp_path, observe=()) as server:
         assert server.record().lines == []
     assert "can0.rec.cut" in server.said and read_record(tmp_path / "can0.rec.cut", cut=True).lines == record.lines
 

@@ -87,7 +87,7 @@ def test_public_paths_can_be_imported():
 
 #: Rooms of the package, each with the modules at the top that users have of it; one imports of itself and of those before it.
 LAYERS = """
-    _text+_python_can+_calls+_whole_file+_placement+_crc+virtual+frames+rules+faults+steps+_reports
+    _text+_words+_python_can+_calls+_whole_file+_placement+_crc+virtual+frames+rules+faults+steps+_reports
     _session
     _isotp
     _uds+uds

@@ -1,6 +1,7 @@
 """Server: how it starts and ends, and what it leaves."""
 
 import errno
+import fcntl
 import multiprocessing
 import os
 import re
@@ -19,6 +20,7 @@ from on_wire import nanos_of
 
 import canbusd
 from canbusd import Load
+from canbusd._process import lock_file
 from canbusd._process.program import find_program
 from canbusd._process.program_run import NUMBERS
 from canbusd._session.protocol import NO_FRAMES
@@ -115,6 +117,13 @@ def test_ways_to_give_faults(tmp_path, form):
         (["can0"], {"dbitrate": 500_000}, "data_bitrate=500000 needs a bitrate too"),
         (["can0"], {"bitrate": 500_000, "data_bitrate": 499_999}, "data_bitrate=499999 is below bitrate=500000"),
         (["can0"], {"data_bitrate": 500_000, "dbitrate": 600_000}, "are one argument, not 500000 and 600000"),
+        (["can0"], {"bitrate": {"can1": 500_000}}, "bitrate is by interfaces, which are can0, not by 'can1'"),
+        (["can0,can1"], {"bitrate": {"can0": 5_000, "can1": 5_000}}, "bitrate has two values for the bus 'can0,can1'"),
+        (["can0"], {"bitrate": {"can0": 5_000, None: 4_999}}, "bitrate is .*, not 4999"),
+        (["can0"], {"bitrate": {"can0": None}}, "bitrate is .*, not None"),
+        (["a", "b"], {"bitrate": {"a": 5_000}, "dbitrate": {"b": 5_000}}, "data_bitrate=5000 needs a bitrate too"),
+        (["a", "b"], {"bitrate": {"a": 5_000}, "dbitrate": 5_000}, "data_bitrate=5000 needs a bitrate too"),
+        (["a", "b"], {"bitrate": {"a": 5_001, None: 5_000}, "dbitrate": 5_000}, "5000 is below bitrate=5001"),
         (["can0"], {"txqueue": "10"}, "txqueue"),
         (["can0"], {"limit": True}, "limit"),
         (["can0"], {"listen": "x"}, "listen is HOST:PORT, .* not 'x'"),
@@ -240,6 +249,40 @@ def test_the_bit_rates_reach_the_program(caplog):
     assert "loadIn" in server.report().read_text(encoding="utf-8")
 
 
+@pytest.mark.quiet
+def test_each_bus_has_bit_rates_of_its_own():
+    """By any of its interfaces, and the others by None; a bus that no number is for has none."""
+    frame, frames = message(1, b"\x55" * 4), 3
+    rates = {"bitrate": {"body1": 5_000, "can0": 50_000}, "data_bitrate": {"can0": 500_000}}
+    with Server("can0,can1", "body0,body1", "lin0,lin1", **rates) as server:
+        buses = [server.bus(name) for name in server.interfaces]
+        assert [(one.load().bitrate, one.load().data_bitrate) for one in buses[::2]] == [
+            (50_000, 500_000),
+            (5_000, 5_000),
+            (0, 0),
+        ]
+        for sender, receiver in zip(buses[::2], buses[1::2]):
+            sender.send_many([frame] * frames)
+            assert all(receiver.recv(WAIT) for _ in range(frames))
+        for bus in buses:
+            bus.shutdown()
+    for name, rate in (("can0", 50_000), ("body0", 5_000)):
+        moments = [round(one.timestamp * 1_000_000) for one in server.record(name).attempts]
+        lasts = nanos_of(server.record(name).attempts[0].frame, rate)[1] // 1000
+        assert all(0 <= after - before - lasts <= 1 for before, after in zip(moments, moments[1:])), moments
+        assert "loadIn" in server.report(name).read_text(encoding="utf-8")
+    assert "loadIn" not in server.report("lin0").read_text(encoding="utf-8")
+
+
+def test_a_number_for_all_others():
+    with Server("can0", "can1,can2", "can3", bitrate={None: 500_000, "can2": 125_000}) as server:
+        loads = []
+        for name in server.interfaces:
+            with server.bus(name) as bus:
+                loads.append(bus.load().bitrate)
+    assert loads == [500_000, 125_000, 125_000, 500_000]
+
+
 def test_the_load_of_a_bus():
     """A full bus is busy all the time, and an idle one never; each frame counts with the bits that follow it."""
     frame, size = message(1, bytes(8)), 500
@@ -345,6 +388,34 @@ def test_a_server_that_is_killed_leaves_nothing(tmp_path):
         assert server.kill().status == -signal.SIGKILL
     assert server.stop() == (-signal.SIGKILL, {})
     assert list(tmp_path.iterdir()) == []
+
+
+def test_a_lock_file_that_is_let_go_a_moment_later(tmp_path, monkeypatch):
+    """is removed: a launcher may end before its server, by the same signal"""
+    monkeypatch.setattr(lock_file, "CLOSING", WAIT)
+    file = (tmp_path / lock_file.NAME).open("wb")
+    fcntl.flock(file, fcntl.LOCK_EX)
+    threading.Timer(0.1, file.close).start()
+    lock_file.remove_left(tmp_path)
+    assert list(tmp_path.iterdir()) == []
+    lock_file.remove_left(tmp_path / "none")
+
+
+def test_the_lock_file_of_another_server(tmp_path):
+    """stays, as does a link and a file with something in it"""
+    lock = tmp_path / lock_file.NAME
+    with Server("can0", out=tmp_path):
+        with pytest.raises(ServerError, match="another server writes to it"):
+            Server("can0", out=tmp_path)
+        assert lock.exists()
+    assert not lock.exists()
+    lock.write_text("of the user\n")
+    lock_file.remove_left(tmp_path)
+    assert lock.read_text() == "of the user\n"
+    lock.rename(tmp_path / "other")
+    lock.symlink_to("other")
+    lock_file.remove_left(tmp_path)
+    assert lock.is_symlink() and lock.read_text() == "of the user\n"
 
 
 def test_a_server_that_others_kill_is_a_fault():

@@ -14,7 +14,7 @@ import pytest
 from test_commands import call, environment
 
 from canbusd import Bench, Server
-from canbusd.__main__ import COMMANDS, PROGRAM
+from canbusd._words import COMMANDS, PROGRAM
 from canbusd._whole_file import replaced
 
 HERE = Path(__file__).parent
@@ -92,7 +92,7 @@ def folder(tmp_path):
 
 def test_all_commands_are_tried():
     """those of the program write their files themselves, a sweep into its folder canbusd-sweep, and extcap where Wireshark looks"""
-    assert {*TRIED, "sweep", "extcap"} | {*PROGRAM} == {*COMMANDS, *PROGRAM, "candump2bench"}
+    assert {*TRIED, "sweep", "extcap"} | {*PROGRAM} == {*COMMANDS, "candump2bench"}
 
 
 @pytest.mark.parametrize("name", [*TRIED])

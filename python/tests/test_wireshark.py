@@ -248,7 +248,10 @@ def test_in_the_list_of_wireshark(home, tmp_path):
             time.sleep(0.02)
         said = child.communicate()[1]
         assert child.poll() == 0, said
-    assert [(name, way, text) for name, way, _, text in read(path)] == 20 * [("can0", "out", "7FF#")]
+    frames = [(name, way, text) for name, way, _, text in read(path)]
+    # The capture opens one interface after the other: before it has can0, it may see a frame of can0 come in at can1.
+    first = frames.index(("can0", "out", "7FF#"))
+    assert frames == first * [("can0", "in", "7FF#")] + (20 - first) * [("can0", "out", "7FF#")]
 
 
 def test_what_wireshark_asks(home, tmp_path):

@@ -339,7 +339,7 @@ def last_reply(clone, options, lines):
 def test_refusals_of_the_manual_page(clone):
     """each text that a client can provoke, and no other; how many filters a message has room for"""
     page = clone.read("canbusd.1")
-    listed = re.findall(r"^\.TP\n\.B (.*)$", page[page.index(".SH REFUSALS") : page.index(".SH LIMITS")], re.M)
+    listed = re.findall(r"^\.TP\n\\fB(.*)\\fR$", page[page.index(".SH REFUSALS") : page.index(".SH LIMITS")], re.M)
     assert sorted(listed) == sorted(REFUSED.keys() | NOT_TRIED), f"listed are {listed}"
     for text, (options, lines) in REFUSED.items():
         assert re.fullmatch(rf"1 (< ok >)*< error {text} >", last_reply(clone, options, lines)), text

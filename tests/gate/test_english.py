@@ -23,11 +23,11 @@ def read(name):
 def paragraphs(text):
     """The paragraphs and items of a document in Markdown or of a manual page, without tables, blocks of code and headings."""
     if text.startswith(".TH"):
-        text = re.sub(r"\.nf\n.*?\.fi\n", "", text, flags=re.S)
+        text = re.sub(r"(?s:\.nf\n.*?\.fi\n)|^\.\\\W.*\n", "", text, flags=re.M)
         text = re.sub(r"^\.TP\n.*\n|^\.(?:TH|PP|IP|SH|br).*\n", "\n\n", text, flags=re.M)
         text = re.sub(r"\\f.|^\.[BI]R? ", "", text, flags=re.M).replace("\\-", "-")
     text = re.sub(r"^```.*?^```$", "", text, flags=re.S | re.M)
-    text = re.sub(r"^(?:    |\||#).*$", "\n", text, flags=re.M)
+    text = re.sub(r"^(?:    |\||#|<!--).*$", "\n", text, flags=re.M)
     return [
         " ".join(part.split()) for part in re.split(r"\n\s*\n(?:- |\d+\. )?|\n\s*(?:- |\d+\. )", text) if part.split()
     ]

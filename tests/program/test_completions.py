@@ -210,16 +210,3 @@ def test_completion_in_fish():
             offers = [line.split("\t")[0] for line in done.stdout.splitlines()]
             word = re.split("[ <>]", typed)[-1] + wanted.rstrip(" ").replace("\\", "")
             assert offers == ([word] if wanted else []), f"`{typed}` is offered {offers} {done.stderr}"
-
-
-@pytest.mark.parametrize("command", ["bench", "serve", "audit"])
-@pytest.mark.parametrize("shell, spelling", [("bash", "--{}"), ("zsh", "--{}"), ("fish", "-l {} ")])
-def test_options_of_the_help(program, command, shell, spelling):
-    """each option of the help is completed in each shell"""
-    page = subprocess.run([program, "help", command], capture_output=True, text=True, check=True).stdout
-    with open(os.path.join(COMPLETIONS, f"canbusd.{shell}"), encoding="utf-8") as file:
-        completions = file.read()
-    options = re.findall(r"^ +(?:-h, )?--([a-z-]+)", page, re.M)
-    assert options, page
-    missing = [option for option in options if spelling.format(option) not in completions]
-    assert not missing, f"--{missing} of {command} not in canbusd.{shell}"

@@ -195,6 +195,31 @@ def test_names_by_their_places(tmp_path):
     assert rules_of(audited(tmp_path, faults, names="tester,ecu")[1]) == [""] * 8
 
 
+@pytest.mark.parametrize("names", ["ecu", "ecu,tester,gateway", ",".join(f"can{i}" for i in range(16))])
+def test_names_of_another_bus(tmp_path, names):
+    """they are refused before anything is written, also where the record goes on to a fault; not before line 2 is right"""
+    count = len(names.split(","))
+    wanted = f"canbusd: names of another bus\n  names in --faults: {count}, interfaces of run.rec: 2\n"
+    for record in (RECORD, FRONT, FRONT + "x\n", RECORD.replace("idle", "tried"), RECORD + "x"):
+        for option in ([], ["--cut"]):
+            assert audited(tmp_path, "always good\n", *option, names=names, record=record) == (1, "", wanted)
+    for record, fault in (("", "bad version"), ("canbus record 1\nbus 2 never\n", "line 2: bad line")):
+        status, written, errors = audited(tmp_path, "always good\n", names=names, record=record)
+        assert (status, written) == (1, "") and errors.startswith(f"canbusd: {fault}\n")
+
+
+def test_names_of_another_bus_in_parts(tmp_path):
+    """they are refused wherever the files of the record end"""
+    (tmp_path / "run.faults").write_text("always good\n")
+    for cut in range(1, len(FRONT)):
+        (tmp_path / "one.rec").write_text(RECORD[:cut])
+        (tmp_path / "two.rec").write_text(RECORD[cut:])
+        status, written, errors = run_line("audit --events --faults ecu@run.faults one.rec two.rec", cwd=tmp_path)
+        assert (status, written) == (1, "") and errors == (
+            "canbusd: names of another bus\n  names in --faults: 1, interfaces of one.rec + two.rec: 2\n"
+        )
+
+
 # Random runs of the bench, and what their buses had for faults.
 
 

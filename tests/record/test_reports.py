@@ -17,7 +17,7 @@ from serving import ROOT, program
 REPORT = [sys.executable, "-m", "canbusd", "report"]
 # How many random runs are replayed.
 RUNS = 300
-STATES = ["active", "warning", "passive", "off"]
+STATES = ["active", "warning", "passive", "off", "down"]
 
 
 def numbers_asked(written, sessions):

@@ -150,7 +150,8 @@ def test_each_front_of_a_record_that_a_server_wrote(tmp_path):
 def test_the_files_of_a_run_that_goes_on():
     """the front from the start; then each line soon after its call; the end line and the name with the end"""
     with serving_alone(*LIVE, "can0,can1", "car0") as server:
-        assert names_in(server.folder) == ["can0.log", "can0.rec.new", "car0.log", "car0.rec.new"]
+        growing = ["can0.log", "can0.rec.new", "car0.log", "car0.rec.new"]
+        assert names_in(server.folder) == [".canbusd.lock", *growing]
         assert come_true(lambda: read(server.path("can0.rec.new")) == FRONT)
         pair = Pair(server)
         for number in range(20):
@@ -349,7 +350,7 @@ def kill_under_load(rng, rate):
         server.child.wait()
         load.end()
         sent, received = (one.before(killed - 2 * FLUSH) for one in (load.sender, load.receiver))
-        assert names_in(server.folder) == ["can0.log", "can0.rec.new"]
+        assert names_in(server.folder) == [".canbusd.lock", "can0.log", "can0.rec.new"]
         path = server.path("can0.rec.new")
         entries, is_cut = cut_audit(path, is_replayed=rate < float("inf"))
         assert is_cut, "it was killed, and its record has an end"
@@ -372,11 +373,12 @@ def kill_under_load(rng, rate):
 
 
 def set_aside(server, path, text):
-    """The next server in the folder of one that was killed keeps its record, and says so."""
+    """The next server in the folder of one that was killed keeps its record, and says so; it takes and removes the lock file."""
     with serving_alone(*LIVE, "can0,can1", out=server.folder) as after:
         aside = f"{server.folder}/can0.rec.cut"
         after.end(says=f"note: {path} of a run that was cut off is {aside} now")
         assert read(aside) == text
+    assert names_in(server.folder) == ["can0.log", "can0.rec", "can0.rec.cut"]
 
 
 def compare_log(log, entries):
@@ -674,7 +676,7 @@ def test_a_log_whose_reader_goes(pipe):
 
 
 def test_a_folder_that_is_moved():
-    """its files go on, and the record does not get its name, which is reported"""
+    """its files go on, and the record does not get its name, which is reported; the lock file is where it went"""
     with tempfile.TemporaryDirectory() as room:
         folder, other = os.path.join(room, "one"), os.path.join(room, "other")
         os.mkdir(folder)
@@ -687,7 +689,7 @@ def test_a_folder_that_is_moved():
             status, written = server.finish()
             said = server.said()
             assert status == 1 and said.startswith(f"canbusd: write fault\n  {folder}/can0.rec: "), said
-        assert names_in(other) == ["can0.log", "can0.rec.new"]
+        assert names_in(other) == [".canbusd.lock", "can0.log", "can0.rec.new"]
         assert read(os.path.join(other, "can0.log")).count("\n") == pair.count
         assert run("audit", os.path.join(other, "can0.rec.new"))[1] == f"ok {written.split()[-1]} entries\n"
 

@@ -1,13 +1,16 @@
 # Completions of canbusd-run for bash: its options, then a program and what completes the words of that.
 _canbusd_run() {
     local text=$2 before=$3 place
+    # words: bash run
+    local values='address|interfaces|date|until|stall|seed|jitter'
+    local options='--address --interfaces --wait --static --virtual --date --until --stall --seed --jitter'
+    # end of words
     COMPREPLY=()
     for ((place = 1; place < COMP_CWORD; place++)); do
         case ${COMP_WORDS[place]} in
-        --address | --interfaces | --date | --until | --stall | --seed | --jitter) ((place += 1)) ;;
-        =) ((place += 1)) ;;
         --) ((place += 1)) && break ;;
-        -*) ;;
+        -*) [[ ! ${COMP_WORDS[place]} =~ ^--($values)$ ]] || ((place += 1)) ;;
+        =) ((place += 1)) ;;
         *) break ;;
         esac
     done
@@ -17,11 +20,10 @@ _canbusd_run() {
         compopt -o default
     elif [ "$before" = --address ]; then
         compopt -o default
-    elif [[ $before =~ ^--(interfaces|date|until|stall|seed|jitter)$ ]]; then
+    elif [[ $before =~ ^--($values)$ ]]; then
         :
     elif [ "${text#-}" != "$text" ] && [ "${COMP_WORDS[COMP_CWORD - 1]}" != -- ]; then
-        mapfile -t COMPREPLY < <(compgen -W "--address --interfaces --wait --virtual --date --until --stall \
-            --seed --jitter --help --version" -- "$text")
+        mapfile -t COMPREPLY < <(compgen -W "$options --help --version" -- "$text")
     else
         mapfile -t COMPREPLY < <(compgen -c -- "$text")
     fi

@@ -1,13 +1,16 @@
 # Completions of canbusd-run for fish: its options, then a program and what completes the words of that.
 complete -c canbusd-run -x -a "(__fish_complete_subcommand --fcs-skip 1)"
-complete -c canbusd-run -r -F -l address -d "The server"
-complete -c canbusd-run -x -l interfaces -d "Which interfaces there are"
-complete -c canbusd-run -f -l wait -d "Wait for the server, and for room in a transmit queue"
-complete -c canbusd-run -f -l virtual -d "Simulate the clock of the program and all that it starts"
-complete -c canbusd-run -x -l date -d "The date at the start"
-complete -c canbusd-run -x -l until -d "End after so many seconds of its clock"
-complete -c canbusd-run -x -l stall -d "Give up after so many seconds of real time"
-complete -c canbusd-run -x -l seed -d "Another order of what is due at one moment"
-complete -c canbusd-run -x -l jitter -d "How much longer waits are at most, in microseconds"
+# words: fish run
+complete -c canbusd-run -r -F -l address -d 'the server: HOST:PORT, [V6]:PORT, or a Unix path that begins with / or .'
+complete -c canbusd-run -x -l interfaces -d 'the interfaces that PROGRAM finds, which `any` is too'
+complete -c canbusd-run -f -l wait -d 'wait for a server that is not there yet, and in each write for room in a full transmit queue'
+complete -c canbusd-run -f -l static -d 'for programs that are linked statically or with musl, or of Go, too: another process makes their calls (Linux 5.19 or later)'
+complete -c canbusd-run -f -l virtual -d 'simulate the clock of PROGRAM and of all that it starts'
+complete -c canbusd-run -x -l date -d 'the date at the start: 2026-01-31, 2026-01-31T12:00:00 (UTC), seconds since 1970, or now'
+complete -c canbusd-run -x -l until -d 'end PROGRAM after so many seconds of its clock (SIGTERM)'
+complete -c canbusd-run -x -l stall -d 'give up, with status 125, where nothing goes on for so many seconds of real time'
+complete -c canbusd-run -x -l seed -d 'another order of those that are due at one moment, the same for each N'
+complete -c canbusd-run -x -l jitter -d 'each timed wait is longer by up to so many microseconds, which N determines'
+# end of words
 complete -c canbusd-run -f -l help -d "Show the help"
 complete -c canbusd-run -f -l version -d "Show the version"

@@ -1,16 +1,18 @@
 #compdef canbusd-run
 # Completions of canbusd-run for zsh: its options, then a program and what completes the words of that.
-_arguments -S \
-    '(- *)--help[show the help]' \
-    '(- *)--version[show the version]' \
-    '--address=[the server]:address:_files' \
-    '--interfaces=[the interfaces that the program finds]:names:' \
-    '--wait[wait for the server, and for room in a transmit queue]' \
-    '--virtual[simulate the clock of the program and all that it starts]' \
-    '--date=[the date at the start]:date:' \
-    '--until=[end after so many seconds of its clock]:seconds:' \
-    '--stall=[give up after so many seconds of real time]:seconds:' \
-    '--seed=[another order of what is due at one moment]:number:' \
-    '--jitter=[how much longer waits are at most]:microseconds:' \
-    '(-):program: _command_names -e' \
-    '*::arguments: _normal'
+local -a options=(
+    # words: zsh run
+    '--address=[the server: HOST:PORT, \[V6\]:PORT, or a Unix path that begins with / or .]:ADDR:_files'
+    '--interfaces=[the interfaces that PROGRAM finds, which `any` is too]:NAME:'
+    '--wait[wait for a server that is not there yet, and in each write for room in a full transmit queue]'
+    '--static[for programs that are linked statically or with musl, or of Go, too: another process makes their calls (Linux 5.19 or later)]'
+    '--virtual[simulate the clock of PROGRAM and of all that it starts]'
+    '--date=[the date at the start: 2026-01-31, 2026-01-31T12:00:00 (UTC), seconds since 1970, or now]:D:'
+    '--until=[end PROGRAM after so many seconds of its clock (SIGTERM)]:S:'
+    '--stall=[give up, with status 125, where nothing goes on for so many seconds of real time]:S:'
+    '--seed=[another order of those that are due at one moment, the same for each N]:N:'
+    '--jitter=[each timed wait is longer by up to so many microseconds, which N determines]:MICROS:'
+    # end of words
+)
+_arguments -S $options '(- *)--help[show the help]' '(- *)--version[show the version]' \
+    '(-):program: _command_names -e' '*::arguments: _normal'

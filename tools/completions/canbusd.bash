@@ -1,52 +1,40 @@
-# Completions of canbusd and candump2bench for bash.
+# Completions of canbusd and candump2bench for bash. `scripts/words` writes the lists.
 _canbusd() {
     local text=$2 before=$3
     COMPREPLY=()
     # The value of an option follows a blank or `=`, at which bash parts words unless COMP_WORDBREAKS lacks it.
     [ "$before" != = ] || before=${COMP_WORDS[COMP_CWORD - 2]}
+    # So does the number of `--bitrate NAME=`.
+    case ${COMP_WORDS[COMP_CWORD - 1]},${COMP_WORDS[COMP_CWORD - 3]} in =,--bitrate | =,--dbitrate) before=--bitrate ;; esac
     case $text in --*=*) before=${text%%=*} ;; esac
-    local package="dump send status watch fault restart down up restbus convert extcap sweep report replay"
-    local options="--ack --report --txqueue --rxqueue --limit --auto-restart --bitrate --dbitrate --help"
+    # words: bash commands
+    local commands="serve bench audit dump send status watch fault restart down up restbus convert extcap sweep report replay"
+    # end of words
     case $COMP_CWORD,$before,${COMP_WORDS[1]} in
     # A file follows a redirection.
-    *,*[\<\>]*,*) compopt -o default ;;
-    1,*) _canbusd_offer "bench serve audit $package help --help --version" ;;
-    *,audit)
-        case $before,$text in
-        --bitrate,* | --dbitrate,*) ;;
-        *@*) _canbusd_files -f default ;;
-        --faults,*) ;;
-        *,-*) _canbusd_offer "--cut --events --bitrate --dbitrate --faults --help" ;;
-        *) compopt -o default ;;
-        esac
-        ;;
-    *,extcap) _canbusd_offer "--install --address --help" ;;
-    *,restbus | *,convert | *,sweep | *,report | *,replay) compopt -o default ;;
-    *,dump)
-        # Interfaces are not completed, but the file of a capture is.
-        case $before in --pcapng | --dbc) compopt -o default ;; *) _canbusd_offer "--pcapng --dbc --address --help" ;; esac
-        ;;
-    *,help) _canbusd_offer "bench serve audit $package" ;;
-    *,bench) _canbusd_word "$options --record --log --strict --show-faults" ;;
-    *,serve) _canbusd_word "$options --listen --sessions --pace --write --out --record --flush --sync --until-eof --verbose" ;;
+    *,*[\<\>]*,*) compopt -o default && return ;;
+    1,*) _canbusd_offer "$commands help --help --version" && return ;;
+    *,help) _canbusd_offer "$commands" && return ;;
     esac
-}
-
-# Completes a word of bench or serve: what an option takes, the file after a bus, or one of the options.
-_canbusd_word() {
-    case $before,$text in
-    --ack,*) _canbusd_offer "always peers" ;;
-    --record,*)
-        case ${COMP_WORDS[1]} in
-        serve) _canbusd_offer "end live none" ;;
-        *) _canbusd_files -f default ;;
-        esac
-        ;;
-    --log,* | --listen,* | *@*) _canbusd_files -f default ;;
-    --out,*) _canbusd_files -d dirnames ;;
-    --txqueue,* | --rxqueue,* | --limit,* | --auto-restart,* | --bitrate,* | --dbitrate,*) ;;
-    --sessions,* | --pace,* | --write,* | --flush,*) ;;
-    *) _canbusd_offer "$1" ;;
+    # The command, the option before this word, and the word: what an option takes, the file after a bus, or an option.
+    case ${COMP_WORDS[1]},$before,$text in
+    *,*,*@*) _canbusd_files -f default ;;
+    # words: bash
+    *,--ack,*) _canbusd_offer "always peers" ;;
+    *,--txqueue,* | *,--rxqueue,* | *,--limit,* | *,--auto-restart,* | *,--bitrate,* | *,--dbitrate,* | \
+    *,--faults,* | *,--sessions,* | *,--pace,* | *,--write,* | *,--flush,*) ;;
+    bench,--record,* | *,--log,* | *,--listen,* | *,--pcapng,* | *,--dbc,* | *,--address,*) _canbusd_files -f default ;;
+    *,--out,*) _canbusd_files -d dirnames ;;
+    serve,--record,*) _canbusd_offer "end live none" ;;
+    serve,*,*) _canbusd_offer "--ack --report --txqueue --rxqueue --limit --auto-restart --bitrate --dbitrate --listen --sessions \
+        --pace --write --out --record --flush --sync --until-eof --verbose --help" ;;
+    bench,*,*) _canbusd_offer "--ack --report --txqueue --rxqueue --limit --auto-restart --bitrate --dbitrate --record --log \
+        --strict --show-faults --help" ;;
+    audit,*,-*) _canbusd_offer "--bitrate --dbitrate --cut --events --faults --help" ;;
+    dump,*,*) _canbusd_offer "--pcapng --dbc --address --help" ;;
+    extcap,*,*) _canbusd_offer "--install --address --help" ;;
+    audit,* | restbus,* | convert,* | sweep,* | report,* | replay,*) compopt -o default ;;
+    # end of words
     esac
 }
 

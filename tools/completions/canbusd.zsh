@@ -1,5 +1,5 @@
 #compdef canbusd candump2bench
-# Completions of canbusd and candump2bench for zsh.
+# Completions of canbusd and candump2bench for zsh. `scripts/words` writes the lists.
 
 _canbusd() {
     # candump2bench: the options that its help has, and files.
@@ -9,78 +9,85 @@ _canbusd() {
     fi
     local curcontext=$curcontext state line
     typeset -A opt_args
-    _arguments -C \
-        '(- *)--help[show the help]' \
-        '(- *)--version[show the version]' \
-        '1:command:((
-            bench\:"run a bus from lines of standard input"
-            serve\:"serve clients on buses"
-            audit\:"check a record"
-            dump\:"print frames as they come"
-            send\:"send frames"
-            status\:"print the state and the counts of interfaces"
-            watch\:"show a running server in the browser"
-            fault\:"give a running bus a rule of faults"
-            restart\:"bring interfaces back from bus off"
-            down\:"take interfaces off the bus"
-            up\:"bring interfaces up"
-            restbus\:"send what the other nodes of a DBC file send"
-            convert\:"make an ASC, BLF, pcapng or candump log"
-            extcap\:"show the interfaces of a server in Wireshark"
-            sweep\:"run a command with a fault at each attempt"
-            report\:"show the run of a record"
-            replay\:"replay a record"
-            help\:"show the help of a command"
-        ))' \
-        '*::argument:->argument'
-    [[ $state == argument ]] || return
-    local -a shared=(
-        '--ack=[who acknowledges frames]:mode:(always peers)'
-        '--report[make error message frames for each fault]'
-        '--txqueue=[capacity of a transmit queue]:frames:'
-        '--rxqueue=[capacity of a receive queue]:items:'
-        '--limit=[most events of a bus]:events:'
-        '--auto-restart=[attempts from bus off to an automatic restart]:attempts:'
-        '--bitrate=[bits a second]:bits:'
-        '--dbitrate=[bits a second of the data of FD frames]:bits:'
-        '(- *)--help[show the help]'
+    local -a commands=(
+        # words: zsh commands
+        'serve:serve buses to clients'
+        'bench:run a script of sessions and attempts, the same at each run'
+        'audit:check a record'
+        'dump:print frames as they come'
+        'send:send frames'
+        'status:print the state and the counts of interfaces'
+        'watch:show a running server in the browser'
+        'fault:give a running bus a rule of faults'
+        'restart:bring interfaces back from bus off'
+        'down:take interfaces off the bus'
+        'up:bring interfaces up'
+        'restbus:send what the other nodes of a DBC file send'
+        'convert:make an ASC, BLF, pcapng or candump log of another'
+        'extcap:show the interfaces of a server in Wireshark'
+        'sweep:run a command with a fault at each attempt'
+        'report:show the run of a record as a page, or as text'
+        'replay:replay a record, and list what happened in it'
+        # end of words
+        'help:show the help of a command'
     )
+    _arguments -C '(- *)--help[show the help]' '(- *)--version[show the version]' '1: :->command' '*::argument:->argument'
+    [[ $state != command ]] || _describe command commands
+    [[ $state == argument ]] || return
     case $line[1] in
-    bench)
-        _arguments $shared \
-            '--record=[write the record of the run]:file:_files' \
-            '--log=[write the frames of the run as candump logs them]:file:_files' \
-            '--strict[end with status 1 if a message was refused]' \
-            '--show-faults[end lines of attempts with their faults and rules]' \
-            '1:bus:_canbusd_bus'
-        ;;
-    serve)
-        _arguments $shared \
-            '--listen=[where clients connect]:address:_files' \
-            '--sessions=[how many sessions before the end]:number:' \
-            '--pace=[milliseconds of rest after each attempt]:milliseconds:' \
-            '--write=[most bytes of frames in one write to a client]:bytes:' \
-            '--out=[where logs and records go]:folder:_files -/' \
-            '--record=[when records are written]:when:(end live none)' \
-            '--flush=[milliseconds that what is written live may wait]:milliseconds:' \
-            '--sync[wait until the disk has what is written live]' \
-            '--until-eof[end at the end of standard input]' \
-            '--verbose[report clients and bus off on standard error]' \
-            '*:bus:_canbusd_bus'
-        ;;
-    audit)
-        _arguments '(- *)--help[show the help]' \
-            '--cut[audit a record that is cut off]' \
-            '--events[write what each entry brought about]' \
-            '--bitrate=[bits a second, for what attempts take on the wire]:bits:' \
-            '--dbitrate=[bits a second of the data of FD frames]:bits:' \
-            '--faults=[names and script of faults of the run]:bus:_canbusd_bus' \
-            '*:record:_files'
-        ;;
-    dump) _arguments '--pcapng=[write a capture for Wireshark]:file:_files' '--dbc=[names of signals]:file:_files' ;;
-    extcap) _arguments '--install[install it for this user]' ;;
-    restbus | convert | sweep | report | replay) _arguments '*:file:_files' ;;
-    help) _arguments '1:command:(bench serve audit dump send status watch fault restart down up restbus convert extcap sweep report replay)' ;;
+    # words: zsh
+    serve) _arguments '(- *)--help[show the help]' \
+        '--ack=[Who acknowledges: a silent node (always), or only the other interfaces (peers)]:MODE:(always peers)' \
+        '--report[Make error message frames of each fault too, not only of changes of state]' \
+        '--txqueue=[Frames that an interface keeps to be sent, 1 to 1024]:N:' \
+        '--rxqueue=[Frames that a socket keeps to be received, 1 to 65536]:N:' \
+        '--limit=[Calls and attempts of the run, 1 to 16777216, of 32 bytes of memory each, 108 with an FD frame]:N:' \
+        '--auto-restart=[Restart an interface in the Nth attempt after it went bus off, 1 to 1000000, or never (0)]:N:' \
+        '*--bitrate=[Bits a second, 5000 to 1000000: attempts take the time of their bits]:N:' \
+        '*--dbitrate=[Bits a second of the data phase of FD frames, to 20000000]:M:' \
+        '--listen=[Host and port, or a Unix path that begins with / or .]:ADDR:_files' \
+        '--sessions=[Sessions to serve]:N:' \
+        '--pace=[Milliseconds after each attempt of a bus without --bitrate, 0 to 60000]:MS:' \
+        '--write=[Most bytes of frames in one write to a client, 256 to 65536]:BYTES:' \
+        '--out=[Write the log and the record of each bus into DIR]:DIR:_files -/' \
+        '--record=[When records are written: at the end, live, or none]:WHEN:(end live none)' \
+        '--flush=[Milliseconds that what is written live may wait, 0 to 60000]:MS:' \
+        '--sync[Wait each time until the disk has what is written live]' \
+        '--until-eof[End the run where standard input ends]' \
+        '--verbose[Report each client and each bus off in a line on standard error]' \
+        '*:bus:_canbusd_bus' ;;
+    bench) _arguments '(- *)--help[show the help]' \
+        '--ack=[Who acknowledges: a silent node (always), or only the other interfaces (peers)]:MODE:(always peers)' \
+        '--report[Make error message frames of each fault too, not only of changes of state]' \
+        '--txqueue=[Frames that an interface keeps to be sent, 1 to 1024]:N:' \
+        '--rxqueue=[Frames that a socket keeps to be received, 1 to 65536]:N:' \
+        '--limit=[Calls and attempts of the run, 1 to 16777216, of 32 bytes of memory each, 108 with an FD frame]:N:' \
+        '--auto-restart=[Restart an interface in the Nth attempt after it went bus off, 1 to 1000000, or never (0)]:N:' \
+        '*--bitrate=[Bits a second, 5000 to 1000000: attempts take the time of their bits]:N:' \
+        '*--dbitrate=[Bits a second of the data phase of FD frames, to 20000000]:M:' \
+        '--record=[Write the record of the run to FILE once the input has ended]:FILE:_files' \
+        '--log=[Write the frames of the run to FILE once the input has ended, as candump logs them]:FILE:_files' \
+        '--strict[End with status 1 if a message of a session was refused]' \
+        '--show-faults[End the lines of attempts with their faults, and the rules that gave them]' \
+        '1:bus:_canbusd_bus' ;;
+    audit) _arguments '(- *)--help[show the help]' \
+        '*--bitrate=[Bits a second, 5000 to 1000000: write how long each attempt is on the wire]:N:' \
+        '*--dbitrate=[Bits a second of the data phase of FD frames, to 20000000]:M:' \
+        '--cut[Audit a record that is cut off, as far as it reaches]' \
+        '--events[Write each legal entry with what it brought about]' \
+        '--faults=[Names and script of faults of the run: write which rule gave each attempt its verdict]:NAMES@FILE:_canbusd_bus' \
+        '*:file:_files' ;;
+    dump) _arguments '(- *)--help[show the help]' \
+        '--pcapng=[write a capture for Wireshark]:FILE:_files' \
+        '--dbc=[names of messages and signals]:FILE:_files' \
+        '--address=[HOST:PORT of the server, or its Unix path]:ADDR:_files' ;;
+    restbus | convert | sweep | report | replay) _arguments '(- *)--help[show the help]' \
+        '*:file:_files' ;;
+    extcap) _arguments '(- *)--help[show the help]' \
+        '--install[install it for this user]' \
+        '--address=[HOST:PORT of the server, or its Unix path]:ADDR:_files' ;;
+    help) _arguments '1:command:(serve bench audit dump send status watch fault restart down up restbus convert extcap sweep report replay)' ;;
+    # end of words
     esac
 }
 

@@ -50,6 +50,11 @@ goes_on w first now after line events old new u read step = record {
   written = step events u.text u.written read.is_line;
 }
 
+pub goes_text : (w : Wanted) (first now after : Option (List ℕ)) (line events : List ℕ) (old new : TextAudit) (u : IsUnderway w first now old events) (read : IsRead now after line)
+    (step : (cleared text : List ℕ) → HasWritten w text cleared old → IsLine line → HasWritten w (text ++ line) cleared new) → (goes_on w first now after line events old new u read step).text ≡ u.text ++ line
+unfolding goes_on
+goes_text w first now after line events old new u read step = refl
+
 -- events more were put out
 pub puts_more : {W : Type 0} (has : Bool) (contents : W → Option (List ℕ)) (a b c : W) (xs ys : List ℕ) → Puts has contents a b xs → Puts has contents b c ys → Puts has contents a c (xs ++ ys)
 puts_more false contents a b c xs ys h k = k ∙ h

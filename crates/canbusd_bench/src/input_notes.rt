@@ -1,7 +1,8 @@
 //! What is reported of a wrong line of the bench's input.
 use can_session::lines::LONGEST_LINE;
 use can_session::{Order, SessionNumber, read_order};
-use canbusd_io::{Shown, SourceLine, WITH_CR, fixed_note, has_name, rule_note};
+use canbusd_io::{Shown, SourceLine, WITH_CR, fixed_note, rule_note};
+use canbusd_options::has_name;
 use std::alloc::{AllocError, Global};
 use std::str;
 

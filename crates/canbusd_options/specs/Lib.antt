@@ -2,3 +2,4 @@ pub mod BusWords
 pub mod Help
 pub mod Options
 pub mod Program
+pub mod RateWords

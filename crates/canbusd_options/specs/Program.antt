@@ -2,7 +2,7 @@ use Rattle.std.specs.Prelude.{◌≡◌, List, [], ◌∷◌, codes, Option, Som
 use Rattle.clap.specs.Lexer.{usize_max}
 use Rattle.clap.specs.Words.{App, Row, Rule, Text, fault_of, new_app, new_rule}
 use Rattle.clap.specs.Words.{subcommand_of, with_rule, with_subcommand}
-use Rattle.clap.specs.declared.builder.ArgAction.TheVariants.{SetTrue}
+use Rattle.clap.specs.declared.builder.ArgAction.TheVariants.{Append, SetTrue}
 use Rattle.canbusd_options.specs.declared.command_line.Job.{Job}
 use Rattle.canbusd_options.specs.declared.command_line.Job.TheVariants as job
 use Rattle.canbusd_options.specs.Options.{AreAuditOptions, AreBenchOptions, AreServeOptions}
@@ -13,6 +13,10 @@ use Rattle.canbusd_options.specs.Options.{AreAuditOptions, AreBenchOptions, AreS
 -- an option --NAME VALUE without a default
 abbrev pub option_rule : Text → Rule
 option_rule name = record (new_rule name) { long = Some name; value_names = 1 }
+
+-- the same, where it may be there several times
+abbrev pub several_rule : Text → Rule
+several_rule name = record (option_rule name) { action = Some Append }
 
 -- an option --NAME VALUE with its default
 abbrev pub default_rule : Text → Text → Rule
@@ -32,7 +36,7 @@ words_rule name = record (word_rule name) { range = Some (record { start_inclusi
 
 -- a command with the options for bit rates
 abbrev pub with_rate_rules : App → App
-with_rate_rules a = with_rule (with_rule a (option_rule (codes "bitrate"))) (option_rule (codes "dbitrate"))
+with_rate_rules a = with_rule (with_rule a (several_rule (codes "bitrate"))) (several_rule (codes "dbitrate"))
 
 -- a command with the options that say what a bus is like
 abbrev pub with_bus_rules : App → App

@@ -49,7 +49,9 @@ pub fn bench_options<'a>(alloc: Global, bench: &ArgMatches<'a>) -> Result<BenchO
     ensures refused { IfErr result RefusesValue }
 {
     let settings = settings_given(alloc, Subcommand::Bench, bench, USUAL_LIMIT)?;
-    let timing = timing_given(alloc, Subcommand::Bench, bench)?;
+    let word = bench.get_str(BUS).unwrap_or("");
+    let bus = BusWord::read(word);
+    let timing = timing_given(alloc, Subcommand::Bench, bench, &[word], Some(bus.names))?;
     let record = bench.get_str(RECORD);
     let log = bench.get_str(LOG);
     if are_one_file(record, log) {
@@ -61,7 +63,7 @@ pub fn bench_options<'a>(alloc: Global, bench: &ArgMatches<'a>) -> Result<BenchO
     }
     Ok(BenchOptions {
         settings,
-        bus: BusWord::read(bench.get_str(BUS).unwrap_or("")),
+        bus,
         timing,
         record,
         log,

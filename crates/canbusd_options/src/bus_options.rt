@@ -1,10 +1,10 @@
 //! The words that say what a bus is like, which bench and serve share, and how an option's text, number or flag is taken.
-ghost use Rattle.std.specs.Prelude.{◌≡◌, ◌↔◌, ◌≤◌, ◌^◌, codes, false, IfErr, IfNone, IfOk, IfSome, IsTrue};
+ghost use Rattle.std.specs.Prelude.{◌≡◌, ◌↔◌, ◌≤◌, ◌^◌, codes, false, map, IfErr, IfNone, IfOk, IfSome, IsTrue};
 ghost use Rattle.std.specs.Str.Parse.{IsNumeral, digits_value};
 ghost use Rattle.clap.specs.Words.{app_of, kind_of, rule_of};
 ghost use Rattle.clap.specs.declared.error.kind.ErrorKind.TheVariants.{ValueValidation};
 ghost use Rattle.canbusd_options.specs.Help.{IsNoMemory, RefusesValue};
-ghost use Rattle.canbusd_options.specs.Options.{AreSettings, GiveSettings, IsMode, IsNumber, IsNumberOf, IsNumberWithin, given, given_in, given_or, mode_text, rows_in};
+ghost use Rattle.canbusd_options.specs.Options.{AreSettings, GiveSettings, IsMode, IsNumber, IsNumberOf, IsNumberWithin, given, given_in, given_or, mode_text, rows_in, words_given as words_of};
 ghost use Rattle.canbusd_options.specs.Program.{default_rule, flag_rule, option_rule, with_bus_rules, word_rule};
 
 use crate::audit_options::audit_command;
@@ -252,6 +252,13 @@ pub fn is_on(matches: &ArgMatches<'_>, flag: &str) -> bool
     matches.get_str(flag).unwrap_or("") == "true"
 }
 
+/// What an option was given that may be there several times.
+pub fn words_given<'m, 'a>(matches: &'m ArgMatches<'a>, option: &str) -> &'m [&'a str]
+    ensures { map (λ word. word.now) result.now ≡ words_of (rows_in matches.now) option.now }
+{
+    matches.get_strs(option).unwrap_or_default()
+}
+
 /// Adds the options that say what a bus is like.
 pub fn with_bus_options<'a>(alloc: Global, command: Command<'a>) -> Result<Command<'a>, AllocError>
     ensures { IfOk result (λ c. app_of c ≡ with_bus_rules (app_of command.entry)) }
@@ -263,7 +270,7 @@ pub fn with_bus_options<'a>(alloc: Global, command: Command<'a>) -> Result<Comma
     let restart_help =
         "Restart an interface in the Nth attempt after it went bus off, 1 to 1000000, or never (0)";
     let bitrate_help =
-        "Bits a second, 5000 to 1000000: attempts take the time of their bits [default: no time]";
+        "Bits a second, 5000 to 1000000: attempts take the time of their bits; with NAME= only of that interface's bus [default: no time]";
     let command = command
         .arg(ack_option(alloc))?
         .arg(report_option(alloc))?

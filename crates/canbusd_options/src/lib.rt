@@ -18,7 +18,7 @@ mod serve_options;
 pub use audit_options::{AuditOptions, AuditOutput, EventsAsked};
 pub use bench_options::BenchOptions;
 pub use bus_options::BusSettings;
-pub use bus_word::{BusWord, FaultsWord};
+pub use bus_word::{BusWord, FaultsWord, has_name};
 pub use command_line::{Job, read_options};
 pub use recording::Recording;
 pub use serve_options::ServeOptions;

@@ -1,5 +1,7 @@
-use Rattle.std.proofs.Common.{◌≡◌, ◌+◌, ◌<◌, ℕ, suc, take, get_or, slice_get, List, [], ◌∷◌, ◌++◌, length, All, Vec, Bool, false, IsTrue, Option, IsSomeAnd, OnOk, Result, Ok, Err, IfErr, IsErrAnd, inl, refl, ap, ◌∙◌, sym, subst, arith}
-use Rattle.std.proofs.lemmas.List.{take_more}
+use Rattle.std.proofs.Common.{◌≡◌, ◌+◌, ◌<◌, ℕ, suc, take, get_or, slice_get, List, [], ◌∷◌, ◌++◌, length, All, Vec, Bool, false, IsTrue, Option, IsSomeAnd, OnOk, Result, Ok, Err, IfErr, IsErrAnd, inl, refl, ap, ◌∙◌, sym, subst, arith, below_more}
+use Rattle.std.proofs.Math.ListN.{get_or-append}
+use Rattle.std.proofs.Math.Seq.{get_or-append_seam}
+use Rattle.std.proofs.lemmas.List.{length-append, length-take-le, take_more}
 use Rattle.std.proofs.lemmas.List.Elements.{All-cons}
 use Rattle.std.proofs.lemmas.Option.{slice_get-get_or}
 use Rattle.can_frame.specs.Names.{AreNames, names_in}
@@ -19,7 +21,8 @@ use Rattle.canbusd_io.specs.declared.program_error.ProgramError.{ProgramError}
 use Rattle.canbusd_options.specs.declared.bus_word.BusWord.{BusWord}
 use Rattle.can_fault.specs.declared.fault_source.Perfect.{Perfect}
 use Rattle.canbusd_options.specs.declared.serve_options.ServeOptions.{ServeOptions}
-use Rattle.canbusd_serve.specs.Served.{AreAllBenches, AreBenches, AreConfigured, AreEnds, IsBenchOf, IsLegalEnd, IsOfBus, IsOfBuses, IsOfServer, IsServed, MakeBenches, Serves, end_lines, journals}
+use Rattle.canbusd_options.specs.Options.{timing_at}
+use Rattle.canbusd_serve.specs.Served.{AreAllBenches, AreBenches, AreConfigured, AreEnds, AreTimed, IsBenchOf, IsLegalEnd, IsOfBus, IsOfBuses, IsOfServer, IsServed, MakeBenches, Serves, end_lines, journals}
 
 -- The buses of a server, one after the other.
 
@@ -54,6 +57,21 @@ benches-length o [] [] are = refl
 benches-length o (x ∷ xs) (y ∷ ys) are = ap suc (benches-length o xs ys are.1)
 benches-length o [] (y ∷ ys) are = absurd are
 benches-length o (x ∷ xs) [] are = absurd are
+
+-- one more has its bit rates
+timed-push : (o : ServeOptions) (bs : List (Bench Perfect Open)) (b : Bench Perfect Open) → AreTimed o bs → b.timing ≡ timing_at o.timings.items (length bs) → AreTimed o (bs ++ b ∷ [])
+timed-push o bs b are here k d low =
+    let longer : length (bs ++ b ∷ []) ≡ length bs + 1 = length-append bs (b ∷ []) in
+    below_more (λ n. (e : Bench Perfect Open) → (get_or (bs ++ b ∷ []) n e).timing ≡ timing_at o.timings.items n) (length bs)
+    (λ n below e. ap (λ (x : Bench Perfect Open). x.timing) (get_or-append bs (b ∷ []) e n below) ∙ are n e below)
+    (λ e. ap (λ (x : Bench Perfect Open). x.timing) (get_or-append_seam bs b [] e) ∙ here)
+    k (omega (arith, low, longer)) d
+
+-- so has the bus of the next word
+pub timed-more : (o : ServeOptions) (buses : List BusWord) (bs : List (Bench Perfect Open)) (i : ℕ) (b : Bench Perfect Open) → i < length buses → AreBenches o (take i buses) bs → AreTimed o bs → b.timing ≡ timing_at o.timings.items i → AreTimed o (bs ++ b ∷ [])
+timed-more o buses bs i b below are timed here =
+    let place : length bs ≡ i = benches-length o (take i buses) bs are ∙ length-take-le i buses (omega arith) in
+    timed-push o bs b timed (subst (λ n. b.timing ≡ timing_at o.timings.items n) (sym place) here)
 
 -- their names are good
 pub benches-named : (o : ServeOptions) (buses : List BusWord) (bs : List (Bench Perfect Open)) → AreBenches o buses bs → All (λ bus. AreNames (names_in bus.names.now)) buses

@@ -1,6 +1,6 @@
-use Rattle.std.specs.Prelude.{◌≡◌, ◌⊎◌, ℕ, List, [], ◌∷◌, ◌++◌, length, map, All}
+use Rattle.std.specs.Prelude.{◌≡◌, ◌⊎◌, ◌<◌, ℕ, List, [], ◌∷◌, ◌++◌, length, map, All}
 use Rattle.std.specs.Prelude.{Option, IsSomeAnd, codes, decimal, slice_get, take}
-use Rattle.std.specs.List.{AllZip}
+use Rattle.std.specs.List.{AllZip, slice_index_or}
 use Rattle.std.specs.Io.KnownBytes.{Appends}
 use Rattle.can_frame.specs.Names.{AreNames, names_in}
 use Rattle.can_bus.specs.Legal.{IsLegal}
@@ -23,6 +23,7 @@ use Rattle.canbusd_io.specs.Files.{IsOfNames, IsOfPlan}
 use Rattle.canbusd_io.specs.declared.program_error.ProgramError.{ProgramError}
 use Rattle.canbusd_io.specs.declared.program_error.ProgramError.TheVariants as fault
 use Rattle.canbusd_options.specs.BusWords.{first_name_of}
+use Rattle.canbusd_options.specs.Options.{timing_at}
 
 -- A server's buses, and what it puts out at its end (own choice).
 
@@ -33,7 +34,6 @@ pub record IsBenchOf (o : ServeOptions) (bus : BusWord) (b : Bench Perfect Open)
   pub config : b.config ≡ config_of o.settings (length b.names)
   pub words : b.blanks.meter.words ≡ length b.names
   pub plan : IsPlan bus.script b.names b.plan
-  pub timed : b.timing ≡ o.timing
   pub pace_ms : b.pace_ms ≡ o.pace_ms
   pub rx_capacity : b.rx_capacity ≡ o.settings.rx_capacity
 
@@ -44,6 +44,13 @@ AreBenches o buses benches = AllZip (λ bus b. IsBenchOf o bus b) buses benches
 -- each bus of a server is what its options describe
 abbrev pub AreAllBenches : ServeOptions → List (Bench Perfect Open) → Type 0
 AreAllBenches o benches = AreBenches o o.buses.items benches
+
+-- the bit rates of each are those that the options have at its place
+abbrev pub AreTimed : ServeOptions → List (Bench Perfect Open) → Type 0
+AreTimed o benches =
+    (k : ℕ) (d : Bench Perfect Open)
+    → k < length benches
+    → (slice_index_or benches k d).timing ≡ timing_at o.timings.items k
 
 -- there can be buses that are what these words describe
 abbrev pub MakeBenches : ServeOptions → List BusWord → Type 0

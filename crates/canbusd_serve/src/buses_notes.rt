@@ -1,6 +1,6 @@
 use can_event::{MAX_LIMIT, MAX_LONG_LIMIT};
-use canbusd_io::{has_name, limits_note};
-use canbusd_options::{BusWord, Recording, ServeOptions};
+use canbusd_io::limits_note;
+use canbusd_options::{BusWord, Recording, ServeOptions, has_name};
 use std::alloc::{AllocError, Global};
 
 /// Why no server can have these buses.

@@ -4,9 +4,10 @@ ghost use Rattle.can_hub.specs.Benches.{NamedFrom};
 ghost use Rattle.can_hub.specs.HubBuses.{IsOfLongRuns};
 ghost use Rattle.canbusd_io.specs.declared.program_error.ProgramError.TheVariants as fault;
 ghost use Rattle.canbusd_io.specs.Files.{Took};
+ghost use Rattle.canbusd_options.specs.Options.{timing_at};
 ghost use Rattle.can_hub.specs.Settling.{AreNewScrolls};
 ghost use Rattle.canbusd_serve.specs.LongRuns.{AllGivenFirst, AreBegun, HasFiles, HasNewScrolls, IsRunOf, ServesFiles};
-ghost use Rattle.canbusd_serve.specs.Served.{AreAllBenches, AreEnds, IsBenchOf, IsHeardAt, IsListening, IsOfBus, IsOfHub, IsOfServer, IsOfServing, IsServed, Serves, journals, listening_line};
+ghost use Rattle.canbusd_serve.specs.Served.{AreAllBenches, AreEnds, AreTimed, IsBenchOf, IsHeardAt, IsListening, IsOfBus, IsOfHub, IsOfServer, IsOfServing, IsServed, Serves, journals, listening_line};
 
 use crate::buses_notes::buses_note;
 use crate::ends::put_ends;
@@ -148,11 +149,12 @@ impl<'r, 'a, H: ServerRuntime> ServerRun<'r, 'a, H> {
     // What the buses of the options are made of.
     fn read_benches(&self) -> Result<Vec<Bench<Perfect, Open>>, Report<'a>>
         ensures made { IfOk result (λ benches. AreAllBenches self.now.options.now benches.items) }
+        ensures timed { IfOk result (λ benches. AreTimed self.now.options.now benches.items) }
         ensures fault { IfErr result (λ failure. IsOfServer self.now.options.now failure.error) }
     {
         let mut benches = Vec::new(self.alloc);
-        for bus in &self.options.buses {
-            let bench = self.read_bench(*bus)?;
+        for (place, bus) in self.options.buses.iter().enumerate() {
+            let bench = self.read_bench(place, *bus)?;
             let Ok(()) = benches.push(bench) else {
                 return Err(Report::new(self.alloc, ProgramError::NoMemory));
             };
@@ -160,8 +162,11 @@ impl<'r, 'a, H: ServerRuntime> ServerRun<'r, 'a, H> {
         Ok(benches)
     }
 
-    fn read_bench(&self, bus: BusWord<'a>) -> Result<Bench<Perfect, Open>, Report<'a>>
+    // What the bus at a place is made of, which has this word.
+    fn read_bench(&self, place: usize, bus: BusWord<'a>) -> Result<Bench<Perfect, Open>, Report<'a>>
         ensures made { IfOk result (λ bench. IsBenchOf self.now.options.now bus.entry bench) }
+        ensures timed { IfOk result (λ bench.
+            bench.timing ≡ timing_at self.now.options.now.timings.items place) }
         ensures fault { IfErr result (λ failure. IsOfBus bus.entry failure.error) }
     {
         let names = read_names(self.alloc, bus.names)?;
@@ -179,7 +184,7 @@ impl<'r, 'a, H: ServerRuntime> ServerRun<'r, 'a, H> {
             source: Perfect,
             plan,
             gate: Open,
-            timing: self.options.timing,
+            timing: self.options.timing_at(place),
             pace_ms: self.options.pace_ms,
             rx_capacity: self.options.settings.rx_capacity,
         })
@@ -495,11 +500,20 @@ impl<'r, 'a, H: ServerRuntime> ServerRun<'r, 'a, H> {
             options: self.options,
             errors: Mutex::new(errors),
             has_lost: &self.has_lost,
-            start: self.options.timing.and_then(|_| Start::now(self.rt)),
+            start: self.start(),
         };
         match self.serve_kept(hub, scrolls, files, acceptors, &host, until) {
             Ok(run) => Ok(run),
             Err(_) => Err(Report::new(self.alloc, ProgramError::NoMemory)),
+        }
+    }
+
+    // When the clock of the buses starts, if one of them has bit rates.
+    fn start(&self) -> Option<Start> {
+        if self.options.has_timings() {
+            Start::now(self.rt)
+        } else {
+            None
         }
     }
 

@@ -5,35 +5,13 @@ import difflib
 import importlib
 import sys
 from collections.abc import Callable, Sequence
-from typing import NoReturn, Optional
+from typing import Any, NoReturn, Optional
 
 from canbusd import __version__
 from canbusd._process.program import run_program
+from canbusd._words import COMMANDS, PROGRAM
 from canbusd.commands._command import run_command
 
-# Each command is a module, which is imported only where it is called: reports need no python-can.
-COMMANDS = {
-    "dump": ("canbusd.commands.dump", "print frames as they come"),
-    "send": ("canbusd.commands.send", "send frames"),
-    "status": ("canbusd.commands.status", "print the state and the counts of interfaces"),
-    "watch": ("canbusd.commands.watch", "show a running server in the browser"),
-    "fault": ("canbusd.commands.fault", "give a running bus a rule of faults"),
-    "restart": ("canbusd.commands.restart", "bring interfaces back from bus off"),
-    "down": ("canbusd.commands.down", "take interfaces off the bus"),
-    "up": ("canbusd.commands.up", "bring interfaces up"),
-    "restbus": ("canbusd.commands.restbus", "send what the other nodes of a DBC file send"),
-    "convert": ("canbusd.commands.convert", "make an ASC, BLF, pcapng or candump log of another"),
-    "extcap": ("canbusd.commands.extcap", "show the interfaces of a server in Wireshark"),
-    "sweep": ("canbusd.commands.sweep", "run a command with a fault at each attempt"),
-    "report": ("canbusd.commands.report", "show the run of a record as a page, or as text"),
-    "replay": ("canbusd.commands.replay", "replay a record, and list what happened in it"),
-}
-# Those of the program, which gets their words as they are.
-PROGRAM = {
-    "serve": "serve buses to clients",
-    "bench": "run a script of sessions and attempts, the same at each run",
-    "audit": "check a record",
-}
 TEXT = """\
 commands:
 {commands}
@@ -49,9 +27,14 @@ canbusd-run runs programs with CAN sockets, such as candump; candump2bench turns
 """
 
 
+def module_of(name: str) -> Any:
+    """The module of a command, which is imported only where it is called: reports need no python-can."""
+    return importlib.import_module(f"canbusd.commands.{name}")
+
+
 def parser_of(name: str) -> argparse.ArgumentParser:
     """The parser of a command."""
-    module = importlib.import_module(COMMANDS[name][0])
+    module = module_of(name)
     parser = argparse.ArgumentParser(
         prog=f"canbusd {name}",
         description=module.__doc__,
@@ -64,8 +47,7 @@ def parser_of(name: str) -> argparse.ArgumentParser:
 
 def help_text() -> str:
     """The commands, a line each, and how to go on."""
-    commands = [*PROGRAM.items(), *((name, text) for name, (_, text) in COMMANDS.items())]
-    return TEXT.format(commands="\n".join(f"  {name:<9}{text}" for name, text in commands))
+    return TEXT.format(commands="\n".join(f"  {name:<9}{text}" for name, text in COMMANDS.items()))
 
 
 def main_parser() -> argparse.ArgumentParser:
@@ -94,8 +76,8 @@ def command_named(words: Sequence[str]) -> str:
     name: Optional[str] = found.command
     if name is None:
         parser.error("the following arguments are required: COMMAND")
-    if name not in COMMANDS and name not in PROGRAM:
-        near = difflib.get_close_matches(name, [*PROGRAM, *COMMANDS], 1)
+    if name not in COMMANDS:
+        near = difflib.get_close_matches(name, COMMANDS, 1)
         parser.error(f"no command {name}{f'; did you mean {near[0]}?' if near else ''}")
     return name
 
@@ -111,7 +93,7 @@ def carry_out(words: Sequence[str]) -> Optional[int]:
         if type(fault).__name__ != "NoPythonCan":
             raise
         sys.exit(f"canbusd {name}: {fault}")
-    run: Callable[[argparse.Namespace], Optional[int]] = importlib.import_module(COMMANDS[name][0]).run
+    run: Callable[[argparse.Namespace], Optional[int]] = module_of(name).run
     return run(options)
 
 
@@ -122,7 +104,7 @@ def main(given: Optional[list[str]] = None) -> NoReturn:
         # `help COMMAND` is `COMMAND --help`.
         arguments = [*arguments[1:2], "--help"]
     first = "".join(arguments[:1])
-    run_command(lambda: carry_out(arguments), f"canbusd {first}" if first in {*PROGRAM, *COMMANDS} else "canbusd")
+    run_command(lambda: carry_out(arguments), f"canbusd {first}" if first in COMMANDS else "canbusd")
 
 
 def canbusd_run() -> NoReturn:

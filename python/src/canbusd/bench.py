@@ -21,9 +21,10 @@ from typing import TYPE_CHECKING, Any, Optional, Union, cast
 from canbusd._calls import NamesWhatThereIs, explained
 from canbusd import _placement as placement
 from canbusd._expect.bench_time import SOON, PassesTime
-from canbusd._process.dialogue import MOST_INPUT as MOST_INPUT, BenchError as BenchError, Dialogue, moment_text
+from canbusd._process.dialogue import BenchError as BenchError, Dialogue, moment_text
 from canbusd._process.program import audited
-from canbusd._process.program_run import Ack, bus_of, option_words, rates_of
+from canbusd._process.program_run import Ack, bus_of, option_words, rates_by_bus
+from canbusd._process.rates import BitRate, words_of
 from canbusd._restbus.node import Node
 from canbusd._restbus.nodes import database_of
 from canbusd._restbus.simulated_nodes import HasRestBus
@@ -33,10 +34,11 @@ from canbusd._run.summary import write_page
 from canbusd._session.bench_session import Session as Session
 from canbusd._session.injection import Refused as Refused
 from canbusd._session.protocol import Filters, options
+from canbusd._words import MOST_RULES, MOST_SESSIONS, NO_SUCH_INTERFACE, TOO_MANY_RULES, TOO_MANY_SESSIONS
 from canbusd.faults import Script, rules_in, rules_of, script_bytes
 from canbusd.frames import Frame
 from canbusd.record import Attempt, Outcome, Record, read_record
-from canbusd.rules import MOST_RULES, GivenRules, check_rules, parse_rule
+from canbusd.rules import GivenRules, check_rules, parse_rule
 from canbusd.signals import Database
 
 if TYPE_CHECKING:
@@ -44,7 +46,6 @@ if TYPE_CHECKING:
 
     from canbusd._restbus.bench_rest_bus import BenchRestBus
 
-MOST_SESSIONS = 64
 TRIED = re.compile(
     r"(?:idle|tried (?P<winner>\S+) (?P<number>\d+) (?P<outcome>\w+) (?P<accepted>\S+) (?P<off>\S+))"
     r"(?: restarted (?P<restarted>\S+))?(?: at (?P<at>[0-9.]+))?"
@@ -89,17 +90,18 @@ class Bench(PassesTime, Dialogue, HasRestBus["BenchRestBus"], NamesWhatThereIs):
         txqueue: int = 10,
         rxqueue: int = 256,
         limit: int = 1_000_000,
-        bitrate: Optional[int] = None,
-        data_bitrate: Optional[int] = None,
-        dbitrate: Optional[int] = None,
+        bitrate: Optional[BitRate] = None,
+        data_bitrate: Optional[BitRate] = None,
+        dbitrate: Optional[BitRate] = None,
         out: Union[str, "os.PathLike[str]", None] = None,
         observe: Union[str, Sequence[str], None] = None,
         database: Union[Database, str, "os.PathLike[str]", None] = None,
     ) -> None:
         words = option_words(ack, report, auto_restart=auto_restart, txqueue=txqueue, rxqueue=rxqueue, limit=limit)
-        self._rates = rates_of(bitrate, data_bitrate, dbitrate)
-        words += self._rates.words if self._rates else []
         self.names, faults = bus_of(names, faults)
+        self._rates_by_bus = rates_by_bus({self.names[0]: self.names}, bitrate, data_bitrate, dbitrate)
+        self._rates = self._rates_by_bus[self.names[0]]
+        words += words_of(self._rates_by_bus)
         self.database = None if database is None else database_of(database)
         PassesTime.__init__(self, observe)
         Dialogue.__init__(self, out)
@@ -146,10 +148,10 @@ class Bench(PassesTime, Dialogue, HasRestBus["BenchRestBus"], NamesWhatThereIs):
         )
         messages += ["origin 1"] if receive_own_messages else []
         if channel not in self.names:
-            raise Refused(f"no such interface {channel!r}; the bench has {', '.join(self.names)}")
+            raise Refused(f"{NO_SUCH_INTERFACE} {channel!r}; the bench has {', '.join(self.names)}")
         with self._turn:
             if self._sessions > MOST_SESSIONS:
-                raise Refused("too many sessions")
+                raise Refused(TOO_MANY_SESSIONS)
             session = Session(self, self._sessions, channel)
             try:
                 for message in [f"open {channel}", "rawmode", *messages]:
@@ -208,7 +210,7 @@ class Bench(PassesTime, Dialogue, HasRestBus["BenchRestBus"], NamesWhatThereIs):
         check_rules(rules, self.names)
         with self._turn:
             if len(self._given) + len(rules) > MOST_RULES:
-                raise Refused("too many rules")
+                raise Refused(TOO_MANY_RULES)
             for rule in rules:
                 # Such a line has no answer.
                 self._write(f"fault {rule}")

@@ -16,7 +16,8 @@ from typing import TYPE_CHECKING, Literal, Optional, Union
 from canbusd._calls import NamesWhatThereIs, explained
 from canbusd._text import NAME, shown
 from canbusd.frames import EXTENDED
-from canbusd.rules import MOST, MOST_RULES, NUMBER, VERDICT, Rule, is_rule, parse_rule
+from canbusd._words import GOOD, LASTBIT, MOST_RULES
+from canbusd.rules import MOST, NUMBER, VERDICT, Rule, is_rule, parse_rule
 
 # A text of this form is a rule with a fault rather than the path of a file that is not there.
 LIKE_RULE = re.compile(r"\A\S+ (?:[0-9]|.*(?:good|lastbit|last_bit|destroyed|global|local)\b)")
@@ -96,7 +97,7 @@ class Chosen:
     @explained()
     def good(self) -> "Faults":
         """No fault: the rule shields its attempts from the rules after it."""
-        return self._given("good")
+        return self._given(GOOD)
 
     @explained()
     def destroyed(self, kind: Destroying = "bit") -> "Faults":
@@ -106,7 +107,7 @@ class Chosen:
     @explained()
     def last_bit(self) -> "Faults":
         """The sender sees a fault in the last bit: the others accept the frame, and it is sent again."""
-        return self._given("lastbit")
+        return self._given(LASTBIT)
 
     @explained()
     def local(self, kind: Seen, names: Names) -> "Faults":
@@ -196,7 +197,7 @@ class Faults(NamesWhatThereIs):
     @explained(BY_NUMBER)
     def good(self, attempts: Attempts) -> "Faults":
         """No fault, also where a rule would give one."""
-        return self._add("good", attempts)
+        return self._add(GOOD, attempts)
 
     @explained(BY_NUMBER)
     def destroyed(self, attempts: Attempts, kind: Destroying = "bit") -> "Faults":
@@ -206,7 +207,7 @@ class Faults(NamesWhatThereIs):
     @explained(BY_NUMBER)
     def last_bit(self, attempts: Attempts) -> "Faults":
         """The sender sees a fault in the last bit: the others accept the frame, and it is sent again."""
-        return self._add("lastbit", attempts)
+        return self._add(LASTBIT, attempts)
 
     @explained(BY_NUMBER)
     def local(self, kind: Seen, names: Names, attempts: Attempts) -> "Faults":
@@ -232,7 +233,7 @@ class Faults(NamesWhatThereIs):
 
         What rules give depends on the run.
         """
-        return self._verdicts.get(whole_number(attempt, "attempt"), "good")
+        return self._verdicts.get(whole_number(attempt, "attempt"), GOOD)
 
     @property
     def rules(self) -> list[str]:
@@ -271,7 +272,7 @@ def call_of(verdict: str, attempts: str = "") -> str:
         return f"destroyed({', '.join([*given, *([] if words == ['bit'] else [repr(words[0])])])})"
     if kind == "local":
         return f"local({', '.join([repr(words[0]), repr(words[1].split(',')), *given])})"
-    return f"{'last_bit' if kind == 'lastbit' else kind}({attempts})"
+    return f"{'last_bit' if kind == LASTBIT else kind}({attempts})"
 
 
 def head_call(rule: Rule) -> str:

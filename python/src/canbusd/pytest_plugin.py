@@ -368,7 +368,7 @@ class Runs:
         if not left.exists():
             return facts
         try:
-            record = read_record(left, names, cut=left != path, rates=run._rates)
+            record = read_record(left, names, cut=left != path, rates=run._rates_by_bus[names[0]])
             facts["story"] = summary.story(record)
             if record.is_cut:
                 cut = f"{left} is cut off after {record.replay.entries} entries: `--cut` of the tools reads it"

@@ -14,17 +14,16 @@ from dataclasses import dataclass
 from typing import Optional
 
 from canbusd._text import NAME, shown
+from canbusd._words import VERDICTS
 from canbusd.frames import EXTENDED, INVERTED
 
-#: How many rules a bus has at most.
-MOST_RULES = 64
 #: What a number in a rule is at most.
 MOST = 99999999
 SHORT_MASK, LONG_MASK = EXTENDED | 0x7FF, EXTENDED | 0x1FFFFFFF
 NUMBER = re.compile("[0-9]{1,8}")
 WORD = re.compile("[0-9A-Fa-f]{1,8}")
 NAMES = f"{NAME.pattern}(?:,{NAME.pattern})*"
-VERDICT = re.compile(f"good|lastbit|global (?:bit|form)|local (?:stuff|crc|form) {NAMES}")
+VERDICT = re.compile("|".join(VERDICTS).replace("NAMES", NAMES))
 # The verdicts that may be meant by a first word that is none.
 MEANT = {
     "bit": "global bit",
@@ -104,8 +103,9 @@ def parse_rule(text: str) -> Rule:
         check_order(words, {"from": bool(senders), "id": identifier is not None, "skip": skip is not None})
         verdict = " ".join(words)
         if not VERDICT.fullmatch(verdict):
-            known = "good, lastbit, global bit, global form, or local stuff, crc or form and names"
-            raise ValueError(f"its verdict is {known}, not {verdict!r}{meant_by(words)}")
+            raise ValueError(
+                f"its verdict is {', '.join(VERDICTS[:-1])} or {VERDICTS[-1]}, not {verdict!r}{meant_by(words)}"
+            )
     except ValueError as fault:
         raise ValueError(f"rule {shown(text)!r}: {fault}") from None
     return Rule(count, verdict, senders, identifier, skip or 0)

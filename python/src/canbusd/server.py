@@ -22,8 +22,10 @@ from canbusd._calls import NamesWhatThereIs, explained
 from canbusd._expect.expectations import Expectations
 from canbusd._expect.observer import Observer, observed_of
 from canbusd import _placement as placement
+from canbusd._process import lock_file
 from canbusd._process.program import ServerError as ServerError, audited
-from canbusd._process.program_run import RUNNING, Ack, ProgramRun, option_words, rates_of
+from canbusd._process.program_run import RUNNING, Ack, ProgramRun, option_words, rates_by_bus
+from canbusd._process.rates import BitRate, words_of
 from canbusd._process.serve_words import Recorded, bus_words, record_options
 from canbusd._restbus.node import Node
 from canbusd._restbus.nodes import database_of
@@ -35,13 +37,14 @@ from canbusd._session.address import parse_address, reason_of
 from canbusd._session.connection import SessionRefused
 from canbusd._session.injection import TIMEOUT, RuleSession
 from canbusd._session.protocol import Filters
-from canbusd._session.raw_session import CURES, RECORD_FULL, RawSession
+from canbusd._session.raw_session import CURES, RawSession
+from canbusd._words import MOST_BUSES, NO_SUCH_INTERFACE, RECORD_FULL
 from canbusd.faults import Script, rules_of
 from canbusd.programs import Program, RunsPrograms
 from canbusd.record import Attempt, Record, read_record
 from canbusd.rules import check_rules, parse_rule
 from canbusd.signals import Database
-from canbusd.virtual import note_rate
+from canbusd.virtual import note_rates
 
 if TYPE_CHECKING:
     from can.message import Message
@@ -56,8 +59,6 @@ ENTRIES = re.compile(r"bus (\S+) entries (\d+)")
 FULL = re.compile(r"bus (\S+): record full")
 #: The calls that end it, with those that do so only if logs and records are written at the end.
 ENDED_BY = "stop(), {}audit(), report() and its with block end it"
-#: How many buses a server has at most.
-MOST_BUSES = 16
 
 
 def full_record(errors: Path, buses: Mapping[str, Sequence[str]], channel: Optional[str]) -> str:
@@ -86,7 +87,8 @@ class Server(Expectations, SimulatesNodes, RunsPrograms, ProgramRun, NamesWhatTh
     :meth:`attempts` return what is there; with ``record="none"`` logs are, and there is no record. Then a run may go
     on for weeks, and ``limit`` (1,000,000 entries) is not given. With a ``bitrate`` attempts take the time of their
     bits, in place of ``pace_ms``; with a ``data_bitrate``, which may be called ``dbitrate`` too, FD frames with
-    ``bitrate_switch`` go on at that for their data.
+    ``bitrate_switch`` go on at that for their data. Each is a number for all buses, or a dict of numbers by the name of
+    an interface of each bus, with that of all others by None.
     ``observe`` names the interfaces whose frames :meth:`expect` looks at, by default all, or the first of each bus where
     there are more than 8; without any, ``observe=()``, the record has nothing of it. ``database``, a file or what
     load_database returns, has the names of messages and signals that are expected. The server runs when the constructor returns,
@@ -115,9 +117,9 @@ class Server(Expectations, SimulatesNodes, RunsPrograms, ProgramRun, NamesWhatTh
         ack: Ack = "always",
         report: bool = False,
         auto_restart: int = 0,
-        bitrate: Optional[int] = None,
-        data_bitrate: Optional[int] = None,
-        dbitrate: Optional[int] = None,
+        bitrate: Optional[BitRate] = None,
+        data_bitrate: Optional[BitRate] = None,
+        dbitrate: Optional[BitRate] = None,
         pace_ms: int = 1,
         write_bytes: int = 16_384,
         txqueue: int = 10,
@@ -138,13 +140,14 @@ class Server(Expectations, SimulatesNodes, RunsPrograms, ProgramRun, NamesWhatTh
         options, numbers = record_options(record, limit, flush, sync)
         numbers.update(auto_restart=auto_restart, pace_ms=pace_ms, write_bytes=write_bytes)
         options += option_words(placement.acknowledged_by(ack), report, txqueue=txqueue, rxqueue=rxqueue, **numbers)
-        self._rates = rates_of(bitrate, data_bitrate, dbitrate)
-        options += self._rates.words if self._rates else []
-        note_rate(bitrate)
         self.database = None if database is None else database_of(database)
         super().__init__(out)
         self._txqueue = txqueue
         self._by_bus = bus_words(buses, faults, self._folder, self._number)
+        names = {name: bus[:-1] for name, bus in self._by_bus.items()}
+        self._rates_by_bus = rates_by_bus(names, bitrate, data_bitrate, dbitrate)
+        options += words_of(self._rates_by_bus)
+        note_rates(self._rates_by_bus.values())
         self._prepare(record)
         self._observed = observed_of(observe, self._names(), lambda name: self._first(name, "observe"))
         words = ["--until-eof", "--listen", listen, *options, "--out", str(self._out)]
@@ -205,7 +208,7 @@ class Server(Expectations, SimulatesNodes, RunsPrograms, ProgramRun, NamesWhatTh
         from canbusd.bus import CanbusdBus
 
         if channel not in self.interfaces:
-            raise CanInitializationError(f"{channel}: no such interface; the server has {', '.join(self.interfaces)}")
+            raise CanInitializationError(f"{channel}: {NO_SUCH_INTERFACE}; the server has {', '.join(self.interfaces)}")
         if self._result is not None:
             raise CanInitializationError(f"{channel}: the server has ended; {ENDED_BY.format(self._ends_too)}")
         bus = CanbusdBus(channel, can_filters=can_filters, address=self.address, **kwargs)
@@ -313,8 +316,8 @@ class Server(Expectations, SimulatesNodes, RunsPrograms, ProgramRun, NamesWhatTh
         """
         first = self._recorded(name)
         if self._record_when == "live":
-            return self._records[first].record(self._rates)
-        return read_record(self._file(name, "rec"), self._by_bus[first][:-1], rates=self._rates)
+            return self._records[first].record(self._rates_by_bus[first])
+        return read_record(self._file(name, "rec"), self._by_bus[first][:-1], rates=self._rates_by_bus[first])
 
     def attempts(self, name: Optional[str] = None) -> list[Attempt]:
         """Returns the attempts on the bus of this interface: with ``record="live"`` those that were written so far.
@@ -351,7 +354,7 @@ class Server(Expectations, SimulatesNodes, RunsPrograms, ProgramRun, NamesWhatTh
 
         faults = faults_beside(left_by(path.with_suffix(".rec"), self._record_when))
         rules = deciders(record, faults) if faults else []
-        return write_page(record, path, rules, self._rates, self.database)
+        return write_page(record, path, rules, self._rates_by_bus[record.names[0]], self.database)
 
     def _check_runs(self, what: str) -> None:
         """ServerError where the server has ended, with what is not possible then."""
@@ -467,7 +470,10 @@ class Server(Expectations, SimulatesNodes, RunsPrograms, ProgramRun, NamesWhatTh
             raise ServerError(f"the server did not end within {END:.0f} seconds, and was killed") from None
         finally:
             RUNNING.discard(self)
+            if self._child.returncode:
+                lock_file.remove_left(self._out)
         for name, bus in self._by_bus.items():
             own = sum(one in self._observed for one in bus[:-1])
-            placement.keep((self._number, name), bus[:-1], own, self._out / f"{name}.rec", self._rates)
+            rates = self._rates_by_bus[name]
+            placement.keep((self._number, name), bus[:-1], own, self._out / f"{name}.rec", rates)
         return self._child.returncode, written.decode()

@@ -31,8 +31,8 @@ from canbusd._isotp.segments import (
     segments_of,
     with_fault,
 )
-from canbusd._session.protocol import DOWN
 from canbusd._session.waits import seconds_until
+from canbusd._words import INTERFACE_DOWN
 from canbusd.frames import Frame
 
 if TYPE_CHECKING:
@@ -189,7 +189,7 @@ class PythonIsoTp(IsoTp):
         """The error of a transfer that a fault of the bus is."""
         code = getattr(fault, "error_code", None)
         if code == errno.ENETDOWN:
-            is_down = str(fault).startswith(DOWN)
+            is_down = str(fault).startswith(INTERFACE_DOWN)
             return IsoTpError(f"{self._channel} is {'down' if is_down else 'bus off'}", code)
         return IsoTpError(f"this end was closed: {fault}" if code is None else f"{fault}", code)
 

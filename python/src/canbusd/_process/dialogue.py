@@ -8,12 +8,11 @@ from typing import Union
 
 from canbusd._process.program_run import RUNNING, ProgramRun
 from canbusd._session.injection import Refused
+from canbusd._words import MOST_INPUT
 from canbusd.frames import frame_of
 
 #: Seconds after which a bench that says nothing is given up.
 TIMEOUT = 30.0
-#: Bytes of input that the program takes.
-MOST_INPUT = 1 << 24
 MESSAGES = re.compile(r"< (.*?) >")
 AT = re.compile(r"[0-9]{1,10}\.[0-9]{6}")
 

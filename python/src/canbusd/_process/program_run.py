@@ -8,37 +8,24 @@ import signal
 import subprocess
 import tempfile
 import weakref
-from collections.abc import Iterable, Sequence
+from collections.abc import Iterable, Mapping, Sequence
 from contextvars import ContextVar
 from pathlib import Path
 from types import TracebackType
-from typing import Literal, Optional, TypeVar, Union
+from typing import Literal, Optional, TypeVar, Union, cast
 
 from canbusd import _placement as placement
 from canbusd._process.program import find_program
-from canbusd._process.rates import LEAST_BITRATE, MOST_BITRATE, MOST_DBITRATE, Rates
+from canbusd._process.rates import LEAST_BITRATE, MOST_BITRATE, MOST_DBITRATE, BitRate, Rates
 from canbusd._session.arguments import one_data_rate, truth
 from canbusd._text import NAME
+from canbusd._words import MOST_NAMES, NUMBERS
 from canbusd.faults import Script
 
 Self = TypeVar("Self", bound="ProgramRun")
 
 #: Where runs have their folders; None is the system's place for temporary files.
 FOLDERS: "ContextVar[Optional[Path]]" = ContextVar("FOLDERS", default=None)
-#: How many interfaces a bus has at most.
-MOST_NAMES = 16
-#: The options of the program that are numbers, by the names of their arguments: the least and the most of each, and of what.
-NUMBERS: dict[str, tuple[str, int, int, str]] = {
-    "auto_restart": ("--auto-restart", 0, 1_000_000, "attempts"),
-    "pace_ms": ("--pace", 0, 60_000, "milliseconds"),
-    "write_bytes": ("--write", 256, 65_536, "bytes"),
-    "txqueue": ("--txqueue", 1, 1024, "frames"),
-    "rxqueue": ("--rxqueue", 1, 65_536, "frames"),
-    "limit": ("--limit", 1, 1 << 24, "entries"),
-    "flush": ("--flush", 0, 60_000, "milliseconds"),
-    "bitrate": ("--bitrate", LEAST_BITRATE, MOST_BITRATE, "bits a second"),
-    "data_bitrate": ("--dbitrate", LEAST_BITRATE, MOST_DBITRATE, "bits a second"),
-}
 
 Ack = Literal["always", "peers"]
 
@@ -61,9 +48,40 @@ def number_words(**numbers: int) -> list[str]:
     return words
 
 
-def rates_of(bitrate: Optional[int], data_bitrate: Optional[int], dbitrate: Optional[int] = None) -> Optional[Rates]:
-    """Returns these bit rates, if there are any; ValueError where they are none of a bus."""
-    fast = one_data_rate(data_bitrate, dbitrate)
+def rates_by_bus(
+    buses: Mapping[str, Sequence[str]],
+    bitrate: Optional[BitRate],
+    data_bitrate: Optional[BitRate],
+    dbitrate: Optional[BitRate] = None,
+) -> dict[str, Optional[Rates]]:
+    """Returns the bit rates of each bus by the first of its names; ValueError where they are none of a bus."""
+    # mypy finds no common type of two unions.
+    fast = rate_by_bus("data_bitrate", cast(Optional[BitRate], one_data_rate(data_bitrate, dbitrate)), buses)
+    nominal = rate_by_bus("bitrate", bitrate, buses)
+    return {first: rates_of(nominal[first], fast[first]) for first in buses}
+
+
+def rate_by_bus(argument: str, rate: Optional[BitRate], buses: Mapping[str, Sequence[str]]) -> dict[str, Optional[int]]:
+    """Returns what an argument gives each bus by the first of its names; ValueError names what is wrong in it."""
+    if not isinstance(rate, Mapping):
+        return dict.fromkeys(buses, rate)
+    firsts = {name: first for first, names in buses.items() for name in names}
+    found: dict[str, Optional[int]] = {}
+    for name, number in rate.items():
+        number_words(**{argument: number})
+        if name is None:
+            continue
+        if name not in firsts:
+            raise ValueError(f"{argument} is by interfaces, which are {', '.join(firsts)}, not by {name!r}")
+        first = firsts[name]
+        if first in found:
+            raise ValueError(f"{argument} has two values for the bus {','.join(buses[first])!r}")
+        found[first] = number
+    return {first: found.get(first, rate.get(None)) for first in buses}
+
+
+def rates_of(bitrate: Optional[int], fast: Optional[int]) -> Optional[Rates]:
+    """Returns these bit rates of a bus, if there are any; ValueError where they are none of a bus."""
     rates = {"bitrate": bitrate, "data_bitrate": fast}
     number_words(**{name: rate for name, rate in rates.items() if rate is not None})
     if fast is not None and bitrate is None:

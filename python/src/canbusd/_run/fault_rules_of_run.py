@@ -12,7 +12,8 @@ from typing import Optional
 
 from canbusd._run.events import BadRecord, Events
 from canbusd.record import Path as AnyPath, Record, is_named
-from canbusd.rules import MOST_RULES, NAMES, Rule, RulesLeft, parse_rule
+from canbusd._words import MOST_RULES
+from canbusd.rules import NAMES, Rule, RulesLeft, parse_rule
 
 # More bytes than a line has: names of 16 interfaces, twice, and a few words.
 LONGEST_LINE = 4096

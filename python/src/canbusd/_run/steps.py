@@ -12,10 +12,11 @@ from dataclasses import dataclass, field
 from typing import Optional, TypeVar, Union, overload
 
 from canbusd._run.run_parts import WAITING_BITS, Interface, Socket
+from canbusd._words import OUTCOMES
 from canbusd.frames import EXTENDED, REMOTE, is_fd
 
 #: The kinds of steps, by their numbers in the column and on a page. Kinds before `restart` are attempts, `idle` is only on pages.
-KINDS = ("done", "lastbit", "destroyed", "noack", "restart", "down", "idle")
+KINDS = (*OUTCOMES, "restart", "down", "idle")
 DONE, LASTBIT, DESTROYED, NOACK, RESTART, DOWN, IDLE = range(7)
 #: What became of an item, by its number; `waiting` is at the end of the run, `unread` at the close of its socket.
 FATES = ("taken", "waiting", "unread", "dropped")

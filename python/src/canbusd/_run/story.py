@@ -12,10 +12,10 @@ from canbusd._run.run_parts import WARNING, severity
 from canbusd._run.steps import DONE, DOWN, KINDS, LASTBIT, NOACK, RESTART, Steps, numbers_in
 from canbusd._session.protocol import STATES
 from canbusd._text import times
+from canbusd._words import OUTCOMES
 from canbusd.record import members_of
 from canbusd.replay import Replay
 
-OUTCOMES = {"done": "done", "lastbit": "failed in the last bit", "destroyed": "destroyed", "noack": "not acknowledged"}
 # Refusals and drops of one place are one event where no more steps than these are between them.
 GAP = 8
 # Steps in a row in which a count is as bad.

@@ -10,12 +10,8 @@ from canbusd._calls import NamesWhatThereIs, explained
 from canbusd._session.arguments import check_within
 from canbusd._session.injection import InjectsFaults, Refused
 from canbusd._session.protocol import (
-    LONGEST_MESSAGE,
-    NO_BUFFERS,
     NO_DOWN,
-    NOT_BUS_OFF,
     PASSING,
-    UNKNOWN,
     ErrorCounters,
     Filters,
     Load,
@@ -25,6 +21,7 @@ from canbusd._session.protocol import (
     load_of,
     stats_of,
 )
+from canbusd._words import LONGEST_MESSAGE, NO_BUFFERS, NOT_BUS_OFF, UNKNOWN_COMMAND
 from canbusd.frames import (
     Frame,
     MessageLike,
@@ -243,7 +240,7 @@ class Session(InjectsFaults, NamesWhatThereIs):
         try:
             self._bench._ask(f"feed {self._live()} < down >< echo >", at)
         except Refused as fault:
-            raise Refused(f"{self.channel}: {NO_DOWN if str(fault) == UNKNOWN else fault}") from None
+            raise Refused(f"{self.channel}: {NO_DOWN if str(fault) == UNKNOWN_COMMAND else fault}") from None
 
     def up(self, at: Union[str, float, None] = None) -> None:
         """Brings the interface up, at this moment if one is given, or back from bus off; both error counts are 0 then. It

@@ -6,6 +6,7 @@ from typing import Optional, TypeVar
 
 from canbusd._session.connection import Connection
 from canbusd._session.protocol import interfaces_of, refusal_in, rules_left_of
+from canbusd._words import NO_SUCH_INTERFACE
 from canbusd.faults import Script, rules_of
 from canbusd.rules import Rule
 
@@ -13,13 +14,12 @@ T = TypeVar("T")
 
 #: Seconds in which a server has to answer.
 TIMEOUT = 5.0
-NO_INTERFACE = "no such interface"
 
 
 def no_interface(connection: Connection) -> str:
     """Returns the refusal of an interface that a server does not have, with those that it has."""
     names = interfaces_of(connection.ask(["interfaces"])[0])
-    return f"{NO_INTERFACE}; the server has {', '.join(names)}" if names else NO_INTERFACE
+    return f"{NO_SUCH_INTERFACE}; the server has {', '.join(names)}" if names else NO_SUCH_INTERFACE
 
 
 class Refused(RuntimeError):
@@ -60,7 +60,7 @@ class InjectsFaults:
         for rule in rules:
             answer = self._refused(f"fault {rule}")
             if answer:
-                raise self._refusal(f"{answer}: {rule}{self._wrong_name(rule) if answer == NO_INTERFACE else ''}")
+                raise self._refusal(f"{answer}: {rule}{self._wrong_name(rule) if answer == NO_SUCH_INTERFACE else ''}")
 
     def _wrong_name(self, rule: Rule) -> str:
         """Returns which name of a rule is none of the server's, and what these are; those of a bus are not known here."""
@@ -89,7 +89,7 @@ class RuleSession(InjectsFaults):
         self._connection = Connection(address, TIMEOUT)
         answer = self._answer(f"open {channel}")
         if answer:
-            text = no_interface(self._connection) if answer == NO_INTERFACE else answer
+            text = no_interface(self._connection) if answer == NO_SUCH_INTERFACE else answer
             self._connection.close()
             raise Refused(f"{channel}: {text}")
 

@@ -6,10 +6,11 @@ Frames are in canbusd.frames: `command_of` and `frame_of`. Nothing here needs py
 from collections.abc import Iterable, Mapping, Sequence
 from typing import Any, Literal, NamedTuple, Optional, Union
 
+from canbusd._words import BUS_OFF, INTERFACE_DOWN, LONGEST_MESSAGE, NO_BUFFERS
 from canbusd.frames import EXTENDED, INVERTED
 
-# What may be between `<` and `>`, and in an answer: the names of 256 interfaces.
-LONGEST_MESSAGE, LONGEST_ANSWER = 1024, 4120
+# What may be in an answer: the names of 256 interfaces.
+LONGEST_ANSWER = 4120
 ALL_CLASSES = 0x1FFFFFFF
 # The states of an interface: the states of its error counts, the best first, and `down`.
 State = Literal["active", "warning", "passive", "off", "down"]
@@ -17,12 +18,9 @@ STATES: tuple[State, ...] = ("active", "warning", "passive", "off", "down")
 # Filters that no frame passes: everything, inverted.
 NO_FRAMES = [{"can_id": INVERTED, "can_mask": 0}]
 
-# Refusals of a send and of a restart; UNKNOWN is an older program's refusal of a newer message.
-NO_BUFFERS, BUS_OFF, DOWN = "no buffers", "bus off", "interface down"
-NOT_BUS_OFF, UNKNOWN = "not bus off", "unknown command"
 # Refusals after which a cyclic message goes on: a full transmit queue, and an interface that is off the bus.
-PASSING = (NO_BUFFERS, BUS_OFF, DOWN)
-# The text for users in place of UNKNOWN, if the program is older.
+PASSING = (NO_BUFFERS, BUS_OFF, INTERFACE_DOWN)
+# The text for users in place of UNKNOWN_COMMAND, with which an older program refuses a newer message.
 NO_DOWN = "the program is older, and has no interfaces that go down"
 
 Filters = Sequence[Mapping[str, Any]]

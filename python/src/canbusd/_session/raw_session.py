@@ -12,33 +12,27 @@ from typing import Optional
 
 from canbusd._placement import DELAY, AtSockets
 from canbusd._session.connection import LONGEST_POLL, POLL, Connection, NoAnswer, SessionRefused
-from canbusd._session.injection import NO_INTERFACE, InjectsFaults, no_interface
-from canbusd._session.protocol import (
-    BUS_OFF,
-    DOWN,
-    NO_BUFFERS,
-    NO_DOWN,
-    NOT_BUS_OFF,
-    UNKNOWN,
-    ErrorCounters,
-    Load,
-    Stats,
-    counters_of,
-    load_of,
-    refusal_in,
-    stats_of,
-)
+from canbusd._session.injection import InjectsFaults, no_interface
+from canbusd._session.protocol import NO_DOWN, ErrorCounters, Load, Stats, counters_of, load_of, refusal_in, stats_of
 from canbusd._session.waits import seconds_until
 from canbusd._text import times
+from canbusd._words import (
+    BUS_OFF,
+    INTERFACE_DOWN,
+    NO_BUFFERS,
+    NO_SUCH_INTERFACE,
+    NOT_BUS_OFF,
+    RECORD_FULL,
+    UNKNOWN_COMMAND,
+)
 
-RECORD_FULL = "record full"
 # What the system's own CAN sockets report.
-ERROR_CODES = {NO_BUFFERS: errno.ENOBUFS, BUS_OFF: errno.ENETDOWN, DOWN: errno.ENETDOWN}
+ERROR_CODES = {NO_BUFFERS: errno.ENOBUFS, BUS_OFF: errno.ENETDOWN, INTERFACE_DOWN: errno.ENETDOWN}
 # What to do, where it can be said in a few words.
 CURES = {
     NO_BUFFERS: ": the transmit queue is full; send(msg, timeout=1) waits for room, and a server's txqueue= makes more",
     BUS_OFF: ": restart() brings the interface back, as the server's auto_restart= does",
-    DOWN: ": up() brings the interface up",
+    INTERFACE_DOWN: ": up() brings the interface up",
     RECORD_FULL: ": start the server again with a higher limit= (--limit), or with record='live' (--record live)",
 }
 
@@ -92,7 +86,7 @@ class RawSession(InjectsFaults):
             opening = [f"open {channel}", "rawmode", *messages]
             answers = self._connection.ask([*opening, *self._queries])
             refused = next(filter(None, map(refusal_in, answers[: len(opening)])), "")
-            if refused == NO_INTERFACE:
+            if refused == NO_SUCH_INTERFACE:
                 refused = no_interface(self._connection)
             if refused:
                 raise SessionRefused(f"{refused}{CURES.get(refused, '')}")
@@ -215,7 +209,7 @@ class RawSession(InjectsFaults):
         """Takes the interface off the bus; one that is down stays so."""
         answer = self.answer("down")
         if answer:
-            raise refusal(f"{self.channel}: {NO_DOWN if answer == UNKNOWN else answer}")
+            raise refusal(f"{self.channel}: {NO_DOWN if answer == UNKNOWN_COMMAND else answer}")
 
     def up(self) -> None:
         """Brings the interface up; one that is up stays so."""

@@ -5,14 +5,15 @@ import argparse
 from canbusd._session.address import reason_of, server_address
 from canbusd._session.connection import SessionRefused
 from canbusd._session.injection import Refused, RuleSession
+from canbusd._words import VERDICTS
 from canbusd.commands import add_address
 from canbusd.commands._command import BadWords
 
-EPILOG = """\
+EPILOG = f"""\
 rules, whose words come in this order:
   next N [from NAMES] [id ID | id ID:MASK] [skip K] VERDICT      the next N attempts of these
   always [from NAMES] [id ID | id ID:MASK] [skip K] VERDICT      all of them
-  VERDICT is `global bit`, `global form`, `lastbit`, `local crc NAMES`, `local stuff NAMES`, `local form NAMES` or `good`
+  VERDICT is {', '.join(VERDICTS[:-1])} or {VERDICTS[-1]}
 
 A rule holds from the next attempt on, after those that the bus has, which has at most 64. ID has 3 digits for 11 bits or 8
 for 29; with a mask both are words as of a filter.

@@ -5,7 +5,7 @@ use Rattle.can_replay.specs.TextAudits.{AreTaken, EndsNoLine, ReportsCut}
 use Rattle.canbusd_io.specs.declared.report.Report.{Report}
 use Rattle.canbusd_audit.specs.Audited.{FaultsCut, FaultsLine, IsUnread, Leaves, asks_events, wanted_of}
 use Rattle.canbusd_audit.proofs.Underway.{asked_so}
-use Rattle.canbusd_audit.proofs.Telling.{Either, all_told_cut, cut_written, left_cut, line_or_cut, memory_told_cut, noted_cut, nothing_left, or_text, passed_on, ready}
+use Rattle.canbusd_audit.proofs.Telling.{Either, Or, all_told_cut, cut_written, left_cut, line_or_cut, memory_told_cut, noted_cut, nothing_left, or_text, passed_on, ready}
 use Rattle.canbusd_audit.proofs.audit_job.audit_cut_lines.Goals as goal
 
 pub tell_cut-requires : goal.tell_cut-requires
@@ -18,7 +18,7 @@ pub returns-in_err-audit-clause-fault : goal.returns-in_err-audit-clause-fault
 returns-in_err-audit-clause-fault g c =
     let first = g.R.Read.remaining c.args.input.now in
     let failure = c.in_err-audit.field-0.0 in
-    passed_on (Either (asks_events c.args.asked) (FaultsCut first)) failure c.from_residual.result c.from_residual.ensures.1 (inr (memory_told_cut first failure.error c.in_err-audit.ensures.fault))
+    passed_on (Either (asks_events c.args.asked) (Or c.args.ifaces first (FaultsCut first))) failure c.from_residual.result c.from_residual.ensures.1 (inr (inr (memory_told_cut first failure.error c.in_err-audit.ensures.fault)))
 
 pub returns-in_err-audit-clause-written : goal.returns-in_err-audit-clause-written
 returns-in_err-audit-clause-written g c =
@@ -31,8 +31,8 @@ pub returns-in_err-take_lines-clause-fault : goal.returns-in_err-take_lines-clau
 returns-in_err-take_lines-clause-fault g c =
     let first = g.R.Read.remaining c.args.input.now in
     let failure = c.in_err-take_lines.field-0.0 in
-    passed_on (Either (asks_events c.args.asked) (FaultsCut first)) failure c.from_residual-in_err-take_lines.result c.from_residual-in_err-take_lines.ensures.1
-    (line_or_cut (asks_events c.args.asked) first failure (subst (λ (b : Bool). Either b (FaultsLine first) failure) c.in_ok-audit.ensures.asked c.in_err-take_lines.ensures.fault))
+    passed_on (Either (asks_events c.args.asked) (Or c.args.ifaces first (FaultsCut first))) failure c.from_residual-in_err-take_lines.result c.from_residual-in_err-take_lines.ensures.1
+    (line_or_cut (asks_events c.args.asked) c.args.ifaces first failure (subst (λ (b : Bool). Either b (Or c.args.ifaces first (FaultsLine first)) failure) c.in_ok-audit.ensures.asked c.in_err-take_lines.ensures.fault))
 
 pub returns-in_err-take_lines-clause-written : goal.returns-in_err-take_lines-clause-written
 returns-in_err-take_lines-clause-written g c =
@@ -48,11 +48,11 @@ returns-clause-legal g c =
     let torn = c.take_lines.new.torn.items in
     let audit = c.take_lines.new.audit in
     let taken = c.in_ok-take_lines.ensures.taken (wanted_of c.args.asked) c.in_ok-audit.ensures.written in
-    cut_written c.args.asked c.is_with_events-has_events.result first audit torn g.W.Write.contents c.args.output.now c.take_lines.new.output c.tell_cut.new.output c.finish_cut-found.result c.tell_cut.result c.is_with_events-has_events.ensures
+    cut_written c.args.asked c.args.ifaces c.is_with_events-has_events.result first audit torn g.W.Write.contents c.args.output.now c.take_lines.new.output c.tell_cut.new.output c.finish_cut-found.result c.tell_cut.result c.is_with_events-has_events.ensures
     (c.take_lines.ensures.asked ∙ c.in_ok-audit.ensures.asked) (ready (wanted_of c.args.asked) first audit torn g.W.Write.contents c.args.output.now c.take_lines.new.output taken) taken.unended
     (subst (λ (l : List ℕ). (text : List ℕ) → AreTaken text audit → EndsNoLine l → ReportsCut (text ++ l) c.finish_cut-found.result) c.deref.ensures.value c.finish_cut-found.ensures.told)
     (subst (λ (l : List ℕ). (w : Wanted) (text events : List ℕ) → HasWritten w text events audit → EndsNoLine l → IfOk c.finish_cut-found.result (EndsCutEvents w audit.events (text ++ l) events)) c.deref.ensures.value c.finish_cut-found.ensures.events)
-    c.tell_cut.ensures.legal
+    c.in_ok-take_lines.ensures.fits c.tell_cut.ensures.legal
 
 pub returns-clause-fault : goal.returns-clause-fault
 returns-clause-fault g c =
@@ -60,7 +60,7 @@ returns-clause-fault g c =
     let torn = c.take_lines.new.torn.items in
     let audit = c.take_lines.new.audit in
     let taken = c.in_ok-take_lines.ensures.taken (wanted_of c.args.asked) c.in_ok-audit.ensures.written in
-    or_text (asks_events c.args.asked) (FaultsCut first) c.tell_cut.result
+    or_text (asks_events c.args.asked) c.args.ifaces first (FaultsCut first) c.tell_cut.result
     (all_told_cut (wanted_of c.args.asked) first audit torn g.W.Write.contents c.args.output.now c.take_lines.new.output c.finish_cut-found.result c.tell_cut.result (ready (wanted_of c.args.asked) first audit torn g.W.Write.contents c.args.output.now c.take_lines.new.output taken) taken.unended
     (subst (λ (l : List ℕ). (text : List ℕ) → AreTaken text audit → EndsNoLine l → ReportsCut (text ++ l) c.finish_cut-found.result) c.deref.ensures.value c.finish_cut-found.ensures.told) c.tell_cut.ensures.fault)
 

@@ -1,0 +1,101 @@
+"""The lists of words/: all that is written from them is up to date, and they say what the programs' help says."""
+
+import glob
+import importlib.machinery
+import importlib.util
+import os
+import re
+import subprocess
+
+import pytest
+
+from serving import ROOT
+
+LOADER = importlib.machinery.SourceFileLoader("words", os.path.join(ROOT, "scripts", "words"))
+words = importlib.util.module_from_spec(importlib.util.spec_from_loader("words", LOADER))
+LOADER.exec_module(words)
+
+
+def options_in(page):
+    """The options of a help: the line of each, by its name and its value."""
+    found = re.findall(r"^ +(?:-h, )?(--[a-z-]+(?: \S+)?)  +(\S.*(?:\n {20,}\S.*)*)", page, re.M)
+    return {re.sub("[<>]", "", form): " ".join(line.split()) for form, line in found}
+
+
+def with_default(option):
+    """The line of an option, after which the parser shows the default where the line has none."""
+    default = option.field(3)
+    return option.help + (f" [default: {default}]" if default and "[default" not in option.help else "")
+
+
+def test_what_is_written():
+    """completions, manual pages, documents, help and package have what words/ has"""
+    assert words.changed() == []
+
+
+@pytest.mark.parametrize("command", ["bench", "serve", "audit"])
+def test_options_of_the_program(program, command):
+    """each in its help, with its value, its line and its default"""
+    page = subprocess.run([program, "help", command], capture_output=True, text=True, check=True).stdout
+    shown = options_in(page[page.index("Options:") : page.index("\n\n", page.index("Options:"))])
+    assert shown == {
+        "--help": "Print help",
+        **{option.form: with_default(option) for option in words.options_of(command)},
+    }
+
+
+NUMBERS = [(option, command) for option in words.OF_CANBUSD if option.range[2] for command in option.commands]
+# The options without which another is refused.
+NEEDED = {"dbitrate": ["--bitrate", "5000"], "flush": ["--record", "none"]}
+# What each command needs to end at once.
+REST = {"bench": ["can0"], "serve": ["--listen", "./none/socket", "can0"], "audit": ["--events", "none.rec"]}
+
+
+@pytest.mark.parametrize("option, command", NUMBERS, ids=[f"{command}-{option.name}" for option, command in NUMBERS])
+def test_ranges(program, option, command):
+    """the program takes the least and the most number, and refuses the next ones, with the range"""
+    least, most, _ = option.range
+    for number, is_taken in ((least - 1, False), (least, True), (most, True), (most + 1, False)):
+        if number >= 0:
+            line = [program, command, *NEEDED.get(option.name, []), f"--{option.name}", f"{number}", *REST[command]]
+            done = subprocess.run(line, stdin=subprocess.DEVNULL, capture_output=True, text=True, check=False)
+            assert (f"{least} to {most}" not in done.stderr) is is_taken, f"{number}: {done.stderr}"
+
+
+def test_limits():
+    """each is the number of its constant in crates/"""
+    for limit in words.LIMITS:
+        crate, constant = limit.field(2).split()
+        sources = "".join(words.read(path) for path in glob.glob(f"crates/{crate}/src/*.rt", root_dir=ROOT))
+        found = re.findall(rf"const {constant}: \w+ = ([0-9_]+);", sources)
+        assert [int(number) for number in found] == [int(limit.field(1))], limit.form
+
+
+# For each list the words of its crate, and those that are not in it: modes of socketcand, refusals that can't happen.
+OF_CRATES = {
+    "messages": ({word.name for word in words.MESSAGES}, "can_proto/src/verb.rt", r'word, b"(\w+)"'),
+    "refusals": ({word.form for word in words.REFUSALS}, "can_proto/src/answer.rt", r'Cause::\w+ => b"([a-z ]+)"'),
+    "outcomes": ({word.form for word in words.OUTCOMES}, "can_attempt/src/class.rt", r'Class::\w+ => b"(\w+)"'),
+    "verdicts": (
+        {one.replace("local ", "").replace(" NAMES", "") for one in words.verdicts()},
+        "can_fault/src/script_lines.rt",
+        r'(?:text|word) == "([a-z ]+)"',
+    ),
+}
+NOT_LISTED = {"bcmmode", "isotpmode", "controlmode"}
+NOT_LISTED |= {"bad capacity", "too many sockets", "no socket", "too many passes", "wrong station"}
+
+
+@pytest.mark.parametrize("name", OF_CRATES)
+def test_words_of_crates(name):
+    """each list has what the source that reads or writes these words has"""
+    listed, path, pattern = OF_CRATES[name]
+    assert listed == set(re.findall(pattern, words.read(f"crates/{path}"))) - NOT_LISTED
+
+
+def test_options_of_canbusd_run():
+    """each in its help"""
+    page = "\n".join(re.findall(r'^    "(.*)\\n"', words.read("canrun/command/main.c"), re.M))
+    shown = options_in(page.replace('" ADDRESS_DEFAULT "', "127.0.0.1:29536"))
+    # The option --virtual has a paragraph of its own.
+    assert shown == {option.form: option.help for option in words.OF_RUN if option.name != "virtual"}
