@@ -1,4 +1,4 @@
--- The calls of a session come to its turns.
+-- The calls of a session make its turns.
 use Rattle.std.proofs.Common.{◌≡◌, ℕ, Bool, false, List, [], ◌∷◌, ◌++◌, map, refl, sym, ap, subst, ◌∙◌, append_assoc}
 use Rattle.can_proto.specs.declared.message.Incoming.{Incoming}
 use Rattle.can_proto.specs.Messages.{messages_of, kept_of, given_from}

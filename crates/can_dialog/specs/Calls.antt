@@ -69,7 +69,7 @@ Reply CountsRules = ℕ
 Reply EndsRules = Unit {0}
 Reply (Down iface moment) = Result (Unit {0}) PortRefusal
 
--- how a port's refusal is reported to a client
+-- the report of a port's refusal to a client
 abbrev pub cause_of_port : PortRefusal → Cause
 cause_of_port (port.Bus why) = cause_of_refusal why
 cause_of_port port.TooManyPasses = cause.TooManyPasses
@@ -77,7 +77,7 @@ cause_of_port port.WrongStation = cause.WrongStation
 cause_of_port port.BadRule = cause.BadRule
 cause_of_port port.TooManyRules = cause.TooManyRules
 
--- how a rule of faults that a plan refuses is refused
+-- the refusal of a fault rule, by the plan's refusal
 abbrev pub port_of_rule : RuleRefusal → PortRefusal
 port_of_rule rule.BadRule = port.BadRule
 port_of_rule rule.UnknownInterface = port.Bus refusal.NoInterface
@@ -90,33 +90,33 @@ reply_to_rule (Ok done) = Ok done
 reply_to_rule (Err why) = Err (port_of_rule why)
 
 -- an event that is refused is a step with that refusal
-abbrev pub Refuses : {P : Type 0} → (P → (call : Call) → Reply call → P → Type 0) → P → Event → PortRefusal → P → Type 0
-Refuses step old (event.Open iface capacity) why new = step old (Open iface capacity) (Err why) new
-Refuses step old (event.Close socket) why new = step old (Close socket) (Err why) new
-Refuses step old (event.SetFilters socket filters) why new = step old (SetFilters socket filters) (Err why) new
-Refuses step old (event.SetOption socket option) why new = step old (SetOption socket option) (Err why) new
-Refuses step old (event.Send socket frame) why new = step old (Send socket frame) (Err why) new
-Refuses step old (event.Receive socket) why new = step old (Receive socket) (Err why) new
-Refuses step old (event.Attempt moment verdict) why new = step old (Attempt moment verdict) (Err why) new
-Refuses step old (event.Restart iface moment) why new = step old (Restart iface moment) (Err why) new
-Refuses step old (event.Down iface moment) why new = step old (Down iface moment) (Err why) new
+abbrev pub Denies : {P : Type 0} → (P → (call : Call) → Reply call → P → Type 0) → P → Event → PortRefusal → P → Type 0
+Denies step old (event.Open iface capacity) why new = step old (Open iface capacity) (Err why) new
+Denies step old (event.Close socket) why new = step old (Close socket) (Err why) new
+Denies step old (event.SetFilters socket filters) why new = step old (SetFilters socket filters) (Err why) new
+Denies step old (event.SetOption socket option) why new = step old (SetOption socket option) (Err why) new
+Denies step old (event.Send socket frame) why new = step old (Send socket frame) (Err why) new
+Denies step old (event.Receive socket) why new = step old (Receive socket) (Err why) new
+Denies step old (event.Attempt moment verdict) why new = step old (Attempt moment verdict) (Err why) new
+Denies step old (event.Restart iface moment) why new = step old (Restart iface moment) (Err why) new
+Denies step old (event.Down iface moment) why new = step old (Down iface moment) (Err why) new
 
 -- an event with its reply is a step with what the reply gives: a reply is of the event's kind, or the bus's refusal
-abbrev pub Gives : {P : Type 0} → (P → (call : Call) → Reply call → P → Type 0) → P → Event → EventReply → P → Type 0
-Gives step old e (reply.Refused why) new = Refuses step old e (port.Bus why) new
-Gives step old (event.Open iface capacity) (reply.Opened socket) new = step old (Open iface capacity) (Ok socket) new
-Gives step old (event.Close socket) (reply.Closed counts) new = step old (Close socket) (Ok counts) new
-Gives step old (event.SetFilters socket filters) reply.Done new = step old (SetFilters socket filters) (Ok tt) new
-Gives step old (event.SetOption socket option) reply.Done new = step old (SetOption socket option) (Ok tt) new
-Gives step old (event.Send socket frame) (reply.Sent number) new = step old (Send socket frame) (Ok number) new
-Gives step old (event.Receive socket) (reply.Received item) new = step old (Receive socket) (Ok item) new
-Gives step old (event.Attempt moment verdict) (reply.Attempted a) new = step old (Attempt moment verdict) (Ok a) new
-Gives step old (event.Restart iface moment) reply.Done new = step old (Restart iface moment) (Ok tt) new
-Gives step old (event.Down iface moment) reply.Done new = step old (Down iface moment) (Ok tt) new
-Gives step old e r new = ⊥
+abbrev pub Replies : {P : Type 0} → (P → (call : Call) → Reply call → P → Type 0) → P → Event → EventReply → P → Type 0
+Replies step old e (reply.Refused why) new = Denies step old e (port.Bus why) new
+Replies step old (event.Open iface capacity) (reply.Opened socket) new = step old (Open iface capacity) (Ok socket) new
+Replies step old (event.Close socket) (reply.Closed counts) new = step old (Close socket) (Ok counts) new
+Replies step old (event.SetFilters socket filters) reply.Done new = step old (SetFilters socket filters) (Ok tt) new
+Replies step old (event.SetOption socket option) reply.Done new = step old (SetOption socket option) (Ok tt) new
+Replies step old (event.Send socket frame) (reply.Sent number) new = step old (Send socket frame) (Ok number) new
+Replies step old (event.Receive socket) (reply.Received item) new = step old (Receive socket) (Ok item) new
+Replies step old (event.Attempt moment verdict) (reply.Attempted a) new = step old (Attempt moment verdict) (Ok a) new
+Replies step old (event.Restart iface moment) reply.Done new = step old (Restart iface moment) (Ok tt) new
+Replies step old (event.Down iface moment) reply.Done new = step old (Down iface moment) (Ok tt) new
+Replies step old e r new = ⊥
 
 -- a call by an event: it has a reply, or it is refused before the bus has the event
 abbrev pub Steps : {P : Type 0} → (P → (call : Call) → Reply call → P → Type 0) → P → Event
     → Result EventReply PortRefusal → P → Type 0
-Steps step old e (Ok r) new = Gives step old e r new
-Steps step old e (Err why) new = Refuses step old e why new
+Steps step old e (Ok r) new = Replies step old e r new
+Steps step old e (Err why) new = Denies step old e why new

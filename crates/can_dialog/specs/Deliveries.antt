@@ -1,7 +1,7 @@
 use Rattle.std.specs.Prelude.{◌≡◌, ◌<◌, ℕ, zero, suc, Bool, true, false, List, [], ◌++◌}
 use Rattle.can_event.specs.declared.received.Received.{Received}
 use Rattle.can_proto.specs.declared.answer.Answer.TheVariants as answer
-use Rattle.can_proto.specs.Spelling.{reply_text, item_text, item_text_from}
+use Rattle.can_proto.specs.Spelling.{answer_text, item_text, item_text_from}
 use Rattle.can_dialog.specs.declared.delivery.Delivery.{Delivery}
 use Rattle.can_dialog.specs.declared.delivery.Delivery.TheVariants.{Nothing, Item, ItemFrom, Refused}
 use Rattle.can_dialog.specs.declared.stage.Stage.{Stage}
@@ -9,14 +9,14 @@ use Rattle.can_dialog.specs.Calls.{Call, Reply}
 use Rattle.can_dialog.specs.Plans.{Plays}
 use Rattle.can_dialog.specs.Turns.{delivery, origin_of}
 
--- What receives give a client (own choice).
+-- The items that receives give to a client (own choice).
 
--- its text, where an item is in this room
+-- its text, if an item is in this room
 abbrev pub delivery_text : Delivery → Received → List ℕ
 delivery_text Nothing room = []
 delivery_text (Item errdata) room = item_text errdata room.item room.moment
 delivery_text (ItemFrom errdata same) room = item_text_from errdata (origin_of same room.number) room.item room.moment
-delivery_text (Refused why) room = reply_text (answer.Refused why)
+delivery_text (Refused why) room = answer_text (answer.Refused why)
 
 -- whether it is an item
 abbrev pub is_item : Delivery → Bool
@@ -24,10 +24,10 @@ is_item (Item errdata) = true
 is_item (ItemFrom errdata same) = true
 is_item _ = false
 
--- the port goes through a delivery, which gives this, where an item is in this room
-abbrev pub Receives :
+-- the port goes through a delivery, which gives this if an item is in this room
+abbrev pub ReceivesInto :
     {P : Type 0} → (P → (call : Call) → Reply call → P → Type 0) → Stage → P → P → Delivery → Received → Type 0
-Receives {P} step stage p q given room = Plays step (delivery stage) p q (delivery_text given room) (is_item given)
+ReceivesInto {P} step stage p q given room = Plays step (delivery stage) p q (delivery_text given room) (is_item given)
 
 -- this many items are given to a client, one after another
 abbrev pub AreGiven : {P : Type 0} → (P → (call : Call) → Reply call → P → Type 0) → ℕ → Stage → P → List ℕ → P → Type 0
@@ -38,10 +38,10 @@ AreGiven {P} step (suc n) stage p text q =
     × Plays step (delivery stage) mid q last true
     × (text ≡ before ++ last)
 
--- as many receives as these give an item; or fewer do, and the one after them gives none
-abbrev pub Gives :
+-- as many receives as these give an item; or fewer do, and the next one gives none
+abbrev pub GivesItems :
     {P : Type 0} → (P → (call : Call) → Reply call → P → Type 0) → ℕ → Stage → P → List ℕ → P → Bool → Type 0
-Gives {P} step most stage p text q true = AreGiven step most stage p text q
-Gives {P} step most stage p text q false =
+GivesItems {P} step most stage p text q true = AreGiven step most stage p text q
+GivesItems {P} step most stage p text q false =
     (n : ℕ) × (before : List ℕ) × (mid : P) × (last : List ℕ) × (n < most)
     × AreGiven step n stage p before mid × Plays step (delivery stage) mid q last false × (text ≡ before ++ last)

@@ -18,7 +18,7 @@ pub data Act (A : Type 0) : Type 0 where
   Deliver : Act A
   End : Act A
 
--- what was heard, in order
+-- the input that was read, in order
 abbrev pub heard_in : {A : Type 0} → List (Act A) → List A
 heard_in [] = []
 heard_in (Hear moment x ∷ acts) = x ∷ heard_in acts
@@ -29,7 +29,7 @@ abbrev pub first_text : Stage → List ℕ
 first_text Ended = []
 first_text _ = greeting
 
--- what a turn does and says; `forgot`: memory was refused for its command
+-- the work and the text of a turn; `forgot`: memory was refused for its command
 abbrev pub TurnDoes : {P : Type 0} → (P → (call : Call) → Reply call → P → Type 0) → Bool → Dialog → Act Incoming
     → P → P → List ℕ → Dialog → Type 0
 TurnDoes {P} step forgot d Greet p q text after = (q ≡ p) × (text ≡ first_text d.stage) × (after ≡ d)
@@ -49,7 +49,7 @@ Lives {P} step d (forgot ∷ forgotten) (act ∷ acts) p q text after =
     × (text ≡ first ++ others)
 Lives {P} step d _ _ p q text after = ⊥
 
--- what a call does and says whose text reaches the client, from the text kept before
+-- the work of a call and its text, which reaches the client, from the text kept before
 abbrev pub CallDoes : {P : Type 0} → (P → (call : Call) → Reply call → P → Type 0) → Dialog → List ℕ → Act (List ℕ)
     → P → P → List ℕ → Dialog → Type 0
 CallDoes {P} step d kept Greet p q text after = (q ≡ p) × (text ≡ first_text d.stage) × (after ≡ d)
@@ -65,7 +65,7 @@ abbrev pub UnlessOver : {P : Type 0} → (P → (call : Call) → Reply call →
 UnlessOver {P} step Ended d kept act p q text after = (q ≡ p) × (text ≡ []) × (after ≡ d)
 UnlessOver {P} step _ d kept act p q text after = CallDoes step d kept act p q text after
 
--- what is kept after a call
+-- the text kept after a call
 abbrev pub kept_after : List ℕ → Act (List ℕ) → List ℕ
 kept_after kept (Hear moment piece) = kept_of (kept ++ piece)
 kept_after kept _ = kept
@@ -80,7 +80,7 @@ IsCalled {P} step d kept (act ∷ acts) p q text after =
     × IsCalled step mid (kept_after kept act) acts port q others after
     × (text ≡ first ++ others)
 
--- the turns that calls come to, from the text kept before: a piece gives a turn for each item
+-- the turns of calls, from the text kept before: a piece gives a turn for each item
 abbrev pub turns_of : List ℕ → List (Act (List ℕ)) → List (Act Incoming)
 turns_of kept [] = []
 turns_of kept (Greet ∷ acts) = Greet ∷ turns_of kept acts

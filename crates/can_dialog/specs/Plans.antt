@@ -1,7 +1,7 @@
 use Rattle.std.specs.Prelude.{◌≡◌, ℕ, List}
 use Rattle.can_dialog.specs.Calls.{Call, Reply}
 
--- What a session does at a turn, as far as the port's replies decide it (own choice).
+-- The work of a session at a turn, as the port's replies decide it (own choice).
 
 -- it gives its client a text and has an outcome, or it calls the port and goes on by the reply
 pub data Plan (A : Type 0) : Type 0 where

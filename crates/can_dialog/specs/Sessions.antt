@@ -5,7 +5,7 @@ use Rattle.can_proto.specs.declared.answer.Answer.{Answer}
 use Rattle.can_proto.specs.declared.answer.Answer.TheVariants.{Refused}
 use Rattle.can_proto.specs.declared.answer.Cause.TheVariants.{NoMemory}
 use Rattle.can_proto.specs.declared.command.Command.{Command}
-use Rattle.can_proto.specs.Spelling.{reply_text, interfaces_text}
+use Rattle.can_proto.specs.Spelling.{answer_text, interfaces_text}
 use Rattle.can_proto.specs.Messages.{is_open_mark, messages_of, kept_of}
 use Rattle.can_dialog.specs.declared.stage.Stage.{Stage}
 use Rattle.can_dialog.specs.declared.stage.Stage.TheVariants.{NoBus, Raw, Ended}
@@ -15,11 +15,11 @@ use Rattle.can_dialog.specs.declared.stage.Dialog.{Dialog}
 use Rattle.can_dialog.specs.Calls.{Call, Reply}
 use Rattle.can_dialog.specs.Calls.Call.{Names}
 use Rattle.can_dialog.specs.Plans.{Plan, Plays}
-use Rattle.can_dialog.specs.Turns.{voiced, read_as, answering, turn, at_stage, sending, ending, delivery}
+use Rattle.can_dialog.specs.Turns.{voiced, read_as, answering, turn, at_stage, sending_frame, ending, delivery}
 
--- What a session says, over any port.
+-- The output of a session, over any port.
 
--- what is kept between calls: the text of a message begun, and how far the session is
+-- a session between calls: the text of a message begun, and its stage
 pub record SessionState : Type 0 where
   pub kept : List ℕ
   pub dialog : Dialog
@@ -62,13 +62,13 @@ CarriesOut {P} step moment d command p q text after =
 abbrev pub ReportsNames : {P : Type 0} → (P → (call : Call) → Reply call → P → Type 0) → P → List ℕ → Type 0
 ReportsNames {P} step p text =
     ((names : List (List ℕ)) × step p Names names p × (text ≡ interfaces_text names))
-    ⊎ (text ≡ reply_text (Refused NoMemory))
+    ⊎ (text ≡ answer_text (Refused NoMemory))
 
--- the session ends over the port, and says nothing
+-- the session ends over the port without a text
 abbrev pub Finishes : {P : Type 0} → (P → (call : Call) → Reply call → P → Type 0) → Dialog → P → P → Dialog → Type 0
 Finishes {P} step d p q after = Plays step (ending d.stage d) p q [] after
 
--- the turns of items, one after another, with the places where memory was refused for a command
+-- the turns of items, one after another, with the places if memory was refused for a command
 abbrev pub Turns : {P : Type 0} → (P → (call : Call) → Reply call → P → Type 0) → ℕ → Dialog → List Bool
     → List Incoming → P → P → List ℕ → Dialog → Type 0
 Turns {P} step moment d [] [] p q text after = (q ≡ p) × (text ≡ []) × (after ≡ d)
@@ -98,7 +98,7 @@ pub record Says {P W : Type 0} (step : P → (call : Call) → Reply call → P 
   pub turns : Turns step moment before forgotten items p q text after
   pub wrote : Wrote contents out text new
 
--- the items are carried out over the port, what is said does not reach the client, and the session ends
+-- the items are carried out over the port, the text does not reach the client, and the session ends
 pub record Cut {P : Type 0} (step : P → (call : Call) → Reply call → P → Type 0) (moment : ℕ) (before : Dialog)
     (items : List Incoming) (p q : P) (after : Dialog) : Type 0 where
   pub forgotten : List Bool
@@ -109,18 +109,18 @@ pub record Cut {P : Type 0} (step : P → (call : Call) → Reply call → P →
   pub turns : Turns step moment before forgotten items p port text mid
   pub ends : Finishes step mid port q after
 
--- a frame is sent over the port, and the writer takes what is said
-abbrev pub Sends : {P W : Type 0} → (P → (call : Call) → Reply call → P → Type 0) → (W → Option (List ℕ)) → Dialog
+-- a frame is sent over the port, and the writer takes the text
+abbrev pub SendsFrame : {P W : Type 0} → (P → (call : Call) → Reply call → P → Type 0) → (W → Option (List ℕ)) → Dialog
     → RawSocket → CanFrame → P → P → W → W → Dialog → Type 0
-Sends {P} {W} step contents before raw frame p q out new after =
-    (text : List ℕ) × Plays step (sending before raw frame) p q text after × Wrote contents out text new
+SendsFrame {P} {W} step contents before raw frame p q out new after =
+    (text : List ℕ) × Plays step (sending_frame before raw frame) p q text after × Wrote contents out text new
 
--- a frame is sent over the port, what is said does not reach the client, and the session ends
+-- a frame is sent over the port, the text does not reach the client, and the session ends
 abbrev pub SendCut : {P : Type 0} → (P → (call : Call) → Reply call → P → Type 0) → Dialog → RawSocket → CanFrame
     → P → P → Dialog → Type 0
 SendCut {P} step before raw frame p q after =
     (text : List ℕ) × (mid : Dialog) × (port : P) × (text ≢ [])
-    × Plays step (sending before raw frame) p port text mid × Finishes step mid port q after
+    × Plays step (sending_frame before raw frame) p port text mid × Finishes step mid port q after
 
 -- one delivery over the port, and the writer takes its text; `more`: it was an item
 pub record Delivers {P W : Type 0} (step : P → (call : Call) → Reply call → P → Type 0)
@@ -149,6 +149,6 @@ Feeds {P} step moment d before (piece ∷ pieces) p q text after =
     × Feeds step moment mid (kept_of (before ++ piece)) pieces port q others after
     × (text ≡ first ++ others)
 
--- how many messages a text begins
-abbrev pub begun : List ℕ → ℕ
-begun text = count_by is_open_mark text
+-- the number of messages that a text begins
+abbrev pub messages_begun : List ℕ → ℕ
+messages_begun text = count_by is_open_mark text

@@ -22,9 +22,9 @@ use Rattle.can_proto.specs.declared.answer.Origin.{Origin}
 use Rattle.can_proto.specs.declared.answer.Origin.TheVariants as origin
 use Rattle.can_proto.specs.declared.answer.Cause.TheVariants as cause
 use Rattle.can_proto.specs.Words.{words_of}
-use Rattle.can_proto.specs.Commands.{reading, takes_memory}
+use Rattle.can_proto.specs.Commands.{reading, keeps_on_heap}
 use Rattle.can_proto.specs.Causes.{cause_of_fault}
-use Rattle.can_proto.specs.Spelling.{reply_text, interfaces_text, item_text, item_text_from}
+use Rattle.can_proto.specs.Spelling.{answer_text, interfaces_text, item_text, item_text_from}
 use Rattle.can_dialog.specs.declared.port.PortRefusal.{PortRefusal}
 use Rattle.can_dialog.specs.declared.port.PortRefusal.TheVariants as port
 use Rattle.can_dialog.specs.declared.stage.Stage.{Stage}
@@ -38,8 +38,8 @@ use Rattle.can_dialog.specs.Calls.Call.{CountersOfIface, LoadAt, Inject, CountsR
 use Rattle.can_dialog.specs.Plans.{Plan}
 use Rattle.can_dialog.specs.Plans.Plan.{Tell, Ask}
 
--- The turns of a session: for each command the calls that it makes, what the client gets, and what the session knows
--- after it (the commands are those of socketcand's raw mode; filter and what follows it is own choice).
+-- The turns of a session: for each command its calls, the text for the client, and the session after it (the commands
+-- are those of socketcand's raw mode; filter and the ones after it are own choice).
 
 -- the mode that a stage has
 abbrev pub mode_of : Stage → Mode
@@ -51,11 +51,11 @@ mode_of Ended = mode.Ended
 -- the text of a reply, if there is one
 abbrev pub voiced : Option Answer → List ℕ
 voiced None = []
-voiced (Some a) = reply_text a
+voiced (Some a) = answer_text a
 
 -- a reply without a call
 abbrev pub tells : Answer → Dialog → Plan Dialog
-tells a d = Tell (reply_text a) d
+tells a d = Tell (answer_text a) d
 
 -- no reply
 abbrev pub silent : Dialog → Plan Dialog
@@ -86,23 +86,23 @@ entered d iface (Ok socket) =
     (at_stage (Raw (record { iface = iface; socket = socket; errdata = false; acks = false; origins = false })) d)
 entered d iface (Err why) = refused why d
 
--- after a frame was sent: its number is reported where the client asked for that, and a refusal in any case
+-- after a frame was sent: its number is reported if the client asked for that, and a refusal in any case
 abbrev pub sent : Dialog → RawSocket → Result ℕ PortRefusal → Plan Dialog
 sent d raw (Ok number) = if raw.acks then tells (answer.Sent number) d else silent d
 sent d raw (Err why) = refused why d
 
 -- a frame is sent
-abbrev pub sending : Dialog → RawSocket → CanFrame → Plan Dialog
-sending d raw frame = Ask (Send raw.socket frame) (sent d raw)
+abbrev pub sending_frame : Dialog → RawSocket → CanFrame → Plan Dialog
+sending_frame d raw frame = Ask (Send raw.socket frame) (sent d raw)
 
 -- the text of a call that was done and has nothing else to say
-abbrev pub told : Result (Unit {0}) PortRefusal → Answer
-told (Ok _) = answer.Done
-told (Err why) = answer.Refused (cause_of_port why)
+abbrev pub told_when_done : Result (Unit {0}) PortRefusal → Answer
+told_when_done (Ok _) = answer.Done
+told_when_done (Err why) = answer.Refused (cause_of_port why)
 
 -- after such a call
 abbrev pub done : Dialog → Result (Unit {0}) PortRefusal → Plan Dialog
-done d outcome = tells (told outcome) d
+done d outcome = tells (told_when_done outcome) d
 
 -- after the port was asked for an interface's counts, with those of the socket known
 abbrev pub counted : Dialog → SocketStats → Option IfaceStats → Plan Dialog
@@ -132,8 +132,8 @@ closed d (Ok c) = tells (answer.Closing c) (at_stage Ended d)
 closed d (Err why) = refused why d
 
 -- the client has the socket closed
-abbrev pub closing : Dialog → RawSocket → Plan Dialog
-closing d raw = Ask (Close raw.socket) (closed d)
+abbrev pub closing_socket : Dialog → RawSocket → Plan Dialog
+closing_socket d raw = Ask (Close raw.socket) (closed d)
 
 -- a rule of faults is given to the bus
 abbrev pub injecting : Dialog → List ℕ → Plan Dialog
@@ -176,7 +176,7 @@ doing_raw moment d raw command.Echo = tells answer.Echo d
 doing_raw moment d raw (command.Open name) = misplaced d
 doing_raw moment d raw command.Interfaces = misplaced d
 doing_raw moment d raw command.Rawmode = tells answer.Done d
-doing_raw moment d raw (command.Send frame) = sending d raw frame
+doing_raw moment d raw (command.Send frame) = sending_frame d raw frame
 doing_raw moment d raw (command.SetFilters filters) = Ask (SetFilters raw.socket filters) (done d)
 doing_raw moment d raw (command.SetOption option) = Ask (SetOption raw.socket option) (done d)
 doing_raw moment d raw (command.ErrData on) = tells answer.Done (at_stage (Raw (record raw { errdata = on })) d)
@@ -189,7 +189,7 @@ doing_raw moment d raw command.Restart = Ask (Restart raw.iface moment) (done d)
 doing_raw moment d raw (command.Fault rule) = injecting d rule
 doing_raw moment d raw command.Faults = counting_rules d
 doing_raw moment d raw command.NoFaults = ending_rules d
-doing_raw moment d raw command.Close = closing d raw
+doing_raw moment d raw command.Close = closing_socket d raw
 doing_raw moment d raw command.Down = Ask (Down raw.iface moment) (done d)
 
 -- a command, by the stage of the session
@@ -202,32 +202,32 @@ doing moment d Ended c = silent d
 -- memory may be refused for the command, which is kept on the heap, or for its reply
 abbrev pub may_lack_memory : Command → Bool
 may_lack_memory command.Interfaces = true
-may_lack_memory c = takes_memory c
+may_lack_memory c = keeps_on_heap c
 
--- what was read, where memory was refused for it: only such a command is lost by that
+-- the command, or a fault if memory was refused for it: only such a command is lost by that
 abbrev pub without_memory : Result Command ProtoFault → Result Command ProtoFault
 without_memory (Ok c) = if may_lack_memory c then Err fault.NoMemory else Ok c
 without_memory (Err e) = Err e
 
--- what a message is read as; `forgot`: memory was refused for it
+-- the command or the fault of a message; `forgot`: memory was refused for it
 abbrev pub read_as : Bool → Result Command ProtoFault → Result Command ProtoFault
 read_as false read = read
 read_as true read = without_memory read
 
--- what was read is done: names are asked for at each stage, all else is by the stage. A fault of a message is
+-- a command is carried out: names are asked for at each stage, all else depends on the stage. A fault of a message is
 -- reported, and nothing is done
 abbrev pub answering : ℕ → Dialog → Result Command ProtoFault → Plan Dialog
 answering moment d (Ok command.Interfaces) = naming d
 answering moment d (Ok c) = doing moment d d.stage c
 answering moment d (Err e) = tells (answer.Refused (cause_of_fault e)) d
 
--- what a client said
+-- the input of a client
 abbrev pub heard : Bool → ℕ → Dialog → Incoming → Plan Dialog
 heard forgot moment d TooLong = tells (answer.Refused cause.MessageTooLong) d
 heard forgot moment d (Message inside) =
     answering moment d (read_as forgot (reading (mode_of d.stage) (words_of inside)))
 
--- a session that is over does nothing and says nothing
+-- a session that is over does nothing and writes nothing
 abbrev pub unless_over : Stage → Plan Dialog → Dialog → Plan Dialog
 unless_over Ended plan d = silent d
 unless_over _ plan d = plan
@@ -250,7 +250,7 @@ abbrev pub origin_of : Bool → ℕ → Origin
 origin_of true number = origin.Same number
 origin_of false number = origin.Other number
 
--- the text of what was received, with its origin where the client asked for that
+-- the text of a received item, with its origin if the client asked for that
 abbrev pub received_text : RawSocket → Received → List ℕ
 received_text raw r =
     if raw.origins then item_text_from raw.errdata (origin_of (r.from == raw.iface) r.number) r.item r.moment
@@ -260,7 +260,7 @@ received_text raw r =
 abbrev pub delivered : RawSocket → Result (Option Received) PortRefusal → Plan Bool
 delivered raw (Ok (Some r)) = Tell (received_text raw r) true
 delivered raw (Ok None) = Tell [] false
-delivered raw (Err why) = Tell (reply_text (answer.Refused (cause_of_port why))) false
+delivered raw (Err why) = Tell (answer_text (answer.Refused (cause_of_port why))) false
 
 -- a delivery: one receive in raw mode, and no call elsewhere
 abbrev pub delivery : Stage → Plan Bool
@@ -269,4 +269,4 @@ delivery _ = Tell [] false
 
 -- the first text of a session
 abbrev pub greeting : List ℕ
-greeting = reply_text answer.Greeting
+greeting = answer_text answer.Greeting

@@ -1,7 +1,7 @@
 ghost use Rattle.std.specs.Prelude.{◌≡◌, Some};
 ghost use Rattle.can_dialog.specs.Calls.{cause_of_port};
 ghost use Rattle.can_dialog.specs.Sessions.{Replies};
-ghost use Rattle.can_dialog.specs.Turns.{told as told_of, sending, looking_up, closing, ending_rules, doing, doing_unopened, doing_opened, doing_raw};
+ghost use Rattle.can_dialog.specs.Turns.{told_when_done as told_of, sending_frame, looking_up, closing_socket, ending_rules, doing, doing_unopened, doing_opened, doing_raw};
 
 use crate::port::{Port, PortRefusal};
 use crate::stage::{Dialog, RawSocket, Stage};
@@ -84,9 +84,9 @@ fn do_opened<P: Port>(
     }
 }
 
-/// Sends a frame: its number is reported where the client asked for that, and a refusal in any case.
+/// Sends a frame. Its number is reported if the client asked for that, and a refusal in any case.
 pub fn send<P: Port>(dialog: Dialog, raw: RawSocket, frame: Frame, port: &mut P) -> Option<Answer>
-    ensures { Replies P.step (sending dialog raw frame) port.old port.new result dialog }
+    ensures { Replies P.step (sending_frame dialog raw frame) port.old port.new result dialog }
 {
     match port.send(raw.socket, frame) {
         Ok(number) if raw.acks => Some(Answer::Sent(number)),
@@ -110,7 +110,7 @@ fn look_up<P: Port>(dialog: Dialog, raw: RawSocket, port: &mut P) -> Option<Answ
 
 /// The socket is closed, and the session is over.
 fn close<P: Port>(dialog: &mut Dialog, raw: RawSocket, port: &mut P) -> Option<Answer>
-    ensures { Replies P.step (closing dialog.old raw) port.old port.new result dialog.new }
+    ensures { Replies P.step (closing_socket dialog.old raw) port.old port.new result dialog.new }
 {
     match port.close(raw.socket) {
         Ok(closed) => {

@@ -1,8 +1,8 @@
 ghost use Rattle.std.specs.Prelude.{◌≡◌, ◌≢◌, [], IsTrue, false};
-ghost use Rattle.can_proto.specs.Spelling.{reply_text};
+ghost use Rattle.can_proto.specs.Spelling.{answer_text};
 ghost use Rattle.can_proto.specs.declared.answer.Answer.TheVariants.{Refused};
 ghost use Rattle.can_dialog.specs.Sessions.{Wrote};
-ghost use Rattle.can_dialog.specs.Deliveries.{Receives, delivery_text, is_item};
+ghost use Rattle.can_dialog.specs.Deliveries.{ReceivesInto, delivery_text, is_item};
 ghost use Rattle.can_dialog.specs.Turns.{origin_of};
 ghost use Rattle.can_dialog.specs.declared.delivery.Delivery.TheVariants.{ItemFrom};
 
@@ -13,7 +13,7 @@ use can_event::Received;
 use can_proto::{Cause, ItemText, Origin, push_item, push_item_from, refusal_text};
 use std::io::Write;
 
-/// What one receive into a room gives a client.
+/// The result of one receive into a room, for a client.
 #[derive(Debug, Clone, Copy, PartialEq, Eq)]
 pub enum Delivery {
     /// Nothing.
@@ -27,7 +27,7 @@ pub enum Delivery {
 }
 
 impl Delivery {
-    /// Whether it is an item.
+    /// Returns whether it is an item.
     pub fn is_item(self) -> bool
         ensures { result ≡ is_item self }
     {
@@ -85,16 +85,17 @@ fn write_from<W: Write>(room: &Received, errdata: bool, is_same: bool, out: &mut
 /// Writes the text of a refusal. Returns whether the writer took it.
 #[inline(never)]
 fn write_refusal<W: Write>(cause: Cause, out: &mut W) -> bool
-    ensures wrote { IsTrue result → Wrote W.contents out.old (reply_text (Refused cause)) out.new }
-    ensures some { result ≡ false → reply_text (Refused cause) ≢ [] }
+    ensures wrote { IsTrue result → Wrote W.contents out.old (answer_text (Refused cause)) out.new }
+    ensures some { result ≡ false → answer_text (Refused cause) ≢ [] }
 {
     let text = refusal_text(cause);
     put(out, text.as_bytes())
 }
 
-/// One receive into the room in raw mode, no call elsewhere: what it gives the client.
+/// Makes one receive into the room in raw mode, and no call elsewhere. Returns the result for the
+/// client.
 pub fn take_delivery<P: Port>(stage: Stage, port: &mut P, room: &mut Received) -> Delivery
-    ensures { Receives P.step stage port.old port.new result room.new }
+    ensures { ReceivesInto P.step stage port.old port.new result room.new }
 {
     let Stage::Raw(raw) = stage else {
         return Delivery::Nothing;

@@ -5,7 +5,7 @@ ghost use Rattle.can_proto.specs.Spelling.{spaced};
 use can_frame::{Iface, Names};
 use std::alloc::AllocError;
 
-/// Adds a space and a name, for each of the names. `AllocError` where memory is refused.
+/// Adds a space and a name, for each of the names. `AllocError` if memory is refused.
 pub fn put_names(text: &mut Vec<u8>, names: &Names) -> Result<(), AllocError>
     ensures { OnOk result (text.new.items ≡ text.old.items ++ spaced names.now) }
 {

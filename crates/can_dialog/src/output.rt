@@ -1,7 +1,7 @@
 ghost use Rattle.std.specs.Prelude.{◌≡◌, ◌≢◌, ◌+◌, ◌*◌, ◌≤◌, ◌++◌, [], List, ℕ, length, vec_capacity, IsTrue, false, OnOk, OnErr, IfOk};
-ghost use Rattle.can_proto.specs.Spelling.{reply_text, interfaces_text};
+ghost use Rattle.can_proto.specs.Spelling.{answer_text, interfaces_text};
 ghost use Rattle.can_dialog.specs.Calls.Call.{Names};
-ghost use Rattle.can_dialog.specs.Sessions.{begun, ReportsNames, Wrote};
+ghost use Rattle.can_dialog.specs.Sessions.{messages_begun, ReportsNames, Wrote};
 
 use crate::port::Port;
 use can_frame::count_of;
@@ -16,7 +16,7 @@ const LONGEST: usize = 256;
 /// begins, and one begun before.
 pub fn make_room(said: &mut Vec<u8>, piece: &[u8]) -> Result<(), AllocError>
     ensures empty { said.new.items ≡ [] }
-    ensures room { OnOk result ((begun piece.now + 1) * 256 ≤ vec_capacity said.new) }
+    ensures room { OnOk result ((messages_begun piece.now + 1) * 256 ≤ vec_capacity said.new) }
 {
     said.clear();
     let room = count_of(piece, b'<')
@@ -28,7 +28,7 @@ pub fn make_room(said: &mut Vec<u8>, piece: &[u8]) -> Result<(), AllocError>
 /// Adds the text of a reply if there is room for it.
 pub fn say(said: &mut Vec<u8>, answer: Answer)
     requires { length said.old.items + 256 ≤ vec_capacity said.old }
-    ensures text { said.new.items ≡ said.old.items ++ reply_text answer }
+    ensures text { said.new.items ≡ said.old.items ++ answer_text answer }
     ensures len { length said.new.items ≤ length said.old.items + 256 }
     ensures room { vec_capacity said.old ≤ vec_capacity said.new }
 {
@@ -39,8 +39,8 @@ pub fn say(said: &mut Vec<u8>, answer: Answer)
     }
 }
 
-/// Adds the names of a port's interfaces, and leaves room for this many replies after them. Where memory is refused for that,
-/// this is said.
+/// Adds the names of a port's interfaces, and leaves room for this many replies after them. If
+/// memory is refused for that, this is said.
 pub fn say_names<P: Port>(said: &mut Vec<u8>, alloc: Global, port: &P, left: usize)
     requires { length said.old.items + (left + 1) * 256 ≤ vec_capacity said.old }
     ensures names { (text : List ℕ) × ReportsNames P.step port.now text

@@ -16,13 +16,13 @@ pub enum PortRefusal {
     /// The port's bus refuses, or memory was refused.
     #[error("{0}")]
     Bus(Refusal),
-    /// As many passes were entered as a station has.
+    /// All passes of the station have entered.
     #[error("too many passes")]
     TooManyPasses,
     /// The pass is another station's.
     #[error("wrong station")]
     WrongStation,
-    /// The text is no rule of faults.
+    /// The text is not a fault rule.
     #[error("bad rule")]
     BadRule,
     /// The bus has 64 rules of faults.
@@ -31,7 +31,7 @@ pub enum PortRefusal {
 }
 
 impl PortRefusal {
-    /// What a client reads.
+    /// Returns the text that a client reads.
     pub fn cause(self) -> Cause
         ensures { result ≡ cause_of_port self }
     {
@@ -71,7 +71,7 @@ pub fn rule_reply(outcome: Result<(), RuleRefusal>) -> Result<(), PortRefusal>
     }
 }
 
-/// What a session calls: a bus, or a way to one.
+/// The interface of a session to a bus, or to a way to one.
 ///
 /// A port states by `step` how its state before a call, the call, its reply and the state after it belong
 /// together; each call is one such step. A port may take memory. An implementation writes `call`, `put_names`, `attach`,
@@ -87,13 +87,13 @@ pub trait Port {
     /// The state before, a call, its reply and the state after.
     ghost step: { Self → (call : Call) → Reply call → Self → Type 0 };
 
-    /// Makes an event, and returns the bus's reply, which is of the event's kind or a refusal. `Err` where the event did
-    /// not come to the bus.
+    /// Makes an event, and returns the bus's reply, which is of the event's kind or a refusal.
+    /// `Err` if the event did not reach the bus.
     fn call(&mut self, event: Event) -> Result<Reply, PortRefusal>
         ensures { Steps step self.old event result self.new };
 
-    /// Adds a space and the name of each interface that may be attached, in order. `AllocError` where memory is refused;
-    /// then some of them may have been added.
+    /// Adds a space and the name of each interface that may be attached, in order. `AllocError` if
+    /// memory is refused; then some of them may have been added.
     fn put_names(&self, text: &mut Vec<u8>) -> Result<(), AllocError>
         ensures { OnOk result ((names : List (List ℕ)) × step self.now Names names self.now
             × (text.new.items ≡ text.old.items ++ spaced names)) };
@@ -102,7 +102,7 @@ pub trait Port {
     fn attach(&mut self, name: &[u8]) -> Result<Iface, PortRefusal>
         ensures { step self.old (Attach name.now) result self.new };
 
-    /// Opens a socket on an interface, where `capacity` items may wait.
+    /// Opens a socket on an interface; up to `capacity` items may wait there.
     fn open(&mut self, iface: Iface, capacity: u32) -> Result<SocketId, PortRefusal>
         ensures { step self.old (Open iface capacity) result self.new }
     {
@@ -187,30 +187,31 @@ pub trait Port {
             .map_err(PortRefusal::Bus)
     }
 
-    /// What became of the items offered to an open socket.
+    /// The outcome of the items offered to an open socket.
     fn socket_stats(&mut self, socket: SocketId) -> Option<SocketStats>
         ensures { step self.old (CountsOfSocket socket) result self.new };
 
-    /// What became of the frames of an interface.
+    /// The outcome of the frames of an interface.
     fn iface_stats(&mut self, iface: Iface) -> Option<IfaceStats>
         ensures { step self.old (CountsOfIface iface) result self.new };
 
-    /// The error counters of an interface, as far as the port knows them: 0/0 where it knows of none.
+    /// The error counters of an interface, as far as the port knows them: 0/0 if it knows none.
     fn status(&mut self, iface: Iface) -> Counters
         ensures { step self.old (CountersOfIface iface) result self.new };
 
-    /// How busy the bus was at a moment, and its bit rates, as far as the port knows. What it returns is for the port to
-    /// say.
+    /// Returns the load of the bus at a moment, and its bit rates, as far as the port knows them.
+    /// The values are left to the port.
     fn load(&mut self, moment: Moment) -> BusLoad
         ensures { step self.old (LoadAt moment) result self.new };
 
     /// Gives the bus a rule of faults, after those that it has.
     ///
-    /// Refusals: `BadRule`, `NoInterface` where the rule names one that the bus does not have, `TooManyRules`, `NoMemory`.
+    /// Refusals: `BadRule`, `NoInterface` if the rule names one that the bus does not have,
+    /// `TooManyRules`, `NoMemory`.
     fn inject(&mut self, rule: &[u8]) -> Result<(), PortRefusal>
         ensures { step self.old (Inject rule.now) result self.new };
 
-    /// How many rules of faults the bus has, without those that are used up.
+    /// Returns how many rules of faults the bus has, without those that are used up.
     fn rules(&mut self) -> u64
         ensures { step self.old CountsRules result self.new };
 

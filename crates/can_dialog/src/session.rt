@@ -1,8 +1,8 @@
 ghost use Rattle.std.specs.Prelude.{◌≡◌, ◌≢◌, ◌⊎◌, ◌+◌, ◌*◌, ◌≤◌, ◌++◌, ◌↔◌, [], length, vec_capacity, IfOk, OnOk, OnErr};
 ghost use Rattle.can_proto.specs.Messages.{messages_of, kept_of};
 ghost use Rattle.can_dialog.specs.Turns.{greeting};
-ghost use Rattle.can_dialog.specs.Sessions.{IsSessionOver, beginning, ended_session, IsNotRaw, TakesTurns, Finishes, Says, Cut, Wrote, Sends, SendCut, Delivers, DeliveryCut};
-ghost use Rattle.can_dialog.specs.Deliveries.{Receives};
+ghost use Rattle.can_dialog.specs.Sessions.{IsSessionOver, beginning, ended_session, IsNotRaw, TakesTurns, Finishes, Says, Cut, Wrote, SendsFrame, SendCut, Delivers, DeliveryCut};
+ghost use Rattle.can_dialog.specs.Deliveries.{ReceivesInto};
 
 use crate::commands::send;
 use crate::delivery::{Delivery, take_delivery};
@@ -34,8 +34,8 @@ pub enum SessionFault {
 
 /// A session over any port: it reads a client's stream in pieces, and writes the texts for the client.
 ///
-/// Between calls it keeps the text of a message begun, the capacity of its socket and its stage. Each text
-/// that a call writes goes to the writer in one `write_all`.
+/// Between calls it keeps the text of a message begun, the capacity of its socket and its stage.
+/// Each text of a call goes to the writer in one `write_all`.
 #[derive(Drop)]
 pub struct Session {
     reader: Reader,
@@ -46,13 +46,13 @@ pub struct Session {
 
 impl Model for Session {
     ghost use Rattle.std.specs.Prelude.{◌≤◌};
-    ghost use Rattle.can_dialog.specs.Sessions.{SessionState, begun};
+    ghost use Rattle.can_dialog.specs.Sessions.{SessionState, messages_begun};
 
     ghost Value = { SessionState };
 
     ghost view = { λ s. record { kept = s.reader; dialog = s.dialog } };
 
-    ghost invariant = { λ s. begun s.reader ≤ 1 };
+    ghost invariant = { λ s. messages_begun s.reader ≤ 1 };
 }
 
 /// The turns of items in order: their texts are added to `said`, if there is room for them.
@@ -77,8 +77,8 @@ fn take_turns<P: Port>(
 }
 
 impl Session {
-    /// A session that has just begun, whose socket is to hold `capacity` items. It takes the room for its
-    /// reader.
+    /// A session that has just begun, whose socket is to hold `capacity` items. It takes the memory
+    /// for its reader.
     pub fn new(alloc: Global, capacity: u32) -> Result<Session, AllocError>
         ensures { IfOk result (λ s. s ≡ beginning capacity) }
     {
@@ -93,15 +93,15 @@ impl Session {
         })
     }
 
-    /// How far the session has come.
+    /// The stage of the session.
     pub fn stage(&self) -> Stage
         ensures { result ≡ self.now.dialog.stage }
     {
         self.dialog.stage
     }
 
-    /// Writes the first text of a session. Not to be called in raw mode, where a frame may have been
-    /// written before.
+    /// Writes the first text of a session. It must not be called in raw mode, because a frame may
+    /// have been written before.
     ///
     /// Refusals: `Ended`, `Write`.
     pub fn greet<W: Write>(&mut self, out: &mut W) -> Result<(), SessionFault>
@@ -125,16 +125,16 @@ impl Session {
         Ok(())
     }
 
-    /// Takes the next piece of the client's stream: carries out the messages that it ends, in order, and
-    /// writes the texts of all of them in one `write_all`, or nothing where there is no text.
-    /// An interface is restarted, or goes down, at `moment`.
+    /// Takes the next piece of the client's stream. It carries out the messages that the piece
+    /// ends, in order, and writes the texts of all of them in one `write_all`, or nothing if there
+    /// is no text. An interface is restarted, or goes down, at `moment`.
     ///
-    /// Refusals, in this order: `Ended`; `NoMemory`, before anything of the piece was taken; `Write`, after
-    /// the messages of the piece were carried out. Where memory is refused while a command is read or by the
-    /// port, this is reported to the client and the piece goes on.
+    /// Refusals, in this order: `Ended`; `NoMemory`, before anything of the piece was taken;
+    /// `Write`, after the messages of the piece were carried out. If memory is refused while a
+    /// command is read or by the port, this is reported to the client and the piece goes on.
     ///
-    /// The time grows with the piece. It takes 256 bytes for each `<` of the piece and 256 more, what the names take that
-    /// `interfaces` asks for, and keeps this room for the next call.
+    /// The time grows with the piece. It takes 256 bytes for each `<` of the piece, 256 more, and
+    /// the memory for the names that `interfaces` asks for. It keeps this memory for the next call.
     pub fn feed<P: Port, W: Write>(
         &mut self,
         alloc: Global,
@@ -190,7 +190,7 @@ impl Session {
         port: &mut P,
         out: &mut W,
     ) -> Result<(), SessionFault>
-        ensures said { OnOk result (Sends P.step W.contents self.old.dialog raw frame
+        ensures said { OnOk result (SendsFrame P.step W.contents self.old.dialog raw frame
             port.old port.new out.old out.new self.new.dialog) }
         ensures keeps { OnOk result (self.new.kept ≡ self.old.kept) }
         ensures faults { OnErr result (result ≡ Err SessionFault.Write) }
@@ -208,11 +208,11 @@ impl Session {
         Ok(())
     }
 
-    /// Takes one item from the socket and writes its text: whether there was one. Outside raw mode there is
-    /// none, and no call is made. A refusal of the port is reported to the client, and is no item. No memory is
-    /// taken but what the port and the writer take.
+    /// Takes one item from the socket and writes its text. Returns whether there was one. Outside
+    /// raw mode there is none, and no call is made. A refusal of the port is reported to the
+    /// client, and is no item. No memory is taken except by the port and the writer.
     ///
-    /// Refusals: `Ended`; `Write`, where the item is lost.
+    /// Refusals: `Ended`; `Write`, if the item is lost.
     pub fn deliver<P: Port, W: Write>(
         &mut self,
         port: &mut P,
@@ -240,15 +240,16 @@ impl Session {
         Ok(delivery.is_item())
     }
 
-    /// Makes the receive of `deliver` into the room, and writes nothing: what it gives the client, whose text is to be
-    /// written before the session does anything else. In no other stage than raw mode there is a call.
+    /// Makes the receive of `deliver` into the room, and returns the result for the client without
+    /// writing it. Its text is to be written before the session does anything else. Only raw mode
+    /// makes a call.
     pub fn take<P: Port>(&self, port: &mut P, room: &mut Received) -> Delivery
-        ensures { Receives P.step self.now.dialog.stage port.old port.new result room.new }
+        ensures { ReceivesInto P.step self.now.dialog.stage port.old port.new result room.new }
     {
         take_delivery(self.dialog.stage, port, room)
     }
 
-    /// Ends the session: a raw socket is closed, and where the port refuses that, the session is over all
+    /// Ends the session. A raw socket is closed; if the port refuses that, the session is over all
     /// the same. Refusal: `Ended`.
     pub fn end<P: Port>(&mut self, port: &mut P) -> Result<(), SessionFault>
         ensures done { OnOk result

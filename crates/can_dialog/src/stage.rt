@@ -16,7 +16,7 @@ pub struct RawSocket {
     pub origins: bool,
 }
 
-/// How far a session has come, with what it has there.
+/// The stage of a session, with its values.
 #[derive(Debug, Clone, Copy, PartialEq, Eq)]
 pub enum Stage {
     /// No interface is opened.
@@ -43,7 +43,8 @@ impl Stage {
     }
 }
 
-/// What a session knows between its turns: the capacity of the socket that it is to open, and its stage.
+/// The state of a session between its turns: the capacity of the socket that it is to open, and its
+/// stage.
 #[derive(Debug, Clone, Copy, PartialEq, Eq)]
 pub struct Dialog {
     pub capacity: u32,

@@ -1,5 +1,5 @@
--- What goes from one thread to another, and what threads share: the history of a long run is an enum in itself, of which the
--- rules of the language say nothing.
+-- Values that go from one thread to another, and values that threads share. The history of a long run is an enum, and
+-- the rules of the language do not cover it.
 use denote.RattleType.{RattleType}
 use denote.Ref.{NamedLft}
 use denote.Hole.{as_row}
@@ -56,11 +56,11 @@ shared κ R one r = as_row_sync (shr_ref_field κ R one) (shr_sync κ.mir κ.lft
 pub lent : (κ : NamedLft) (R : RattleType) (one : One R.mir) → IsSync R → IsSend (as_row (shr_ref_field κ R one))
 lent κ R one r = as_row_send (shr_ref_field κ R one) (shr_send κ.mir κ.lft R r)
 
--- what contracts know of a history
+-- a history, as contracts see it
 pub history_send : IsSend history.the_row
 history_send = search sendable depth 20
 
--- the bus of a long run, where its queues and its arbiter may
+-- the bus of a long run, if its queues and its arbiter may cross
 pub long_send : (T T' T'' : RattleType) (g : queue.Ghosts T.Denot Pending) (g' : queue.Ghosts T'.Denot Received) (g'' : arbiter.Ghosts T''.Denot)
     → IsSend T → IsSend T' → IsSend T'' → IsSend (long.the_row T T' T'' g g' g'')
 long_send T T' T'' g g' g'' s s' s'' =

@@ -12,7 +12,7 @@ use Rattle.can_record.specs.Outcomes.{done_reply}
 use Rattle.can_event.specs.declared.reply.Reply.TheVariants as reply
 use Rattle.std.specs.Prelude.{slice_get, IfOk}
 use Rattle.can_dialog.specs.declared.port.PortRefusal.{PortRefusal}
-use Rattle.can_dialog.specs.Calls.{Gives, Refuses, Steps}
+use Rattle.can_dialog.specs.Calls.{Replies, Denies, Steps}
 use Rattle.can_event.specs.declared.stats.SocketStats.{SocketStats}
 use Rattle.can_event.specs.declared.stats.IfaceStats.{IfaceStats}
 use Rattle.can_station.specs.Held.{StationSeen}
@@ -23,7 +23,7 @@ use Rattle.can_station.specs.declared.refusals.StationRefusal.TheVariants as sta
 use Rattle.can_proto.specs.declared.answer.BusLoad.{BusLoad}
 use Rattle.can_wire.specs.Times.{rates_of}
 use Rattle.can_hub.specs.Buses.{BusSeen, IsFirstNamed, config_on, items_on, names_on, rates_on}
-use Rattle.can_hub.specs.PassSteps.{EnteredSeen, PortSeen, PassStep, CountsSocket, CountsIface, entered_with, passed_on, refused_as, room_in, with_room, is_shared, OnPort, SomeNamed, SomeNamedFull, Attaches, GaugeReports, ReportsCounters, ReportsRates, InjectsNamed, Injects, RulesLeft}
+use Rattle.can_hub.specs.PassSteps.{EnteredSeen, PortSeen, PassStep, CountsSocket, CountsIface, entered_with, reply_of_station, refused_as, socket_room_in, with_socket_room, is_shared, OnPort, SomeNamed, SomeNamedFull, Attaches, GaugeReports, ReportsCounters, ReportsRates, InjectsNamed, Injects, RulesLeft}
 
 -- the calls of a port over the station that was entered
 abbrev over : List BusSeen → EnteredSeen → PortSeen
@@ -31,14 +31,14 @@ over buses e = record { buses = buses; entered = Some e }
 
 module _ (F : Type 0) (buses : List BusSeen) (now : EnteredSeen) (pass : PassSeen) where
   on : {A : Type 0} (told : A → Reply) (e : Event) (outcome : Result A StationRefusal) → Called told now.station.number now.pass e outcome pass
-      → OnPort told (over buses now) e (passed_on outcome) (over buses (record now { pass = pass }))
+      → OnPort told (over buses now) e (reply_of_station outcome) (over buses (record now { pass = pass }))
   on told e outcome called = ((outcome, pass, refl, called, refl), refl)
 
   -- the event as the pass makes it
   abbrev made : Event → Event
-  made e = with_room e (room_in buses (Some now))
+  made e = with_socket_room e (socket_room_in buses (Some now))
 
-  gives : (e : Event) (r : Reply) → Called same now.station.number now.pass (made e) (Ok r) pass → Suits (made e) r → Gives (PassStep F) (over buses now) e r (over buses (record now { pass = pass }))
+  gives : (e : Event) (r : Reply) → Called same now.station.number now.pass (made e) (Ok r) pass → Suits (made e) r → Replies (PassStep F) (over buses now) e r (over buses (record now { pass = pass }))
   gives (event.Open iface asked) (reply.Opened socket) called fits = on (λ x. reply.Opened x) _ (Ok socket) called
   gives (event.Close socket) (reply.Closed counts) called fits = on (λ x. reply.Closed x) _ (Ok counts) called
   gives (event.SetFilters socket filters) reply.Done called fits = on done_reply _ (Ok tt) called
@@ -58,7 +58,7 @@ module _ (F : Type 0) (buses : List BusSeen) (now : EnteredSeen) (pass : PassSee
 
   -- a receive into a room
   taken : (room : Received) (socket : SocketId) (outcome : Result Bool StationRefusal) → Called (taken_reply room) now.station.number now.pass (event.Receive socket) outcome pass
-      → PassStep F (over buses now) (Receive socket) (received_into room (passed_on outcome)) (over buses (record now { pass = pass }))
+      → PassStep F (over buses now) (Receive socket) (received_into room (reply_of_station outcome)) (over buses (record now { pass = pass }))
   taken room socket (Ok is_item) called = on (λ x. reply.Received x) _ (Ok (taken_item room is_item)) called
   taken room socket (Err (station.Bus why)) called = on (λ x. reply.Received x) _ (Err (station.Bus why)) called
   taken room socket (Err station.WrongStation) called = on (λ x. reply.Received x) _ (Err station.WrongStation) called
@@ -68,7 +68,7 @@ module _ (F : Type 0) (buses : List BusSeen) (now : EnteredSeen) (pass : PassSee
   refused told e (station.Bus why) called = on told e (Err (station.Bus why)) called
   refused told e station.WrongStation called = on told e (Err station.WrongStation) called
 
-  refuses : (e : Event) (why : StationRefusal) → Called same now.station.number now.pass (made e) (Err why) pass → Refuses (PassStep F) (over buses now) e (refused_as why) (over buses (record now { pass = pass }))
+  refuses : (e : Event) (why : StationRefusal) → Called same now.station.number now.pass (made e) (Err why) pass → Denies (PassStep F) (over buses now) e (refused_as why) (over buses (record now { pass = pass }))
   refuses (event.Open iface asked) why called = refused (λ x. reply.Opened x) _ why called
   refuses (event.Close socket) why called = refused (λ x. reply.Closed x) _ why called
   refuses (event.Send socket frame) why called = refused (λ x. reply.Sent x) _ why called
@@ -77,25 +77,25 @@ module _ (F : Type 0) (buses : List BusSeen) (now : EnteredSeen) (pass : PassSee
   refuses e why called = refused done_reply _ why called
 
   steps : (e : Event) (outcome : Result Reply StationRefusal) → Called same now.station.number now.pass (made e) outcome pass → IfOk outcome (λ r. Suits (made e) r)
-      → Steps (PassStep F) (over buses now) e (passed_on outcome) (over buses (record now { pass = pass }))
+      → Steps (PassStep F) (over buses now) e (reply_of_station outcome) (over buses (record now { pass = pass }))
   steps e (Ok r) called fits = gives e r called fits
   steps e (Err why) called fits = refuses e why called
 
 -- a call of the station that was entered is one of the port
 pub on_pass : (F : Type 0) (old : PortSeen) (buses : List BusSeen) (inside : Option EnteredSeen) (now : EnteredSeen) (pass : PassSeen) (e : Event) (room : ℕ) (outcome : Result Reply StationRefusal) (answer : Result Reply PortRefusal)
-    → ◌≡◌ {A = PortSeen} (record { buses = buses; entered = inside }) old → inside ≡ Some now → room ≡ items_on (slice_get buses now.station.number) → answer ≡ passed_on outcome
-    → Called same now.station.number now.pass (with_room e room) outcome pass → IfOk outcome (λ r. Suits (with_room e room) r)
+    → ◌≡◌ {A = PortSeen} (record { buses = buses; entered = inside }) old → inside ≡ Some now → room ≡ items_on (slice_get buses now.station.number) → answer ≡ reply_of_station outcome
+    → Called same now.station.number now.pass (with_socket_room e room) outcome pass → IfOk outcome (λ r. Suits (with_socket_room e room) r)
     → Steps (PassStep F) old e answer (over buses (record now { pass = pass }))
 on_pass F old buses inside now pass e room outcome answer seen is has told called fits =
     let after : PortSeen = over buses (record now { pass = pass }) in
-    let stepped : Steps (PassStep F) (over buses now) e (passed_on outcome) after =
-    steps F buses now pass e outcome (subst (λ (n : ℕ). Called same now.station.number now.pass (with_room e n) outcome pass) has called) (subst (λ (n : ℕ). IfOk outcome (λ r. Suits (with_room e n) r)) has fits) in
+    let stepped : Steps (PassStep F) (over buses now) e (reply_of_station outcome) after =
+    steps F buses now pass e outcome (subst (λ (n : ℕ). Called same now.station.number now.pass (with_socket_room e n) outcome pass) has called) (subst (λ (n : ℕ). IfOk outcome (λ r. Suits (with_socket_room e n) r)) has fits) in
     subst (λ (o : PortSeen). Steps (PassStep F) o e answer after) (ap (λ (i : Option EnteredSeen). record { buses = buses; entered = i }) (sym is) ∙ seen)
     (subst (λ (a : Result Reply PortRefusal). Steps (PassStep F) (over buses now) e a after) (sym told) stepped)
 
 -- a receive of the station that was entered, into a room, is one of the port
 pub received : (F : Type 0) (old : PortSeen) (buses : List BusSeen) (inside : Option EnteredSeen) (now : EnteredSeen) (pass : PassSeen) (socket : SocketId) (room : Received) (outcome : Result Bool StationRefusal) (answer : Result Bool PortRefusal)
-    → ◌≡◌ {A = PortSeen} (record { buses = buses; entered = inside }) old → inside ≡ Some now → answer ≡ passed_on outcome
+    → ◌≡◌ {A = PortSeen} (record { buses = buses; entered = inside }) old → inside ≡ Some now → answer ≡ reply_of_station outcome
     → Called (taken_reply room) now.station.number now.pass (event.Receive socket) outcome pass
     → PassStep F old (Receive socket) (received_into room answer) (over buses (record now { pass = pass }))
 received F old buses inside now pass socket room outcome answer seen is told called =
@@ -104,11 +104,11 @@ received F old buses inside now pass socket room outcome answer seen is told cal
     (subst (λ (a : Result Bool PortRefusal). PassStep F (over buses now) (Receive socket) (received_into room a) after) (sym told) (taken F buses now pass room socket outcome called))
 
 -- a socket's room has no part in a send or a receive
-pub shared : (e : Event) (room : ℕ) → true ≡ is_shared e → with_room e room ≡ e
+pub shared : (e : Event) (room : ℕ) → true ≡ is_shared e → with_socket_room e room ≡ e
 shared (event.Open iface asked) room is = absurd (cc (is))
 shared e room is = refl
 
--- what its gauge returns is returned by the port
+-- the port returns what its gauge returns
 pub on_gauge : (old : PortSeen) (buses : List BusSeen) (inside : Option EnteredSeen) (now : EnteredSeen) (gauge : Readings) (iface : ℕ) (answer : ErrorCounts)
     → ◌≡◌ {A = PortSeen} (record { buses = buses; entered = inside }) old → inside ≡ Some now → GaugeReports now.gauge iface answer gauge
     → ReportsCounters old.entered iface answer (Some (record now { gauge = gauge })) × (buses ≡ old.buses)
@@ -156,7 +156,7 @@ pub rates_told : (old : PortSeen) (buses : List BusSeen) (inside : Option Entere
 rates_told old buses inside now load seen is rates =
     subst (λ (o : PortSeen). ReportsRates o.buses o.entered load) (ap (λ (i : Option EnteredSeen). record { buses = buses; entered = i }) (sym is) ∙ seen) rates
 
--- how many rules the station that was entered has is how many the port has
+-- the port counts as many rules as the station that was entered
 pub rules_left : (F : Type 0) (old : PortSeen) (buses : List BusSeen) (inside : Option EnteredSeen) (now : EnteredSeen) (count : ℕ)
     → ◌≡◌ {A = PortSeen} (record { buses = buses; entered = inside }) old → inside ≡ Some now → InSome F now.station (λ held. count ≡ length held.plan.rules) → RulesLeft F old.entered count
 rules_left F old buses inside now count seen is left =

@@ -27,7 +27,7 @@ index_default [] k d e lt = absurd (omega (arith, lt))
 index_default (x ∷ xs) zero d e lt = refl
 index_default (x ∷ xs) (suc k) d e lt = index_default xs k d e (omega (arith, lt))
 
--- what a bus's names say of a name, whatever replaces a missing bus
+-- whether a bus has a name, whatever replaces a missing bus
 pub named_at : (buses : List BusSeen) (k : ℕ) (d e : BusSeen) (name : List ℕ) → k < length buses → place_of (slice_index_or buses k d).names name ≡ place_of (slice_index_or buses k e).names name
 named_at buses k d e name lt = ap (λ (b : BusSeen). place_of b.names name) (index_default buses k d e lt)
 
@@ -35,11 +35,11 @@ named_at buses k d e name lt = ap (λ (b : BusSeen). place_of b.names name) (ind
 pub timing_at : (buses : List BusSeen) (k : ℕ) (d e : BusSeen) → k < length buses → (slice_index_or buses k d).timing ≡ (slice_index_or buses k e).timing
 timing_at buses k d e lt = ap (λ (b : BusSeen). b.timing) (index_default buses k d e lt)
 
--- how long a bus's driver sleeps, whatever replaces a missing bus
+-- the sleep of a bus's driver, whatever replaces a missing bus
 pub pace_at : (buses : List BusSeen) (k : ℕ) (d e : BusSeen) → k < length buses → (slice_index_or buses k d).pace_ms ≡ (slice_index_or buses k e).pace_ms
 pace_at buses k d e lt = ap (λ (b : BusSeen). b.pace_ms) (index_default buses k d e lt)
 
--- how many items a socket holds on the bus at a place
+-- the number of items that a socket holds on the bus at a place
 pub items_at : (buses : List BusSeen) (k : ℕ) (b d : BusSeen) → k < length buses → b ≡ slice_index_or buses k d → b.rx_capacity ≡ items_on (slice_get buses k)
 items_at [] k b d lt same = absurd (omega (arith, lt))
 items_at (x ∷ xs) zero b d lt same = ap (λ (s : BusSeen). s.rx_capacity) same
@@ -84,7 +84,7 @@ names_past [] (suc k) le = refl
 names_past (x ∷ xs) zero le = absurd (omega (arith, le))
 names_past (x ∷ xs) (suc k) le = names_past xs k (omega (arith, le))
 
--- none before the next bus, where none is before this one and this one has none
+-- none before the next bus, if none is before this one and this one has none
 pub none_next : (n : ℕ) (buses : List BusSeen) (name : List ℕ) (found : Option ℕ) → NoneNamed n buses name → ((d : BusSeen) → found ≡ place_of (slice_index_or buses n d).names name) → found ≡ None → NoneNamed (n + 1) buses name
 none_next n buses name found before at is k d lt = elim (cases_lt k n) [
   | inl less ↦ before k d less

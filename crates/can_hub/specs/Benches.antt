@@ -8,11 +8,11 @@ use Rattle.can_hub.specs.Buses.{BusSeen, AllApart}
 use Rattle.can_hub.specs.HubBuses.{IsOfLongRuns}
 use Rattle.can_hub.specs.declared.bench.Bench.{Bench}
 
--- What the buses of a hub are made of.
+-- The parts that the buses of a hub are made of.
 
 module _ {F G : Type 0} where
-  -- a bus whose configurations have these limits may be made of this: the configuration is within them, blanks
-  -- and names are of as many interfaces as it has, and a socket holds 1 to 65,536 items
+  -- a bus whose configurations have these limits may be made of these parts: the configuration is within them, blanks
+  -- and names are for as many interfaces as it has, and a socket holds 1 to 65,536 items
   pub record IsWithin (Limits : BusConfig → Type 0) (b : Bench F G) : Type 0 where
     pub config : Limits b.config
     pub words : b.blanks.meter.words ≡ b.config.ifaces
@@ -29,7 +29,7 @@ module _ {F G : Type 0} where
   abbrev pub bench_names : List (Bench F G) → List (List (List ℕ))
   bench_names benches = map (λ b. b.names) benches
 
-  -- a hub of such buses may be made of these: 1 to 16 buses, and no name on two of them
+  -- a hub of such buses may be made of these parts: 1 to 16 buses, and no name is on two of them
   pub record MakeHubWithin (Limits : BusConfig → Type 0) (benches : List (Bench F G)) : Type 0 where
     pub some : 1 ≤ length benches
     pub few : length benches ≤ 16

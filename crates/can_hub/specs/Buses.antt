@@ -8,8 +8,8 @@ use Rattle.can_wire.specs.Timings.{BusTiming}
 
 -- The buses of a hub, and their names.
 
--- a bus: its number, its configuration, the names of its interfaces, its bit rates, if it has any, how many
--- milliseconds its driver sleeps after each step where it has none, and how many items a socket of its holds
+-- a bus: its number, its configuration, the names of its interfaces, its bit rates, if any, the milliseconds that its
+-- driver sleeps after each step if it has none, and the number of items that its sockets hold
 pub record BusSeen : Type 0 where
   pub number : ℕ
   pub config : BusConfig
@@ -18,7 +18,7 @@ pub record BusSeen : Type 0 where
   pub pace_ms : ℕ
   pub rx_capacity : ℕ
 
--- how many items a socket holds on a bus, none where there is no bus
+-- the number of items that a socket holds on a bus, none if there is no bus
 abbrev pub items_on : Option BusSeen → ℕ
 items_on None = 0
 items_on (Some bus) = bus.rx_capacity
@@ -27,12 +27,12 @@ items_on (Some bus) = bus.rx_capacity
 abbrev pub names_on : Option BusSeen → Option (List (List ℕ))
 names_on bus = option_map (λ b. b.names) bus
 
--- bit rates that a bus may lack: then both are 0
+-- the bit rates of a bus; both are 0 if it has none
 abbrev pub bit_rates : Option BusTiming → BitRates
 bit_rates None = rates_of 0 0
 bit_rates (Some t) = t.rates
 
--- the bit rates of a bus, both 0 where it has none, or there is no bus
+-- the bit rates of a bus, both 0 if it has none, or there is no bus
 abbrev pub rates_on : Option BusSeen → BitRates
 rates_on None = rates_of 0 0
 rates_on (Some bus) = bit_rates bus.timing
@@ -41,23 +41,23 @@ rates_on (Some bus) = bit_rates bus.timing
 abbrev pub config_on : Option BusSeen → Option BusConfig
 config_on bus = option_map (λ b. b.config) bus
 
--- a station is that of the bus with its number
+-- a station belongs to the bus with its number
 abbrev pub IsStationOn : List BusSeen → StationSeen → Type 0
 IsStationOn buses station = config_on (slice_get buses station.number) ≡ Some station.config
 
--- the buses are numbered by their places, the first of them n
+-- the buses are numbered by their places, and the first is n
 abbrev pub NumberedFrom : ℕ → List BusSeen → Type 0
 NumberedFrom n [] = Unit {0}
 NumberedFrom n (bus ∷ more) = (bus.number ≡ n) × NumberedFrom (suc n) more
 
 -- no name of the first list is in the second
-abbrev pub Apart : List (List ℕ) → List (List ℕ) → Type 0
-Apart names others = (k : ℕ) → k < length names → ¬ Contains others (slice_index_or names k [])
+abbrev pub ShareNoName : List (List ℕ) → List (List ℕ) → Type 0
+ShareNoName names others = (k : ℕ) → k < length names → ¬ Contains others (slice_index_or names k [])
 
 -- no name of this list is in one of the others
 abbrev pub ApartFrom : List (List ℕ) → List (List (List ℕ)) → Type 0
 ApartFrom names [] = Unit {0}
-ApartFrom names (others ∷ more) = Apart names others × ApartFrom names more
+ApartFrom names (others ∷ more) = ShareNoName names others × ApartFrom names more
 
 -- no name is in two of the lists
 abbrev pub AllApart : List (List (List ℕ)) → Type 0

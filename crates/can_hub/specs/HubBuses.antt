@@ -15,17 +15,18 @@ use Rattle.can_hub.specs.declared.hub_bus.AnyEnd.TheVariants as end
 abbrev pub IsOfLongRuns : BusConfig → Type 0
 IsOfLongRuns c = (max_limit < c.limit) × IsLongConfig c
 
--- what others see of a bus
+-- a bus, as others see it
 abbrev pub journal_in : AnyBus → Journal
 journal_in (bus.Whole b) = b
 journal_in (bus.Long b) = journal_of b
 
--- how many entries more a bus takes before some are handed out: with its whole record the greatest usize
+-- the number of entries that a bus takes before some have to be handed out; with its whole record it is the greatest
+-- usize
 abbrev pub places_in : AnyBus → ℕ
 places_in (bus.Whole b) = 18446744073709551615
 places_in (bus.Long b) = places_left b
 
--- the entries that a bus has handed out, the oldest first: with its whole record none
+-- the entries that a bus has handed out, the oldest first; with its whole record there are none
 abbrev pub handed_in : AnyBus → List Entry
 handed_in (bus.Whole b) = []
 handed_in (bus.Long b) = handed_entries b
@@ -35,17 +36,17 @@ abbrev pub HasItsLength : AnyBus → Type 0
 HasItsLength (bus.Whole b) = IsConfig b.config
 HasItsLength (bus.Long b) = IsOfLongRuns b.config
 
--- what others see of the bus that left this
+-- the bus that left this, as others see it
 abbrev pub left_in : AnyEnd → Journal
 left_in (end.Whole r) = record { config = r.config; history = r.history }
 left_in (end.Long e) = journal_of e
 
--- the entries that the bus which left this had handed out
+-- the entries that this bus had handed out
 abbrev pub handed_by : AnyEnd → List Entry
 handed_by (end.Whole r) = []
 handed_by (end.Long e) = handed_entries e
 
--- what a bus leaves has the configuration of its kind
+-- the rest of a bus has the configuration of its kind
 abbrev pub EndsAtItsLength : AnyEnd → Type 0
 EndsAtItsLength (end.Whole r) = IsConfig r.config
 EndsAtItsLength (end.Long e) = IsOfLongRuns e.config

@@ -26,13 +26,13 @@ use Rattle.can_station.specs.Passes.{PassSeen, Called, HadNoPassLeft, InSome, In
 use Rattle.can_station.specs.declared.refusals.StationRefusal.{StationRefusal}
 use Rattle.can_station.specs.declared.refusals.StationRefusal.TheVariants as station
 use Rattle.can_wire.specs.Times.{rates_of}
-use Rattle.can_proto.specs.Spelling.{no_load}
+use Rattle.can_proto.specs.Spelling.{no_bus_load}
 use Rattle.can_proto.specs.declared.answer.BusLoad.{BusLoad}
 use Rattle.can_hub.specs.Buses.{BusSeen, IsFirstNamed, IsStationOn, items_on, names_on, rates_on, all_names}
 
--- A pass as a port: each call but the look-ups and those of rules is an event of the station.
+-- A pass as a port. Each call is an event of the station, except look-ups and the calls about rules.
 
--- a station that was entered, what the gauge of its meter has seen, and the pass
+-- a station that was entered, the publications that its gauge has seen, and the pass
 pub record EnteredSeen : Type 0 where
   pub station : StationSeen
   pub gauge : Readings
@@ -47,15 +47,15 @@ pub record PortSeen : Type 0 where
 abbrev pub entered_with : StationSeen → Readings → PassSeen → EnteredSeen
 entered_with station gauge pass = record { station = station; gauge = gauge; pass = pass }
 
--- how many items a socket holds on the bus that was entered
-abbrev pub room_in : List BusSeen → Option EnteredSeen → ℕ
-room_in buses None = 0
-room_in buses (Some e) = items_on (slice_get buses e.station.number)
+-- the number of items that a socket holds on the bus that was entered
+abbrev pub socket_room_in : List BusSeen → Option EnteredSeen → ℕ
+socket_room_in buses None = 0
+socket_room_in buses (Some e) = items_on (slice_get buses e.station.number)
 
--- an event as a pass makes it: a socket holds as many items as its bus says
-abbrev pub with_room : Event → ℕ → Event
-with_room (event.Open iface asked) room = event.Open iface room
-with_room e room = e
+-- an event as a pass makes it: a socket holds as many items as the bus lays down
+abbrev pub with_socket_room : Event → ℕ → Event
+with_socket_room (event.Open iface asked) room = event.Open iface room
+with_socket_room e room = e
 
 -- whether an event may be made in one hold of the lock with others
 abbrev pub is_shared : Event → Bool
@@ -63,23 +63,23 @@ is_shared (event.Send socket frame) = true
 is_shared (event.Receive socket) = true
 is_shared e = false
 
--- a station's refusal, as a port gives it
+-- a station's refusal, as a port returns it
 abbrev pub refused_as : StationRefusal → PortRefusal
 refused_as (station.Bus why) = port.Bus why
 refused_as station.WrongStation = port.WrongStation
 
--- a station's reply, as a port gives it
-abbrev pub passed_on : {A : Type 0} → Result A StationRefusal → Result A PortRefusal
-passed_on (Ok a) = Ok a
-passed_on (Err why) = Err (refused_as why)
+-- a station's reply, as a port returns it
+abbrev pub reply_of_station : {A : Type 0} → Result A StationRefusal → Result A PortRefusal
+reply_of_station (Ok a) = Ok a
+reply_of_station (Err why) = Err (refused_as why)
 
--- a call of the station that was entered; where none was, there is no socket
+-- a call of the station that was entered; if none was, there is no socket
 abbrev pub OnPass :
     {A : Type 0} → (A → Reply) → Option EnteredSeen → Event → Result A PortRefusal → Option EnteredSeen → Type 0
 OnPass {A} told None e answer new = (answer ≡ Err (port.Bus refusal.NoSocket)) × (new ≡ None)
 OnPass {A} told (Some old) e answer new =
     (outcome : Result A StationRefusal) × (pass : PassSeen)
-    × (answer ≡ passed_on outcome)
+    × (answer ≡ reply_of_station outcome)
     × Called told old.station.number old.pass e outcome pass
     × (new ≡ Some (record old { pass = pass }))
 
@@ -99,8 +99,8 @@ SomeNamedFull F buses name =
     × IsStationOn buses at
     × HadNoPassLeft F at
 
--- the station of the bus that has the name is entered, with a gauge of its meter and a pass of its; else nothing
--- changes: no bus has the name, or it has one and memory was refused to the gauge or no pass was left
+-- the station of the bus with this name is entered, and a gauge of its meter and a pass are taken; else nothing
+-- changes: no bus has the name, memory was refused to the gauge, or no pass was left
 abbrev pub Attaches : Type 0 → PortSeen → List ℕ → Result ℕ PortRefusal → PortSeen → Type 0
 Attaches F old name (Ok iface) new =
     (at : StationSeen) × (gauge : Readings) × (pass : PassSeen)
@@ -114,8 +114,8 @@ Attaches F old name (Err (port.Bus refusal.NoMemory)) new = SomeNamed old.buses 
 Attaches F old name (Err port.TooManyPasses) new = SomeNamedFull F old.buses name × (new ≡ old)
 Attaches F old name (Err _) new = ⊥
 
--- a gauge returns the error counters that it now knows as the last published of an interface, and knows no less than
--- before; of an interface that its meter has not it returns 0/0
+-- a gauge returns the newest publication of an interface's error counters that it knows, and knows no less than before;
+-- for an interface that its meter lacks it returns 0/0
 abbrev pub GaugeReports : Readings → ℕ → ErrorCounts → Readings → Type 0
 GaugeReports old iface answer new =
     ((iface < old.ifaces)
@@ -124,33 +124,33 @@ GaugeReports old iface answer new =
     × (new ≡ knowing_of old iface (published new.lists iface)))
     ⊎ ((old.ifaces ≤ iface) × (answer ≡ at_start) × (new ≡ old))
 
--- the gauge of the station that was entered returns the error counters of an interface; where none was, they are 0/0
+-- the gauge of the station that was entered returns the error counters of an interface; if none was, they are 0/0
 abbrev pub ReportsCounters : Option EnteredSeen → ℕ → ErrorCounts → Option EnteredSeen → Type 0
 ReportsCounters None iface answer new = (answer ≡ at_start) × (new ≡ None)
 ReportsCounters (Some old) iface answer new =
     (gauge : Readings) × GaugeReports old.gauge iface answer gauge × (new ≡ Some (record old { gauge = gauge }))
 
--- a load has the bit rates of the bus that was entered (how busy it was is not said); where none was, all is 0
+-- a load has the bit rates of the bus that was entered; if none was, all is 0 (how busy the bus was is left open)
 abbrev pub ReportsRates : List BusSeen → Option EnteredSeen → BusLoad → Type 0
-ReportsRates buses None answer = answer ≡ no_load
+ReportsRates buses None answer = answer ≡ no_bus_load
 ReportsRates buses (Some e) answer =
     rates_of answer.bitrate answer.dbitrate ≡ rates_on (slice_get buses e.station.number)
 
--- counts that a socket with this number has in some state of the station that was entered (which is not said); where
--- none was, it is not open
+-- the counts of the socket with this number in some state of the station that was entered (which state is left open);
+-- if none was, it is not open
 abbrev pub CountsSocket : Type 0 → Option EnteredSeen → ℕ → Option SocketStats → Type 0
 CountsSocket F None socket answer = answer ≡ None
 CountsSocket F (Some e) socket answer =
     InSome F e.station (λ held. answer ≡ socket_stats_of held.journal.config held.journal.history socket)
 
--- counts that this interface has in some state of the station that was entered (which is not said); where none was,
+-- the counts of this interface in some state of the station that was entered (which state is left open); if none was,
 -- there is no such interface
 abbrev pub CountsIface : Type 0 → Option EnteredSeen → ℕ → Option IfaceStats → Type 0
 CountsIface F None iface answer = answer ≡ None
 CountsIface F (Some e) iface answer =
     InSome F e.station (λ held. answer ≡ iface_stats_of held.journal.config held.journal.history iface)
 
--- a rule comes to this in some state of a station (which is not said) whose interfaces have these names
+-- the outcome of a rule in some state of a station whose interfaces have these names (which state is left open)
 abbrev pub InjectsNamed :
     Type 0 → StationSeen → Option (List (List ℕ)) → List ℕ → Result (Unit {0}) PortRefusal → Type 0
 InjectsNamed F station None rule answer = answer ≡ Err (port.Bus refusal.NoSocket)
@@ -159,14 +159,14 @@ InjectsNamed F station (Some names) rule answer =
     × InjectsIn F station names rule outcome
     × (answer ≡ reply_to_rule outcome)
 
--- the same of the station that was entered; where none was, there is no socket
+-- the same of the station that was entered; if none was, there is no socket
 abbrev pub Injects : Type 0 → List BusSeen → Option EnteredSeen → List ℕ → Result (Unit {0}) PortRefusal → Type 0
 Injects F buses None rule answer = answer ≡ Err (port.Bus refusal.NoSocket)
 Injects F buses (Some e) rule answer =
     InjectsNamed F e.station (names_on (slice_get buses e.station.number)) rule answer
 
--- how many rules are left in some state of the station that was entered (which is not said); where none was,
--- there is none
+-- the number of rules left in some state of the station that was entered (which state is left open); if none was, there
+-- are none
 abbrev pub RulesLeft : Type 0 → Option EnteredSeen → ℕ → Type 0
 RulesLeft F None answer = answer ≡ 0
 RulesLeft F (Some e) answer = InSome F e.station (λ held. answer ≡ length held.plan.rules)
@@ -176,7 +176,7 @@ abbrev pub PassStep : Type 0 → PortSeen → (call : Call) → CallReply call �
 PassStep F old Names answer new = (answer ≡ all_names old.buses) × (new ≡ old)
 PassStep F old (Attach name) answer new = Attaches F old name answer new
 PassStep F old (Open iface asked) answer new =
-    OnPort reply.Opened old (event.Open iface (room_in old.buses old.entered)) answer new
+    OnPort reply.Opened old (event.Open iface (socket_room_in old.buses old.entered)) answer new
 PassStep F old (Close socket) answer new = OnPort reply.Closed old (event.Close socket) answer new
 PassStep F old (SetFilters socket filters) answer new =
     OnPort done_reply old (event.SetFilters socket filters) answer new

@@ -9,7 +9,7 @@ use Rattle.can_station.specs.Passes.{PassSeen, AllOf, SomeOther, SettlesIn}
 
 -- The end of a hub: each bus is settled with its list of passes.
 
--- each list has passes of its own bus only, the first of them of bus n
+-- each list has only passes of its own bus, and the first is that of bus n
 abbrev pub AllOwn : {A : Type 0} → ℕ → List (Vec PassSeen A) → Type 0
 AllOwn n [] = Unit {0}
 AllOwn n (own ∷ more) = AllOf n own.items × AllOwn (suc n) more
@@ -21,7 +21,7 @@ AllSettleIn left (own ∷ more) (s ∷ rest) = SettlesIn (left s.history) s.pass
 AllSettleIn left [] (s ∷ rest) = ⊥
 AllSettleIn left (own ∷ more) [] = ⊥
 
--- each bus leaves a record that does
+-- each bus leaves a record that settles its list
 abbrev pub AllSettle : {A : Type 0} → List (Vec PassSeen A) → List (Settled Kept) → Type 0
 AllSettle passes settled = AllSettleIn (λ (r : Kept). record { config = r.config; history = r.history }) passes settled
 
@@ -39,12 +39,12 @@ pub record FirstForeign {A : Type 0} (passes : List (Vec PassSeen A)) (bus : ℕ
   pub earlier : AllOwn 0 before
   pub foreign : SomeOther bus own.items
 
--- a scroll for each bus, the first of them that of bus n, to which nothing was handed out
+-- a scroll for each bus, the first that of bus n; nothing was handed out to any
 abbrev pub AreNewScrolls : ℕ → List ScrollSeen → Type 0
 AreNewScrolls n [] = Unit {0}
 AreNewScrolls n (scroll ∷ more) = (scroll ≡ scroll_seen n []) × AreNewScrolls (suc n) more
 
--- each scroll is that of its bus, the first of them of bus n
+-- each scroll belongs to its bus, the first to bus n
 abbrev pub AllOwnScrolls : ℕ → List ScrollSeen → Type 0
 AllOwnScrolls n [] = Unit {0}
 AllOwnScrolls n (scroll ∷ more) = (scroll.number ≡ n) × AllOwnScrolls (suc n) more

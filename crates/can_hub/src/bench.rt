@@ -1,5 +1,5 @@
 ghost use Rattle.std.specs.Prelude.{◌<◌, [], IsTrue, ◌↔◌, length, All, Contains, slice_index_or};
-ghost use Rattle.can_hub.specs.Buses.{Apart, ApartFrom, AllApart};
+ghost use Rattle.can_hub.specs.Buses.{ShareNoName, ApartFrom, AllApart};
 ghost use Rattle.can_hub.specs.Benches.{IsWithin, MakeHubWithin, bench_names};
 
 use crate::hub_bus::Leaves;
@@ -11,30 +11,30 @@ use can_rules::Plan;
 use can_station::{Blanks, Gate};
 use can_wire::Timing;
 
-/// What a bus of a hub is made of.
+/// The parts of a bus of a hub.
 #[derive(Drop)]
 pub struct Bench<F: FaultSource + Drop, G: Gate + Drop> {
-    /// The names of its interfaces, as many as the configuration has.
+    /// The names of its interfaces: one for each that the configuration has.
     pub names: Names,
     /// Blanks for as many interfaces.
     pub blanks: Blanks,
     pub config: BusConfig,
-    /// The verdicts of its attempts, wherever they are faults.
+    /// The verdicts of its attempts, if they are faults.
     pub source: F,
     /// The faults of the attempts for which the source has none.
     pub plan: Plan,
-    /// Where a test may hold a thread.
+    /// The gate at which a test may hold a thread.
     pub gate: G,
     /// The bit rates of the bus, if it has any: then its driver makes each attempt when the network is free.
     pub timing: Option<Timing>,
-    /// How many milliseconds its driver sleeps after each step, where the bus has no bit rates.
+    /// The milliseconds that its driver sleeps after each step, if the bus has no bit rates.
     pub pace_ms: u32,
-    /// How many items a socket holds, 1 to 65,536.
+    /// The number of items that a socket holds, 1 to 65,536.
     pub rx_capacity: u32,
 }
 
 impl<F: FaultSource + Drop, G: Gate + Drop> Bench<F, G> {
-    /// Whether a bus may be made of it.
+    /// Returns whether a bus may be made of these parts.
     fn is_proper<L: Leaves>(&self) -> bool
         ensures { IsTrue result ↔ IsWithin L.limits self.now }
     {
@@ -47,7 +47,7 @@ impl<F: FaultSource + Drop, G: Gate + Drop> Bench<F, G> {
     }
 }
 
-/// Whether a hub may be made of these.
+/// Returns whether a hub may be made of these benches.
 pub(crate) fn make_hub<L: Leaves, F: FaultSource + Drop, G: Gate + Drop>(
     benches: &[Bench<F, G>],
 ) -> bool
@@ -59,14 +59,14 @@ pub(crate) fn make_hub<L: Leaves, F: FaultSource + Drop, G: Gate + Drop>(
         && have_distinct_names(benches)
 }
 
-/// Whether a bus may be made of each.
+/// Returns whether each of these may become a bus.
 fn are_proper<L: Leaves, F: FaultSource + Drop, G: Gate + Drop>(benches: &[Bench<F, G>]) -> bool
     ensures { IsTrue result ↔ All (λ b. IsWithin L.limits b) benches.now }
 {
     benches.iter().all(|bench| bench.is_proper::<L>())
 }
 
-/// Whether no name is on two of these.
+/// Returns whether no name is on two of these.
 fn have_distinct_names<F: FaultSource + Drop, G: Gate + Drop>(benches: &[Bench<F, G>]) -> bool
     ensures { IsTrue result ↔ AllApart (bench_names benches.now) }
 {
@@ -76,7 +76,7 @@ fn have_distinct_names<F: FaultSource + Drop, G: Gate + Drop>(benches: &[Bench<F
     }
 }
 
-/// Whether none of these names is on one of the benches.
+/// Returns whether none of these names is on one of the benches.
 fn is_apart<F: FaultSource + Drop, G: Gate + Drop>(names: &Names, benches: &[Bench<F, G>]) -> bool
     ensures { IsTrue result ↔ ApartFrom names.now (bench_names benches.now) }
 {
@@ -86,9 +86,9 @@ fn is_apart<F: FaultSource + Drop, G: Gate + Drop>(names: &Names, benches: &[Ben
     }
 }
 
-/// Whether no name is in both.
+/// Returns whether no name is in both.
 fn are_apart(names: &Names, others: &Names) -> bool
-    ensures { IsTrue result ↔ Apart names.now others.now }
+    ensures { IsTrue result ↔ ShareNoName names.now others.now }
 {
     for number in 0..names.count() {
         if !is_free(names, number, others) {
@@ -98,7 +98,7 @@ fn are_apart(names: &Names, others: &Names) -> bool
     true
 }
 
-/// Whether the name of this interface is none of the others.
+/// Returns whether no other interface has the name of this one.
 #[tactic(auto, using(crate::proofs::Places::index_of_get))]
 fn is_free(names: &Names, number: u8, others: &Names) -> bool
     requires { number < length names.now }

@@ -1,4 +1,4 @@
-//! The buses of a hub: what sessions and drivers need of it.
+//! The buses of a hub, as sessions and drivers use them.
 ghost use Rattle.std.specs.Prelude.{◌≡◌, ◌<◌, ◌≤◌, ◌++◌, [], length, OnOk, IfOk, IfErr, All, option_map, slice_index_or, slice_get};
 ghost use Rattle.can_frame.specs.Names.{place_of};
 ghost use Rattle.can_proto.specs.Spelling.{spaced};
@@ -50,8 +50,8 @@ impl<N: BusName, F: FaultSource + Drop, G: Gate + Drop> Model for Network<N, F, 
 }
 
 impl<N: BusName, F: FaultSource + Drop, G: Gate + Drop> Network<N, F, G> {
-    /// The bus that a bench makes under a number, one that leaves an `L`, and its scroll: in a long run it has memory for this
-    /// many entries at once. `NoMemory` where memory was refused.
+    /// Makes the bus of a bench under a number, and its scroll. The bus leaves an `L`. In a long
+    /// run it has memory for this many entries at once. `NoMemory` if memory was refused.
     fn new<L: Leaves>(
         alloc: Global,
         number: u8,
@@ -112,15 +112,15 @@ impl<N: BusName, F: FaultSource + Drop, G: Gate + Drop> Model for Buses<N, F, G>
 }
 
 impl<N: BusName, F: FaultSource + Drop, G: Gate + Drop> Buses<N, F, G> {
-    /// The bus that has an interface of this name, and that interface. No other bus has the name. `None` exactly
-    /// where no bus has it. It reads the names of the buses up to that one.
+    /// The bus that has an interface of this name, and that interface. No other bus has the name.
+    /// `None` exactly if no bus has it. It reads the names of the buses up to that one.
     pub fn find(&self, name: &str) -> Option<(usize, Iface)>
         ensures { IsFirstNamed self.now name.now result }
     {
         self.find_bytes(name.as_bytes())
     }
 
-    /// As `find`; bytes that are no UTF-8 are no name.
+    /// Like `find`; bytes that are not UTF-8 are no name.
     pub fn find_bytes(&self, name: &[u8]) -> Option<(usize, Iface)>
         ensures { IsFirstNamed self.now name.now result }
     {
@@ -141,7 +141,7 @@ impl<N: BusName, F: FaultSource + Drop, G: Gate + Drop> Buses<N, F, G> {
         self.networks[bus].names.find_bytes(name)
     }
 
-    /// How many buses there are, 1 to 16.
+    /// Returns how many buses there are, 1 to 16.
     pub fn count(&self) -> usize
         ensures count { result ≡ length self.now }
         ensures few { result ≤ 16 }
@@ -168,7 +168,8 @@ impl<N: BusName, F: FaultSource + Drop, G: Gate + Drop> Buses<N, F, G> {
         self.networks[bus].timing
     }
 
-    /// How many milliseconds the driver of a bus sleeps after each step, where the bus has no bit rates.
+    /// Returns how many milliseconds the driver of a bus sleeps after each step, if the bus has no
+    /// bit rates.
     #[tactic(auto, using(crate::proofs::Places::pace_at))]
     pub fn pace_ms(&self, bus: usize) -> u32
         requires { bus < length self.now }
@@ -177,7 +178,7 @@ impl<N: BusName, F: FaultSource + Drop, G: Gate + Drop> Buses<N, F, G> {
         self.networks[bus].pace_ms
     }
 
-    /// How many items a socket of a bus holds.
+    /// Returns how many items a socket of a bus holds.
     #[tactic(auto, using(crate::proofs::Places::items_at, crate::proofs::Places::items_past))]
     pub fn rx_capacity(&self, bus: usize) -> u32
         ensures { result ≡ items_on (slice_get self.now bus) }
@@ -197,8 +198,8 @@ impl<N: BusName, F: FaultSource + Drop, G: Gate + Drop> Buses<N, F, G> {
         }
     }
 
-    /// The moment of the last attempt on a bus that was shown: `None` where none was, or there is no such bus. It takes no
-    /// lock.
+    /// The moment of the last attempt on a bus that was shown: `None` if none was, or there is no
+    /// such bus. It takes no lock.
     pub fn last_end(&self, bus: usize) -> Option<Moment> {
         self.networks.get(bus)?.shown.end()
     }
@@ -210,8 +211,9 @@ impl<N: BusName, F: FaultSource + Drop, G: Gate + Drop> Buses<N, F, G> {
         }
     }
 
-    /// How busy a bus was at a moment, as it was shown last, 0 and 0 where nothing was, and its bit rates, 0 where it has
-    /// none. All are 0 where there is no such bus. It takes no lock.
+    /// Returns the load of a bus at a moment, as it was shown last, and its bit rates. The load is
+    /// 0 and 0 if none was shown; the bit rates are 0 if the bus has none. All are 0 if there is no
+    /// such bus. It takes no lock.
     #[tactic(auto, using(crate::proofs::Places::rates_at, crate::proofs::Places::rates_past))]
     pub fn load_at(&self, bus: usize, moment: Moment) -> BusLoad
         ensures { rates_of result.bitrate result.dbitrate ≡ rates_on (slice_get self.now bus) }
@@ -236,7 +238,8 @@ impl<N: BusName, F: FaultSource + Drop, G: Gate + Drop> Buses<N, F, G> {
         }
     }
 
-    /// Adds a space and a name for each interface of each bus, in order. `AllocError` where memory is refused.
+    /// Adds a space and a name for each interface of each bus, in order. `AllocError` if memory is
+    /// refused.
     pub fn put_names(&self, text: &mut Vec<u8>) -> Result<(), AllocError>
         ensures { OnOk result (text.new.items ≡ text.old.items ++ spaced (all_names self.now)) }
     {
@@ -260,8 +263,8 @@ impl<N: BusName, F: FaultSource + Drop, G: Gate + Drop> Buses<N, F, G> {
         }
     }
 
-    /// Another gauge of a bus's meter, which reads the error counters without the lock. `AllocError` where there
-    /// is no memory. It may wait for the lock.
+    /// Another gauge of a bus's meter, which reads the error counters without the lock.
+    /// `AllocError` if there is no memory. It may wait for the lock.
     pub fn gauge<R: Wait>(&self, rt: &R, bus: usize) -> Result<Gauge<N>, AllocError>
         requires { bus < length self.now }
         ensures { IfOk result (λ g. g.number ≡ bus) }

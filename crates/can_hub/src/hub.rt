@@ -17,19 +17,20 @@ use std::marker::Model;
 use std::sync::Wait;
 use thiserror::Error;
 
-/// A bus that can't be settled: a pass of another station is in its list, or its scroll is another station's. It is the first
-/// such bus.
+/// The first bus that can't be settled. A pass of another station is in its list, or its scroll is
+/// another station's.
 #[derive(Debug, Clone, Copy, PartialEq, Eq, Error)]
 #[error("bus {bus}: wrong station")]
 pub struct SettleFault {
     pub bus: usize,
 }
 
-/// Buses that are settled together: each leaves a record, or in a long run what was not taken of its entries.
+/// Buses that are settled together. Each leaves a record, or in a long run the entries that were
+/// not taken.
 #[derive(Drop)]
 pub struct Hub<N: BusName, F: FaultSource + Drop, G: Gate + Drop, L: Leaves = Record> {
     buses: Buses<N, F, G>,
-    // Room for what each bus leaves at its end.
+    // Room for the rest of each bus at its end.
     settled: Vec<Settled<L>>,
 }
 
@@ -47,12 +48,13 @@ impl<N: BusName, F: FaultSource + Drop, G: Gate + Drop, L: Leaves> Model for Hub
 }
 
 impl<N: BusName, F: FaultSource + Drop, G: Gate + Drop> Hub<N, F, G> {
-    /// A station for each bench, with an empty record: the buses are numbered from 0 in this order. It takes memory
-    /// for all entries of each record, and for what `settle` hands out.
+    /// Makes a station for each bench, with an empty record. The buses are numbered from 0 in this
+    /// order. It takes memory for all entries of each record, and for the results of `settle`.
     ///
-    /// `BadConfig` exactly where there are no benches or more than 16, where a configuration is outside the limits
-    /// of a bus or has another number of interfaces than the blanks or the names, where the receive capacity is
-    /// none that a socket may have, or where a name is on two of them; else `NoMemory` where memory was refused.
+    /// `BadConfig` exactly if there are no benches or more than 16, or one of them is wrong: its
+    /// configuration is outside the limits of a bus, it has another number of interfaces than the
+    /// blanks or the names, its receive capacity is outside the limits of a socket, or one of its
+    /// names is on another bench. Else `NoMemory` if memory was refused.
     pub fn new(alloc: Global, benches: Vec<Bench<F, G>>) -> Result<Hub<N, F, G>, BusFault>
         requires { NamedFrom N.roll N.meter 0 benches.items }
         ensures made { IfOk result (λ h. h ≡ buses_from 0 benches.items) }
@@ -64,10 +66,12 @@ impl<N: BusName, F: FaultSource + Drop, G: Gate + Drop> Hub<N, F, G> {
 }
 
 impl<N: BusName, F: FaultSource + Drop, G: Gate + Drop> Hub<N, F, G, LongEnd> {
-    /// The same with buses of long runs, each of which keeps in memory only the entries that were not taken yet; and the
-    /// scroll of each. It takes memory for this many entries of each: `TAIL_SIZE`, but for tests.
+    /// The same with buses of long runs, and the scroll of each. Each bus keeps in memory only the
+    /// entries that were not taken yet. It takes memory for this many entries of each: `TAIL_SIZE`,
+    /// except in tests.
     ///
-    /// `BadConfig` as by `new`, but for configurations outside the limits of a long run, and for limits that a record may have.
+    /// `BadConfig` as in `new`, with the limits of a long run instead; a limit that a record may
+    /// have is refused too.
     pub fn new_long(
         alloc: Global,
         benches: Vec<Bench<F, G>>,
@@ -84,8 +88,8 @@ impl<N: BusName, F: FaultSource + Drop, G: Gate + Drop> Hub<N, F, G, LongEnd> {
 }
 
 impl<N: BusName, F: FaultSource + Drop, G: Gate + Drop, L: Leaves> Hub<N, F, G, L> {
-    /// A station for each bench over a bus on which nothing was done, in a long run with memory for this many entries at
-    /// once, and the scroll of each: as `new` and `new_long` do, for either kind.
+    /// Makes a station over a fresh bus for each bench, and the scroll of each, as `new` and
+    /// `new_long` do, for either kind. In a long run there is memory for this many entries at once.
     pub fn make(
         alloc: Global,
         benches: Vec<Bench<F, G>>,
@@ -113,14 +117,14 @@ impl<N: BusName, F: FaultSource + Drop, G: Gate + Drop, L: Leaves> Hub<N, F, G, 
         &self.buses
     }
 
-    /// As `Buses::find`.
+    /// See `Buses::find`.
     pub fn find(&self, name: &str) -> Option<(usize, Iface)>
         ensures { IsFirstNamed self.now name.now result }
     {
         self.buses.find(name)
     }
 
-    /// As `Buses::count`.
+    /// See `Buses::count`.
     pub fn count(&self) -> usize
         ensures count { result ≡ length self.now }
         ensures few { result ≤ 16 }
@@ -128,7 +132,7 @@ impl<N: BusName, F: FaultSource + Drop, G: Gate + Drop, L: Leaves> Hub<N, F, G, 
         self.buses.count()
     }
 
-    /// As `Buses::gauge`.
+    /// See `Buses::gauge`.
     pub fn gauge<R: Wait>(&self, rt: &R, bus: usize) -> Result<Gauge<N>, AllocError>
         requires { bus < length self.now }
         ensures { IfOk result (λ g. g.number ≡ bus) }
@@ -136,12 +140,12 @@ impl<N: BusName, F: FaultSource + Drop, G: Gate + Drop, L: Leaves> Hub<N, F, G, 
         self.buses.gauge(rt, bus)
     }
 
-    /// Takes the passes of each bus back, and hands out what each bus leaves: a legal history of its configuration, whose
-    /// entries can be marked with passes so that the calls of each of its passes are its entries, in order. It takes no
-    /// memory.
+    /// Takes the passes of each bus back, and hands out the rest of each bus. It is a legal history
+    /// of its configuration, whose entries can be marked with passes so that the calls of each of
+    /// its passes are its entries, in order. It takes no memory.
     ///
-    /// `SettleFault` exactly where some list has a pass of another station, with the first such bus; then nothing is
-    /// handed back.
+    /// `SettleFault` exactly if some list has a pass of another station, with the first such bus;
+    /// then nothing is handed back.
     pub fn settle<R: Wait>(
         self,
         rt: &R,
@@ -171,10 +175,10 @@ impl<N: BusName, F: FaultSource + Drop, G: Gate + Drop, L: Leaves> Hub<N, F, G, 
         Ok(settled)
     }
 
-    /// Takes the scroll of each bus back as well: what was handed out to it is what its bus handed out of the history that it
-    /// leaves, in a long run the first entries of it.
+    /// Takes the scroll of each bus back as well. A scroll got what its bus handed out of the
+    /// history that it leaves: the first entries of a long run.
     ///
-    /// `SettleFault` also exactly where some scroll is another station's.
+    /// `SettleFault` also exactly if some scroll is another station's.
     pub fn settle_scrolls<R: Wait>(
         self,
         rt: &R,
@@ -212,7 +216,7 @@ impl<N: BusName, F: FaultSource + Drop, G: Gate + Drop, L: Leaves> Hub<N, F, G, 
     }
 }
 
-/// What a bus left, as that of its kind.
+/// Returns the rest of a bus, as that of its kind.
 fn settled_as<L: Leaves>(left: Settled<HubEnd>) -> Settled<L>
     requires { L.limits (left_in left.history).config }
     ensures history { L.journal result.history ≡ left_in left.history }

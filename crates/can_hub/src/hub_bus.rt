@@ -1,4 +1,4 @@
-//! The buses of a hub, and what they leave.
+//! The buses of a hub, and what they leave at their end.
 ghost use Rattle.std.specs.Prelude.{IsTrue, ◌↔◌};
 ghost use Rattle.can_hub.specs.HubBuses.{IsOfLongRuns};
 
@@ -11,7 +11,8 @@ use can_record::PackedRecord;
 use std::alloc::Global;
 use std::marker::Model;
 
-/// A bus of a hub: one that keeps its whole record, or that of a long run, whose limit is above that of a record.
+/// A bus of a hub: one that keeps its whole record, or that of a long run, which has a higher
+/// limit.
 #[derive(Drop)]
 pub struct HubBus {
     bus: AnyBus,
@@ -34,7 +35,7 @@ impl Model for HubBus {
     ghost invariant = { λ b. HasItsLength b.bus };
 }
 
-/// What a bus of a hub leaves.
+/// The rest of a bus of a hub at its end.
 #[derive(Drop)]
 pub struct HubEnd {
     end: AnyEnd,
@@ -57,7 +58,8 @@ impl Model for HubEnd {
     ghost invariant = { λ e. EndsAtItsLength e.end };
 }
 
-/// Whether a configuration is that of a long run whose limit is above that of a record.
+/// Returns whether a configuration is that of a long run with a higher limit than a record may
+/// have.
 fn is_of_long_runs(config: &BusConfig) -> bool
     ensures { IsTrue result ↔ IsOfLongRuns config.now }
 {
@@ -131,7 +133,8 @@ impl Journaled for HubBus {
     }
 }
 
-/// What the buses of a hub leave, and so which buses they are: those of records, or those of long runs.
+/// The rest of the buses of a hub at their end, and thereby their kind: buses with records, or
+/// buses of long runs.
 pub trait Leaves: Drop {
     ghost use Rattle.std.specs.Prelude.{◌≡◌, ◌↔◌, [], List, IfErr, IfOk, IsTrue, OnOk};
     ghost use Rattle.can_bus.specs.declared.bus.BusFault.TheVariants as BusFault;
@@ -150,12 +153,12 @@ pub trait Leaves: Drop {
     /// The configurations that these buses may have.
     ghost limits: { BusConfig → Type 0 };
 
-    /// Whether they may have this one.
+    /// Returns whether they may have this one.
     fn may_have(config: &BusConfig) -> bool
         ensures { IsTrue result ↔ limits config.now };
 
-    /// A bus on which nothing was done. It takes memory for all of its entries, or in a long run for this many at once.
-    /// `NoMemory` where that was refused.
+    /// A fresh bus. It takes memory for all of its entries, or in a long run for this many at once.
+    /// `NoMemory` if that was refused.
     fn bus(alloc: Global, config: BusConfig, size: u32) -> Result<HubBus, BusFault>
         requires { limits config }
         ensures made { IfOk result (λ b. journal_in b ≡ record { config = config; history = [] }) }
@@ -163,7 +166,7 @@ pub trait Leaves: Drop {
         ensures proper { OnOk result (IsLongConfig config) }
         ensures fault { IfErr result (λ e. e ≡ BusFault.NoMemory) };
 
-    /// What such a bus left.
+    /// Returns the rest of such a bus.
     fn of(end: HubEnd) -> Self
         requires { limits (left_in end).config }
         ensures left { journal result ≡ left_in end }

@@ -1,9 +1,10 @@
-//! A hub of buses, and a session's way to the one that it opens.
+//! A hub of buses, and a session's way to the bus that it opens.
 //!
-//! A [`Hub`] has a station for each bus, numbered by its place. A [`PassPort`] is the port of a session: it
-//! enters the station whose bus has the name that the session opens, and makes each call with that pass; a
-//! [`LockedPort`] makes its sends and receives in one hold of the lock. At the end [`Hub::settle`] takes the passes
-//! back and hands out the record of each bus, or what was not taken of the entries of a long run.
+//! A [`Hub`] has a station for each bus, numbered by its place. A [`PassPort`] is the port of a
+//! session. It enters the station whose bus has the name that the session opens, and makes each
+//! call with that pass. A [`LockedPort`] makes its sends and receives in one hold of the lock. At
+//! the end [`Hub::settle`] takes the passes back and hands out the record of each bus, or the
+//! entries of a long run that were not taken.
 #![tactic(auto)]
 
 pub mod bench;

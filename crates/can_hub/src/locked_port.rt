@@ -15,8 +15,9 @@ use std::alloc::AllocError;
 use std::marker::Model;
 use std::sync::Wait;
 
-/// A [`PassPort`] for a few calls: sends and receives that follow one another are made in one hold of the station's
-/// lock. It takes the lock for the first of them, and frees it before any other call and when it is over.
+/// A [`PassPort`] for a few calls. Sends and receives that follow one another are made in one hold
+/// of the station's lock. The first of them takes the lock; any other call, and the end of the
+/// port, frees it.
 #[derive(Drop)]
 pub struct LockedPort<'a, N: BusName, F: FaultSource + Drop, G: Gate + Drop, R: Wait> {
     port: PassPort<'a, N, F, G, R>,
@@ -33,7 +34,7 @@ impl<'a, N: BusName, F: FaultSource + Drop, G: Gate + Drop, R: Wait> Model
 }
 
 impl<'a, N: BusName, F: FaultSource + Drop, G: Gate + Drop, R: Wait> LockedPort<'a, N, F, G, R> {
-    /// The same port; no lock is taken.
+    /// The same port, before it takes the lock.
     pub fn new(port: PassPort<'a, N, F, G, R>) -> LockedPort<'a, N, F, G, R>
         ensures { result ≡ port.entry }
     {
@@ -50,7 +51,8 @@ impl<'a, N: BusName, F: FaultSource + Drop, G: Gate + Drop, R: Wait> LockedPort<
     }
 }
 
-/// The hold of this station. Where there is none it takes the lock, after a hold of another station is dropped.
+/// The hold of this station. If there is none, a hold of another station is dropped and the lock is
+/// taken.
 fn hold_of<'h, 'a, N: BusName, F: FaultSource + Drop, G: Gate + Drop, R: Wait>(
     rt: &R,
     station: &'a Station<N, F, G, HubBus>,
@@ -69,7 +71,7 @@ fn hold_of<'h, 'a, N: BusName, F: FaultSource + Drop, G: Gate + Drop, R: Wait>(
     taken.as_mut().unwrap()
 }
 
-/// Whether an event may be made in one hold with others: it is a send or a receive.
+/// Returns whether an event may be made in one hold with others: it is a send or a receive.
 fn is_shared(event: &Event) -> bool
     ensures { result ≡ is_shared event.now }
 {

@@ -1,5 +1,5 @@
 ghost use Rattle.std.specs.Prelude.{◌≡◌, IfOk, IfSome, OnErr};
-ghost use Rattle.can_hub.specs.PassSteps.{GaugeReports, passed_on, with_room};
+ghost use Rattle.can_hub.specs.PassSteps.{GaugeReports, reply_of_station, with_socket_room};
 ghost use Rattle.can_station.specs.Passes.{HadNoPassLeft};
 
 use crate::buses::Buses;
@@ -37,21 +37,22 @@ impl<'a, N: BusName, F: FaultSource + Drop, G: Gate + Drop> Model for EnteredSta
 
 /// A session's way to the buses of a hub: the pass of the station that it opens.
 ///
-/// `attach` takes a gauge of the station whose bus has the name and enters it, or takes a pass of its that was handed back; a
-/// pass that was entered before is lost to `settle`. Refusals, in this order: `NoInterface`; `NoMemory` where it is refused to the gauge;
-/// `TooManyPasses`. Each other call but the two counts, the status and those of rules is that call of the station, made with
-/// the pass, and may wait for its lock; a socket holds as many items as its bus says, whatever is asked. Where no station
-/// was entered there is no socket, and no rule.
+/// `attach` enters the station whose bus has the name, and takes a gauge of it; it may use a pass
+/// that was handed back. A pass that was entered before is lost to `settle`. Refusals, in this
+/// order: `NoInterface`; `NoMemory` if it is refused to the gauge; `TooManyPasses`. Every other
+/// call, except the two counts, the status and the calls about rules, is that call of the station:
+/// it is made with the pass, and may wait for its lock. A socket holds as many items as the bus
+/// lays down, whatever is asked. If no station was entered there is no socket, and no rule.
 ///
-/// `status` returns the error counters that were published last, as the gauge reads them: it takes no lock and waits
-/// for nobody. They are 0/0 where no station was entered, or where its bus has no such interface. `load` takes no lock
-/// either; it has the bit rates of the bus that was entered.
+/// `status` returns the error counters that were published last, as the gauge reads them. It takes
+/// no lock and waits for no thread. They are 0/0 if no station was entered, or if its bus has no
+/// such interface. `load` takes no lock either; it has the bit rates of the bus that was entered.
 #[derive(Drop)]
 pub struct PassPort<'a, N: BusName, F: FaultSource + Drop, G: Gate + Drop, R: Wait> {
     pub(crate) rt: &'a R,
     pub(crate) alloc: Global,
     buses: &'a Buses<N, F, G>,
-    /// Passes that were handed back, where it may use one of them.
+    /// Passes that were handed back and may be used again, if any.
     spares: Option<&'a Mutex<ReturnedPasses<N>>>,
     pub(crate) entered: Option<EnteredStation<'a, N, F, G>>,
     pub(crate) tally: Tally,
@@ -76,7 +77,8 @@ impl<'a, N: BusName, F: FaultSource + Drop, G: Gate + Drop, R: Wait> PassPort<'a
         PassPort::with_spares(rt, alloc, buses, None)
     }
 
-    /// The same, which takes a pass of these that were handed back, if it finds one of the station.
+    /// The same, but it may use one of these passes that were handed back, if one is of the
+    /// station.
     pub fn with_spares(
         rt: &'a R,
         alloc: Global,
@@ -95,7 +97,7 @@ impl<'a, N: BusName, F: FaultSource + Drop, G: Gate + Drop, R: Wait> PassPort<'a
         }
     }
 
-    /// The port, taken out: one that has entered no station is left.
+    /// The port, taken out. It leaves one that has entered no station.
     pub fn take(&mut self) -> PassPort<'a, N, F, G, R>
         ensures { result ≡ self.old }
     {
@@ -131,26 +133,28 @@ impl<'a, N: BusName, F: FaultSource + Drop, G: Gate + Drop, R: Wait> PassPort<'a
         self.spares?.lock(self.rt).give_out(bus)
     }
 
-    /// What its calls came to.
+    /// Returns the outcomes of its calls.
     pub fn tally(&self) -> Tally {
         self.tally
     }
 
-    /// The interface that a call restarted last, if one did since this was asked before and none took it down after that.
+    /// The interface that a call restarted last, if any since the last look. One that was taken
+    /// down later does not count.
     pub fn take_restarted(&mut self) -> Option<Iface>
         ensures { self.new ≡ self.old }
     {
         self.tally.take_restarted()
     }
 
-    /// The interface that a call took down last, if one did since this was asked before and none restarted it after that.
+    /// The interface that a call took down last, if any since the last look. One that was restarted
+    /// later does not count.
     pub fn take_downed(&mut self) -> Option<Iface>
         ensures { self.new ≡ self.old }
     {
         self.tally.take_downed()
     }
 
-    /// Gives the pass away, where a station was entered.
+    /// Gives the pass away, if a station was entered.
     pub fn into_pass(self) -> Option<Pass<N>>
         ensures { result ≡ option_map (λ e. e.pass) self.entry.entered }
     {
@@ -164,7 +168,7 @@ impl<'a, N: BusName, F: FaultSource + Drop, G: Gate + Drop, R: Wait> PassPort<'a
 
 /// The event as a pass makes it: a socket holds as many items as its bus says.
 fn sized(event: Event, room: u32) -> Event
-    ensures { result ≡ with_room event room }
+    ensures { result ≡ with_socket_room event room }
 {
     match event {
         Event::Open(iface, _) => Event::Open(iface, room),
@@ -174,7 +178,7 @@ fn sized(event: Event, room: u32) -> Event
 
 /// A station's reply, as a port gives it.
 pub(crate) fn pass_on<V>(outcome: Result<V, StationRefusal>) -> Result<V, PortRefusal>
-    ensures { result ≡ passed_on outcome }
+    ensures { result ≡ reply_of_station outcome }
 {
     match outcome {
         Ok(value) => Ok(value),
@@ -183,7 +187,7 @@ pub(crate) fn pass_on<V>(outcome: Result<V, StationRefusal>) -> Result<V, PortRe
     }
 }
 
-/// The error counters that a gauge reads of an interface: 0/0 where its meter has none.
+/// The error counters that a gauge reads of an interface: 0/0 if its meter has none.
 fn read_gauge<N: MeterName>(gauge: &mut Gauge<N>, iface: Iface) -> Counters
     ensures { GaugeReports gauge.old iface result gauge.new }
 {

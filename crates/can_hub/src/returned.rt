@@ -39,7 +39,8 @@ impl<N: BusName> ReturnedPasses<N> {
         Ok(ReturnedPasses { lists })
     }
 
-    /// Takes a pass back, into the list of its bus. It is lost where that has no room. All other lists stay.
+    /// Takes a pass back, into the list of its bus. The pass is lost if that list has no room. All
+    /// other lists stay.
     pub fn take(&mut self, pass: Pass<N>)
         ensures own { pass.number < 16 → AddsOwn self.old pass self.new }
         ensures others { (bus : ℕ) → bus ≢ pass.number →

@@ -8,9 +8,9 @@ use can_proto::BusLoad;
 use can_wire::{Load, RecentLoad, Timing};
 use std::sync::atomic::{AtomicU64, Ordering};
 
-/// When the last attempt on a bus with bit rates is over, and how busy the bus is, where no lock is needed to know it. The
-/// words are written one after another, so that one may be newer than the others by an attempt. No contract speaks of
-/// them.
+/// The end of the last attempt on a bus with bit rates, and the load of the bus, which can be read
+/// without a lock. The words are written one after another, so one may be newer than the others by
+/// an attempt. No contract speaks of them.
 #[derive(Drop)]
 pub(crate) struct ShownTime {
     /// The moment of the last attempt, in microseconds: 0 before the first.

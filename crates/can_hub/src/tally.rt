@@ -2,12 +2,12 @@ use can_bus::{Event, Reply};
 use can_frame::Iface;
 use can_station::StationRefusal;
 
-/// What a host may want to know of the calls of a session, as they are made. No contract speaks of it.
+/// Counts of a session's calls for the host. No contract speaks of it.
 #[derive(Debug, Clone, Copy)]
 pub struct Tally {
-    /// How many frames were refused, as the record says.
+    /// The number of frames that were refused, as the record has them.
     pub refused: u64,
-    /// How many items found no room at its socket, as the close says.
+    /// The number of items that did not fit at its socket, as the close reports them.
     pub dropped: u64,
     restarted: Option<Iface>,
     downed: Option<Iface>,
@@ -39,7 +39,7 @@ impl Counted {
 }
 
 impl Tally {
-    /// Of no call.
+    /// The outcome of no call.
     pub fn none() -> Tally {
         Tally {
             refused: 0,
@@ -49,7 +49,7 @@ impl Tally {
         }
     }
 
-    /// Adds a call with what it came to. A call that left no entry does not count.
+    /// Adds a call with its outcome. A call that left no entry does not count.
     pub(crate) fn add(&mut self, call: Counted, outcome: &Result<Reply, StationRefusal>) {
         let Ok(reply) = outcome else {
             return;
@@ -71,20 +71,20 @@ impl Tally {
         }
     }
 
-    /// The interface that was restarted last, if one was since this was asked before. One that was taken down after it
-    /// is left out.
+    /// The interface that was restarted last, if any since the last look. One that was taken down
+    /// later is left out.
     pub fn take_restarted(&mut self) -> Option<Iface> {
         self.restarted.take()
     }
 
-    /// The interface that was taken down last, if one was since this was asked before. One that was restarted after it is
-    /// left out.
+    /// The interface that was taken down last, if any since the last look. One that was restarted
+    /// later is left out.
     pub fn take_downed(&mut self) -> Option<Iface> {
         self.downed.take()
     }
 }
 
-/// Notes the interface of a call, if it has one, in place of what was noted of it as the opposite.
+/// Notes the interface of a call, if it has one. It replaces a note of the opposite.
 fn note(noted: &mut Option<Iface>, opposite: &mut Option<Iface>, iface: Option<Iface>) {
     if iface.is_some() {
         *noted = iface;

@@ -6,11 +6,11 @@ use mathlib.Core.List.{IsSuffix, suffix_refl, suffix-cons, IsSuffix-trans}
 use mathlib.Core.Logic.{dite}
 use native.Mathlib.Decide.{ℕ_discrete}
 use Rattle.can_meter.specs.declared.status.Status.{Status}
-use Rattle.can_meter.specs.Publications.{newest, published, with_list, with_newest, longer, longer_lists, Ends}
+use Rattle.can_meter.specs.Publications.{newest, published, with_list, with_newest, longer, longer_lists, AreEndsOf}
 use Rattle.can_meter.specs.Rule.{AreRising, AllEnd}
-use Rattle.can_meter.specs.Words.{bit_of, word_of, meant, Fits}
+use Rattle.can_meter.specs.Words.{down_bit, status_word, meant, Fits}
 
--- of two ends of one list the shorter is an end of the longer
+-- of two suffixes of one list, the shorter is a suffix of the longer
 pub suffix_shorter : {A : Type 0} (xs ys zs : List A) → IsSuffix xs zs → IsSuffix ys zs → length xs ≤ length ys → IsSuffix xs ys
 suffix_shorter {A} xs ys zs p q le = walk p.0 q.0 zs p.1 q.1
   where
@@ -46,18 +46,18 @@ lists_with P lists i ps here others j =
     (λ (e : j ≡ i). subst (λ (k : ℕ). P k (published (with_list lists i ps) k)) (sym e) (subst (P i) (sym (published-with_list lists i ps)) here))
     (λ (n : j ≢ i). subst (P j) (sym (published-with_list_else lists i j ps n)) (others j n))
 
-pub ends_self : (lists : List (List Status)) → Ends lists lists
+pub ends_self : (lists : List (List Status)) → AreEndsOf lists lists
 ends_self lists i = suffix_refl (published lists i)
 
-pub ends_trans : (xs ys zs : List (List Status)) → Ends xs ys → Ends ys zs → Ends xs zs
+pub ends_trans : (xs ys zs : List (List Status)) → AreEndsOf xs ys → AreEndsOf ys zs → AreEndsOf xs zs
 ends_trans xs ys zs p q i = IsSuffix-trans (p i) (q i)
 
-pub all_end_trans : (olds : List (List (List Status))) (ys zs : List (List Status)) → AllEnd olds ys → Ends ys zs → AllEnd olds zs
+pub all_end_trans : (olds : List (List (List Status))) (ys zs : List (List Status)) → AllEnd olds ys → AreEndsOf ys zs → AllEnd olds zs
 all_end_trans [] ys zs p q = tt
 all_end_trans (older ∷ olds) ys zs p q = (ends_trans older ys zs p.0 q, all_end_trans olds ys zs p.1 q)
 
--- what was known is an end of what is known after a publication
-pub ends_newest : (lists : List (List Status)) (i : ℕ) (p : Status) → Ends lists (with_newest lists i p)
+-- the old list is a suffix of the list after a publication
+pub ends_newest : (lists : List (List Status)) (i : ℕ) (p : Status) → AreEndsOf lists (with_newest lists i p)
 ends_newest lists i p =
     lists_with (λ j ps. IsSuffix (published lists j) ps) lists i (p ∷ published lists i) (suffix-cons p (published lists i)) (λ j n. suffix_refl (published lists j))
 
@@ -89,8 +89,8 @@ published-longer (ps ∷ a) [] i = longer_none _ (published (ps ∷ a) i) refl
 published-longer (ps ∷ a) (qs ∷ b) zero = refl
 published-longer (ps ∷ a) (qs ∷ b) (suc i) = published-longer a b i
 
--- of two ends of one, both are ends of the longer, and that is one too
-pub longer_ends : (a b all : List (List Status)) → Ends a all → Ends b all → Ends a (longer_lists a b) × Ends b (longer_lists a b) × Ends (longer_lists a b) all
+-- of two suffixes of one list, both are suffixes of the longer, and that is a suffix too
+pub longer_ends : (a b all : List (List Status)) → AreEndsOf a all → AreEndsOf b all → AreEndsOf a (longer_lists a b) × AreEndsOf b (longer_lists a b) × AreEndsOf (longer_lists a b) all
 longer_ends a b all p q = ((λ i. (each i).0), (λ i. (each i).1), (λ i. (each i).2))
   where
     Longest : ℕ → List Status → Type 0
@@ -100,21 +100,21 @@ longer_ends a b all p q = ((λ i. (each i).0), (λ i. (each i).1), (λ i. (each 
     each i = subst (Longest i) (sym (published-longer a b i)) (longer_is (published a i) (published b i) (published all i) (p i) (q i))
 
 -- the lowest bit is the flag that it was made of
-bit_back : (n : ℕ) (b : Bool) → nat_eq ((n * 2 + bit_of b) % 2) 1 ≡ b
+bit_back : (n : ℕ) (b : Bool) → nat_eq ((n * 2 + down_bit b) % 2) 1 ≡ b
 bit_back n true = let one : (n * 2 + 1) % 2 ≡ 1 = omega arith in rw one refl
 bit_back n false = let none : (n * 2 + 0) % 2 ≡ 0 = omega arith in rw none refl
 
 -- and the bits above it are the rest
-rest_back : (n : ℕ) (b : Bool) → (n * 2 + bit_of b) / 2 ≡ n
+rest_back : (n : ℕ) (b : Bool) → (n * 2 + down_bit b) / 2 ≡ n
 rest_back n true = omega arith
 rest_back n false = omega arith
 
 -- a word keeps the publication that it was made of
-pub meant-word_of : (p : Status) → Fits p → meant (word_of p) ≡ p
+pub meant-word_of : (p : Status) → Fits p → meant (status_word p) ≡ p
 meant-word_of p f =
-    let rest : word_of p / 2 ≡ (p.at * 512 + p.counters.tec) * 256 + p.counters.rec = rest_back _ p.counters.down in
-    let at : word_of p / 2 / 256 / 512 ≡ p.at = omega (arith, rest) in
-    let tec : word_of p / 2 / 256 % 512 ≡ p.counters.tec = omega (arith, rest) in
-    let rec : word_of p / 2 % 256 ≡ p.counters.rec = omega (arith, rest) in
-    let down : nat_eq (word_of p % 2) 1 ≡ p.counters.down = bit_back _ p.counters.down in
+    let rest : status_word p / 2 ≡ (p.at * 512 + p.counters.tec) * 256 + p.counters.rec = rest_back _ p.counters.down in
+    let at : status_word p / 2 / 256 / 512 ≡ p.at = omega (arith, rest) in
+    let tec : status_word p / 2 / 256 % 512 ≡ p.counters.tec = omega (arith, rest) in
+    let rec : status_word p / 2 % 256 ≡ p.counters.rec = omega (arith, rest) in
+    let down : nat_eq (status_word p % 2) 1 ≡ p.counters.down = bit_back _ p.counters.down in
     λ k. record { at = at k; counters = record { tec = tec k; rec = rec k; down = down k } }

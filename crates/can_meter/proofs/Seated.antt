@@ -1,4 +1,4 @@
--- What each call owes the table, and what it learns, at a seat whose view is known by an equation.
+-- The proof that each call owes the table, and the facts that it gets, at a seat whose view is known by an equation.
 use Rattle.std.proofs.Common.{◌≡◌, ℕ, ◌<◌, List, [], ◌∷◌, ap, sym, ◌∙◌, subst}
 use mathlib.Core.List.{IsSuffix}
 use mathlib.Core.Option.{none}
@@ -7,9 +7,9 @@ use Rattle.atomic_table.specs.Seated.{TableId}
 use Rattle.can_meter.specs.declared.status.Status.{Status}
 use Rattle.can_meter.specs.declared.rule.View.{View}
 use Rattle.can_meter.specs.declared.rule.View.TheVariants.{Keeps, Watches, Spent}
-use Rattle.can_meter.specs.Publications.{newest, published, with_list, longer_lists, Ends}
-use Rattle.can_meter.specs.Rule.{AllEnd, Metered, Reads, Returns, Stores, watcher, taken_in, returned, lists_of, olds_of, IsSeated}
-use Rattle.can_meter.specs.Words.{word_of, meant, Fits}
+use Rattle.can_meter.specs.Publications.{newest, published, with_list, longer_lists, AreEndsOf}
+use Rattle.can_meter.specs.Rule.{AllEnd, Metered, LoadsPublications, ReturnsOldLists, Stores, watcher, seat_taken_in, without_old_lists, seat_lists, olds_of, IsSeated}
+use Rattle.can_meter.specs.Words.{status_word, meant, Fits}
 use Rattle.can_meter.proofs.Lists.{published-with_list}
 use Rattle.can_meter.proofs.Steps.{reads, stores, keeper_returns, gauge_returns, copies, takes_in}
 
@@ -24,15 +24,15 @@ module _ {S : Type 0} (table : TableId) (key : ℕ) (seat : TableId) (me : Me S 
   Rule s = Metered key s.words s.views
 
   pub reads_at : (slots id word : ℕ) (lists : List (List Status)) → IsSeated table key seat me meter (Watches lists []) → word < meter.words
-      → (seat ≡ table) × (word < table.words) × Allows Rule slots id me word (λ n. n) (Reads (step slots word 0 0 none) me)
+      → (seat ≡ table) × (word < table.words) × Allows Rule slots id me word (λ n. n) (LoadsPublications (step slots word 0 0 none) me)
   reads_at slots id word lists s lt = (
     s.seat_is ∙ sym s.table_is,
     subst (λ t. word < t.words) (sym s.table_is) lt,
-    subst (λ (m : Me S View). Allows Rule slots id m word (λ n. n) (Reads (step slots word 0 0 none) m)) (sym s.me_is) (reads key slots id word lists (subst (λ n. word < n) (sym s.key_is) lt)),
+    subst (λ (m : Me S View). Allows Rule slots id m word (λ n. n) (LoadsPublications (step slots word 0 0 none) m)) (sym s.me_is) (reads key slots id word lists (subst (λ n. word < n) (sym s.key_is) lt)),
   )
 
   pub stores_at : (slots id word n : ℕ) (lists : List (List Status)) (p : Status) → IsSeated table key seat me meter (Keeps lists []) → word < meter.words
-      → n ≡ word_of p → Fits p → (newest (published lists word)).at < p.at
+      → n ≡ status_word p → Fits p → (newest (published lists word)).at < p.at
       → (seat ≡ table) × (word < table.words) × Allows Rule slots id me word (λ _. n) (λ _. Stores (step slots word n 0 none) me n)
   stores_at slots id word n lists p s lt same fits later = (
     s.seat_is ∙ sym s.table_is,
@@ -53,58 +53,58 @@ module _ {S : Type 0} (table : TableId) (key : ℕ) (seat : TableId) (me : Me S 
   -- another seat, to be taken in
   pub takes_in_at : (id other : ℕ) (v w : View) (table2 : TableId) (key2 : ℕ) (seat2 : TableId) (me2 : Me S View) (meter2 : TableId)
       → IsSeated table key seat me meter v → IsSeated table2 key2 seat2 me2 meter2 w → meter2 ≡ meter
-      → (seat ≡ table) × (seat2 ≡ table) × (me2.1 ≡ []) × (0 < table.words) × Joins Rule id me.0 other me2.0 (taken_in me.0 me2.0) Spent
+      → (seat ≡ table) × (seat2 ≡ table) × (me2.1 ≡ []) × (0 < table.words) × Joins Rule id me.0 other me2.0 (seat_taken_in me.0 me2.0) Spent
   takes_in_at id other v w table2 key2 seat2 me2 meter2 s t same =
       (s.seat_is ∙ sym s.table_is, t.seat_is ∙ same ∙ sym s.table_is, ap (λ m. m.1) t.me_is, subst (λ t. 0 < t.words) (sym s.table_is) s.not_empty, takes_in key id me.0 other me2.0)
 
   -- and the seat after it
   pub seated_taken : (v w : View) (table2 : TableId) (key2 : ℕ) (seat2 : TableId) (me2 : Me S View) (meter2 seat3 : TableId) (me3 : Me S View)
-      → IsSeated table key seat me meter v → IsSeated table2 key2 seat2 me2 meter2 w → seat3 ≡ seat → me3 ≡ (taken_in me.0 me2.0, me.1)
-      → IsSeated table key seat3 me3 meter (taken_in v w)
+      → IsSeated table key seat me meter v → IsSeated table2 key2 seat2 me2 meter2 w → seat3 ≡ seat → me3 ≡ (seat_taken_in me.0 me2.0, me.1)
+      → IsSeated table key seat3 me3 meter (seat_taken_in v w)
   seated_taken v w table2 key2 seat2 me2 meter2 seat3 me3 s t same after =
-      record { table_is = s.table_is; key_is = s.key_is; seat_is = same ∙ s.seat_is; not_empty = s.not_empty; me_is = after ∙ (λ k. (taken_in (s.me_is k).0 (t.me_is k).0, (s.me_is k).1)) }
+      record { table_is = s.table_is; key_is = s.key_is; seat_is = same ∙ s.seat_is; not_empty = s.not_empty; me_is = after ∙ (λ k. (seat_taken_in (s.me_is k).0 (t.me_is k).0, (s.me_is k).1)) }
 
   pub keeper_returns_at : (slots id : ℕ) (lists older : List (List Status)) → IsSeated table key seat me meter (Keeps lists (older ∷ []))
-      → (seat ≡ table) × (0 < table.words) × Allows Rule slots id me 0 (λ n. n) (Returns (step slots 0 0 0 none) me)
+      → (seat ≡ table) × (0 < table.words) × Allows Rule slots id me 0 (λ n. n) (ReturnsOldLists (step slots 0 0 0 none) me)
   keeper_returns_at slots id lists older s = (
     s.seat_is ∙ sym s.table_is,
     subst (λ t. 0 < t.words) (sym s.table_is) s.not_empty,
-    subst (λ (m : Me S View). Allows Rule slots id m 0 (λ n. n) (Returns (step slots 0 0 0 none) m)) (sym s.me_is) (keeper_returns key slots id 0 lists older),
+    subst (λ (m : Me S View). Allows Rule slots id m 0 (λ n. n) (ReturnsOldLists (step slots 0 0 0 none) m)) (sym s.me_is) (keeper_returns key slots id 0 lists older),
   )
 
   pub gauge_returns_at : (slots id : ℕ) (a b : List (List Status)) → IsSeated table key seat me meter (Watches (longer_lists a b) (a ∷ b ∷ []))
-      → (seat ≡ table) × (0 < table.words) × Allows Rule slots id me 0 (λ n. n) (Returns (step slots 0 0 0 none) me)
+      → (seat ≡ table) × (0 < table.words) × Allows Rule slots id me 0 (λ n. n) (ReturnsOldLists (step slots 0 0 0 none) me)
   gauge_returns_at slots id a b s = (
     s.seat_is ∙ sym s.table_is,
     subst (λ t. 0 < t.words) (sym s.table_is) s.not_empty,
-    subst (λ (m : Me S View). Allows Rule slots id m 0 (λ n. n) (Returns (step slots 0 0 0 none) m)) (sym s.me_is) (gauge_returns key slots id 0 a b),
+    subst (λ (m : Me S View). Allows Rule slots id m 0 (λ n. n) (ReturnsOldLists (step slots 0 0 0 none) m)) (sym s.me_is) (gauge_returns key slots id 0 a b),
   )
 
--- what a load showed; it says nothing of the number of slots
+-- the publication that a load showed; the number of slots is left open
 module _ {S : Type 0} (word found : ℕ) (me after : Me S View) where
-  pub shows_newest : Reads (step 0 word 0 0 none) me found after → meant found ≡ newest (published (lists_of after.0) word)
-  shows_newest r = r.5 ∙ sym (ap (λ v. newest (published (lists_of v) word)) r.1 ∙ ap newest (published-with_list (lists_of me.0) word r.0))
+  pub shows_newest : LoadsPublications (step 0 word 0 0 none) me found after → meant found ≡ newest (published (seat_lists after.0) word)
+  shows_newest r = r.5 ∙ sym (ap (λ v. newest (published (seat_lists v) word)) r.1 ∙ ap newest (published-with_list (seat_lists me.0) word r.0))
 
-  pub shows_more : Reads (step 0 word 0 0 none) me found after → IsSuffix (published (lists_of me.0) word) (published (lists_of after.0) word)
-  shows_more r = subst (IsSuffix (published (lists_of me.0) word)) (sym (ap (λ v. published (lists_of v) word) r.1 ∙ published-with_list (lists_of me.0) word r.0)) r.3
+  pub shows_more : LoadsPublications (step 0 word 0 0 none) me found after → IsSuffix (published (seat_lists me.0) word) (published (seat_lists after.0) word)
+  shows_more r = subst (IsSuffix (published (seat_lists me.0) word)) (sym (ap (λ v. published (seat_lists v) word) r.1 ∙ published-with_list (seat_lists me.0) word r.0)) r.3
 
-  pub shows_one : Reads (step 0 word 0 0 none) me found after → lists_of after.0 ≡ with_list (lists_of me.0) word (published (lists_of after.0) word)
+  pub shows_one : LoadsPublications (step 0 word 0 0 none) me found after → seat_lists after.0 ≡ with_list (seat_lists me.0) word (published (seat_lists after.0) word)
   shows_one r =
-      ap lists_of r.1 ∙ ap (with_list (lists_of me.0) word) (sym (ap (λ v. published (lists_of v) word) r.1 ∙ published-with_list (lists_of me.0) word r.0))
+      ap seat_lists r.1 ∙ ap (with_list (seat_lists me.0) word) (sym (ap (λ v. published (seat_lists v) word) r.1 ∙ published-with_list (seat_lists me.0) word r.0))
 
--- what a keeper learns that took in one gauge
+-- the list of a keeper that took in one gauge
 pub keeper_learns : {S : Type 0} (me other taken : Me S View) (mine theirs : List (List Status)) → me ≡ (Keeps mine [], []) → other ≡ (Watches theirs [], [])
-    → taken ≡ (taken_in me.0 other.0, me.1) → AllEnd (olds_of taken.0) (lists_of taken.0) → Ends theirs mine
+    → taken ≡ (seat_taken_in me.0 other.0, me.1) → AllEnd (olds_of taken.0) (seat_lists taken.0) → AreEndsOf theirs mine
 keeper_learns {S} me other taken mine theirs is other_is taken_is all =
-    let whole : taken ≡ (Keeps mine (theirs ∷ []), []) = taken_is ∙ (λ k. (taken_in (is k).0 (other_is k).0, (is k).1)) in
-    (subst (λ (m : Me S View). AllEnd (olds_of m.0) (lists_of m.0)) whole all).0
+    let whole : taken ≡ (Keeps mine (theirs ∷ []), []) = taken_is ∙ (λ k. (seat_taken_in (is k).0 (other_is k).0, (is k).1)) in
+    (subst (λ (m : Me S View). AllEnd (olds_of m.0) (seat_lists m.0)) whole all).0
 
 -- and a gauge, and what it knows then
 pub gauge_learns : {S : Type 0} (me other taken after : Me S View) (mine theirs : List (List Status)) → me ≡ (Watches mine [], []) → other ≡ (Watches theirs [], [])
-    → taken ≡ (taken_in me.0 other.0, me.1) → after.0 ≡ returned taken.0 → AllEnd (olds_of taken.0) (lists_of taken.0)
-    → Ends mine (lists_of after.0) × Ends theirs (lists_of after.0)
+    → taken ≡ (seat_taken_in me.0 other.0, me.1) → after.0 ≡ without_old_lists taken.0 → AllEnd (olds_of taken.0) (seat_lists taken.0)
+    → AreEndsOf mine (seat_lists after.0) × AreEndsOf theirs (seat_lists after.0)
 gauge_learns {S} me other taken after mine theirs is other_is taken_is returned_is all =
-    let whole : taken ≡ (Watches (longer_lists mine theirs) (mine ∷ theirs ∷ []), []) = taken_is ∙ (λ k. (taken_in (is k).0 (other_is k).0, (is k).1)) in
-    let knows : longer_lists mine theirs ≡ lists_of after.0 = sym (ap lists_of returned_is ∙ ap (λ m. lists_of (returned m.0)) whole) in
-    let ends = subst (λ (m : Me S View). AllEnd (olds_of m.0) (lists_of m.0)) whole all in
-    (subst (Ends mine) knows ends.0, subst (Ends theirs) knows ends.1.0)
+    let whole : taken ≡ (Watches (longer_lists mine theirs) (mine ∷ theirs ∷ []), []) = taken_is ∙ (λ k. (seat_taken_in (is k).0 (other_is k).0, (is k).1)) in
+    let knows : longer_lists mine theirs ≡ seat_lists after.0 = sym (ap seat_lists returned_is ∙ ap (λ m. seat_lists (without_old_lists m.0)) whole) in
+    let ends = subst (λ (m : Me S View). AllEnd (olds_of m.0) (seat_lists m.0)) whole all in
+    (subst (AreEndsOf mine) knows ends.0, subst (AreEndsOf theirs) knows ends.1.0)

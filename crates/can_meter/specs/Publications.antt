@@ -3,15 +3,15 @@ use mathlib.Core.List.{IsSuffix}
 use Rattle.can_confine.specs.Confinement.{at_start}
 use Rattle.can_meter.specs.declared.status.Status.{Status}
 
--- What is published of interfaces: a list of publications for each, the newest first. A publication is a status.
+-- The publications of interfaces: a list for each, the newest first. A publication is a status.
 
--- what is known of an interface before its first publication: no entry, and both counts 0
-abbrev pub opening : Status
-opening = record { at = 0; counters = at_start }
+-- the status of an interface before its first publication: no entry, and both counts 0
+abbrev pub status_at_start : Status
+status_at_start = record { at = 0; counters = at_start }
 
--- the newest of these publications, or the opening where there is none
+-- the newest of these publications, or the opening if there is none
 abbrev pub newest : List Status → Status
-newest [] = opening
+newest [] = status_at_start
 newest (p ∷ ps) = p
 
 -- the list of interface i, which is empty past the end of the lists
@@ -31,16 +31,16 @@ with_list (qs ∷ lists) (suc i) ps = qs ∷ with_list lists i ps
 abbrev pub with_newest : List (List Status) → ℕ → Status → List (List Status)
 with_newest lists i p = with_list lists i (p ∷ published lists i)
 
--- the longer of two lists, and the second where neither is
+-- the longer of two lists, and the second if neither is longer
 abbrev pub longer : List Status → List Status → List Status
 longer ps qs = if nat_le (length ps) (length qs) then qs else ps
 
--- of each interface the longer list
+-- the longer list of each interface
 abbrev pub longer_lists : List (List Status) → List (List Status) → List (List Status)
 longer_lists [] others = others
 longer_lists (ps ∷ lists) [] = ps ∷ lists
 longer_lists (ps ∷ lists) (qs ∷ others) = longer ps qs ∷ longer_lists lists others
 
--- of each interface, the older list is an end of the other: that one, with newer publications in front or none
-abbrev pub Ends : List (List Status) → List (List Status) → Type 0
-Ends older lists = (i : ℕ) → IsSuffix (published older i) (published lists i)
+-- for each interface the older list is a suffix of the newer: the newer one may have more publications in front
+abbrev pub AreEndsOf : List (List Status) → List (List Status) → Type 0
+AreEndsOf older lists = (i : ℕ) → IsSuffix (published older i) (published lists i)

@@ -2,9 +2,9 @@ use Rattle.std.specs.Prelude.{ℕ, List}
 use Rattle.can_meter.specs.declared.status.Status.{Status}
 use Rattle.can_meter.specs.Publications.{with_list, with_newest}
 
--- What contracts see of a keeper or a gauge.
+-- A keeper or a gauge, as contracts see it.
 
--- its meter's number, how many interfaces that has, and what this side knows was published of each
+-- its meter's number, the number of interfaces, and the publications of each that this side knows
 pub record Readings : Type 0 where
   pub number : ℕ
   pub ifaces : ℕ

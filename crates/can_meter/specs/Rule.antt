@@ -7,7 +7,7 @@ use Rattle.atomic_table.specs.Seated.{TableId}
 use Rattle.can_meter.specs.declared.status.Status.{Status}
 use Rattle.can_meter.specs.declared.rule.View.{View}
 use Rattle.can_meter.specs.declared.rule.View.TheVariants.{Keeps, Watches, Spent}
-use Rattle.can_meter.specs.Publications.{newest, published, with_list, with_newest, longer_lists, Ends}
+use Rattle.can_meter.specs.Publications.{newest, published, with_list, with_newest, longer_lists, AreEndsOf}
 use Rattle.can_meter.specs.Words.{meant, Fits}
 
 -- The rule that a meter's words and seats keep between any two steps, and what each step returns to its caller.
@@ -21,13 +21,13 @@ AreRising (p ∷ ps) = ((newest ps).at < p.at) × Fits p × AreRising ps
 -- each of these lists is an end
 abbrev pub AllEnd : List (List (List Status)) → List (List Status) → Type 0
 AllEnd [] lists = Unit {0}
-AllEnd (older ∷ olds) lists = Ends older lists × AllEnd olds lists
+AllEnd (older ∷ olds) lists = AreEndsOf older lists × AllEnd olds lists
 
 -- the one keeper has all publications, a gauge an end of each list, and what a seat took in are ends too
-abbrev pub Knows : ℕ → List (List Status) → ℕ → View → Type 0
-Knows keeper all seat (Keeps lists olds) = (seat ≡ keeper) × (lists ≡ all) × AllEnd olds all
-Knows keeper all seat (Watches lists olds) = Ends lists all × AllEnd olds all
-Knows keeper all seat Spent = Unit {0}
+abbrev pub KnowsPublications : ℕ → List (List Status) → ℕ → View → Type 0
+KnowsPublications keeper all seat (Keeps lists olds) = (seat ≡ keeper) × (lists ≡ all) × AllEnd olds all
+KnowsPublications keeper all seat (Watches lists olds) = AreEndsOf lists all × AllEnd olds all
+KnowsPublications keeper all seat Spent = Unit {0}
 
 -- each word keeps the newest publication of its interface, publications rise, and each seat knows its part
 abbrev pub Metered : ℕ → List ℕ → List View → Type 0
@@ -36,13 +36,13 @@ Metered count words views =
     × (length words ≡ count)
     × ((i : ℕ) → i < count → meant (slice_index words i) ≡ newest (published all i))
     × ((i : ℕ) → AreRising (published all i))
-    × ((seat : ℕ) (v : View) → get_elem? views seat ≡ some v → Knows keeper all seat v)
+    × ((seat : ℕ) (v : View) → get_elem? views seat ≡ some v → KnowsPublications keeper all seat v)
 
 -- the lists that a seat has
-abbrev pub lists_of : View → List (List Status)
-lists_of (Keeps lists olds) = lists
-lists_of (Watches lists olds) = lists
-lists_of Spent = []
+abbrev pub seat_lists : View → List (List Status)
+seat_lists (Keeps lists olds) = lists
+seat_lists (Watches lists olds) = lists
+seat_lists Spent = []
 
 -- the lists that it took in, and its own before that
 abbrev pub olds_of : View → List (List (List Status))
@@ -52,38 +52,38 @@ olds_of Spent = []
 
 -- a gauge that has seen as much as this seat
 abbrev pub watcher : View → View
-watcher v = Watches (lists_of v) []
+watcher v = Watches (seat_lists v) []
 
 -- a gauge that has seen nothing
-abbrev pub newcomer : View → View
-newcomer v = Watches [] []
+abbrev pub new_gauge : View → View
+new_gauge v = Watches [] []
 
 -- a seat that took in another: a keeper keeps its lists, a gauge the longer of both
-abbrev pub taken_in : View → View → View
-taken_in (Keeps lists olds) w = Keeps lists (lists_of w ∷ olds)
-taken_in (Watches lists olds) w = Watches (longer_lists lists (lists_of w)) (lists ∷ lists_of w ∷ olds)
-taken_in Spent w = Spent
+abbrev pub seat_taken_in : View → View → View
+seat_taken_in (Keeps lists olds) w = Keeps lists (seat_lists w ∷ olds)
+seat_taken_in (Watches lists olds) w = Watches (longer_lists lists (seat_lists w)) (lists ∷ seat_lists w ∷ olds)
+seat_taken_in Spent w = Spent
 
 -- a seat once its old lists are returned: it keeps them no longer
-abbrev pub returned : View → View
-returned (Keeps lists olds) = Keeps lists []
-returned (Watches lists olds) = Watches lists []
-returned Spent = Spent
+abbrev pub without_old_lists : View → View
+without_old_lists (Keeps lists olds) = Keeps lists []
+without_old_lists (Watches lists olds) = Watches lists []
+without_old_lists Spent = Spent
 
 -- a load: the gauge's list of this interface becomes one that it is an end of, and whose newest was found
-abbrev pub Reads : {S : Type 0} → Step S → Me S View → ℕ → Me S View → Type 0
-Reads s v found w =
+abbrev pub LoadsPublications : {S : Type 0} → Step S → Me S View → ℕ → Me S View → Type 0
+LoadsPublications s v found w =
     (seen : List Status)
-    × (w.0 ≡ Watches (with_list (lists_of v.0) s.word seen) []) × (w.1 ≡ v.1)
-    × IsSuffix (published (lists_of v.0) s.word) seen × AreRising seen × (meant found ≡ newest seen)
+    × (w.0 ≡ Watches (with_list (seat_lists v.0) s.word seen) []) × (w.1 ≡ v.1)
+    × IsSuffix (published (seat_lists v.0) s.word) seen × AreRising seen × (meant found ≡ newest seen)
 
 -- a load that returns the old lists: they are ends of the seat's own
-abbrev pub Returns : {S : Type 0} → Step S → Me S View → ℕ → Me S View → Type 0
-Returns s v found w = (w.0 ≡ returned v.0) × (w.1 ≡ v.1) × AllEnd (olds_of v.0) (lists_of v.0)
+abbrev pub ReturnsOldLists : {S : Type 0} → Step S → Me S View → ℕ → Me S View → Type 0
+ReturnsOldLists s v found w = (w.0 ≡ without_old_lists v.0) × (w.1 ≡ v.1) × AllEnd (olds_of v.0) (seat_lists v.0)
 
 -- a store: the keeper's list of this interface has what the word keeps in front
 abbrev pub Stores : {S : Type 0} → Step S → Me S View → ℕ → Me S View → Type 0
-Stores s v found w = (w.0 ≡ Keeps (with_newest (lists_of v.0) s.word (meant found)) []) × (w.1 ≡ v.1)
+Stores s v found w = (w.0 ≡ Keeps (with_newest (seat_lists v.0) s.word (meant found)) []) × (w.1 ≡ v.1)
 
 -- the name of no table
 abbrev pub no_table : TableId

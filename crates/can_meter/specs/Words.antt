@@ -4,13 +4,13 @@ use Rattle.can_meter.specs.declared.status.Status.{Status}
 -- How one word of 64 bits keeps a publication. No caller's contract speaks of it.
 
 -- a flag as a bit (own choice)
-abbrev pub bit_of : Bool → ℕ
-bit_of on = if on then 1 else 0
+abbrev pub down_bit : Bool → ℕ
+down_bit on = if on then 1 else 0
 
 -- from the lowest bit on: a bit for an interface that is down, 8 bits of receive count, 9 of transmit count, and the
 -- length of the record
-abbrev pub word_of : Status → ℕ
-word_of p = ((p.at * 512 + p.counters.tec) * 256 + p.counters.rec) * 2 + bit_of p.counters.down
+abbrev pub status_word : Status → ℕ
+status_word p = ((p.at * 512 + p.counters.tec) * 256 + p.counters.rec) * 2 + down_bit p.counters.down
 
 -- the publication that a word keeps
 abbrev pub meant : ℕ → Status

@@ -11,7 +11,7 @@ const MAX_IFACES: usize = 16;
 /// A word for each interface.
 pub(crate) type Words = Table<(), View, usize, Law, Global>;
 
-/// What its holder knows of the words. It has no bytes.
+/// The holder's knowledge of the words. It has no bytes.
 pub(crate) type Place = Seat<(), View>;
 
 /// Names one meter for each number, for contracts only. It has no calls.
@@ -55,7 +55,7 @@ impl Model for MeterBlank {
 }
 
 impl MeterBlank {
-    /// How many interfaces it has.
+    /// Returns how many interfaces it has.
     pub fn ifaces(&self) -> usize
         ensures { result ≡ self.now.words }
     {
@@ -63,7 +63,7 @@ impl MeterBlank {
     }
 }
 
-/// A meter of 1 to 16 interfaces, not yet named. `AllocError` where there is no memory for its words.
+/// A meter of 1 to 16 interfaces, not yet named. `AllocError` if there is no memory for its words.
 pub fn meter_blank(alloc: Global, ifaces: usize) -> Result<MeterBlank, AllocError>
     requires { (0 < ifaces) × (ifaces ≤ 16) }
     ensures { IfOk result (λ b. b.words ≡ ifaces) }

@@ -1,6 +1,6 @@
 ghost use Rattle.std.specs.Prelude.{◌≡◌, ◌<◌, IfOk, MatchResult};
 ghost use mathlib.Core.List.{IsSuffix};
-ghost use Rattle.can_meter.specs.Publications.{newest, published, longer_lists, Ends};
+ghost use Rattle.can_meter.specs.Publications.{newest, published, longer_lists, AreEndsOf};
 ghost use Rattle.can_meter.specs.Readings.{knowing, knowing_of};
 
 use crate::blank::{MeterName, Place, Words};
@@ -26,15 +26,15 @@ impl<N: MeterName> Model for Gauge<N> {
     ghost use Rattle.std.specs.Arc.{arc_value};
     ghost use Rattle.can_meter.specs.declared.rule.View.TheVariants.{Watches};
     ghost use Rattle.can_meter.specs.Readings.{Readings, readings};
-    ghost use Rattle.can_meter.specs.Rule.{lists_of, IsSeated};
+    ghost use Rattle.can_meter.specs.Rule.{seat_lists, IsSeated};
 
     ghost Value = { Readings };
 
-    ghost view = { λ g. readings g.number (N.meter g.number).words (lists_of g.seat.me.0) };
+    ghost view = { λ g. readings g.number (N.meter g.number).words (seat_lists g.seat.me.0) };
 
     ghost invariant = { λ g. IsSeated
         (arc_value g.table).shared.table_id (arc_value g.table).shared.key
-        g.seat.table_id g.seat.me (N.meter g.number) (Watches (lists_of g.seat.me.0) []) };
+        g.seat.table_id g.seat.me (N.meter g.number) (Watches (seat_lists g.seat.me.0) []) };
 }
 
 impl<N: MeterName> Gauge<N> {
@@ -45,15 +45,16 @@ impl<N: MeterName> Gauge<N> {
         self.number
     }
 
-    /// How many interfaces its meter has.
+    /// Returns how many interfaces its meter has.
     pub fn ifaces(&self) -> usize
         ensures { result ≡ self.now.ifaces }
     {
         self.table.word_count()
     }
 
-    /// What was published last of an interface, at first 0 entries and 0/0. One load, which waits for
-    /// nobody. A newer status may be published before it returns, but a gauge never goes back.
+    /// Returns the newest publication of an interface: at first 0 entries and 0/0. It is one load,
+    /// which waits for no thread. A newer status may be published before it returns, but a gauge
+    /// never goes back.
     pub fn status(&mut self, iface: usize) -> Status
         requires { iface < self.old.ifaces }
         ensures status { result ≡ newest (published self.new.lists iface) }
@@ -75,8 +76,8 @@ impl<N: MeterName> Gauge<N> {
         }
     }
 
-    /// Another gauge that has seen as much as this one, which stays as it is. `AllocError` where no more
-    /// gauges can be counted; no memory is taken.
+    /// Another gauge that has seen as much as this one, which stays as it is. `AllocError` if no
+    /// more gauges can be counted; no memory is taken.
     pub fn another(&mut self) -> Result<Gauge<N>, AllocError>
         ensures same { self.new ≡ self.old }
         ensures another { IfOk result (λ gauge. gauge ≡ self.old) }
@@ -96,8 +97,8 @@ impl<N: MeterName> Gauge<N> {
     pub fn join(mut self, other: Gauge<N>) -> Gauge<N>
         requires { other.number ≡ self.number }
         ensures longer { result ≡ knowing self (longer_lists self.lists other.lists) }
-        ensures this { Ends self.lists result.lists }
-        ensures that { Ends other.lists result.lists }
+        ensures this { AreEndsOf self.lists result.lists }
+        ensures that { AreEndsOf other.lists result.lists }
     {
         let Gauge {
             table: _,

@@ -1,5 +1,5 @@
 ghost use Rattle.std.specs.Prelude.{◌≡◌, ◌<◌};
-ghost use Rattle.can_meter.specs.Publications.{newest, published, Ends};
+ghost use Rattle.can_meter.specs.Publications.{newest, published, AreEndsOf};
 ghost use Rattle.can_meter.specs.Readings.{after_publishing};
 
 use crate::blank::{MeterName, Place, Words};
@@ -27,15 +27,15 @@ impl<N: MeterName> Model for Keeper<N> {
     ghost use Rattle.std.specs.Arc.{arc_value};
     ghost use Rattle.can_meter.specs.declared.rule.View.TheVariants.{Keeps};
     ghost use Rattle.can_meter.specs.Readings.{Readings, readings};
-    ghost use Rattle.can_meter.specs.Rule.{lists_of, IsSeated};
+    ghost use Rattle.can_meter.specs.Rule.{seat_lists, IsSeated};
 
     ghost Value = { Readings };
 
-    ghost view = { λ k. readings k.number (N.meter k.number).words (lists_of k.seat.me.0) };
+    ghost view = { λ k. readings k.number (N.meter k.number).words (seat_lists k.seat.me.0) };
 
     ghost invariant = { λ k. IsSeated
         (arc_value k.table).shared.table_id (arc_value k.table).shared.key
-        k.seat.table_id k.seat.me (N.meter k.number) (Keeps (lists_of k.seat.me.0) []) };
+        k.seat.table_id k.seat.me (N.meter k.number) (Keeps (seat_lists k.seat.me.0) []) };
 }
 
 impl<N: MeterName> Keeper<N> {
@@ -46,15 +46,15 @@ impl<N: MeterName> Keeper<N> {
         self.number
     }
 
-    /// How many interfaces its meter has.
+    /// Returns how many interfaces its meter has.
     pub fn ifaces(&self) -> usize
         ensures { result ≡ self.now.ifaces }
     {
         self.table.word_count()
     }
 
-    /// Publishes an interface's counters and the length of the record, which is above the last length that
-    /// was published of this interface. One store, which waits for nobody.
+    /// Publishes an interface's counters and the length of the record, which is above the last
+    /// length published for this interface. It is one store, which waits for no thread.
     pub fn publish(&mut self, iface: usize, at: u32, counters: Counters)
         requires iface { iface < self.old.ifaces }
         requires later { (newest (published self.old.lists iface)).at < at }
@@ -71,7 +71,7 @@ impl<N: MeterName> Keeper<N> {
     pub fn absorb(&mut self, gauge: Gauge<N>)
         requires { gauge.number ≡ self.old.number }
         ensures same { self.new ≡ self.old }
-        ensures seen { Ends gauge.lists self.old.lists }
+        ensures seen { AreEndsOf gauge.lists self.old.lists }
     {
         let Gauge {
             table: _,

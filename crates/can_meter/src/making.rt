@@ -9,8 +9,8 @@ use std::alloc::{AllocError, Global};
 use std::marker::PhantomData;
 use std::sync::Arc;
 
-/// Names a meter: its keeper and a first gauge, neither of which knows of a publication. `N` names the
-/// blank under this number. `AllocError` where there is no memory.
+/// Names a meter: its keeper and a first gauge, neither of which knows of a publication. `N` names
+/// the blank under this number. `AllocError` if there is no memory.
 pub fn meter<N: MeterName>(
     alloc: Global,
     blank: MeterBlank,

@@ -5,11 +5,11 @@ use crate::status::Status;
 use atomic_table::{Join, Play, Split, TableRule};
 use std::collections::LinkedList;
 
-/// What a seat knows: for each interface a list of publications, and such lists that it took in.
+/// A seat's knowledge: a list of publications for each interface, and lists that it took in.
 pub enum View {
     /// The keeper: all that it published.
     Keeps(LinkedList<LinkedList<Status>>, LinkedList<LinkedList<LinkedList<Status>>>),
-    /// A gauge: what it has seen.
+    /// A gauge, with the publications that it has seen.
     Watches(LinkedList<LinkedList<Status>>, LinkedList<LinkedList<LinkedList<Status>>>),
     /// A gauge that was taken in.
     Spent,
@@ -32,18 +32,18 @@ impl<S> TableRule<S, View, usize> for Law {
 pub struct Look;
 
 impl<S> Play<S, View> for Look {
-    ghost use Rattle.can_meter.specs.Rule.{Reads};
+    ghost use Rattle.can_meter.specs.Rule.{LoadsPublications};
 
-    ghost then = { Reads };
+    ghost then = { LoadsPublications };
 }
 
 /// A load that returns the lists that were taken in: each is an end of the seat's own.
 pub struct Return;
 
 impl<S> Play<S, View> for Return {
-    ghost use Rattle.can_meter.specs.Rule.{Returns};
+    ghost use Rattle.can_meter.specs.Rule.{ReturnsOldLists};
 
-    ghost then = { Returns };
+    ghost then = { ReturnsOldLists };
 }
 
 /// A store of a new publication.
@@ -55,15 +55,15 @@ impl<S> Play<S, View> for Publish {
     ghost then = { Stores };
 }
 
-/// A gauge that has seen nothing, beside its keeper.
+/// A gauge that has seen nothing, besides its keeper.
 pub struct Opens;
 
 impl Split<View> for Opens {
-    ghost use Rattle.can_meter.specs.Rule.{newcomer};
+    ghost use Rattle.can_meter.specs.Rule.{new_gauge};
 
     ghost left = { λ v. v };
 
-    ghost right = { newcomer };
+    ghost right = { new_gauge };
 }
 
 /// A second gauge that has seen as much.
@@ -82,9 +82,9 @@ pub struct TakesIn;
 
 impl Join<View> for TakesIn {
     ghost use Rattle.can_meter.specs.declared.rule.View.TheVariants.{Spent};
-    ghost use Rattle.can_meter.specs.Rule.{taken_in};
+    ghost use Rattle.can_meter.specs.Rule.{seat_taken_in};
 
-    ghost both = { taken_in };
+    ghost both = { seat_taken_in };
 
     ghost spent = { Spent };
 }

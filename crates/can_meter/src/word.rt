@@ -1,5 +1,5 @@
 ghost use Rattle.std.specs.Prelude.{◌≡◌};
-ghost use Rattle.can_meter.specs.Words.{word_of, meant, Fits};
+ghost use Rattle.can_meter.specs.Words.{status_word, meant, Fits};
 
 use crate::status::Status;
 use can_confine::Counters;
@@ -7,15 +7,15 @@ use can_confine::Counters;
 /// The number of values of the bit that says whether the interface is down.
 const DOWN_VALUES: u64 = 2;
 
-/// How many values the receive count's bits have.
+/// The number of values that the receive count's bits have.
 const REC_VALUES: u64 = 256;
 
-/// How many values the transmit count's bits have.
+/// The number of values that the transmit count's bits have.
 const TEC_VALUES: u64 = 512;
 
 /// The word that keeps a publication.
 pub(crate) fn word(publication: Status) -> u64
-    ensures word { result ≡ word_of publication }
+    ensures word { result ≡ status_word publication }
     ensures fits { Fits publication }
 {
     let tec = publication.counters.tec();

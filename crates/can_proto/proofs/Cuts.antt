@@ -7,12 +7,12 @@ abbrev pub clear : (ℕ → Bool) → List ℕ → Bool
 clear mark [] = true
 clear mark (b ∷ bs) = if mark b then false else clear mark bs
 
--- what comes before the first mark
+-- the bytes before the first mark
 abbrev up_to : (ℕ → Bool) → List ℕ → List ℕ
 up_to mark [] = []
 up_to mark (b ∷ bs) = if mark b then [] else b ∷ up_to mark bs
 
--- what comes after it
+-- the bytes after it
 abbrev past : (ℕ → Bool) → List ℕ → List ℕ
 past mark [] = []
 past mark (b ∷ bs) = if mark b then bs else past mark bs

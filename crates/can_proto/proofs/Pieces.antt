@@ -1,12 +1,12 @@
--- A stream read in two parts: what was kept of the first stands for it.
+-- A stream read in two parts: the text kept of the first replaces it.
 use Rattle.std.proofs.Common.{◌≡◌, ℕ, ◌<◌, ◌≤◌, true, false, ◌||◌, ltb, List, [], ◌∷◌, ◌++◌, length, flat_map, refl, sym, ap, subst, ◌∙◌, append_assoc, arith, inl, inr}
 use Rattle.std.proofs.lemmas.Bool.{cases_Bool, cases_lt, eq-eqb, eqb-true, ne_eqb, lt-ltb, le-ltb, cond-true, cond-false}
 use Rattle.std.proofs.lemmas.List.{append-nil, length-append}
 use Rattle.can_proto.specs.declared.message.Incoming.{Incoming}
 use Rattle.can_proto.specs.declared.message.Incoming.TheVariants.{Message, TooLong}
-use Rattle.can_proto.specs.Messages.{is_open_mark, is_close_mark, run_of, is_closed, limit, given_by, messages_of, has_open_mark, left_by, kept_of, given_from, has_mark, IsKept}
+use Rattle.can_proto.specs.Messages.{is_open_mark, is_close_mark, run_of, is_closed, limit, given_by, messages_of, has_open_mark, left_by, kept_of, given_from, has_mark, MayBeKept}
 
--- up to the first mark, what follows has no say
+-- up to the first mark, the following bytes do not matter
 run-within : (a b : List ℕ) → has_mark a ≡ true → run_of (a ++ b) ≡ run_of a
 run-within [] b h = absurd cc
 run-within (x ∷ a) b h = let again = run-within a b in grind arith
@@ -59,7 +59,7 @@ run-all a h = ap run_of (sym (append-nil a)) ∙ run-on a [] h ∙ append-nil a
 closed-none : (a : List ℕ) → has_mark a ≡ false → is_closed a ≡ false
 closed-none a h = ap is_closed (sym (append-nil a)) ∙ closed-on a [] h
 
--- what a `<` gives, and what it leaves, with a mark after it
+-- the result of a `<`, and the text that it leaves, if a mark follows it
 given-within : (a b : List ℕ) → has_mark a ≡ true → given_by (a ++ b) ≡ given_by a
 given-within a b h = rw (run-within a b h, closed-within a b h) refl
 
@@ -123,7 +123,7 @@ last_open a b h =
 earlier_open : (a b : List ℕ) → has_open_mark a ≡ true → messages_of (a ++ b) ≡ messages_of a ++ messages_of (kept_of a ++ b) → given_by (a ++ b) ++ messages_of (a ++ b) ≡ (given_by a ++ messages_of a) ++ messages_of (kept_of a ++ b)
 earlier_open a b h again = rw (given-within a b (open-mark a h), again) (sym (append_assoc (given_by a) (messages_of a) (messages_of (kept_of a ++ b))))
 
--- all together: what was kept of the first part stands for it
+-- all together: the text kept of the first part replaces it
 pub messages-append : (a b : List ℕ) → messages_of (a ++ b) ≡ messages_of a ++ messages_of (kept_of a ++ b)
 messages-append [] b = refl
 messages-append (x ∷ a) b =
@@ -190,8 +190,8 @@ kept-append (x ∷ a) b =
           ]
     ]
 
--- what is kept is kept again, and gives nothing
-pub kept-is : (t : List ℕ) → IsKept t → (messages_of t ≡ []) × (kept_of t ≡ t)
+-- the text kept is kept again, and gives nothing
+pub kept-is : (t : List ℕ) → MayBeKept t → (messages_of t ≡ []) × (kept_of t ≡ t)
 kept-is [] h = (refl, refl)
 kept-is (x ∷ run) h =
     let mark : is_open_mark x ≡ true = eq-eqb x 60 h.0 in
@@ -200,7 +200,7 @@ kept-is (x ∷ run) h =
       kept-last x run mark none ∙ left-none run h.1 h.2 ∙ ap (λ (y : ℕ). y ∷ run) (sym h.0),
     )
 
-left-kept : (a : List ℕ) → has_open_mark a ≡ false → IsKept (left_by a)
+left-kept : (a : List ℕ) → has_open_mark a ≡ false → MayBeKept (left_by a)
 left-kept a h =
     elim (cases_Bool (has_mark a)) [
       | inl m ↦ rw (left-closed a (closed-mark a m h)) tt
@@ -211,21 +211,21 @@ left-kept a h =
           ]
     ]
 
-pub kept-kept : (a : List ℕ) → IsKept (kept_of a)
+pub kept-kept : (a : List ℕ) → MayBeKept (kept_of a)
 kept-kept [] = tt
 kept-kept (x ∷ a) =
     let again = kept-kept a in
     elim (cases_Bool (is_open_mark x)) [
-      | inr other ↦ subst IsKept (sym (kept-other x a other)) again
+      | inr other ↦ subst MayBeKept (sym (kept-other x a other)) again
       | inl mark ↦
           elim (cases_Bool (has_open_mark a)) [
-            | inl there ↦ subst IsKept (sym (kept-earlier x a there)) again
-            | inr last ↦ subst IsKept (sym (kept-last x a mark last)) (left-kept a last)
+            | inl there ↦ subst MayBeKept (sym (kept-earlier x a there)) again
+            | inr last ↦ subst MayBeKept (sym (kept-last x a mark last)) (left-kept a last)
           ]
     ]
 
 -- the calls together give what the whole stream gives
-pub given_from-all : (before : List ℕ) (pieces : List (List ℕ)) → IsKept before → given_from before pieces ≡ messages_of (before ++ flat_map (λ piece. piece) pieces)
+pub given_from-all : (before : List ℕ) (pieces : List (List ℕ)) → MayBeKept before → given_from before pieces ≡ messages_of (before ++ flat_map (λ piece. piece) pieces)
 given_from-all before [] h = sym (ap messages_of (append-nil before) ∙ (kept-is before h).0)
 given_from-all before (piece ∷ pieces) h =
     let rest = flat_map (λ (p : List ℕ). p) pieces in
@@ -233,7 +233,7 @@ given_from-all before (piece ∷ pieces) h =
     ap (λ (m : List Incoming). messages_of (before ++ piece) ++ m) again ∙ sym (messages-append (before ++ piece) rest) ∙ ap messages_of (append_assoc before piece rest)
 
 -- one byte more, by what was kept
-pub opens : (t : List ℕ) → IsKept t → (messages_of (t ++ 60 ∷ []) ≡ []) × (kept_of (t ++ 60 ∷ []) ≡ 60 ∷ [])
+pub opens : (t : List ℕ) → MayBeKept t → (messages_of (t ++ 60 ∷ []) ≡ []) × (kept_of (t ++ 60 ∷ []) ≡ 60 ∷ [])
 opens [] h = (refl, refl)
 opens (x ∷ run) h =
     let none = no_open run h.1 in

@@ -22,7 +22,7 @@ use Rattle.can_proto.specs.Words.{is_blank, front, words_after, words_of}
 use Rattle.can_proto.specs.Verbs.{is_allowed_in, mode_has}
 use Rattle.can_frame.specs.Numbers.{hex_digit, in_base, one_more, number_after, number_in}
 use Rattle.can_proto.specs.Commands.{◌>>=◌, or_fault, short_id, long_id, id_of, length_of, fd_length_of, bytes_of, send_of, send_fd_of, flags_of_word, send_flagged_of, remote_of, filter_of, filters_of, set_of, mask_of, switch_of, open_of, fault_of, arguments_of, command_of, reading}
-use Rattle.can_proto.specs.CommandSpelling.{flag_text, frame_words, filter_words, option_words, command_words, command_spelling, IsFilter, IsOption, IsCommand}
+use Rattle.can_proto.specs.CommandSpelling.{flag_text, frame_words, filter_command_words, option_command_words, command_words, command_spelling, IsFilter, IsOption, IsCommand}
 use Rattle.can_proto.proofs.Cuts.{clear, clear_parts}
 use Rattle.can_proto.proofs.Numerals.{IsMark, clear-digits, clear-decimal}
 use Rattle.can_frame.proofs.Numerals.{left, value-digits, value-decimal}
@@ -108,7 +108,7 @@ words-bytes : (bytes : List ℕ) → AreWords (map (digits 16 2) bytes)
 words-bytes [] = tt
 words-bytes (b ∷ bs) = (clear-digits is_blank no-blank 16 2 b, omega arith, words-bytes bs)
 
-words-filters : (filters : List CanFilter) → AreWords (flat_map filter_words filters)
+words-filters : (filters : List CanFilter) → AreWords (flat_map filter_command_words filters)
 words-filters [] = tt
 words-filters (f ∷ fs) = (clear-digits is_blank no-blank 16 8 f.id, omega arith, (clear-digits is_blank no-blank 16 8 f.mask, omega arith, words-filters fs))
 
@@ -147,7 +147,7 @@ words-flag : (on : Bool) → AreWords (flag_text on ∷ [])
 words-flag false = (refl, omega arith, tt)
 words-flag true = (refl, omega arith, tt)
 
-words-option : (o : Opt) → AreWords (option_words o)
+words-option : (o : Opt) → AreWords (option_command_words o)
 words-option (opt.Loopback on) = (refl, omega arith, words-flag on)
 words-option (opt.RecvOwn on) = (refl, omega arith, words-flag on)
 words-option (opt.Join on) = (refl, omega arith, words-flag on)
@@ -218,7 +218,7 @@ fd-word : (n : ℕ) (word : List ℕ) → is_fd_length n ≡ true → number_in 
 unfolding fd_length_of
 fd-word n word h is_n count = rw (is_n, h, eq-true (length word) (if nat_lt n 10 then 1 else 2) count) refl
 
--- a word of one digit stands for less than 10
+-- a word of one digit spells less than 10
 one-digit : (o : Option ℕ) (n : ℕ) → number_after 10 (one_more 10 0 (in_base 10 o)) [] ≡ Some n → n < 10
 one-digit None n e = absurd cc
 one-digit (Some v) n e = by_test (nat_lt v 10) refl e
@@ -286,16 +286,16 @@ filter-again : (id_word mask_word : List ℕ) (id mask : ℕ) → number_in 16 8
 unfolding filter_of
 filter-again id_word mask_word id mask is_id is_mask low = rw (is_id, is_mask, low) refl
 
-filters-again : (filters : List CanFilter) → All IsFilter filters → filters_of (flat_map filter_words filters) ≡ Ok filters
+filters-again : (filters : List CanFilter) → All IsFilter filters → filters_of (flat_map filter_command_words filters) ≡ Ok filters
 unfolding filters_of
 filters-again [] h = refl
 filters-again (f ∷ fs) h =
     let good : IsFilter f = h 0 f (omega arith) in
     let one = filter-again (digits 16 8 f.id) (digits 16 8 f.mask) f.id f.mask (word-again f.id good.0) (word-again f.mask good.1) good.2 in
     let again = filters-again fs (λ k d lt. h (suc k) d (omega arith)) in
-    ap (λ (r : Result CanFilter ProtoFault). r >>= λ x. filters_of (flat_map filter_words fs) >>= λ xs. Ok (x ∷ xs)) one ∙ ap (λ (r : Result (List CanFilter) ProtoFault). r >>= λ xs. Ok (f ∷ xs)) again
+    ap (λ (r : Result CanFilter ProtoFault). r >>= λ x. filters_of (flat_map filter_command_words fs) >>= λ xs. Ok (x ∷ xs)) one ∙ ap (λ (r : Result (List CanFilter) ProtoFault). r >>= λ xs. Ok (f ∷ xs)) again
 
-two-each : (filters : List CanFilter) → length (flat_map filter_words filters) ≡ length filters * 2
+two-each : (filters : List CanFilter) → length (flat_map filter_command_words filters) ≡ length filters * 2
 two-each [] = refl
 two-each (f ∷ fs) = let again = two-each fs in omega (arith, again)
 
@@ -349,7 +349,7 @@ frame-again mode id (Fd flags bytes) is_id h may = by flags.brs flags.esi may
 frame-again mode id (Remote len) is_id h may =
     said mode verb.SendRtr _ _ may (remote-again (id_text id) (decimal len) id len (id-again id.extended id.number is_id) (length-again len h))
 
-option-again : (mode : Mode) (o : Opt) → IsOption o → IsTrue (mode_has mode (option_words o)) → reading mode (option_words o) ≡ Ok (SetOption o)
+option-again : (mode : Mode) (o : Opt) → IsOption o → IsTrue (mode_has mode (option_command_words o)) → reading mode (option_command_words o) ≡ Ok (SetOption o)
 unfolding arguments_of
 option-again mode (opt.Loopback on) h may = said mode verb.Loopback _ _ may (ap (λ (r : Result Bool ProtoFault). r >>= λ x. Ok (SetOption (opt.Loopback x))) (flag-again on))
 option-again mode (opt.RecvOwn on) h may = said mode verb.RecvOwn _ _ may (ap (λ (r : Result Bool ProtoFault). r >>= λ x. Ok (SetOption (opt.RecvOwn x))) (flag-again on))
@@ -364,7 +364,7 @@ command-again mode Interfaces h may = said mode verb.Interfaces [] Interfaces ma
 command-again mode (Open name) h may = said mode verb.Open (name ∷ []) (Open name) may refl
 command-again mode Rawmode h may = said mode verb.Rawmode [] Rawmode may refl
 command-again mode (Send frame) h may = frame-again mode frame.id frame.payload h.0 h.1 may
-command-again mode (SetFilters filters) h may = said mode verb.Filter _ _ may (set-again (decimal (length filters)) (flat_map filter_words filters) (length filters) filters (count-again (length filters) h.0) h.0 (two-each filters) (filters-again filters h.1))
+command-again mode (SetFilters filters) h may = said mode verb.Filter _ _ may (set-again (decimal (length filters)) (flat_map filter_command_words filters) (length filters) filters (count-again (length filters) h.0) h.0 (two-each filters) (filters-again filters h.1))
 command-again mode (SetOption o) h may = option-again mode o h may
 command-again mode (ErrData on) h may = said mode verb.ErrData _ _ may (ap (λ (r : Result Bool ProtoFault). r >>= λ x. Ok (ErrData x)) (flag-again on))
 command-again mode (Ack on) h may = said mode verb.Ack _ _ may (ap (λ (r : Result Bool ProtoFault). r >>= λ x. Ok (Ack x)) (flag-again on))

@@ -4,9 +4,9 @@ use Rattle.can_frame.specs.Numbers.{digit_in, one_more, number_after, number_in}
 use Rattle.can_proto.specs.Words.{is_blank, front, words_after, words_of}
 use Rattle.can_proto.specs.Commands.{short_id, long_id, id_of}
 
--- What is true of each digit is true of each byte of a word that spells a number.
+-- A property of each digit is one of each byte of a word that spells a number.
 
--- it is true of each of them
+-- each of them has it
 abbrev pub Each : (ℕ → Type 0) → List ℕ → Type 0
 Each P [] = Unit {0}
 Each P (b ∷ bs) = P b × Each P bs

@@ -22,7 +22,7 @@ use Rattle.can_proto.specs.declared.answer.Cause.TheVariants as cause
 use Rattle.can_proto.specs.Causes.{cause_text}
 use Rattle.can_proto.specs.Verbs.{is_word}
 use Rattle.can_frame.specs.Moments.{moment_text}
-use Rattle.can_proto.specs.Spelling.{class_text, body_text, frame_front, error_text, item_text, origin_text, item_text_from, stats_text, state_word, status_text, load_text, reply_text, told_counts, IsAnswer, AreAlike}
+use Rattle.can_proto.specs.Spelling.{class_text, body_text, frame_front, error_text, item_text, origin_text, item_text_from, stats_text, state_word, status_text, load_text, answer_text, told_counts, FitsIn64, AreAlike}
 use Rattle.can_proto.proofs.Cuts.{clear, clear-append, marked-left, marked-right, cut}
 use Rattle.can_proto.proofs.Numerals.{clear-decimal}
 use Rattle.can_proto.proofs.Telling.{one-cause}
@@ -73,7 +73,7 @@ clear-state Passive = (refl, refl)
 clear-state Off = (refl, refl)
 clear-state Down = (refl, refl)
 
--- the fourth and the seventh byte say what kind of reply it is, but for `ack`, which the third one says
+-- the fourth and the seventh byte give the kind of reply; for `ack` the third one does
 abbrev kind : List ℕ → ℕ
 kind text = if get_or text 2 0 == 97 then 0 else get_or text 3 0 + get_or text 6 0
 
@@ -89,7 +89,7 @@ mark_of (Faults left) = 213
 mark_of (Closing c) = 209
 mark_of (Refused why) = 228
 
-marked : (a : Answer) → kind (reply_text a) ≡ mark_of a
+marked : (a : Answer) → kind (answer_text a) ≡ mark_of a
 marked Greeting = refl
 marked Done = refl
 marked Echo = refl
@@ -101,13 +101,13 @@ marked (Faults left) = refl
 marked (Closing c) = refl
 marked (Refused why) = refl
 
-same-mark : (a b : Answer) → reply_text a ≡ reply_text b → mark_of a ≡ mark_of b
+same-mark : (a b : Answer) → answer_text a ≡ answer_text b → mark_of a ≡ mark_of b
 same-mark a b e = sym (marked a) ∙ ap kind e ∙ marked b
 
 same-stats : (s t : SocketStats) (i j : IfaceStats) → AreSmall (told_counts s i) → AreSmall (told_counts t j) → stats_text s i ≡ stats_text t j → told_counts s i ≡ told_counts t j
 same-stats s t i j hs ht e = same-behind s.queued t.queued (s.dropped ∷ s.taken ∷ i.sent ∷ i.done ∷ i.waiting ∷ i.lost ∷ i.refused ∷ []) (t.dropped ∷ t.taken ∷ j.sent ∷ j.done ∷ j.waiting ∷ j.lost ∷ j.refused ∷ []) hs ht refl (ap (drop 8) e)
 
--- the word says whether it is down
+-- the word shows whether it is down
 not-down : (off passive warning : Bool) → is_word (state_word (if off then Off else if passive then Passive else if warning then Warning else Active)) (codes "down") ≡ false
 not-down true passive warning = refl
 not-down false true warning = refl
@@ -134,7 +134,7 @@ same-load l m hl hm e =
     let h = same-behind l.permille m.permille (l.micros ∷ l.bitrate ∷ l.dbitrate ∷ []) (m.micros ∷ m.bitrate ∷ m.dbitrate ∷ []) hl hm refl (ap (drop 7) e) in
     ap (λ (ns : List ℕ). record { permille = get_or ns 0 0; micros = get_or ns 1 0; bitrate = get_or ns 2 0; dbitrate = get_or ns 3 0 }) h
 
-pub one-answer : (one other : Answer) → IsAnswer one → IsAnswer other → reply_text one ≡ reply_text other → AreAlike one other
+pub one-answer : (one other : Answer) → FitsIn64 one → FitsIn64 other → answer_text one ≡ answer_text other → AreAlike one other
 one-answer Greeting Greeting ha hb e = refl
 one-answer Done Done ha hb e = refl
 one-answer Echo Echo ha hb e = refl
@@ -162,7 +162,7 @@ clear-cause : (c : Cause) → clear is_point (cause_text c ++ codes " >") ≡ tr
 clear-cause cause.NoMemory = refl
 clear-cause c = refl
 
-clear-answer : (a : Answer) → IsAnswer a → clear is_point (reply_text a) ≡ true
+clear-answer : (a : Answer) → FitsIn64 a → clear is_point (answer_text a) ≡ true
 clear-answer Greeting h = refl
 clear-answer Done h = refl
 clear-answer Echo h = refl
@@ -183,7 +183,7 @@ pointed front m rest =
     (marked-right is_point front (moment_text m)
     (marked-right is_point (decimal (m / 1000000)) (46 ∷ digits 10 6 (m % 1000000)) refl))
 
--- the same with a word more
+-- the same with one more word
 pointed-more : (front : List ℕ) (m : ℕ) (word : List ℕ) → clear is_point (((front ++ moment_text m) ++ 32 ∷ []) ++ word) ≡ false
 pointed-more front m word = marked-left is_point ((front ++ moment_text m) ++ 32 ∷ []) word (pointed front m (32 ∷ []))
 
@@ -213,14 +213,14 @@ pointed-from : (errdata : Bool) (o : Origin) (i : Item) (m : ℕ) → clear is_p
 pointed-from errdata o (item.Data f) m = marked-left is_point (frame_front f m ++ origin_text o) (codes " >") (pointed-front f.id f.payload m (origin_text o))
 pointed-from errdata o (item.Error e) m = pointed-error errdata e m
 
-pub no-item : (answer : Answer) (errdata : Bool) (i : Item) (m : ℕ) → IsAnswer answer → reply_text answer ≡ item_text errdata i m → ⊥
+pub no-item : (answer : Answer) (errdata : Bool) (i : Item) (m : ℕ) → FitsIn64 answer → answer_text answer ≡ item_text errdata i m → ⊥
 no-item answer errdata i m h e =
     let one = clear-answer answer h in
     let other = pointed-item errdata i m in
     let both = ap (clear is_point) e in
     cc
 
-pub no-item-from : (answer : Answer) (errdata : Bool) (o : Origin) (i : Item) (m : ℕ) → IsAnswer answer → reply_text answer ≡ item_text_from errdata o i m → ⊥
+pub no-item-from : (answer : Answer) (errdata : Bool) (o : Origin) (i : Item) (m : ℕ) → FitsIn64 answer → answer_text answer ≡ item_text_from errdata o i m → ⊥
 no-item-from answer errdata o i m h e =
     let one = clear-answer answer h in
     let other = pointed-from errdata o i m in

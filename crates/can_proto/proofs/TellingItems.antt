@@ -113,11 +113,11 @@ same-identifier a b ha hb e =
     let h = same-id a.extended b.extended a.number b.number ha hb e in
     ap (λ (x : Bool). record { extended = x; number = a.number }) h.0 ∙ ap (λ (k : ℕ). record { extended = b.extended; number = k }) h.1
 
--- the third byte says what kind of text it is
+-- the third byte gives the kind of text
 unfoldable pub third : List ℕ → ℕ
 third text = get_or text 2 0
 
--- and the fourth, where the third is that of a data frame
+-- and the fourth, if the third is that of a data frame
 fourth : List ℕ → ℕ
 fourth text = get_or text 3 0
 
@@ -128,7 +128,7 @@ after_word text = get_or text 9 0
 flag_digit : List ℕ → ℕ
 flag_digit text = get_or text 11 0
 
--- what two FD frames' texts begin with is the same, and so is what follows
+-- the texts of two FD frames have the same beginning and the same rest
 same-word : (f g : FdFlags) (xs ys : List ℕ) → fd_word f ++ xs ≡ fd_word g ++ ys → (f ≡ g) × (xs ≡ ys)
 unfolding after_word flag_digit
 same-word f g xs ys e = by f.brs f.esi g.brs g.esi e
@@ -258,7 +258,7 @@ one-item-without (item.Error f) (item.Error g) m n hi hj hm hn e =
     let h = one-class f.class g.class f.bytes g.bytes m n hi.0 hj.0 hm hn e in
     (ap (λ (x : ℕ). item.Error (record { class = x; bytes = [] })) h.0, h.1)
 
--- origins: what follows the space before them
+-- origins: the bytes after the space before them
 origin-tail : Origin → List ℕ
 origin-tail (Same number) = codes "same " ++ decimal number ++ codes " >"
 origin-tail (Other number) = codes "other " ++ decimal number ++ codes " >"

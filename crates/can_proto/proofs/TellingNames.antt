@@ -10,7 +10,7 @@ use Rattle.can_proto.specs.declared.answer.Answer.TheVariants.{Greeting, Done, E
 use Rattle.can_proto.specs.declared.answer.Origin.{Origin}
 use Rattle.can_proto.specs.Words.{words_of}
 use Rattle.can_proto.specs.CommandSpelling.{IsWord}
-use Rattle.can_proto.specs.Spelling.{item_text, item_text_from, origin_text, frame_front, reply_text, spaced, interfaces_text}
+use Rattle.can_proto.specs.Spelling.{item_text, item_text_from, origin_text, frame_front, answer_text, spaced, interfaces_text}
 use Rattle.can_proto.proofs.ReadingBack.{AreWords, next-word, clear-front}
 use Rattle.can_proto.proofs.TellingItems.{third}
 
@@ -22,7 +22,7 @@ are-words (n ∷ ns) h =
     let word : IsWord n = h 0 n (omega arith) in
     (clear-front n word.1, word.0, are-words ns (λ k d lt. h (suc k) d (omega arith)))
 
--- what follows the first space
+-- the bytes after the first space
 tail : List (List ℕ) → List ℕ
 tail [] = 62 ∷ []
 tail (n ∷ ns) = (n ++ spaced ns) ++ 32 ∷ 62 ∷ []
@@ -45,9 +45,9 @@ one-list one other ho hp e =
     append_cancel_right one other ((62 ∷ []) ∷ [])
     (sym (words-spaced one (are-words one ho)) ∙ ap (λ (text : List ℕ). words_of (drop 12 text)) e ∙ words-spaced other (are-words other hp))
 
--- the third byte says that it is no other reply and no item
+-- by the third byte it is no other reply and no item
 
-pub no-answer : (a : Answer) (names : List (List ℕ)) → reply_text a ≡ interfaces_text names → ⊥
+pub no-answer : (a : Answer) (names : List (List ℕ)) → answer_text a ≡ interfaces_text names → ⊥
 unfolding third
 no-answer Greeting names e = let k : 104 ≡ 105 = ap third e in omega (arith, k)
 no-answer Done names e = let k : 111 ≡ 105 = ap third e in omega (arith, k)

@@ -39,7 +39,7 @@ cause_text cause.BadRule = codes "bad rule"
 cause_text cause.TooManyRules = codes "too many rules"
 cause_text cause.Down = codes "interface down"
 
--- how a fault of a message is reported
+-- the report of a fault of a message
 abbrev pub cause_of_fault : ProtoFault → Cause
 cause_of_fault fault.NoMemory = cause.NoMemory
 cause_of_fault fault.InvalidFilter = cause.InvalidFilter
@@ -54,7 +54,7 @@ cause_of_fault fault.BadLength = cause.BadLength
 cause_of_fault fault.BadByte = cause.BadByte
 cause_of_fault fault.BadNumber = cause.BadNumber
 
--- how a refusal of the bus is reported
+-- the report of a refusal of the bus
 abbrev pub cause_of_refusal : Refusal → Cause
 cause_of_refusal refusal.RecordFull = cause.RecordFull
 cause_of_refusal refusal.NoInterface = cause.NoInterface

@@ -15,15 +15,15 @@ use Rattle.can_proto.specs.declared.command.Command.TheVariants.{SetOption, ErrD
 use Rattle.can_proto.specs.declared.command.Command.TheVariants.{Load, Restart, Fault, Faults, NoFaults, Close, Down}
 use Rattle.can_proto.specs.Words.{front, words_of}
 
--- How a client may write a command (socketcand's raw mode; filter and the options are own choice). Other
--- spellings of it are read too: digits in lower case or fewer of them, and more blanks.
+-- The spelling of a client's commands (socketcand's raw mode; filter and the options are own choice). Other spellings
+-- are read too: digits in lower case or fewer of them, and more blanks.
 
 -- `0` (48) or `1` (49)
 abbrev pub flag_text : Bool → List ℕ
 flag_text false = 48 ∷ []
 flag_text true = 49 ∷ []
 
--- what asks for an FD frame to be sent, with its flags where it has some
+-- the request to send an FD frame, with its flags if it has any
 abbrev pub fd_verb_words : FdFlags → List (List ℕ)
 fd_verb_words flags =
     if has_no_flags flags then codes "sendfd" ∷ [] else codes "sendfdx" ∷ ((48 + flags_number flags) ∷ []) ∷ []
@@ -35,16 +35,16 @@ frame_words id (Remote len) = codes "sendrtr" ∷ id_text id ∷ decimal len ∷
 frame_words id (Fd flags bytes) = fd_verb_words flags ++ id_text id ∷ decimal (length bytes) ∷ map (digits 16 2) bytes
 
 -- a filter: identifier word and mask in 8 digits each
-abbrev pub filter_words : CanFilter → List (List ℕ)
-filter_words f = digits 16 8 f.id ∷ digits 16 8 f.mask ∷ []
+abbrev pub filter_command_words : CanFilter → List (List ℕ)
+filter_command_words f = digits 16 8 f.id ∷ digits 16 8 f.mask ∷ []
 
 -- an option with its value
-abbrev pub option_words : Opt → List (List ℕ)
-option_words (opt.Loopback on) = codes "loopback" ∷ flag_text on ∷ []
-option_words (opt.RecvOwn on) = codes "recvown" ∷ flag_text on ∷ []
-option_words (opt.Join on) = codes "join" ∷ flag_text on ∷ []
-option_words (opt.ErrMask mask) = codes "errmask" ∷ digits 16 8 mask ∷ []
-option_words (opt.FdFrames on) = codes "fdframes" ∷ flag_text on ∷ []
+abbrev pub option_command_words : Opt → List (List ℕ)
+option_command_words (opt.Loopback on) = codes "loopback" ∷ flag_text on ∷ []
+option_command_words (opt.RecvOwn on) = codes "recvown" ∷ flag_text on ∷ []
+option_command_words (opt.Join on) = codes "join" ∷ flag_text on ∷ []
+option_command_words (opt.ErrMask mask) = codes "errmask" ∷ digits 16 8 mask ∷ []
+option_command_words (opt.FdFrames on) = codes "fdframes" ∷ flag_text on ∷ []
 
 -- the words of a command
 abbrev pub command_words : Command → List (List ℕ)
@@ -53,8 +53,8 @@ command_words Interfaces = codes "interfaces" ∷ []
 command_words (Open name) = codes "open" ∷ name ∷ []
 command_words Rawmode = codes "rawmode" ∷ []
 command_words (Send frame) = frame_words frame.id frame.payload
-command_words (SetFilters filters) = codes "filter" ∷ decimal (length filters) ∷ flat_map filter_words filters
-command_words (SetOption option) = option_words option
+command_words (SetFilters filters) = codes "filter" ∷ decimal (length filters) ∷ flat_map filter_command_words filters
+command_words (SetOption option) = option_command_words option
 command_words (ErrData on) = codes "errdata" ∷ flag_text on ∷ []
 command_words (Ack on) = codes "ack" ∷ flag_text on ∷ []
 command_words (Origin on) = codes "origin" ∷ flag_text on ∷ []

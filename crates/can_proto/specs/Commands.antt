@@ -26,8 +26,8 @@ use Rattle.can_proto.specs.Messages.{messages_of, kept_of}
 use Rattle.can_proto.specs.Words.{words_of}
 use Rattle.can_proto.specs.Verbs.{named, is_allowed_in}
 
--- What the words of a message say, or the first fault that is met, reading from left to right (socketcand's raw
--- mode; the faults and their order are own choice).
+-- The command that the words of a message spell, or the first fault from left to right (socketcand's raw mode; the
+-- faults and their order are own choice).
 
 infixl 10 ◌>>=◌
 abbrev pub ◌>>=◌ : {A B : Type 0} → Result A ProtoFault → (A → Result B ProtoFault) → Result B ProtoFault
@@ -35,27 +35,27 @@ abbrev pub ◌>>=◌ : {A B : Type 0} → Result A ProtoFault → (A → Result 
 (Err e) >>= f = Err e
 
 -- the command is kept on the heap
-abbrev pub takes_memory : Command → Bool
-takes_memory (Open name) = true
-takes_memory (SetFilters filters) = true
-takes_memory (Fault rule) = true
-takes_memory _ = false
+abbrev pub keeps_on_heap : Command → Bool
+keeps_on_heap (Open name) = true
+keeps_on_heap (SetFilters filters) = true
+keeps_on_heap (Fault rule) = true
+keeps_on_heap _ = false
 
--- what was read is kept on the heap
-abbrev pub TakesMemory : {A : Type 0} → (A → Bool) → Result A ProtoFault → Type 0
-TakesMemory heavy (Ok x) = IsTrue (heavy x)
-TakesMemory heavy (Err e) = ⊥
+-- the value is kept on the heap
+abbrev pub KeepsOnHeap : {A : Type 0} → (A → Bool) → Result A ProtoFault → Type 0
+KeepsOnHeap heavy (Ok x) = IsTrue (heavy x)
+KeepsOnHeap heavy (Err e) = ⊥
 
--- the result is what reading gives, but for want of memory where that would be kept on the heap
+-- the result is that of reading, but for lack of memory if the value would be kept on the heap
 abbrev pub GivesBut : {A : Type 0} → (A → Bool) → Result A ProtoFault → Result A ProtoFault → Type 0
-GivesBut heavy (Err NoMemory) read = TakesMemory heavy read
+GivesBut heavy (Err NoMemory) read = KeepsOnHeap heavy read
 GivesBut heavy answer read = read ≡ answer
 
--- the result is what reading gives
-abbrev pub Gives : {A : Type 0} → Result A ProtoFault → Result A ProtoFault → Type 0
-Gives answer read = GivesBut (λ _. false) answer read
+-- the result is that of reading
+abbrev pub GivesAsRead : {A : Type 0} → Result A ProtoFault → Result A ProtoFault → Type 0
+GivesAsRead answer read = GivesBut (λ _. false) answer read
 
--- what is there, or else the fault
+-- the value, or else the fault
 abbrev pub or_fault : {A : Type 0} → ProtoFault → Option A → Result A ProtoFault
 or_fault fault None = Err fault
 or_fault fault (Some x) = Ok x
@@ -98,7 +98,7 @@ bytes_of (word ∷ words) = do
   bs ← bytes_of words
   Ok (b ∷ bs)
 
--- what the words of data may be refused for: their count, and then a word that spells no byte
+-- the faults of the words of data: their count, and then a word that spells no byte
 abbrev pub IsDataFault : ℕ → List (List ℕ) → ProtoFault → Type 0
 IsDataFault len words e =
     (((length words == len) ≡ false) × (e ≡ BadCount))
@@ -114,10 +114,10 @@ send_of (id_word ∷ len_word ∷ words) = do
       else Err BadCount
 send_of _ = Err BadCount
 
--- what asks for a frame to be sent, where there is one
-abbrev pub asked : Result CanFrame ProtoFault → Result Command ProtoFault
-asked (Ok frame) = Ok (Send frame)
-asked (Err e) = Err e
+-- the request to send a frame, if there is one
+abbrev pub asks_to_send : Result CanFrame ProtoFault → Result Command ProtoFault
+asks_to_send (Ok frame) = Ok (Send frame)
+asks_to_send (Err e) = Err e
 
 -- `sendfd ID LEN b ..`, for a frame with these flags
 unfoldable pub send_fd_of : FdFlags → List (List ℕ) → Result Command ProtoFault
@@ -211,7 +211,7 @@ abbrev pub alone : Command → List (List ℕ) → Result Command ProtoFault
 alone command [] = Ok command
 alone command _ = Err BadCount
 
--- what the words after the first one say
+-- the command by the words after the first one
 unfoldable pub arguments_of : Verb → List (List ℕ) → Result Command ProtoFault
 arguments_of verb.Echo words = alone Echo words
 arguments_of verb.Interfaces words = alone Interfaces words
@@ -241,12 +241,12 @@ arguments_of verb.NoFaults words = alone NoFaults words
 arguments_of verb.Close words = alone Close words
 arguments_of verb.Down words = alone Down words
 
--- what a verb says with the words after it, in a mode
+-- the command of a verb with the words after it, in a mode
 abbrev pub command_of : Mode → List (List ℕ) → Option Verb → Result Command ProtoFault
 command_of mode words None = Err UnknownCommand
 command_of mode words (Some v) = if is_allowed_in v mode then arguments_of v words else Err WrongState
 
--- what the words of a message say in a mode
+-- the command of the words of a message in a mode
 abbrev pub reading : Mode → List (List ℕ) → Result Command ProtoFault
 reading mode [] = Err EmptyMessage
 reading mode (word ∷ words) = command_of mode words (named word)
@@ -259,10 +259,10 @@ IsLoneSend stream frame =
     × (kept_of stream ≡ [])
     × (reading Raw (words_of inside) ≡ Ok (Send frame))
 
--- items in front of those that are read
+-- more items in front of those that are read
 abbrev pub with_front : {A : Type 0} → List A → Result (List A) ProtoFault → Result (List A) ProtoFault
 with_front items read = read >>= λ more. Ok (items ++ more)
 
--- what filters may be refused for
+-- the faults of filters
 abbrev pub IsFilterFault : ProtoFault → Type 0
 IsFilterFault e = (e ≡ BadNumber) ⊎ (e ≡ InvalidFilter)

@@ -28,18 +28,18 @@ abbrev pub is_closed : List ℕ → Bool
 is_closed [] = false
 is_closed (b ∷ bs) = if is_close_mark b then true else if is_open_mark b then false else is_closed bs
 
--- how many bytes may be inside a message (own choice)
+-- the most bytes inside a message (own choice)
 abbrev pub limit : ℕ
 limit = 1024
 
--- what a `<` gives, from the bytes that follow it
+-- the message of a `<`, by the bytes that follow it
 abbrev pub given_by : List ℕ → List Incoming
 given_by bytes =
     if nat_lt limit (length (run_of bytes)) then TooLong ∷ []
     else if is_closed bytes then Message (run_of bytes) ∷ []
     else []
 
--- what a stream gives: what its `<` give, in order
+-- the messages of a stream: those of its `<`, in order
 abbrev pub messages_of : List ℕ → List Incoming
 messages_of [] = []
 messages_of (b ∷ bs) = if is_open_mark b then given_by bs ++ messages_of bs else messages_of bs
@@ -54,21 +54,21 @@ abbrev pub has_mark : List ℕ → Bool
 has_mark [] = false
 has_mark (b ∷ bs) = is_mark b || has_mark bs
 
--- what may still become a message, of a `<` and the bytes that follow it
+-- a `<` and the bytes that follow it, if they may still become a message
 abbrev pub left_by : List ℕ → List ℕ
 left_by bytes = if is_closed bytes || nat_lt limit (length (run_of bytes)) then [] else 60 ∷ run_of bytes
 
--- what a reader keeps of a stream: the last `<` with its run, if no `>` ended it and it was not too long
+-- the text that a reader keeps of a stream: the last `<` with its run, if no `>` ended it and it was not too long
 abbrev pub kept_of : List ℕ → List ℕ
 kept_of [] = []
 kept_of (b ∷ bs) = if is_open_mark b && not (has_open_mark bs) then left_by bs else kept_of bs
 
--- what pieces give a reader, one call after another, from what it kept before
+-- the messages of pieces, one call after another, from the text kept before
 abbrev pub given_from : List ℕ → List (List ℕ) → List Incoming
 given_from before [] = []
 given_from before (piece ∷ pieces) = messages_of (before ++ piece) ++ given_from (kept_of (before ++ piece)) pieces
 
--- what a reader may keep: nothing, or `<` and at most 1,024 bytes without a mark
-abbrev pub IsKept : List ℕ → Type 0
-IsKept [] = Unit {0}
-IsKept (b ∷ run) = (b ≡ 60) × (has_mark run ≡ false) × (length run ≤ limit)
+-- the text that a reader may keep: nothing, or `<` and at most 1,024 bytes without a mark
+abbrev pub MayBeKept : List ℕ → Type 0
+MayBeKept [] = Unit {0}
+MayBeKept (b ∷ run) = (b ≡ 60) × (has_mark run ≡ false) × (length run ≤ limit)

@@ -17,8 +17,7 @@ IsFirstByte byte rest text = (word : List ℕ) × BeginsWith word rest text × (
 abbrev pub IsFirstId : Identifier → List ℕ → List ℕ → Type 0
 IsFirstId id rest text = (word : List ℕ) × BeginsWith word rest text × (id_of word ≡ Ok id)
 
--- the fault of a word that spells no byte, where this many words should follow it and these do: a wrong count
--- comes first
+-- the fault of a word that spells no byte, if this many words should follow it and these do: a wrong count comes first
 abbrev pub fault_of_byte : ℕ → List (List ℕ) → ProtoFault
 fault_of_byte left words = if length words == left then BadByte else BadCount
 

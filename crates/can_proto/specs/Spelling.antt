@@ -24,7 +24,7 @@ use Rattle.can_proto.specs.Causes.{cause_text}
 
 -- How replies and received items are written to a client (socketcand's raw mode; the exact texts are own choice).
 
--- how many hexadecimal digits an error class takes, at least 3
+-- the number of hexadecimal digits of an error class, at least 3
 abbrev pub class_width : ℕ → ℕ
 class_width class =
     if nat_lt class (16 ^ 3) then 3 else
@@ -46,7 +46,7 @@ body_text frame micros =
 abbrev pub data_front : CanFrame → ℕ → List ℕ
 data_front frame micros = codes "< frame " ++ body_text frame micros
 
--- what the text of an FD frame begins with: one with flags has another word, and these as a digit (own choice)
+-- the beginning of the text of an FD frame: a frame with flags has another word, and the flags as a digit (own choice)
 abbrev pub fd_word : FdFlags → List ℕ
 fd_word flags =
     if has_no_flags flags then codes "< fdframe " else codes "< fdframex " ++ (48 + flags_number flags) ∷ codes " "
@@ -68,7 +68,7 @@ frame_front frame micros =
     else if is_fd frame.payload then fd_front frame micros
     else data_front frame micros
 
--- an error message frame with its moment, and with its data where these are asked for
+-- an error message frame with its moment, and with its data if these are asked for
 abbrev pub error_text : Bool → ErrorMessage → ℕ → List ℕ
 error_text false e micros = codes "< error " ++ class_text e.class ++ codes " " ++ moment_text micros ++ codes " >"
 error_text true e micros =
@@ -85,7 +85,7 @@ abbrev pub origin_text : Origin → List ℕ
 origin_text (Same number) = codes " same " ++ decimal number
 origin_text (Other number) = codes " other " ++ decimal number
 
--- the text of an item where origins are asked for: a frame's is at its end, and an error message frame has none
+-- the text of an item if origins are asked for: a frame's is at its end, and an error message frame has none
 abbrev pub item_text_from : Bool → Origin → Item → ℕ → List ℕ
 item_text_from errdata origin (item.Data frame) micros = frame_front frame micros ++ origin_text origin ++ codes " >"
 item_text_from errdata origin (item.Error e) micros = error_text errdata e micros
@@ -100,12 +100,12 @@ abbrev pub IsOrigin : Origin → Type 0
 IsOrigin (Same number) = number < 2 ^ 64
 IsOrigin (Other number) = number < 2 ^ 64
 
--- the text of an item where the data of error message frames are not asked for: of these only the class
+-- the text of an item if the data of error message frames are not asked for: only their class is shown
 abbrev pub without_data : Item → Item
 without_data (item.Data frame) = item.Data frame
 without_data (item.Error e) = item.Error (record { class = e.class; bytes = [] })
 
--- what became of the items offered to the socket, and of the frames of its interface
+-- the outcome of the items offered to the socket, and of the frames of its interface
 abbrev pub stats_text : SocketStats → IfaceStats → List ℕ
 stats_text s i =
     codes "< stats " ++ decimal s.queued ++ codes " " ++ decimal s.dropped ++ codes " " ++ decimal s.taken
@@ -127,28 +127,28 @@ status_text c =
     ++ codes " >"
 
 -- the load of a bus without bit rates
-abbrev pub no_load : BusLoad
-no_load = record { permille = 0; micros = 0; bitrate = 0; dbitrate = 0 }
+abbrev pub no_bus_load : BusLoad
+no_bus_load = record { permille = 0; micros = 0; bitrate = 0; dbitrate = 0 }
 
--- for how many thousandths of the last whole second the bus was busy, for how many microseconds since it started,
--- and its bit rates, the nominal one and the one for data
+-- the thousandths of the last whole second in which the bus was busy, the microseconds for which it was busy since it
+-- started, and its bit rates, the nominal one and the one for data
 abbrev pub load_text : BusLoad → List ℕ
 load_text l =
     codes "< load " ++ decimal l.permille ++ codes " " ++ decimal l.micros ++ codes " " ++ decimal l.bitrate
     ++ codes " " ++ decimal l.dbitrate ++ codes " >"
 
 -- the reply to a client
-abbrev pub reply_text : Answer → List ℕ
-reply_text Greeting = codes "< hi >"
-reply_text Done = codes "< ok >"
-reply_text Echo = codes "< echo >"
-reply_text (Sent number) = codes "< ack " ++ decimal number ++ codes " >"
-reply_text (Stats s i) = stats_text s i
-reply_text (Status c) = status_text c
-reply_text (Load l) = load_text l
-reply_text (Faults left) = codes "< faults " ++ decimal left ++ codes " >"
-reply_text (Closing c) = codes "< closed " ++ decimal c.unread ++ codes " " ++ decimal c.dropped ++ codes " >"
-reply_text (Refused why) = codes "< error " ++ cause_text why ++ codes " >"
+abbrev pub answer_text : Answer → List ℕ
+answer_text Greeting = codes "< hi >"
+answer_text Done = codes "< ok >"
+answer_text Echo = codes "< echo >"
+answer_text (Sent number) = codes "< ack " ++ decimal number ++ codes " >"
+answer_text (Stats s i) = stats_text s i
+answer_text (Status c) = status_text c
+answer_text (Load l) = load_text l
+answer_text (Faults left) = codes "< faults " ++ decimal left ++ codes " >"
+answer_text (Closing c) = codes "< closed " ++ decimal c.unread ++ codes " " ++ decimal c.dropped ++ codes " >"
+answer_text (Refused why) = codes "< error " ++ cause_text why ++ codes " >"
 
 -- names with a space (32) before each
 abbrev pub spaced : List (List ℕ) → List ℕ
@@ -163,14 +163,14 @@ abbrev pub told_counts : SocketStats → IfaceStats → List ℕ
 told_counts s i = s.queued ∷ s.dropped ∷ s.taken ∷ i.sent ∷ i.done ∷ i.waiting ∷ i.lost ∷ i.refused ∷ []
 
 -- counts of 64 bits
-abbrev pub IsAnswer : Answer → Type 0
-IsAnswer (Sent number) = All (λ n. n < 2 ^ 64) (number ∷ [])
-IsAnswer (Stats s i) = All (λ n. n < 2 ^ 64) (told_counts s i)
-IsAnswer (Status c) = All (λ n. n < 2 ^ 64) (c.tec ∷ c.rec ∷ [])
-IsAnswer (Load l) = All (λ n. n < 2 ^ 64) (l.permille ∷ l.micros ∷ l.bitrate ∷ l.dbitrate ∷ [])
-IsAnswer (Faults left) = All (λ n. n < 2 ^ 64) (left ∷ [])
-IsAnswer (Closing c) = All (λ n. n < 2 ^ 64) (c.unread ∷ c.dropped ∷ [])
-IsAnswer _ = Unit {0}
+abbrev pub FitsIn64 : Answer → Type 0
+FitsIn64 (Sent number) = All (λ n. n < 2 ^ 64) (number ∷ [])
+FitsIn64 (Stats s i) = All (λ n. n < 2 ^ 64) (told_counts s i)
+FitsIn64 (Status c) = All (λ n. n < 2 ^ 64) (c.tec ∷ c.rec ∷ [])
+FitsIn64 (Load l) = All (λ n. n < 2 ^ 64) (l.permille ∷ l.micros ∷ l.bitrate ∷ l.dbitrate ∷ [])
+FitsIn64 (Faults left) = All (λ n. n < 2 ^ 64) (left ∷ [])
+FitsIn64 (Closing c) = All (λ n. n < 2 ^ 64) (c.unread ∷ c.dropped ∷ [])
+FitsIn64 _ = Unit {0}
 
 -- replies that are equal in all that is shown
 abbrev pub AreAlike : Answer → Answer → Type 0

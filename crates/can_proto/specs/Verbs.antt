@@ -22,7 +22,7 @@ abbrev pub is_other_mode : List ℕ → Bool
 is_other_mode word =
     (is_word word (codes "bcmmode") || is_word word (codes "isotpmode")) || is_word word (codes "controlmode")
 
--- what a first word asks for
+-- the command that a first word asks for
 abbrev pub named : List ℕ → Option Verb
 named word =
     if is_word word (codes "send") then Some Send else
@@ -53,8 +53,8 @@ named word =
     if is_word word (codes "down") then Some Down else
     if is_other_mode word then Some OtherMode else None
 
--- the mode has the command: `open` before an interface is opened, `echo` and `interfaces` always, the modes once it is
--- opened, those of faults then and in raw mode, all others in raw mode; a session that has ended has none
+-- the mode has the command. `open` comes before an interface is opened; `echo` and `interfaces` always; the modes once
+-- it is opened; those of faults then and in raw mode; all others in raw mode. A session that has ended has none
 abbrev pub is_allowed_in : Verb → Mode → Bool
 is_allowed_in Open NoBus = true
 is_allowed_in Open _ = false

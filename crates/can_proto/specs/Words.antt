@@ -15,7 +15,7 @@ abbrev pub front : List ℕ → List ℕ
 front [] = []
 front (b ∷ bs) = if is_blank b then [] else b ∷ front bs
 
--- a word begins where a byte that is no blank follows a blank or nothing
+-- a word begins at a byte that is no blank and follows a blank or nothing
 abbrev pub words_after : Bool → List ℕ → List (List ℕ)
 words_after was_blank [] = []
 words_after was_blank (b ∷ bs) =

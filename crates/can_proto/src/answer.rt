@@ -1,6 +1,6 @@
 ghost use Rattle.std.specs.Prelude.{◌≡◌, ◌≤◌, length};
 ghost use Rattle.can_proto.specs.Causes.{cause_text};
-ghost use Rattle.can_proto.specs.Spelling.{no_load};
+ghost use Rattle.can_proto.specs.Spelling.{no_bus_load};
 
 use crate::fault::ProtoFault;
 use can_confine::Counters;
@@ -17,7 +17,7 @@ pub enum Answer {
     Echo,
     /// The frame was sent. Its number at its interface.
     Sent(u64),
-    /// What became of the items offered to the socket and of the frames of its interface.
+    /// The outcome of the items offered to the socket and of the frames of its interface.
     Stats(SocketStats, IfaceStats),
     /// The error counters of the interface.
     Status(Counters),
@@ -31,7 +31,7 @@ pub enum Answer {
     Refused(Cause),
 }
 
-/// How busy a bus with bit rates was, and its bit rates in bits a second: all 0 on one without.
+/// The load of a bus with bit rates, and its bit rates in bits a second: all 0 on a bus without.
 #[derive(Debug, Clone, Copy, PartialEq, Eq)]
 pub struct BusLoad {
     /// For how many thousandths of the last whole second.
@@ -40,14 +40,14 @@ pub struct BusLoad {
     pub micros: u64,
     /// The nominal bit rate.
     pub bitrate: u32,
-    /// The bit rate for data: the nominal one where it has none of its own.
+    /// The bit rate for data: the nominal one if it has none of its own.
     pub dbitrate: u32,
 }
 
 impl BusLoad {
     /// The load of a bus without bit rates.
     pub fn none() -> BusLoad
-        ensures { result ≡ no_load }
+        ensures { result ≡ no_bus_load }
     {
         BusLoad {
             permille: 0,
@@ -58,7 +58,7 @@ impl BusLoad {
     }
 }
 
-/// Where a frame comes from, seen from the interface of the socket that received it, and its number there.
+/// The origin of a frame, from the interface of the socket that received it, and its number there.
 #[derive(Debug, Clone, Copy, PartialEq, Eq)]
 pub enum Origin {
     /// From the same interface.

@@ -1,7 +1,7 @@
 ghost use Rattle.std.specs.Prelude.{◌≡◌};
 ghost use Rattle.std.specs.Result.{result_map_both};
 ghost use Rattle.can_proto.specs.Words.{words_of};
-ghost use Rattle.can_proto.specs.Commands.{Gives, GivesBut, takes_memory, only, mask_of, flag_of, switch_of, open_of, fault_of, alone, arguments_of};
+ghost use Rattle.can_proto.specs.Commands.{GivesAsRead, GivesBut, keeps_on_heap, only, mask_of, flag_of, switch_of, open_of, fault_of, alone, arguments_of};
 
 use crate::client_words::{WantedName, WantedRule};
 use crate::command::Command;
@@ -16,7 +16,7 @@ use std::alloc::Global;
 
 /// The word of a command that takes one.
 fn read_word(rest: &[u8]) -> Result<&[u8], ProtoFault>
-    ensures { Gives (result_map_both (λ word. word.now) (λ e. e) result)
+    ensures { GivesAsRead (result_map_both (λ word. word.now) (λ e. e) result)
         (only (words_of rest.now)) }
 {
     let Some((word, rest)) = next_word(rest) else {
@@ -31,7 +31,7 @@ fn read_word(rest: &[u8]) -> Result<&[u8], ProtoFault>
 /// The words of `errmask HEX`.
 #[tactic(auto, unfolding(crate::specs::Commands::mask_of))]
 fn read_mask(rest: &[u8]) -> Result<Command, ProtoFault>
-    ensures { Gives result (mask_of (words_of rest.now)) }
+    ensures { GivesAsRead result (mask_of (words_of rest.now)) }
 {
     match read_hexadecimal(read_word(rest)?, 8) {
         Some(mask) => Ok(Command::SetOption(Opt::ErrMask(mask))),
@@ -53,7 +53,7 @@ fn read_flag(word: &[u8]) -> Option<bool>
 /// One flag, as of `join F`.
 #[tactic(auto, unfolding(crate::specs::Commands::switch_of))]
 fn read_switch(rest: &[u8]) -> Result<bool, ProtoFault>
-    ensures { Gives result (switch_of (words_of rest.now)) }
+    ensures { GivesAsRead result (switch_of (words_of rest.now)) }
 {
     match read_flag(read_word(rest)?) {
         Some(on) => Ok(on),
@@ -65,7 +65,7 @@ fn read_switch(rest: &[u8]) -> Result<bool, ProtoFault>
 #[inline(never)]
 #[tactic(auto, unfolding(crate::specs::Commands::open_of))]
 fn read_open(alloc: Global, rest: &[u8]) -> Result<Command, ProtoFault>
-    ensures { GivesBut takes_memory result (open_of (words_of rest.now)) }
+    ensures { GivesBut keeps_on_heap result (open_of (words_of rest.now)) }
 {
     match WantedName::copied(alloc, read_word(rest)?) {
         Ok(name) => Ok(Command::Open(name)),
@@ -77,7 +77,7 @@ fn read_open(alloc: Global, rest: &[u8]) -> Result<Command, ProtoFault>
 #[inline(never)]
 #[tactic(auto, unfolding(crate::specs::Commands::fault_of))]
 fn read_fault(alloc: Global, rest: &[u8]) -> Result<Command, ProtoFault>
-    ensures { GivesBut takes_memory result (fault_of (words_of rest.now)) }
+    ensures { GivesBut keeps_on_heap result (fault_of (words_of rest.now)) }
 {
     let Some((word, rest)) = next_word(rest) else {
         return Err(ProtoFault::BadCount);
@@ -91,7 +91,7 @@ fn read_fault(alloc: Global, rest: &[u8]) -> Result<Command, ProtoFault>
 /// A command without arguments.
 #[inline(always)]
 fn read_alone(command: Command, rest: &[u8]) -> Result<Command, ProtoFault>
-    ensures { Gives result (alone command (words_of rest.now)) }
+    ensures { GivesAsRead result (alone command (words_of rest.now)) }
 {
     match next_word(rest) {
         None => Ok(command),
@@ -99,10 +99,10 @@ fn read_alone(command: Command, rest: &[u8]) -> Result<Command, ProtoFault>
     }
 }
 
-/// What the words after a verb say.
+/// Returns the command of a verb, by the words after it.
 #[tactic(auto, unfolding(crate::specs::Commands::arguments_of))]
 pub fn read_arguments(alloc: Global, verb: Verb, rest: &[u8]) -> Result<Command, ProtoFault>
-    ensures { GivesBut takes_memory result (arguments_of verb (words_of rest.now)) }
+    ensures { GivesBut keeps_on_heap result (arguments_of verb (words_of rest.now)) }
 {
     match verb {
         Verb::Echo => read_alone(Command::Echo, rest),

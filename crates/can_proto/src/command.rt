@@ -1,6 +1,6 @@
 ghost use Rattle.std.specs.Prelude.{Some};
 ghost use Rattle.can_proto.specs.Words.{words_of};
-ghost use Rattle.can_proto.specs.Commands.{GivesBut, takes_memory, command_of, reading};
+ghost use Rattle.can_proto.specs.Commands.{GivesBut, keeps_on_heap, command_of, reading};
 
 use crate::arguments::read_arguments;
 use crate::client_words::{WantedName, WantedRule};
@@ -13,7 +13,7 @@ use can_filter::FilterSet;
 use can_frame::Frame;
 use std::alloc::Global;
 
-/// How far a session has come.
+/// The stage of a session.
 #[derive(Debug, Clone, Copy, PartialEq, Eq)]
 pub enum Mode {
     /// Just connected: no interface is opened.
@@ -26,54 +26,54 @@ pub enum Mode {
     Ended,
 }
 
-/// What a client asks for.
+/// A client's request.
 #[derive(Debug, Drop)]
 pub enum Command {
-    /// To get a reply.
+    /// Get a reply.
     Echo,
-    /// To get the names of all interfaces that may be opened.
+    /// Get the names of all interfaces that may be opened.
     Interfaces,
-    /// To open the interface of this name.
+    /// Open the interface of this name.
     Open(WantedName),
-    /// To enter raw mode.
+    /// Enter raw mode.
     Rawmode,
-    /// To send a data frame, a remote frame or an FD frame.
+    /// Send a data frame, a remote frame or an FD frame.
     Send(Frame),
-    /// To receive what these filters let pass.
+    /// Receive only the frames that pass these filters.
     SetFilters(FilterSet),
-    /// To change an option of the socket.
+    /// Change an option of the socket.
     SetOption(Opt),
-    /// To get the data of error message frames, or only their classes.
+    /// Get the data of error message frames, or only their classes.
     ErrData(bool),
-    /// To get the number of each frame that is sent, or nothing.
+    /// Get the number of each frame that is sent, or nothing.
     Ack(bool),
-    /// To get the origin of each frame that is received, or not.
+    /// Get the origin of each frame that is received, or not.
     Origin(bool),
-    /// To get the counts of frames and items.
+    /// Get the counts of frames and items.
     Stats,
-    /// To get the error counters of the interface, and the state that they give.
+    /// Get the error counters of the interface, and its state by them.
     Status,
-    /// To get how busy the bus was.
+    /// Get the load of the bus.
     Load,
-    /// To take the interface out of bus off, or bring it up.
+    /// Restart the interface that is bus off or down.
     Restart,
-    /// To give the bus one more rule of faults.
+    /// Add one fault rule to the bus.
     Fault(WantedRule),
-    /// To get how many rules of faults the bus has.
+    /// Get the number of fault rules of the bus.
     Faults,
-    /// To end all rules of faults.
+    /// End all fault rules.
     NoFaults,
-    /// To close the socket and end.
+    /// Close the socket and end.
     Close,
-    /// To take the interface down.
+    /// Take the interface down.
     Down,
 }
 
 impl Command {
-    /// The command that a message spells in a mode, or else the first fault of the message. `NoMemory`
-    /// comes only where all else is right. The time grows with the message.
+    /// The command that a message spells in a mode, or else the first fault of the message.
+    /// `NoMemory` comes only if all else is right. The time grows with the message.
     pub fn read(alloc: Global, mode: Mode, message: &Message) -> Result<Command, ProtoFault>
-        ensures { GivesBut takes_memory result (reading mode (words_of message.now)) }
+        ensures { GivesBut keeps_on_heap result (reading mode (words_of message.now)) }
     {
         let text = message.inside();
         if let Some(rest) = after_send(text) {
@@ -89,10 +89,10 @@ impl Command {
     }
 }
 
-/// What a verb says in a mode, with what follows it.
+/// Returns the command of a verb in a mode, by the words after it.
 #[inline(always)]
 fn read_verb(alloc: Global, verb: Verb, mode: Mode, rest: &[u8]) -> Result<Command, ProtoFault>
-    ensures { GivesBut takes_memory result (command_of mode (words_of rest.now) (Some verb)) }
+    ensures { GivesBut keeps_on_heap result (command_of mode (words_of rest.now) (Some verb)) }
 {
     if !is_allowed_in(verb, mode) {
         return Err(ProtoFault::WrongState);

@@ -1,6 +1,6 @@
 use thiserror::Error;
 
-/// Why a message is no command. The text is what the client reads.
+/// Why a message is no command. The text goes to the client.
 #[derive(Debug, Clone, Copy, PartialEq, Eq, Error)]
 pub enum ProtoFault {
     /// Memory was refused.
@@ -15,7 +15,7 @@ pub enum ProtoFault {
     /// A message without a word.
     #[error("empty message")]
     EmptyMessage,
-    /// Its first word is no command's.
+    /// Its first word is not that of a command.
     #[error("unknown command")]
     UnknownCommand,
     /// The session's mode has no such command.

@@ -1,7 +1,7 @@
 ghost use Rattle.std.specs.Prelude.{◌≡◌, ◌≤◌, ◌*◌, Ok, Err, length, take, IfErr};
 ghost use Rattle.std.specs.Result.{result_map_both};
 ghost use Rattle.can_proto.specs.Words.{words_of};
-ghost use Rattle.can_proto.specs.Commands.{GivesBut, takes_memory, filter_of, filters_of, set_of, IsFilterFault};
+ghost use Rattle.can_proto.specs.Commands.{GivesBut, keeps_on_heap, filter_of, filters_of, set_of, IsFilterFault};
 
 use crate::command::Command;
 use crate::fault::ProtoFault;
@@ -58,7 +58,7 @@ fn read_filters(rest: &[u8], count: usize) -> Result<[Filter; 512], ProtoFault>
 #[inline(never)]
 #[tactic(auto, unfolding(crate::specs::Commands::set_of))]
 pub fn read_set(alloc: Global, rest: &[u8]) -> Result<Command, ProtoFault>
-    ensures { GivesBut takes_memory result (set_of (words_of rest.now)) }
+    ensures { GivesBut keeps_on_heap result (set_of (words_of rest.now)) }
 {
     let Some((count_word, rest)) = next_word(rest) else {
         return Err(ProtoFault::BadCount);

@@ -9,14 +9,15 @@ ghost use Rattle.can_proto.specs.Commands.{reading};
 ghost use Rattle.can_proto.specs.CommandSpelling.{command_spelling, command_words, IsCommand, IsWord};
 ghost use Rattle.can_proto.specs.declared.command.Mode.{Mode as AMode};
 ghost use Rattle.can_proto.specs.declared.command.Command.{Command as ACommand};
-ghost use Rattle.can_proto.specs.Spelling.{item_text, item_text_from, interfaces_text, reply_text, without_data, shown_origin, IsOrigin, IsAnswer, AreAlike};
+ghost use Rattle.can_proto.specs.Spelling.{item_text, item_text_from, interfaces_text, answer_text, without_data, shown_origin, IsOrigin, FitsIn64, AreAlike};
 ghost use Rattle.can_proto.specs.declared.answer.Answer.{Answer as AnAnswer};
 ghost use Rattle.can_proto.specs.declared.answer.Origin.{Origin as AnOrigin};
 
 use crate::answer::Cause;
 use crate::message::Incoming;
 
-/// However a stream is cut into pieces, the calls of a reader together give what the whole stream gives.
+/// However a stream is cut into pieces, the calls of a reader together give the messages of the
+/// whole stream.
 pub fn every_cut_gives_the_same_messages()
     ensures { (pieces : List (List ℕ)) →
         given_from [] pieces ≡ messages_of (flat_map (λ piece. piece) pieces) }
@@ -35,9 +36,9 @@ pub fn words_tell_one_cause()
     ensures { (one other : Cause) → cause_text one ≡ cause_text other → one ≡ other }
 {}
 
-/// Different items, or moments, have different texts. Where the data of error message
-/// frames are not asked for they are left out, and only their classes and moments differ in the text. With origins,
-/// frames of different origins have different texts too.
+/// Different items, or moments, have different texts. If the data of error message frames are not
+/// asked for, they are left out, and only their classes and moments differ in the text. With
+/// origins, frames of different origins have different texts too.
 pub fn texts_tell_items_apart()
     ensures whole { (i j : AnItem) (m n : ℕ) →
         IsItem i → IsItem j → m < 10 ^ 16 → n < 10 ^ 16 →
@@ -57,7 +58,7 @@ pub fn names_tell_apart()
         All IsWord one → All IsWord other →
         interfaces_text one ≡ interfaces_text other → one ≡ other }
     ensures no_answer { (answer : AnAnswer) (names : List (List ℕ)) →
-        reply_text answer ≡ interfaces_text names → ⊥ }
+        answer_text answer ≡ interfaces_text names → ⊥ }
     ensures no_item { (errdata : Bool) (i : AnItem) (m : ℕ) (names : List (List ℕ)) →
         item_text errdata i m ≡ interfaces_text names → ⊥ }
     ensures no_item_from { (errdata : Bool) (o : AnOrigin) (i : AnItem)
@@ -65,8 +66,8 @@ pub fn names_tell_apart()
         item_text_from errdata o i m ≡ interfaces_text names → ⊥ }
 {}
 
-/// What is written of a command is read back, in each mode that has the command, also with a space on
-/// either side, as messages are written.
+/// The text of a command is read back as that command, in each mode that has it. A space on either
+/// side makes no difference, as messages are written with them.
 pub fn written_commands_are_read()
     ensures alone { (mode : AMode) (c : ACommand) →
         IsCommand c → IsTrue (mode_has mode (command_words c)) →
@@ -80,10 +81,10 @@ pub fn written_commands_are_read()
 /// a reply and an item, with its origin or without.
 pub fn answers_tell_apart()
     ensures one_answer { (one other : AnAnswer) →
-        IsAnswer one → IsAnswer other → reply_text one ≡ reply_text other → AreAlike one other }
+        FitsIn64 one → FitsIn64 other → answer_text one ≡ answer_text other → AreAlike one other }
     ensures no_item { (answer : AnAnswer) (errdata : Bool) (i : AnItem) (m : ℕ) →
-        IsAnswer answer → reply_text answer ≡ item_text errdata i m → ⊥ }
+        FitsIn64 answer → answer_text answer ≡ item_text errdata i m → ⊥ }
     ensures no_item_from { (answer : AnAnswer) (errdata : Bool)
         (o : AnOrigin) (i : AnItem) (m : ℕ) →
-        IsAnswer answer → reply_text answer ≡ item_text_from errdata o i m → ⊥ }
+        FitsIn64 answer → answer_text answer ≡ item_text_from errdata o i m → ⊥ }
 {}

@@ -1,12 +1,13 @@
 //! The protocol between a session and its client, in the shape of socketcand's raw mode.
 //!
-//! A client's bytes come in pieces that end anywhere. `Reader` makes messages of them: what it gives is
-//! fixed by the bytes, however they were cut. `Command::read` says what a message asks for in the
-//! session's mode, or the first fault in it. `reply_text` and `item_text` write what a client gets as a reply and
-//! what it receives, byte for byte as their definitions spell it.
+//! A client's bytes come in pieces that end anywhere. `Reader` makes messages of them, which depend
+//! only on the bytes and not on the cuts. `Command::read` returns the command of a message in the
+//! session's mode, or the first fault in it. `reply_text` and `item_text` write replies and
+//! received items for a client, byte for byte as their definitions spell them.
 //!
-//! The laws say that nothing is lost on the way: every cut of a stream gives the same messages, what is written of
-//! a command is read back as that command, and different items and replies have different texts.
+//! Nothing is lost on the way, by three laws. Every cut of a stream gives the same messages, the
+//! text of a command is read back as that command, and different items and replies have different
+//! texts.
 #![tactic(auto)]
 
 pub mod answer;

@@ -37,7 +37,7 @@ impl Message {
     }
 }
 
-/// What a stream gives.
+/// A message of a stream, or a fault of one.
 #[derive(Debug, Drop)]
 pub enum Incoming {
     /// A whole message.

@@ -74,8 +74,8 @@ pub fn short_id(high: u8, middle: u8, low: u8) -> Option<CanId>
     }
 }
 
-/// The bytes that this many words spell, in the first places of `N`, where each word has two digits and one space
-/// after it, as data mostly has.
+/// The bytes that this many words spell, in the first places of `N`, if each word has two digits
+/// and one space after it, as data mostly has.
 #[inline(always)]
 pub fn paired_bytes<const N: usize>(text: &[u8], len: usize) -> Option<[u8; N]>
     requires small { len ≤ N }

@@ -9,8 +9,8 @@ use can_frame::Frame;
 use std::alloc::{AllocError, Global};
 use std::marker::Model;
 
-/// Reads the messages of a stream that comes in pieces. Between two calls it keeps the last `<` and the
-/// at most 1,024 bytes after it, where these may still become a message.
+/// Reads the messages of a stream that comes in pieces. Between two calls it keeps the last `<` and
+/// at most 1,024 bytes after it, if these may still become a message.
 #[derive(Drop)]
 pub struct Reader {
     is_open: bool,
@@ -19,15 +19,15 @@ pub struct Reader {
 
 impl Model for Reader {
     ghost use Rattle.std.specs.Prelude.{ℕ, List, ◌≤◌, vec_capacity};
-    ghost use Rattle.can_proto.specs.Messages.{IsKept};
-    ghost use Rattle.can_proto.specs.Scanning.{text_of};
+    ghost use Rattle.can_proto.specs.Messages.{MayBeKept};
+    ghost use Rattle.can_proto.specs.Scanning.{text_kept};
 
     ghost Value = { List ℕ };
 
-    ghost view = { λ r. text_of r.is_open r.inside.items };
+    ghost view = { λ r. text_kept r.is_open r.inside.items };
 
     ghost invariant = { λ r.
-        IsKept (text_of r.is_open r.inside.items) × (1024 ≤ vec_capacity r.inside) };
+        MayBeKept (text_kept r.is_open r.inside.items) × (1024 ≤ vec_capacity r.inside) };
 }
 
 impl Reader {
@@ -41,9 +41,9 @@ impl Reader {
         })
     }
 
-    /// What the stream gives up to the end of this piece, beyond what it gave before. An error comes only
-    /// where memory was refused, and then the reader is as before the call. The time grows with the
-    /// piece.
+    /// Returns the messages of the stream up to the end of this piece, except those returned
+    /// before. An error comes only if memory was refused, and then the reader is as before the
+    /// call. The time grows with the piece.
     pub fn feed(&mut self, alloc: Global, piece: &[u8]) -> Result<Vec<Incoming>, AllocError>
         ensures given { IfOk result (λ out. out.items ≡ messages_of (self.old ++ piece.now)) }
         ensures keeps { OnOk result (self.new ≡ kept_of (self.old ++ piece.now)) }
@@ -65,8 +65,9 @@ impl Reader {
         Ok(out)
     }
 
-    /// The frame that a piece asks to be sent in raw mode, where it is one whole `send` in its usual spelling and
-    /// no message was begun before it. The reader stays as it is, and this is all that the piece gives.
+    /// The frame that a piece asks to be sent in raw mode, if the piece is one whole `send` in its
+    /// usual spelling and no message was begun before it. The reader stays as it is, and the piece
+    /// gives nothing else.
     pub fn lone_send(&self, piece: &[u8]) -> Option<Frame>
         ensures sends { IfSome result (λ frame. IsLoneSend (self.now ++ piece.now) frame) }
         ensures keeps { IfSome result (λ _. kept_of (self.now ++ piece.now) ≡ self.now) }
@@ -78,7 +79,7 @@ impl Reader {
     }
 }
 
-/// Adds bytes where room was taken before.
+/// Adds bytes for which room was taken before.
 fn put(inside: &mut Vec<u8>, more: &[u8])
     requires { length inside.old.items + length more.now ≤ vec_capacity inside.old }
     ensures items { inside.new.items ≡ inside.old.items ++ more.now }

@@ -1,15 +1,15 @@
 ghost use Rattle.std.specs.Prelude.{◌≡◌, ◌≤◌, ◌<◌, ◌+◌, ◌++◌, ◌∷◌, [], true, false, length, take, drop, IfOk, slice_index};
-ghost use Rattle.can_proto.specs.Messages.{is_mark, has_mark, IsKept};
+ghost use Rattle.can_proto.specs.Messages.{is_mark, has_mark, MayBeKept};
 ghost use Rattle.can_proto.specs.declared.message.Incoming.TheVariants.{Message as Given};
-ghost use Rattle.can_proto.specs.Scanning.{text_at, text_of, IsWithin, ReadsUpTo, Scans};
+ghost use Rattle.can_proto.specs.Scanning.{text_kept_at, text_kept, IsWithin, ReadsUpTo, Scans};
 
 use crate::message::{Incoming, Message};
 use std::alloc::{AllocError, Global};
 
-/// How many bytes may be inside a message.
+/// The most bytes inside a message.
 pub const LIMIT: usize = 1024;
 
-/// Where the run that is being read began.
+/// The beginning of the run that is being read.
 #[derive(Clone, Copy)]
 pub enum RunStart {
     /// No run is being read.
@@ -20,11 +20,11 @@ pub enum RunStart {
     At(usize),
 }
 
-/// How many bytes are looked through at once.
+/// The number of bytes that are looked through at once.
 const BLOCK: usize = 16;
 
-/// Whether the block from a byte on has a mark. Branch-free, so that the
-/// compiler can compare all bytes at once.
+/// Returns whether the block from a byte on has a mark. It has no branches, so the compiler can
+/// compare all bytes at once.
 fn block_has_mark(piece: &[u8], from: usize) -> bool
     requires { from + 16 ≤ length piece.now }
     ensures { result ≡ has_mark (drop from (take (from + 16) piece.now)) }
@@ -83,7 +83,7 @@ fn pass(
     requires there { end ≤ length piece.now }
     requires clear { has_mark (drop i (take end piece.now)) ≡ false }
     requires within { IsWithin place i }
-    requires was { IsKept (text_at held.now piece.now i place) }
+    requires was { MayBeKept (text_kept_at held.now piece.now i place) }
     ensures { IfOk result (ReadsUpTo held.now piece.now i place end out.old.items out.new.items) }
 {
     match place {
@@ -119,7 +119,7 @@ fn at_mark(
     requires there { i < length piece.now }
     requires mark { is_mark (slice_index piece.now i) ≡ true }
     requires within { IsWithin place i }
-    requires was { IsKept (text_at held.now piece.now i place) }
+    requires was { MayBeKept (text_kept_at held.now piece.now i place) }
     ensures { IfOk result
         (ReadsUpTo held.now piece.now i place (i + 1) out.old.items out.new.items) }
 {
@@ -149,16 +149,17 @@ fn push_message(
     Ok(())
 }
 
-/// What a piece gives after the bytes held, and where the run at its end began. `is_open` says that a
-/// run was being read, of which `held` are the bytes so far.
+/// Returns the messages of a piece after the bytes held, and the beginning of the run at its end.
+/// `is_open` is whether a run was being read, of which `held` are the bytes so far.
 pub fn scan(
     alloc: Global,
     is_open: bool,
     held: &[u8],
     piece: &[u8],
 ) -> Result<(Vec<Incoming>, RunStart), AllocError>
-    requires { IsKept (text_of is_open held.now) }
-    ensures { IfOk result (λ r. Scans (text_of is_open held.now) held.now piece.now r.0.items r.1) }
+    requires { MayBeKept (text_kept is_open held.now) }
+    ensures { IfOk result (λ r.
+        Scans (text_kept is_open held.now) held.now piece.now r.0.items r.1) }
 {
     let mut out = Vec::new(alloc);
     let mut place = if is_open {

@@ -4,7 +4,7 @@ ghost use Rattle.can_frame.specs.Numbers.{number_in};
 ghost use Rattle.can_proto.specs.Words.{words_of};
 ghost use Rattle.can_proto.specs.Pairs.{IsFirstByte, IsFirstId, AsksFor, fault_of_byte};
 ghost use Rattle.can_proto.specs.declared.command.Command.TheVariants.{Send};
-ghost use Rattle.can_proto.specs.Commands.{Gives, id_of, length_of, fd_length_of, bytes_of, IsDataFault, asked, send_of, send_fd_of, send_flagged_of, flags_of_word, remote_of};
+ghost use Rattle.can_proto.specs.Commands.{GivesAsRead, id_of, length_of, fd_length_of, bytes_of, IsDataFault, asks_to_send, send_of, send_fd_of, send_flagged_of, flags_of_word, remote_of};
 
 use crate::command::Command;
 use crate::fault::ProtoFault;
@@ -14,7 +14,7 @@ use can_frame::{CanId, FdFlags, Frame, is_fd_length, read_decimal, read_hexadeci
 
 /// An identifier of 8 digits (29 bits) or of 1 to 3 (11 bits).
 fn read_id(word: &[u8]) -> Result<CanId, ProtoFault>
-    ensures { Gives result (id_of word.now) }
+    ensures { GivesAsRead result (id_of word.now) }
 {
     id_in(word).ok_or(ProtoFault::BadId)
 }
@@ -51,7 +51,7 @@ fn long_id(word: &[u8]) -> Option<CanId>
 /// A length of one digit, 0 to 8.
 #[tactic(auto, unfolding(crate::specs::Commands::length_of))]
 fn read_length(word: &[u8]) -> Result<u8, ProtoFault>
-    ensures value { Gives result (length_of word.now) }
+    ensures value { GivesAsRead result (length_of word.now) }
     ensures small { IfOk result (λ n. n ≤ 8) }
 {
     match word {
@@ -63,7 +63,7 @@ fn read_length(word: &[u8]) -> Result<u8, ProtoFault>
 /// A length of an FD frame, in decimal without leading zeros.
 #[tactic(auto, unfolding(crate::specs::Commands::fd_length_of))]
 fn read_fd_length(word: &[u8]) -> Result<usize, ProtoFault>
-    ensures value { Gives result (fd_length_of word.now) }
+    ensures value { GivesAsRead result (fd_length_of word.now) }
     ensures length { IfOk result (λ n. IsTrue (is_fd_length n)) }
     ensures small { IfOk result (λ n. n ≤ 64) }
 {
@@ -107,7 +107,7 @@ fn read_bytes<const N: usize>(rest: &[u8], len: usize) -> Result<[u8; N], ProtoF
     spelled_bytes::<N>(rest, len)
 }
 
-/// The bytes of `read_bytes`, where the words may have any blanks between them.
+/// The bytes of `read_bytes`, if the words may have any blanks between them.
 #[inline(never)]
 fn spelled_bytes<const N: usize>(rest: &[u8], len: usize) -> Result<[u8; N], ProtoFault>
     requires small { len ≤ N }
@@ -128,7 +128,7 @@ fn spelled_bytes<const N: usize>(rest: &[u8], len: usize) -> Result<[u8; N], Pro
     }
 }
 
-/// The byte that the first word spells, and what follows it, where this many words should follow.
+/// The byte that the first word spells, and the bytes after it, if this many words should follow.
 fn spelled_byte(text: &[u8], left: usize) -> Result<(u8, &[u8]), ProtoFault>
     ensures value { IfOk result (λ found. IsFirstByte found.0 found.1.now text.now) }
     ensures fault { IfErr result (IsDataFault (left + 1) (words_of text.now)) }
@@ -142,7 +142,7 @@ fn spelled_byte(text: &[u8], left: usize) -> Result<(u8, &[u8]), ProtoFault>
     }
 }
 
-/// The fault where a word spells no byte and this many words should follow it.
+/// The fault if a word spells no byte and this many words should follow it.
 fn bad_byte(after: &[u8], left: usize) -> ProtoFault
     ensures { result ≡ fault_of_byte left (words_of after.now) }
 {
@@ -156,14 +156,14 @@ fn bad_byte(after: &[u8], left: usize) -> ProtoFault
 /// The words of `send ID LEN b ..`.
 #[inline(never)]
 pub fn read_send(rest: &[u8]) -> Result<Command, ProtoFault>
-    ensures { Gives result (send_of (words_of rest.now)) }
+    ensures { GivesAsRead result (send_of (words_of rest.now)) }
 {
     Ok(Command::Send(read_frame(rest)?))
 }
 
 /// The data frame that these words ask to be sent.
 fn read_frame(rest: &[u8]) -> Result<Frame, ProtoFault>
-    ensures { Gives (asked result) (send_of (words_of rest.now)) }
+    ensures { GivesAsRead (asks_to_send result) (send_of (words_of rest.now)) }
 {
     match usual_frame(rest) {
         Some(frame) => Ok(frame),
@@ -227,7 +227,7 @@ fn usual_long_id(text: &[u8]) -> Option<(CanId, &[u8])>
 #[inline(never)]
 #[tactic(auto, unfolding(crate::specs::Commands::send_of))]
 fn spelled_frame(rest: &[u8]) -> Result<Frame, ProtoFault>
-    ensures { Gives (asked result) (send_of (words_of rest.now)) }
+    ensures { GivesAsRead (asks_to_send result) (send_of (words_of rest.now)) }
 {
     let Some((id_word, rest)) = next_word(rest) else {
         return Err(ProtoFault::BadCount);
@@ -244,11 +244,11 @@ fn spelled_frame(rest: &[u8]) -> Result<Frame, ProtoFault>
     }
 }
 
-/// The words of `sendfdx FLAGS ID LEN b ..`, where the flags are a number from 0 to 3.
+/// The words of `sendfdx FLAGS ID LEN b ..`; the flags are a number from 0 to 3.
 #[inline(never)]
 #[tactic(auto, unfolding(crate::specs::Commands::send_flagged_of))]
 pub fn read_send_flagged(rest: &[u8]) -> Result<Command, ProtoFault>
-    ensures { Gives result (send_flagged_of (words_of rest.now)) }
+    ensures { GivesAsRead result (send_flagged_of (words_of rest.now)) }
 {
     let Some((word, rest)) = next_word(rest) else {
         return Err(ProtoFault::BadCount);
@@ -260,7 +260,7 @@ pub fn read_send_flagged(rest: &[u8]) -> Result<Command, ProtoFault>
 /// The flags of an FD frame: one digit.
 #[tactic(auto, unfolding(crate::specs::Commands::flags_of_word))]
 fn read_flags(word: &[u8]) -> Result<FdFlags, ProtoFault>
-    ensures { Gives result (flags_of_word word.now) }
+    ensures { GivesAsRead result (flags_of_word word.now) }
 {
     let number = match word {
         [digit] if b'0' <= *digit => *digit - b'0',
@@ -276,7 +276,7 @@ fn read_flags(word: &[u8]) -> Result<FdFlags, ProtoFault>
 #[inline(never)]
 #[tactic(auto, unfolding(crate::specs::Commands::send_fd_of))]
 pub fn read_send_fd(flags: FdFlags, rest: &[u8]) -> Result<Command, ProtoFault>
-    ensures { Gives result (send_fd_of flags (words_of rest.now)) }
+    ensures { GivesAsRead result (send_fd_of flags (words_of rest.now)) }
 {
     let Some((id_word, rest)) = next_word(rest) else {
         return Err(ProtoFault::BadCount);
@@ -297,7 +297,7 @@ pub fn read_send_fd(flags: FdFlags, rest: &[u8]) -> Result<Command, ProtoFault>
 #[inline(never)]
 #[tactic(auto, unfolding(crate::specs::Commands::remote_of))]
 pub fn read_remote(rest: &[u8]) -> Result<Command, ProtoFault>
-    ensures { Gives result (remote_of (words_of rest.now)) }
+    ensures { GivesAsRead result (remote_of (words_of rest.now)) }
 {
     let Some((id_word, rest)) = next_word(rest) else {
         return Err(ProtoFault::BadCount);

@@ -1,7 +1,7 @@
 ghost use Rattle.std.specs.Prelude.{◌≡◌, ◌≤◌, ◌<◌, ◌+◌, ◌++◌, [], length, true, codes};
 ghost use Rattle.std.specs.Fmt.{decimal};
 ghost use Rattle.can_frame.specs.Frames.{is_remote};
-ghost use Rattle.can_proto.specs.Spelling.{class_width, class_text, body_text, data_front, fd_word, fd_front, remote_front, frame_front, error_text, item_text, origin_text, item_text_from, stats_text, state_word, status_text, load_text, reply_text};
+ghost use Rattle.can_proto.specs.Spelling.{class_width, class_text, body_text, data_front, fd_word, fd_front, remote_front, frame_front, error_text, item_text, origin_text, item_text_from, stats_text, state_word, status_text, load_text, answer_text};
 ghost use Rattle.can_proto.specs.declared.answer.Answer.TheVariants.{Refused};
 
 use crate::answer::{Answer, BusLoad, Cause, Origin};
@@ -10,8 +10,8 @@ use can_confine::{Counters, State};
 use can_event::{IfaceStats, SocketStats};
 use can_frame::{ErrorFrame, FdFlags, Frame, Item, Moment};
 
-/// The text of an item that a client's socket received, with the data of error message frames
-/// where `errdata` asks for them.
+/// The text of an item that a client's socket received, with the data of error message frames if
+/// `errdata` asks for them.
 pub fn item_text(item: Item, moment: Moment, errdata: bool) -> ItemText
     ensures text { result ≡ item_text errdata item moment }
     ensures short { length result ≤ 170 }
@@ -21,7 +21,7 @@ pub fn item_text(item: Item, moment: Moment, errdata: bool) -> ItemText
     text
 }
 
-/// Puts what `item_text` says of an item into an empty text.
+/// Puts the text of an item, as `item_text` spells it, into an empty text.
 pub fn push_item(text: &mut ItemText, item: &Item, moment: Moment, errdata: bool)
     requires { text.old ≡ [] }
     ensures text { text.new ≡ item_text errdata item.now moment }
@@ -36,7 +36,8 @@ pub fn push_item(text: &mut ItemText, item: &Item, moment: Moment, errdata: bool
     }
 }
 
-/// Puts what `item_text` says of an item into an empty text, with the origin of a frame before its end.
+/// Puts the text of an item, as `item_text` spells it, into an empty text, with the origin of a
+/// frame before its end.
 #[inline(never)]
 pub fn push_item_from(
     text: &mut ItemText,
@@ -79,7 +80,7 @@ fn push_origin(text: &mut ItemText, origin: Origin)
 
 /// The text of a reply.
 pub fn reply_text(answer: Answer) -> Text
-    ensures { result ≡ reply_text answer }
+    ensures { result ≡ answer_text answer }
 {
     match answer {
         Answer::Greeting => fixed_text(b"< hi >"),
@@ -114,7 +115,7 @@ fn count_text(word: &[u8], number: u64) -> Text
 
 /// The text of a refusal: that of `reply_text`, in the room of an item's.
 pub fn refusal_text(cause: Cause) -> ItemText
-    ensures { result ≡ reply_text (Refused cause) }
+    ensures { result ≡ answer_text (Refused cause) }
 {
     let mut text = ItemText::new();
     text.push_all(b"< error ");
@@ -133,7 +134,7 @@ fn fixed_text(bytes: &[u8]) -> Text
     text
 }
 
-/// How many hexadecimal digits an error class takes, at least 3.
+/// Returns how many hexadecimal digits an error class takes, at least 3.
 fn class_width(class: u32) -> usize
     ensures width { result ≡ class_width class }
     ensures most { result ≤ 8 }

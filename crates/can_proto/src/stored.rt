@@ -4,11 +4,11 @@ ghost use Rattle.can_proto.specs.Stored.{stored_bytes};
 use arrayvec::ArrayVec;
 use std::alloc::{AllocError, Global};
 
-/// How many bytes a message keeps in itself: enough for each `send` with single spaces.
+/// The number of bytes that a message keeps in itself: enough for each `send` with single spaces.
 const SHORT: usize = 48;
 
-/// The bytes of a message. Few of them lie in the value itself, so that messages of usual length take no
-/// memory.
+/// The bytes of a message. A few of them are in the value itself, so messages of usual length take
+/// no memory.
 #[derive(Debug, Drop)]
 pub enum Stored {
     Short(ArrayVec<u8, SHORT>),
@@ -49,7 +49,7 @@ fn long(alloc: Global, held: &[u8], more: &[u8]) -> Result<Vec<u8>, AllocError>
     Ok(bytes)
 }
 
-/// Both one after the other, where they are few enough.
+/// Both one after the other, if they are few enough.
 fn short(held: &[u8], more: &[u8]) -> Option<ArrayVec<u8, SHORT>>
     ensures { IfSome result (λ v. v.items ≡ held.now ++ more.now) }
 {

@@ -21,7 +21,7 @@ pub fn lone_send(piece: &[u8]) -> Option<Frame>
     usual_frame(after_send(inside)?)
 }
 
-/// What is between a `<` and a `>` at the ends of a piece.
+/// Returns the bytes between a `<` and a `>` at the ends of a piece.
 fn between_marks(piece: &[u8]) -> Option<&[u8]>
     ensures { IfSome result (λ inside. piece.now ≡ 60 ∷ inside.now ++ 62 ∷ []) }
 {

@@ -4,7 +4,7 @@ ghost use Rattle.can_proto.specs.Verbs.{is_word, is_other_mode, named, is_allowe
 
 use crate::command::Mode;
 
-/// What the first word of a command asks for.
+/// The command that a first word asks for.
 #[derive(Debug, Clone, Copy, PartialEq, Eq)]
 pub enum Verb {
     Echo,
@@ -108,8 +108,8 @@ pub fn verb_of(word: &[u8]) -> Option<Verb>
     }
 }
 
-/// What follows `send` and a space, where these and a space before them begin the text, as they begin
-/// most messages.
+/// Returns the bytes after `send` and a space, if these and a space before them begin the text, as
+/// they begin most messages.
 pub fn after_send(text: &[u8]) -> Option<&[u8]>
     ensures { IfSome result (λ rest. BeginsWith (codes "send") rest.now text.now) }
 {
@@ -119,14 +119,14 @@ pub fn after_send(text: &[u8]) -> Option<&[u8]>
     }
 }
 
-/// Whether a word names one of the modes of socketcand that are left out.
+/// Returns whether a word names one of the modes of socketcand that are left out.
 fn names_other_mode(word: &[u8]) -> bool
     ensures { result ≡ is_other_mode word.now }
 {
     matches(word, b"bcmmode") || matches(word, b"isotpmode") || matches(word, b"controlmode")
 }
 
-/// Whether a mode has this command.
+/// Returns whether a mode has this command.
 pub fn is_allowed_in(verb: Verb, mode: Mode) -> bool
     ensures { result ≡ is_allowed_in verb mode }
 {

@@ -7,7 +7,7 @@ fn is_space(byte: u8) -> bool
     byte == b' ' || byte == b'\t' || byte == b'\r' || byte == b'\n'
 }
 
-/// How many blanks are at the front.
+/// Returns how many blanks are at the front.
 fn blanks(text: &[u8]) -> usize
     ensures within { result ≤ length text.now }
     ensures same { words_of text.now ≡ words_of (drop result text.now) }
@@ -21,7 +21,7 @@ fn blanks(text: &[u8]) -> usize
     text.len()
 }
 
-/// How many bytes come before the first blank.
+/// Returns how many bytes come before the first blank.
 fn letters(text: &[u8]) -> usize
     ensures within { result ≤ length text.now }
     ensures word { front text.now ≡ take result text.now }
@@ -49,7 +49,7 @@ pub fn next_word(text: &[u8]) -> Option<(&[u8], &[u8])>
     Some((word, after))
 }
 
-/// Whether the text has this many words.
+/// Returns whether the text has this many words.
 pub fn has_words(text: &[u8], count: usize) -> bool
     ensures { result ≡ (length (words_of text.now) == count) }
 {

@@ -16,9 +16,9 @@ use Rattle.can_bus.specs.Legal.{legal_reply, IsLegal}
 use Rattle.can_bus.specs.Run.{IsAnswer, history_after}
 use Rattle.can_replay.specs.declared.audits.AuditFault.{AuditFault}
 use Rattle.can_replay.specs.declared.audits.AuditFault.TheVariants as fault
-use Rattle.can_replay.specs.Audits.{IsFirstWrong, IsToldWrong, Blames, fault_at}
+use Rattle.can_replay.specs.Audits.{IsFirstWrongEntry, IsToldWrong, Blames, fault_at}
 use Rattle.can_replay.specs.Histories.{before}
-use Rattle.can_replay.proofs.Before.{before_more, legal_front}
+use Rattle.can_replay.proofs.EntriesBefore.{before_more, legal_front}
 
 -- A bus carries out the entries one after another, as far as they are legal.
 
@@ -112,7 +112,7 @@ all_legal c past k bus end config so_far =
 -- ---- the answer
 
 -- a legal history does not end with a wrong entry
-pub last-right : (c : BusConfig) (es : List Entry) (k : ℕ) → IsLegal c (before es (k + 1)) → IsFirstWrong c es k → ⊥
+pub last-right : (c : BusConfig) (es : List Entry) (k : ℕ) → IsLegal c (before es (k + 1)) → IsFirstWrongEntry c es k → ⊥
 last-right c es k legal f =
     let below = slice_get_within es k f.entry f.there in
     let read = get_or_from_slice_get es k f.entry f.entry f.there in
@@ -123,7 +123,7 @@ last-right c es k legal f =
     ]
 
 -- no entry of a legal history is wrong
-pub none-wrong : (c : BusConfig) (es : List Entry) (k : ℕ) → IsLegal c (reverse es) → IsFirstWrong c es k → ⊥
+pub none-wrong : (c : BusConfig) (es : List Entry) (k : ℕ) → IsLegal c (reverse es) → IsFirstWrongEntry c es k → ⊥
 none-wrong c es k legal f = last-right c es k (legal_front c es (k + 1) legal) f
 
 take_take : (es : List Entry) (j k : ℕ) → j ≤ k → take j (take k es) ≡ take j es
@@ -134,12 +134,12 @@ take_take (e ∷ es) (suc j) zero le = absurd (omega (arith, le))
 take_take (e ∷ es) (suc j) (suc k) le = ap (λ (xs : List Entry). e ∷ xs) (take_take es j k (omega (arith, le)))
 
 -- before the first wrong entry there is no other
-none-before : (c : BusConfig) (es : List Entry) (j k : ℕ) → j < k → IsFirstWrong c es j → IsFirstWrong c es k → ⊥
+none-before : (c : BusConfig) (es : List Entry) (j k : ℕ) → j < k → IsFirstWrongEntry c es j → IsFirstWrongEntry c es k → ⊥
 none-before c es j k lt f g =
     let all = legal_front c (take k es) (j + 1) g.legal_before in
     last-right c es j (subst (λ (xs : List Entry). IsLegal c (reverse xs)) (take_take es (j + 1) k (omega (arith, lt))) all) f
 
-pub one-first : (c : BusConfig) (es : List Entry) (j k : ℕ) → IsFirstWrong c es j → IsFirstWrong c es k → j ≡ k
+pub one-first : (c : BusConfig) (es : List Entry) (j k : ℕ) → IsFirstWrongEntry c es j → IsFirstWrongEntry c es k → j ≡ k
 one-first c es j k f g =
     elim (cases_lt j k) [
       | inl lt ↦ absurd (none-before c es j k lt f g)
@@ -149,7 +149,7 @@ one-first c es j k f g =
       ]
     ]
 
--- a fault of a legal history is want of memory
+-- a fault of a legal history is lack of memory
 pub spared : (c : BusConfig) (past : List Entry) (why : AuditFault) → IsConfig c → Blames c (reverse past) why → IsLegal c past → why ≡ fault.NoMemory
 spared c past (fault.Wrong k legal) proper told h = absurd (none-wrong c (reverse past) k (subst (IsLegal c) (sym (reverse-reverse past)) h) told.first)
 spared c past fault.NoMemory proper told h = refl

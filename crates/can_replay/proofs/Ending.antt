@@ -77,7 +77,7 @@ some_more : (xs ys : List ℕ) → xs ≢ [] → xs ++ ys ≢ []
 some_more [] ys some is = some refl
 some_more (x ∷ xs) ys some is = absurd cc
 
--- behind the end
+-- after the end
 pub more_there : (text rest : List ℕ) (b : EntryAudit) → IsGoing text b → b.is_ended ≡ true → rest ≢ [] → IsFirstWrong (text ++ rest) (b.count + 4)
 more_there text rest b g ended some = inr (inr (record {
   version = b.version;

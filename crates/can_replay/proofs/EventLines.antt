@@ -1,4 +1,4 @@
--- What one more line brought about.
+-- The events of one more line.
 use Rattle.std.proofs.Common.{◌≡◌, ◌≢◌, ◌≤◌, ◌+◌, ◌-◌, ◌&&◌, not, ℕ, Bool, true, false, All, List, [], ◌∷◌, ◌++◌, length, take, Option, Some, None, IfOk, Result, Ok, Err, inl, inr, append_assoc, length-append, refl, sym, ap, subst, ◌∙◌, arith}
 use Rattle.std.specs.Prelude.{codes, reverse}
 use Rattle.std.proofs.Math.Seq.{take-append_seam}
@@ -14,30 +14,30 @@ use Rattle.can_event.specs.declared.reply.Reply.{Reply}
 use Rattle.can_bus.specs.Lean.{IsAfter}
 use Rattle.can_bus.specs.Legal.{IsLegal}
 use Rattle.can_wire.specs.Timings.{BusTiming}
-use Rattle.can_events.specs.Brought.{is_step}
 use Rattle.can_rules.specs.RunFaults.{RunSeen}
-use Rattle.can_events.specs.declared.wanted.Wanted.{Wanted}
-use Rattle.can_events.specs.Words.{numbered}
-use Rattle.can_events.specs.EventsText.{asked_by, asked_of, events_front, events_line, faults_after, parts_of, rule_by, rule_part, tried_part, unended, wanted_after, wire_part, with_parts}
-use Rattle.can_events.specs.EventsText.{first_line as events_first_line}
 use Rattle.can_record_text.specs.declared.version.Version.{Version}
 use Rattle.can_record_text.specs.Spelling.{bus_words, entry_line, entry_words, first_line, spell, version_of}
 use Rattle.can_record_text.specs.Values.{HasLine}
-use Rattle.can_replay.specs.Audits.{IsFirstWrong}
+use Rattle.can_replay.specs.Brought.{is_step}
+use Rattle.can_replay.specs.declared.wanted.Wanted.{Wanted}
+use Rattle.can_replay.specs.Words.{numbered}
+use Rattle.can_replay.specs.EventsText.{asked_by, asked_of, events_front, events_line, events_lines, faults_after, parts_of, rule_by, rule_in, rule_part, rules_at_end, rules_at_start, rules_before, rules_by, tried_part, unended, wanted_after, wire_part, with_parts}
+use Rattle.can_replay.specs.EventsText.{events_version as events_first_line}
+use Rattle.can_replay.specs.inner.Seen.{HasSeen}
+use Rattle.can_replay.specs.Audits.{IsFirstWrongEntry}
 use Rattle.can_replay.specs.Histories.{before}
 use Rattle.can_replay.specs.declared.entry_audit.EntryAudit.{EntryAudit}
 use Rattle.can_replay.specs.declared.text_fault.WrongLine.{WrongLine}
-use Rattle.can_events.specs.inner.Seen.{HasSeen}
 use Rattle.can_replay.specs.declared.events_text.EventsText.{EventsText}
 use Rattle.can_replay.specs.declared.text_audit.Phase.TheVariants as phase
 use Rattle.can_replay.specs.declared.text_fault.Cut.{Cut}
 use Rattle.can_replay.specs.declared.text_fault.Cut.TheVariants as cut
 use Rattle.can_replay.specs.declared.text_fault.TextFault.{TextFault}
-use Rattle.can_replay.specs.EventTexts.{AreWritten, Completes, EndsCutEvents, EndsEvents, IsReached, IsWantedAfter, IsWhole, WritesOn, WritesParts, cut_line, end_line, events_of, is_legal_yet, is_none, legal_part, legal_past}
+use Rattle.can_replay.specs.EventTexts.{AreWritten, Completes, EndsCutEvents, EndsEvents, IsReached, IsWantedAfter, IsWhole, WritesOn, WritesParts, cut_line, end_line, events_of, is_legal_yet, is_none, legal_part, legal_past, rules_first}
 use Rattle.can_replay.specs.TextAudits.{IsLine}
 use Rattle.can_replay.specs.inner.EntryAudits.{IsBegun, IsGoing, IsSettled}
 use Rattle.can_replay.proofs.Auditing.{last-right, none-wrong, one-first}
-use Rattle.can_replay.proofs.Before.{legal_front}
+use Rattle.can_replay.proofs.EntriesBefore.{legal_front}
 use Rattle.can_replay.proofs.GoingOn.{An_entry, No_entry, goes_on, last_of, none_after_end, one_line_more}
 use Rattle.can_replay.proofs.LineEnds.{event_words_then}
 use Rattle.can_replay.proofs.Taking.{told_more}
@@ -46,7 +46,7 @@ use Rattle.can_replay.proofs.Uncut.{words_end}
 -- ---- the legal ones of the entries
 
 -- legal entries have no wrong one among them
-after_legal : (c : BusConfig) (es more : List Entry) (k : ℕ) → IsLegal c (reverse es) → IsFirstWrong c (es ++ more) k → length es ≤ k
+after_legal : (c : BusConfig) (es more : List Entry) (k : ℕ) → IsLegal c (reverse es) → IsFirstWrongEntry c (es ++ more) k → length es ≤ k
 after_legal c es more k legal f =
     elim (cases_lt k (length es)) [
       | inl lt ↦
@@ -55,7 +55,7 @@ after_legal c es more k legal f =
       | inr le ↦ le
     ]
 
--- where one is wrong, later ones change nothing
+-- If one is wrong, later ones change nothing
 part_stays : (c : BusConfig) (es more : List Entry) (o p : Option WrongLine) → is_none o ≡ false → IsSettled c es o → IsSettled c (es ++ more) p → legal_part (es ++ more) p ≡ legal_part es o
 part_stays c es more None p some old new = absurd cc
 part_stays c es more (Some w) None some old new = absurd (none-wrong c (es ++ more) w.place new (told_more c es more w.place w.legal old.told).first)
@@ -130,9 +130,25 @@ none_ruled run (Send s f) r plain = refl
 none_ruled run (Receive s) r plain = refl
 
 no_rule : (faults : Option RunSeen) (e : Entry) → is_step e.event ≡ false → rule_part faults e ≡ []
-unfolding rule_part numbered
+unfolding rule_in numbered
 no_rule None e plain = refl
 no_rule (Some run) e plain = ap (numbered (codes "rule")) (none_ruled run e.event e.reply plain)
+
+none_given : (run : RunSeen) (v : Event) (r : Reply) → is_step v ≡ false → rules_by run v r ≡ []
+none_given run (Attempt m w) r plain = absurd cc
+none_given run (Restart i m) r plain = refl
+none_given run (Down i m) r plain = refl
+none_given run (Open i k) r plain = refl
+none_given run (Close s) r plain = refl
+none_given run (SetFilters s f) r plain = refl
+none_given run (SetOption s o) r plain = refl
+none_given run (Send s f) r plain = refl
+none_given run (Receive s) r plain = refl
+
+no_rules : (faults : Option RunSeen) (e : Entry) → is_step e.event ≡ false → rules_before faults e ≡ []
+unfolding rules_before
+no_rules None e plain = refl
+no_rules (Some run) e plain = none_given run e.event e.reply plain
 
 none_asked : (run : RunSeen) (v : Event) (r : Reply) → is_step v ≡ false → asked_by run v r ≡ run
 none_asked run (Attempt m w) r plain = absurd cc
@@ -158,7 +174,8 @@ plain_line w c past e plain =
     let end = ends_line (entry_words e) (event_words_then e) in
     let faults = faults_after w.faults past in
     let none : unended (entry_line e []) ++ [] ++ [] ++ [] ++ 10 ∷ [] ≡ unended (entry_line e []) ++ 10 ∷ [] = simp append-nil in
-    ap (λ (x : List ℕ). unended (entry_line e []) ++ x ++ wire_part w.timing e ++ rule_part faults e ++ 10 ∷ []) (no_parts c past e plain)
+    ap (λ (x : List ℕ). x ++ unended (entry_line e []) ++ parts_of c past e ++ wire_part w.timing e ++ rule_part faults e ++ 10 ∷ []) (no_rules faults e plain)
+    ∙ ap (λ (x : List ℕ). unended (entry_line e []) ++ x ++ wire_part w.timing e ++ rule_part faults e ++ 10 ∷ []) (no_parts c past e plain)
     ∙ ap (λ (x : List ℕ). unended (entry_line e []) ++ [] ++ x ++ rule_part faults e ++ 10 ∷ []) (no_wire w.timing e plain)
     ∙ ap (λ (x : List ℕ). unended (entry_line e []) ++ [] ++ [] ++ x ++ 10 ∷ []) (no_rule faults e plain)
     ∙ none ∙ unended_line (entry_line e []) end.0 end.1
@@ -290,7 +307,7 @@ stays_written w text line old new g h events now none complete wanted =
     (complete ∙ sym same, wanted ∙ ap (wanted_after w) (sym none.past))
 
 front_more : (w : Wanted) (v : Version) (c : BusConfig) (past : List Entry) (e : Entry) → events_front w v c (e ∷ past) ≡ events_front w v c past ++ events_line w c past e
-front_more w v c past e = search append_assoc
+front_more w v c past e = sym (append_assoc (events_first_line ++ spell (bus_words v c) [] ++ rules_at_start w.faults) (events_lines w c past) (events_line w c past e))
 
 events_more : (w : Wanted) (text line : List ℕ) (old new : EntryAudit) (g : IsGoing text old) (h : IsGoing (text ++ line) new) (one : OneMore text line old new g h) → events_of w (text ++ line) new h ≡ events_of w text old g ++ events_line w new.bus.config one.past one.entry
 events_more w text line old new g h one =
@@ -322,7 +339,7 @@ plain_more w text line old new g h cleared before after now one plain wrote comp
   wanted_more w text line old new g h one now now wanted (ap (λ (x : Option RunSeen). record now { faults = x }) (sym (plain_asked now.faults one.entry plain))),
 )
 
--- with what it brought about
+-- with its events
 pub step_more : (w : Wanted) (text line : List ℕ) (old new : EntryAudit) (g : IsGoing text old) (h : IsGoing (text ++ line) new) (cleared : List ℕ) (before after : EventsText) (one : OneMore text line old new g h) → is_step one.entry.event ≡ true
     → HasSeen old.bus.config one.past before.before → WritesParts before new line after → cleared ++ before.text.items ≡ events_of w text old g → before.wanted ≡ wanted_after w (legal_past text old g)
     → IsUpTo w (text ++ line) new h (cleared ++ after.text.items) after.wanted
@@ -342,17 +359,18 @@ step_more w text line old new g h cleared before after one step saw writes compl
 none_begun : (v : Version) (line : List ℕ) (b : EntryAudit) (begun : IsBegun v line b) → legal_past (first_line v ++ line) b begun.going ≡ []
 none_begun v line b begun = ap (λ (x : List Entry). reverse x) (ap (legal_part begun.going.read.entries) begun.legal ∙ begun.none)
 
-pub begun_events : (w : Wanted) (v : Version) (line : List ℕ) (b : EntryAudit) (begun : IsBegun v line b) → events_first_line ++ line ≡ events_of w (first_line v ++ line) b begun.going
+pub begun_events : (w : Wanted) (v : Version) (line : List ℕ) (b : EntryAudit) (begun : IsBegun v line b) → events_first_line ++ line ++ rules_at_start w.faults ≡ events_of w (first_line v ++ line) b begun.going
 begun_events w v line b begun =
-    let front : events_first_line ++ spell (bus_words b.version b.config) [] ≡ events_front w b.version b.config [] = simp append-nil in
-    ap (λ (x : List ℕ). events_first_line ++ x) begun.is_line ∙ front ∙ ap (events_front w b.version b.config) (sym (none_begun v line b begun))
+    let front : events_first_line ++ spell (bus_words b.version b.config) [] ++ rules_at_start w.faults ≡ events_front w b.version b.config [] =
+    sym (append-nil (events_first_line ++ spell (bus_words b.version b.config) [] ++ rules_at_start w.faults)) in
+    ap (λ (x : List ℕ). events_first_line ++ x ++ rules_at_start w.faults) begun.is_line ∙ front ∙ ap (events_front w b.version b.config) (sym (none_begun v line b begun))
 
-pub begins : (w : Wanted) (v : Version) (line cleared : List ℕ) (b : EntryAudit) (held : Option EventsText) (begun : IsBegun v line b) → Completes held cleared (events_first_line ++ line) → IsWantedAfter w held []
+pub begins : (w : Wanted) (v : Version) (line cleared : List ℕ) (b : EntryAudit) (held : Option EventsText) (begun : IsBegun v line b) → Completes held cleared (events_first_line ++ line ++ rules_first held) → IsWantedAfter w held []
     → AreWritten w (first_line v ++ line) cleared (phase.Entries b) held
 begins w v line cleared b None begun complete wanted = record { taken = begun.going; complete = complete; wanted = tt }
 begins w v line cleared b (Some e) begun complete wanted = record {
   taken = begun.going;
-  complete = complete ∙ begun_events w v line b begun;
+  complete = complete ∙ ap (λ (x : Wanted). events_first_line ++ line ++ rules_at_start x.faults) wanted ∙ begun_events w v line b begun;
   wanted = wanted ∙ ap (wanted_after w) (sym (none_begun v line b begun));
 }
 
@@ -361,6 +379,10 @@ legal_all text b g none = subst (IsSettled b.config g.read.entries) none g.read.
 
 events_all : (w : Wanted) (text : List ℕ) (b : EntryAudit) (g : IsGoing text b) → b.wrong ≡ None → events_of w text b g ≡ events_front w b.version b.config (reverse g.read.entries)
 events_all w text b g none = ap (λ (o : Option WrongLine). events_front w b.version b.config (reverse (legal_part g.read.entries o))) none
+
+-- and so is what is wanted after them
+wanted_all : (w : Wanted) (text : List ℕ) (b : EntryAudit) (g : IsGoing text b) (now : Wanted) → b.wrong ≡ None → now ≡ wanted_after w (legal_past text b g) → now ≡ wanted_after w (reverse g.read.entries)
+wanted_all w text b g now none is = is ∙ ap (λ (o : Option WrongLine). wanted_after w (reverse (legal_part g.read.entries o))) none
 
 pub ends_events : (w : Wanted) (text cleared : List ℕ) (b : EntryAudit) (held : Option EventsText) (r : Result ℕ TextFault) (written : AreWritten w text cleared (phase.Entries b) held) → IfOk r (IsWhole text b written.taken) → IfOk r (EndsEvents w held text cleared)
 ends_events w text cleared b held (Err why) written h = tt
@@ -373,9 +395,10 @@ ends_events w text cleared b (Some e) (Ok count) written h =
       whole = h.whole;
       legal = legal_all text b written.taken h.legal;
       are =
-          ap (λ (x : List ℕ). x ++ end_line count) (written.complete ∙ events_all w text b written.taken h.legal)
-          ∙ ap (λ (v : Version). events_front w v b.config (reverse es) ++ end_line count) h.version
-          ∙ ap (λ (n : ℕ). events_front w (version_of b.config es) b.config (reverse es) ++ end_line n) (h.counted ∙ sym (length-reverse es));
+          ap (λ (x : List ℕ). x ++ (rules_at_end e.wanted.faults ++ end_line count)) (written.complete ∙ events_all w text b written.taken h.legal)
+          ∙ ap (λ (x : Wanted). events_front w b.version b.config (reverse es) ++ (rules_at_end x.faults ++ end_line count)) (wanted_all w text b written.taken e.wanted h.legal written.wanted)
+          ∙ ap (λ (v : Version). events_front w v b.config (reverse es) ++ (rules_at_end (wanted_after w (reverse es)).faults ++ end_line count)) h.version
+          ∙ ap (λ (n : ℕ). events_front w (version_of b.config es) b.config (reverse es) ++ (rules_at_end (wanted_after w (reverse es)).faults ++ end_line n)) (h.counted ∙ sym (length-reverse es));
     }
 
 pub ends_cut_events : (w : Wanted) (text torn cleared : List ℕ) (b : EntryAudit) (held : Option EventsText) (r : Result Cut TextFault) (written : AreWritten w text cleared (phase.Entries b) held) → IfOk r (IsReached text torn b written.taken)
@@ -392,9 +415,10 @@ ends_cut_events w text torn cleared b (Some e) (Ok (cut.Off count)) written h =
       front = h.front;
       legal = legal_all text b written.taken h.legal;
       are =
-          ap (λ (x : List ℕ). x ++ cut_line count) (written.complete ∙ events_all w text b written.taken h.legal)
-          ∙ ap (λ (v : Version). events_front w v b.config (reverse es) ++ cut_line count) (sym h.version)
-          ∙ ap (λ (n : ℕ). events_front w h.front.version b.config (reverse es) ++ cut_line n) (h.counted ∙ sym (length-reverse es));
+          ap (λ (x : List ℕ). x ++ (rules_at_end e.wanted.faults ++ cut_line count)) (written.complete ∙ events_all w text b written.taken h.legal)
+          ∙ ap (λ (x : Wanted). events_front w b.version b.config (reverse es) ++ (rules_at_end x.faults ++ cut_line count)) (wanted_all w text b written.taken e.wanted h.legal written.wanted)
+          ∙ ap (λ (v : Version). events_front w v b.config (reverse es) ++ (rules_at_end (wanted_after w (reverse es)).faults ++ cut_line count)) (sym h.version)
+          ∙ ap (λ (n : ℕ). events_front w h.front.version b.config (reverse es) ++ (rules_at_end (wanted_after w (reverse es)).faults ++ cut_line n)) (h.counted ∙ sym (length-reverse es));
     }
 
 -- ---- an audit after one more line

@@ -66,7 +66,7 @@ one_bus v w c d a b hc hd e = (one_front v w c d a b hc hd e).config
 pub one_line : (v : Version) (c : BusConfig) (x d : Entry) (a b : List ℕ) → HasLine v c x → HasLine v c d → entry_line x a ≡ entry_line d b → x ≡ d
 one_line v c x d a b hx hd e = same_Some x d (sym (entry_again v c x a hx) ∙ ap entry_at e ∙ entry_again v c d b hd)
 
--- there are as many entries or more where a text goes on to what is no entry's line
+-- there are as many entries or more if a text goes on with a line that is no entry's
 record More (es ds : List Entry) (a b : List ℕ) : Type 0 where
   more : List Entry
   are : ds ≡ es ++ more
@@ -159,7 +159,7 @@ goes_on text line old new g h =
 
 -- ---- one line more
 
--- where the end was taken there is no entry more
+-- if the end was taken there is no entry more
 pub none_after_end : (b : Bool) (v : Version) (c : BusConfig) (es more : List Entry) (line rest : List ℕ) → b ≡ true → All (HasLine v c) more → last_of b es ++ line ≡ entry_lines more rest → more ≡ []
 unfolding entry_lines
 none_after_end false v c es more line rest is lines e = absurd cc

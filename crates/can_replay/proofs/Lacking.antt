@@ -1,4 +1,4 @@
--- Nothing after the lines that were taken is a record's.
+-- After the lines that were taken, no line is a record's.
 use Rattle.std.proofs.Common.{◌≡◌, ◌≢◌, ◌+◌, ◌⊎◌, ℕ, inl, inr, Bool, true, false, All, List, [], ◌∷◌, ◌++◌, length, Some, Err, append_assoc, refl, sym, ap, subst, ◌∙◌}
 use Rattle.std.proofs.lemmas.List.{append-nil, append_cancel_left}
 use Rattle.std.proofs.lemmas.List.Elements.{All-nil, All-push}
@@ -105,7 +105,7 @@ torn_lacks text torn (phase.Failed what) come unended = absurd come
 
 -- ---- which line is the first wrong one
 
--- where all entries of a text are known, it is the line after theirs, or that after the end
+-- if all entries of a text are known, it is the line after theirs, or that after the end
 pub next_wrong : (text rest : List ℕ) (n : ℕ) (v : Version) (c : BusConfig) (es : List Entry) → HasLines v c es → text ≡ front_lines v c (entry_lines es rest) → LacksEntry v c rest → IsFirstWrong text n → (n ≡ length es + 3) ⊎ (n ≡ length es + 4)
 next_wrong text rest n v c es good begins lacks (inl h) =
     let here : first_line v ++ spell (bus_words v c) (entry_lines es rest) ≡ first_line h.version ++ h.rest = sym begins ∙ h.begins in
@@ -124,7 +124,7 @@ next_wrong text rest n v c es good begins lacks (inr (inr h)) =
 
 -- ---- the bus of a text
 
--- where its line was taken
+-- if its line was taken
 pub has_bus : (text rest : List ℕ) (p : Phase) (c : BusConfig) → HasCome text p → bus_taken p ≡ Some c → HasBus (text ++ rest) c
 has_bus text rest phase.Start c come is = absurd cc
 has_bus text rest (phase.Front w) c come is = absurd cc
@@ -133,7 +133,7 @@ has_bus text rest (phase.Entries b) c come is =
     subst (HasBus (text ++ rest)) same (b.version, entry_lines come.read.entries (last_of b.is_ended come.read.entries ++ rest), come.read.good.bus, read_rest text rest b come)
 has_bus text rest (phase.Failed what) c come is = absurd come
 
--- its line was taken, where only bytes that end no line were not
+-- its line was taken, if only bytes that end no line were not taken
 pub bus_is : (text torn : List ℕ) (p : Phase) (c : BusConfig) → HasCome text p → EndsNoLine torn → HasBus (text ++ torn) c → bus_taken p ≡ Some c
 bus_is text torn phase.Start c come unended h = absurd (torn_lacks text torn phase.Start come unended h.0 c h.1 h.2 h.3)
 bus_is text torn (phase.Front w) c come unended h = absurd (torn_lacks text torn (phase.Front w) come unended h.0 c h.1 h.2 h.3)

@@ -1,6 +1,9 @@
+pub mod Lists
+pub mod Items
+pub mod Told
 pub mod Answering
 pub mod Auditing
-pub mod Before
+pub mod EntriesBefore
 pub mod PlainWords
 pub mod LineEnds
 pub mod Uncut

@@ -34,7 +34,7 @@ use Rattle.can_record_text.specs.declared.fault.Unread.{Unread}
 use Rattle.can_record_text.specs.declared.fault.Unread.TheVariants as unread
 use Rattle.can_replay.proofs.LineEnds.{cut_entry}
 
--- ---- the first wrong entry, and entries behind it
+-- ---- the first wrong entry, and entries after it
 
 there_more : (es more : List Entry) (d : Entry) (k : ℕ) → slice_get es k ≡ Some d → slice_get (es ++ more) k ≡ Some d
 there_more es more d k there =
@@ -64,7 +64,7 @@ pub settled_more : (c : BusConfig) (es : List Entry) (e : Entry) (o : Option Wro
 settled_more c es e None some h = absurd (some refl)
 settled_more c es e (Some w) some h = wrong_more c es e w h
 
--- the entry behind legal ones is the first wrong one
+-- the entry after legal ones is the first wrong one
 pub told_here : (c : BusConfig) (es : List Entry) (e : Entry) (k : ℕ) (legal : Option Reply) → k ≡ length es → IsLegal c (reverse es) → IsWrongNext c (reverse es) e legal → IsToldWrong c (es ++ e ∷ []) k legal
 told_here c es e k legal at lawful h =
     let same : reverse es ≡ before (es ++ e ∷ []) k = ap reverse (sym (take-append_seam es (e ∷ [])) ∙ ap (λ (n : ℕ). take n (es ++ e ∷ [])) (sym at)) in
@@ -128,7 +128,7 @@ legal_more text line b bus needs g none going is config step may =
       is_after = λ still legal_too. after;
     }
 
--- a line behind a wrong one
+-- a line after a wrong one
 pub behind_more : (text line rest : List ℕ) (b : EntryAudit) (needs : Needs) (e : Entry) → IsGoing text b → (b.wrong ≡ None → ⊥) → b.is_ended ≡ false → IsLine line → HasLine b.version b.config e → line ≡ entry_line e rest → needs ≡ needs_of e
     → IsGoing (text ++ line) (record b { count = b.count + 1; needs = both_needs b.needs needs })
 behind_more text line rest b needs e g some going is good is_after here = record {
@@ -152,12 +152,12 @@ wrong_here text line rest b needs e d legal limit read none going config is othe
       is_after = λ still none_too. absurd (none-some w (sym none_too));
     }
 
--- ---- where no line stands
+-- ---- places without a line
 
 pub spells_none : (v : Version) (c : BusConfig) (line : List ℕ) → entry_at line ≡ None → LacksEntry v c line
 spells_none v c line none e more good is = none-some e (sym none ∙ ap entry_at is ∙ entry_again v c e more good)
 
--- a line stands only in a version that takes what it needs
+-- a line is only in a version that takes what it needs
 pub not_taken : (v : Version) (c : BusConfig) (past : List Entry) (line : List ℕ) (needs : Needs) (bus : Lean) → IsNext c past line needs bus → takes v needs ≡ false → LacksEntry v c line
 not_taken v c past line needs bus one other e more good is =
     let same : e ≡ one.entry = same_Some e one.entry (sym (entry_again v c e more good) ∙ ap entry_at (sym is ∙ one.is_line) ∙ entry_again version.Six c one.entry one.rest one.good) in
@@ -169,7 +169,7 @@ not_taken v c past line needs bus one other e more good is =
 
 -- ---- an entry audit after one more line
 
--- what is known of the lines that were read does not speak of the bus
+-- the facts about the lines that were read do not speak of the bus
 pub reread : (text : List ℕ) (b : EntryAudit) (bus : Lean) (read : IsRead text b) → IsRead text (record b { bus = bus })
 reread text b bus read = record { entries = read.entries; good = read.good; begins = read.begins; counted = read.counted; needs = read.needs; settled = read.settled }
 

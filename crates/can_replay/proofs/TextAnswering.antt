@@ -26,7 +26,7 @@ use Rattle.can_record_text.specs.Values.{HasLine, HoldsEvent, HoldsReply}
 use Rattle.can_record_text.proofs.Again.{entry_again}
 use Rattle.can_replay.specs.inner.Carried.{IsNext, IsOther, IsWrongNext}
 
--- what spells no event spells no entry
+-- bytes that spell no event spell no entry
 pub not_an_entry : (u : Unread) (text : List ℕ) → Gives {X = Event × List ℕ} (Err u) (event_at text) → u ≡ unread.Bad → entry_at text ≡ None
 unfolding entry_at
 not_an_entry unread.Bad text h is = rw h refl

@@ -17,7 +17,7 @@ use Rattle.can_replay.proofs.LineEnds.{line_ends, torn_end, torn_entry}
 
 -- ---- what is the first wrong line of a text
 
--- where it is cut off, that which it lacks
+-- If it is cut off, that which it lacks
 lacking : (text : List ℕ) (v : Version) (c : BusConfig) (es : List Entry) (torn : List ℕ) → HasLines v c es → EndsNoLine torn → text ≡ front_lines v c (entry_lines es torn) → IsFirstWrong text (length es + 3)
 lacking text v c es torn good unended is = inr (inl (record {
   version = v;
@@ -34,7 +34,7 @@ lacking text v c es torn good unended is = inr (inl (record {
 cut_lacks : (text : List ℕ) (n : ℕ) (cut : IsCutText text n) → IsFirstWrong text (length cut.entries + 3)
 cut_lacks text n cut = lacking text cut.front.version cut.config cut.entries cut.front.torn cut.front.good cut.front.unended cut.front.begins
 
--- where it goes on, that after its end
+-- if it goes on, the line after its end
 going : (text : List ℕ) (v : Version) (c : BusConfig) (es : List Entry) (more : List ℕ) → HasLines v c es → more ≢ [] → text ≡ text_in v c es ++ more → IsFirstWrong text (length es + 4)
 going text v c es more good some is = inr (inr (record { version = v; config = c; entries = es; rest = more; whole = good; begins = is; behind = refl; more = some }))
 
@@ -85,7 +85,7 @@ wrong_uncut p after n end wrong c es front =
 first_uncut : (p after : List ℕ) (n : ℕ) → EndsLine p → ((more : List ℕ) → more ≢ [] → IsFirstWrong (p ++ more) n) → IsUncut (p ++ after)
 first_uncut p after n end wrong m cut = wrong_uncut p after n end wrong cut.config cut.entries cut.front
 
--- whole lines that are at fault, whatever follows them, are not the front of the text of a record
+-- whole lines that are at fault, whatever follows them, do not begin the text of a record
 pub no_front : (p after : List ℕ) (why : ReadFault) → why ≢ fault.NoMemory → EndsLine p → ((more : List ℕ) → Reads (p ++ more) (Err why)) → (c : BusConfig) (es : List Entry) → IsFrontOf (p ++ after) c es → ⊥
 no_front p after fault.NoMemory some end wrong c es front = some refl
 no_front p after fault.BadVersion some end wrong c es front =

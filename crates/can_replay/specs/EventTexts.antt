@@ -4,16 +4,17 @@ use Rattle.can_event.specs.declared.bus_config.BusConfig.{BusConfig}
 use Rattle.can_event.specs.declared.entry.Entry.{Entry}
 use Rattle.can_bus.specs.Legal.{IsLegal}
 use Rattle.can_bus.specs.Lean.{IsAfter}
-use Rattle.can_events.specs.Brought.{is_step}
-use Rattle.can_events.specs.declared.wanted.Wanted.{Wanted}
-use Rattle.can_events.specs.EventsText.{asked_of, wanted_after, with_parts}
-use Rattle.can_events.specs.EventsText.{cut_events_text, cut_words, events_front, events_text}
-use Rattle.can_events.specs.inner.Seen.{HasSeen}
 use Rattle.can_record_text.specs.declared.fault.Unread.{Unread}
 use Rattle.can_record_text.specs.declared.fault.Unread.TheVariants as unread
 use Rattle.can_record_text.specs.RecordFaults.{IsTextOf}
 use Rattle.can_record_text.specs.Spelling.{end_words, entry_line, spell, version_of}
 use Rattle.can_record_text.specs.Values.{HasLine}
+use Rattle.can_replay.specs.Brought.{is_step}
+use Rattle.can_replay.specs.declared.wanted.Wanted.{Wanted}
+use Rattle.can_replay.specs.EventsText.{asked_of, wanted_after, with_parts}
+use Rattle.can_replay.specs.EventsText.{cut_events_text, cut_words, events_front, events_text}
+use Rattle.can_replay.specs.EventsText.{rules_at_end, rules_at_start}
+use Rattle.can_replay.specs.inner.Seen.{HasSeen}
 use Rattle.can_replay.specs.declared.entry_audit.EntryAudit.{EntryAudit}
 use Rattle.can_replay.specs.declared.events_text.EventsText.{EventsText}
 use Rattle.can_replay.specs.declared.text_audit.Phase.{Phase}
@@ -25,9 +26,8 @@ use Rattle.can_replay.specs.declared.text_fault.WrongLine.{WrongLine}
 use Rattle.can_replay.specs.TextAudits.{HasCome, IsFrontOf, IsLine}
 use Rattle.can_replay.specs.inner.EntryAudits.{IsGoing}
 
--- What an audit with events writes: what the entries brought about, as far as they are legal, and what else is wanted
--- of their lines. That is named as it was at the start: while entries are taken, the rules of its faults are asked (own
--- choice).
+-- The output of an audit with events: the events of the legal entries, and the other lines that are wanted. These are
+-- named as at the start: while entries are taken, the rules of the faults are asked (own choice).
 
 -- ---- the text of a record's events
 
@@ -47,11 +47,21 @@ pub record IsCutEventsText (w : Wanted) (text events : List ℕ) : Type 0 where
   pub legal : IsLegal config (reverse entries)
   pub are : events ≡ cut_events_text w front.version config (reverse entries)
 
--- the last line, where the record is whole
+-- the lines of the script's rules, if there are events
+abbrev pub rules_first : Option EventsText → List ℕ
+rules_first None = []
+rules_first (Some e) = rules_at_start e.wanted.faults
+
+-- the lines of rules that come after the last entry
+abbrev pub rules_last : Option EventsText → List ℕ
+rules_last None = []
+rules_last (Some e) = rules_at_end e.wanted.faults
+
+-- the last line, if the record is whole
 abbrev pub end_line : ℕ → List ℕ
 end_line count = spell (end_words count) []
 
--- the last line, where it is cut off
+-- the last line, if it is cut off
 abbrev pub cut_line : ℕ → List ℕ
 cut_line count = spell (cut_words count) []
 
@@ -74,7 +84,7 @@ legal_part entries (Some w) = take w.place entries
 abbrev pub legal_past : (text : List ℕ) (b : EntryAudit) → IsGoing text b → List Entry
 legal_past text b g = reverse (legal_part g.read.entries b.wrong)
 
--- what they brought about
+-- their events
 abbrev pub events_of : Wanted → (text : List ℕ) (b : EntryAudit) → IsGoing text b → List ℕ
 events_of w text b g = events_front w b.version b.config (legal_past text b g)
 
@@ -91,9 +101,8 @@ abbrev pub IsReadAs : Entry → Result Entry Unread → Type 0
 IsReadAs e (Ok read) = read ≡ e
 IsReadAs e (Err why) = why ≡ unread.NoMemory
 
--- the line of an attempt, or of an interface that is restarted or taken down, was written with its parts, by what the
--- bus was like before it, and the faults
--- are those after it
+-- the line of an attempt, or of an interface that is restarted or taken down, was written with its parts, by the state
+-- of the bus before it; the faults are those after it
 abbrev pub WritesParts : EventsText → EntryAudit → List ℕ → EventsText → Type 0
 WritesParts old audit line new =
     (past : List Entry) (e : Entry) → HasSeen audit.bus.config past old.before → IsAfter audit.bus (e ∷ past)
@@ -122,7 +131,7 @@ IsReached text torn b g (cut.Off count) = IsOff text torn b g count
 
 -- ---- an audit
 
--- what the lines brought about that were taken
+-- the events of the lines that were taken
 abbrev pub events_so_far : Wanted → (text : List ℕ) (p : Phase) → HasCome text p → List ℕ
 events_so_far w text (phase.Entries b) come = events_of w text b come
 events_so_far w text _ come = []
@@ -132,12 +141,12 @@ abbrev pub past_so_far : (text : List ℕ) (p : Phase) → HasCome text p → Li
 past_so_far text (phase.Entries b) come = legal_past text b come
 past_so_far text _ come = []
 
--- what is written and was not cleared yet
+-- the text that is written and was not cleared yet
 abbrev pub held_events : Option EventsText → List ℕ
 held_events None = []
 held_events (Some e) = e.text.items
 
--- with what was cleared it makes these events; an audit without events has none
+-- with the text cleared before it makes these events; an audit without events has none
 abbrev pub Completes : Option EventsText → List ℕ → List ℕ → Type 0
 Completes None cleared events = cleared ≡ []
 Completes (Some e) cleared events = cleared ++ e.text.items ≡ events
@@ -147,8 +156,8 @@ abbrev pub IsWantedAfter : Wanted → Option EventsText → List Entry → Type 
 IsWantedAfter w None past = Unit {0}
 IsWantedAfter w (Some e) past = e.wanted ≡ wanted_after w past
 
--- the lines that were taken make this text, and what they brought about was written, as was wanted at the start: first
--- what was cleared, then what is held
+-- the lines that were taken make this text, and their events were written, as was wanted at the start: first the text
+-- cleared, then the text held
 pub record AreWritten (w : Wanted) (text cleared : List ℕ) (p : Phase) (held : Option EventsText) : Type 0 where
   pub taken : HasCome text p
   pub complete : Completes held cleared (events_so_far w text p taken)
@@ -168,14 +177,15 @@ abbrev pub wrong_so_far : Phase → Option WrongLine
 wrong_so_far (phase.Entries b) = b.wrong
 wrong_so_far _ = None
 
--- with this last line all events of a legal record are written, where there are any
+-- with the last rules and this last line all events of a legal record are written, if there are any
 abbrev pub EndsEvents : Wanted → Option EventsText → List ℕ → List ℕ → ℕ → Type 0
 EndsEvents w None text cleared count = Unit {0}
-EndsEvents w (Some e) text cleared count = IsEventsText w text ((cleared ++ e.text.items) ++ end_line count)
+EndsEvents w (Some e) text cleared count =
+    IsEventsText w text ((cleared ++ e.text.items) ++ (rules_last (Some e) ++ end_line count))
 
 -- the same of a text that may be cut off
 abbrev pub EndsCutEvents : Wanted → Option EventsText → List ℕ → List ℕ → Cut → Type 0
 EndsCutEvents w held text cleared (cut.Whole count) = EndsEvents w held text cleared count
 EndsCutEvents w None text cleared (cut.Off count) = Unit {0}
 EndsCutEvents w (Some e) text cleared (cut.Off count) =
-    IsCutEventsText w text ((cleared ++ e.text.items) ++ cut_line count)
+    IsCutEventsText w text ((cleared ++ e.text.items) ++ (rules_last (Some e) ++ cut_line count))

@@ -1,3 +1,7 @@
+pub mod Brought
+pub mod Words
+pub mod TakenRules
+pub mod EventsText
 pub mod Audits
 pub mod EventTexts
 pub mod Histories

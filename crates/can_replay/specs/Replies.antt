@@ -13,8 +13,7 @@ use Rattle.can_bus.specs.Legal.{legal_reply}
 abbrev pub HadMemory : List Reply → Type 0
 HadMemory replies = All (λ r. r ≢ reply.Refused refusal.NoMemory) replies
 
--- the reply of an event after these entries: the one that they give, or "record full" where there are as
--- many as the limit
+-- the reply of an event after these entries: the one that they give, or "record full" if there are as many as the limit
 abbrev pub reply_after : BusConfig → List Entry → Event → Reply
 reply_after c past e = if nat_le c.limit (length past) then reply.Refused refusal.RecordFull else legal_reply c past e
 

@@ -21,7 +21,7 @@ use Rattle.can_replay.specs.declared.text_audit.Phase.TheVariants as phase
 use Rattle.can_replay.specs.declared.text_audit.TextAudit.{TextAudit}
 use Rattle.can_replay.specs.inner.EntryAudits.{IsGoing, IsWrongIn}
 
--- What an audit of a text answers (own choice).
+-- The answers of an audit of a text (own choice).
 
 -- the text is that of a legal record with this many entries
 pub record IsLegalText (text : List ℕ) (count : ℕ) : Type 0 where
@@ -38,7 +38,7 @@ pub record IsWrongText (text : List ℕ) (w : WrongLine) : Type 0 where
   pub whole : IsTextOf text config entries
   pub wrong : IsWrongIn config entries w
 
--- what is reported of a text that has ended
+-- the report on a text that has ended
 abbrev pub Reports : List ℕ → Result ℕ TextFault → Type 0
 Reports text (Ok count) = IsLegalText text count
 Reports text (Err (fault.Read why)) = Reads text (Err why)
@@ -83,12 +83,13 @@ pub record IsWrongCut (text : List ℕ) (w : WrongLine) : Type 0 where
 abbrev pub IsUncut : List ℕ → Type 0
 IsUncut text = (count : ℕ) → IsCutText text count → ⊥
 
--- what a fault of a line says of a text that may be cut off: it is no record's, and not the front of one
+-- the facts that a fault of a line gives about a text that may be cut off: it is no record's, and not the beginning of
+-- one
 abbrev pub FaultsUncut : List ℕ → ReadFault → Type 0
 FaultsUncut text read.NoMemory = Unit {0}
 FaultsUncut text why = Reads text (Err why) × IsUncut text
 
--- what is reported of a text that has ended, maybe cut off
+-- the report on a text that has ended, maybe cut off
 abbrev pub ReportsCut : List ℕ → Result Cut TextFault → Type 0
 ReportsCut text (Ok (cut.Whole count)) = IsLegalText text count
 ReportsCut text (Ok (cut.Off count)) = IsCutText text count
@@ -104,7 +105,7 @@ pub record IsLine (line : List ℕ) : Type 0 where
   pub some : line ≢ []
   pub stops : StopsAt line 10
 
--- what may follow a line in a text: where it has no LF, nothing
+-- the bytes that may follow a line in a text: none if the line has no LF
 abbrev pub MayFollow : List ℕ → List ℕ → Type 0
 MayFollow line after = take_through 10 (line ++ after) ≡ line
 
@@ -137,7 +138,7 @@ AreTaken text audit = HasCome text audit.phase
 abbrev pub HasFailed : ReadFault → TextAudit → Type 0
 HasFailed why audit = audit.phase ≡ phase.Failed why
 
--- the first line, where it was taken and no line was at fault
+-- the first line, if it was taken and no line was at fault
 abbrev pub first_taken : Phase → List ℕ
 first_taken (phase.Front v) = first_line v
 first_taken (phase.Entries b) = first_line b.version
@@ -148,7 +149,7 @@ abbrev pub has_end_line : Phase → Bool
 has_end_line (phase.Entries b) = b.is_ended
 has_end_line _ = false
 
--- the bus of the record, where its line was taken and no line was at fault
+-- the bus of the record, if its line was taken and no line was at fault
 abbrev pub bus_taken : Phase → Option BusConfig
 bus_taken (phase.Entries b) = Some b.config
 bus_taken _ = None

@@ -34,15 +34,16 @@ fn fault_at(entry: usize, reply: Reply) -> AuditFault
     }
 }
 
-/// Whether a record is a legal history: each reply is the one that the entries before it give, and there
-/// are no more entries than the limit. If not, `Wrong` names the first entry that is not so, and the reply
-/// that the entries before it give.
+/// Returns whether a record is a legal history: each reply follows from the entries before it, and
+/// there are no more entries than the limit. If not, `Wrong` names the first wrong entry, and the
+/// reply that would be legal there.
 ///
-/// So what the headline says of a bus (`can_bus::run`) holds of each record that is found legal, whoever wrote it.
+/// So the headline (`can_bus::run`) holds for every record that is found legal.
 ///
-/// The events are carried out again on a bus that keeps no record. It costs what its calls cost, so the time is linear in
-/// the number of entries and of their filters. Memory is taken for the bus, and for what `open` and `set_filters` take:
-/// `NoMemory` comes where it was refused, and then nothing is known of the record.
+/// The events are carried out again on a bus that keeps no record. The time is that of its calls,
+/// so it grows linearly with the entries and their filters. Memory is taken for the bus, and for
+/// `open` and `set_filters`. `NoMemory` comes if it was refused, and then nothing is known of the
+/// record.
 pub fn audit(alloc: Global, record: &Record) -> Result<(), AuditFault>
     ensures legal { OnOk result (HasLegalHistory «record».now) }
     ensures headline { OnOk result (Headline «record».now.config «record».now.history) }

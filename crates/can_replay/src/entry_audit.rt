@@ -20,15 +20,15 @@ use can_record_text::rooms::Rooms;
 use can_record_text::version::Version;
 use std::alloc::Global;
 
-/// The lines after the first: what is known of those that were taken.
+/// The lines after the first, and the facts about those that were taken.
 #[derive(Drop)]
 pub struct EntryAudit {
     version: Version,
     config: BusConfig,
-    /// It was given the entries as long as they were legal.
+    /// It got the entries as long as they were legal.
     bus: LeanRingBus,
     count: u32,
-    /// What the entries need of the text's later versions.
+    /// The entries' needs of later versions of the text.
     needs: Needs,
     wrong: Option<WrongLine>,
     is_ended: bool,
@@ -106,7 +106,7 @@ impl EntryAudit {
         }
     }
 
-    // The same of a line that is no receive's.
+    // The same for a line that is no receive's.
     #[inline(never)]
     fn carry_attempt(&mut self, alloc: Global, rooms: &mut Rooms, line: &[u8]) -> Result<(), Unread>
         requires legal { self.old.wrong ≡ None }
@@ -121,7 +121,7 @@ impl EntryAudit {
         }
     }
 
-    // The same of a line that is no attempt's either.
+    // The same for a line that is no attempt's either.
     #[inline(never)]
     fn carry_send(&mut self, alloc: Global, rooms: &mut Rooms, line: &[u8]) -> Result<(), Unread>
         requires legal { self.old.wrong ≡ None }
@@ -134,7 +134,7 @@ impl EntryAudit {
         }
     }
 
-    // The same of a line of any kind.
+    // The same for a line of any kind.
     #[inline(never)]
     fn carry_other(&mut self, alloc: Global, rooms: &mut Rooms, line: &[u8]) -> Result<(), Unread>
         requires legal { self.old.wrong ≡ None }
@@ -295,14 +295,14 @@ impl EntryAudit {
         self.version.first_line()
     }
 
-    /// Whether the line of the end was taken.
+    /// Returns whether the line of the end was taken.
     pub fn has_end_line(&self) -> bool
         ensures { result ≡ self.now.is_ended }
     {
         self.is_ended
     }
 
-    /// Whether the end was not taken, and no entry is wrong so far.
+    /// Returns whether the end was not taken, and no entry is wrong so far.
     pub fn is_legal_yet(&self) -> bool
         ensures { result ≡ is_legal_yet self.now }
     {
@@ -366,7 +366,7 @@ impl EntryAudit {
         }
     }
 
-    // The same of a text that has its end, which nothing may follow.
+    // The same for a text that has its end, after which nothing may follow.
     fn finish_whole(self, torn: &[u8]) -> Result<Cut, TextFault>
         requires { self.is_ended ≡ true }
         ensures found { (text : List ℕ) → IsGoing text self → ReportsCut (text ++ torn.now) result }
@@ -383,7 +383,7 @@ impl EntryAudit {
         }
     }
 
-    // The same of a text without its end.
+    // The same for a text without its end.
     fn finish_off(self, torn: &[u8]) -> Result<Cut, TextFault>
         requires { self.is_ended ≡ false }
         ensures found { (text : List ℕ) →
@@ -400,7 +400,7 @@ impl EntryAudit {
     }
 }
 
-/// Whether the record was full.
+/// Returns whether the record was full.
 fn is_past_limit(reply: &Reply) -> bool
     ensures { IsTrue result ↔ (reply.now ≡ Reply.Refused Refusal.RecordFull) }
 {

@@ -1,20 +1,23 @@
-//! What the entries of a record brought about, as text.
+//! The events of a record's entries, as text.
 ghost use Rattle.std.specs.Prelude.{◌≡◌, ◌++◌, ◌↔◌, [], true, false, IfErr, IfOk, IsTrue, List, OnOk, ℕ};
 ghost use Rattle.can_event.specs.declared.entry.Entry.{Entry as AnEntry};
-ghost use Rattle.can_events.specs.Brought.{is_step};
-ghost use Rattle.can_events.specs.EventsText.{nothing_wanted, first_line as events_first_line};
 ghost use Rattle.can_record_text.specs.Spelling.{entry_line};
+ghost use Rattle.can_replay.specs.Brought.{is_step};
+ghost use Rattle.can_replay.specs.EventsText.{nothing_wanted, rules_at_end, rules_at_start, events_version as events_first_line};
 ghost use Rattle.can_replay.specs.EventTexts.{WritesOn, WritesParts, is_legal_yet};
 ghost use Rattle.can_replay.specs.TextAudits.{FailsNext, TakesOn};
 ghost use Rattle.can_replay.specs.inner.EntryAudits.{IsGoing};
 
+use crate::before::Before;
 use crate::entry_audit::EntryAudit;
-use can_events::{Before, Wanted, first_line};
+use crate::fronts::first_line;
+use crate::ruled::{put_first_rules, put_last_rules};
+use crate::wanted::Wanted;
 use can_record_text::ReadFault;
 use can_record_text::rooms::Rooms;
 use std::alloc::{AllocError, Global};
 
-/// The text of what the entries brought about, as far as they are legal, but for what was cleared of it. It grows by whole
+/// The text of the events of the legal entries, except the part that was cleared. It grows by whole
 /// lines only.
 #[derive(Drop)]
 pub struct EventsText {
@@ -23,7 +26,7 @@ pub struct EventsText {
     line: Vec<u8>,
     /// The state of the bus before an attempt, or before an interface was restarted or taken down.
     before: Before,
-    /// What else is wanted. Of its faults the rules were asked by the entries so far.
+    /// The other lines that are wanted. The entries so far have asked the rules of its faults.
     wanted: Wanted,
 }
 
@@ -41,7 +44,7 @@ impl EventsText {
         })
     }
 
-    /// What was written and not cleared.
+    /// Returns the text that was written and not cleared.
     pub fn text(&self) -> &[u8]
         ensures { result.now ≡ self.now.text.items }
     {
@@ -56,21 +59,31 @@ impl EventsText {
         self.text.clear();
     }
 
-    /// Writes the line of the format and the bus's, which is this one.
+    /// Writes the line of the format and the bus's, which is this one, and those of the rules of the script.
     pub fn begin(&mut self, line: &[u8]) -> Result<(), AllocError>
-        ensures begun { OnOk result
-            (self.new.text.items ≡ self.old.text.items ++ (events_first_line ++ line.now)) }
+        ensures begun { OnOk result (self.new.text.items ≡ self.old.text.items ++
+            (events_first_line ++ line.now ++ rules_at_start self.old.wanted.faults)) }
         ensures kept { IfErr result (λ why. self.new.text.items ≡ self.old.text.items) }
         ensures wanted { self.new.wanted ≡ self.old.wanted }
     {
         self.line.clear();
         self.line.extend_from_slice(first_line())?;
         self.line.extend_from_slice(line)?;
+        put_first_rules(&mut self.line, &self.wanted.faults)?;
         self.text.extend_from_slice(&self.line)
     }
 
-    /// Has an audit take the next line, and writes it with what its entry brought about, where that is legal and no entry
-    /// before it is wrong.
+    /// Writes the lines of the rules that the bus takes after the last entry, and of each end of
+    /// all rules. No entry may follow.
+    pub fn put_last_rules(&mut self, out: &mut Vec<u8>) -> Result<(), AllocError>
+        ensures { OnOk result
+            (out.new.items ≡ out.old.items ++ rules_at_end self.old.wanted.faults) }
+    {
+        put_last_rules(out, &mut self.wanted.faults)
+    }
+
+    /// Has an audit take the next line, and writes it with the events of its entry, if that is
+    /// legal and no entry before it is wrong.
     pub fn carry(
         &mut self,
         alloc: Global,
@@ -92,7 +105,8 @@ impl EventsText {
         }
     }
 
-    // The same of the line of an attempt, or of an interface that is restarted or taken down, while all entries were legal.
+    // The same for the line of an attempt, or of an interface that is restarted or taken down,
+    // while all entries were legal.
     fn carry_step(
         &mut self,
         alloc: Global,
@@ -120,7 +134,7 @@ impl EventsText {
         }
     }
 
-    // The same of a line of another kind.
+    // The same for a line of another kind.
     fn carry_quiet(
         &mut self,
         alloc: Global,
@@ -163,7 +177,7 @@ impl EventsText {
         }
     }
 
-    // The same where nothing else is wanted.
+    // The same if nothing else is wanted.
     fn write_parts(&mut self, audit: &EntryAudit, line: &[u8]) -> Result<(), AllocError>
         requires { self.old.wanted ≡ nothing_wanted }
         ensures written { OnOk result (WritesParts self.old audit.now line.now self.new) }
@@ -174,7 +188,7 @@ impl EventsText {
         self.text.extend_from_slice(&self.line)
     }
 
-    // The same where more is. The line is read again, since its entry is needed.
+    // The same if more is wanted. The line is read again, because its entry is needed.
     #[inline(never)]
     fn write_wanted_parts(
         &mut self,
@@ -197,7 +211,8 @@ impl EventsText {
     }
 }
 
-/// Whether an entry's line is that of an attempt, or of an interface that is restarted or taken down.
+/// Returns whether an entry's line is that of an attempt, or of an interface that is restarted or
+/// taken down.
 fn is_step_line(line: &[u8]) -> bool
     ensures yes { IsTrue result →
         (e : AnEntry) → line.now ≡ entry_line e [] → is_step e.event ≡ true }

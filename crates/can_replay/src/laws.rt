@@ -4,13 +4,13 @@ ghost use Rattle.can_bus.specs.Run.{AreAnswers};
 ghost use Rattle.can_event.specs.declared.entry.Entry.{Entry};
 ghost use Rattle.can_event.specs.declared.event.Event.{Event};
 ghost use Rattle.can_event.specs.declared.reply.Reply.{Reply};
-ghost use Rattle.can_replay.specs.Audits.{IsFirstWrong};
+ghost use Rattle.can_replay.specs.Audits.{IsFirstWrongEntry};
 ghost use Rattle.can_replay.specs.Histories.{IsHistory};
 ghost use Rattle.can_replay.specs.Replies.{HadMemory, replies_after};
 
 use can_bus::BusConfig;
 
-// What holds of the slow answer and of the audit, in the words of the field. The bodies are empty: the
+// Laws of the slow answer and of the audit, in the words of the field. The bodies are empty: the
 // clauses are the laws.
 
 /// A bus that is never refused memory answers a list of events as the slow answer does.
@@ -20,11 +20,11 @@ pub fn a_bus_answers_so(config: BusConfig)
         replies ≡ replies_after config past events }
 {}
 
-/// A legal history has no wrong entry, and of other entries at most one is the first wrong one: what an audit
-/// answers is settled by the record, but for want of memory.
+/// A legal history has no wrong entry, and of other entries at most one is the first wrong one. So
+/// the record alone settles the answer of an audit, but for lack of memory.
 pub fn at_most_one_entry_is_the_first_wrong(config: BusConfig)
     ensures legal { (entries : List Entry) (k : ℕ) →
-        IsHistory config (reverse entries) → ¬ IsFirstWrong config entries k }
+        IsHistory config (reverse entries) → ¬ IsFirstWrongEntry config entries k }
     ensures one { IsConfig config → (entries : List Entry) (j k : ℕ) →
-        IsFirstWrong config entries j → IsFirstWrong config entries k → j ≡ k }
+        IsFirstWrongEntry config entries j → IsFirstWrongEntry config entries k → j ≡ k }
 {}

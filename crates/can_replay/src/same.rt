@@ -66,7 +66,7 @@ fn same_closed(one: &Closed, other: &Closed) -> bool
     one.unread == other.unread && one.dropped == other.dropped
 }
 
-/// Whether two replies are one.
+/// Returns whether two replies are one.
 pub(crate) fn same_reply(one: &Reply, other: &Reply) -> bool
     ensures { IsTrue result ↔ (one.now ≡ other.now) }
 {

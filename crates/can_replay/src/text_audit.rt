@@ -1,26 +1,27 @@
-ghost use Rattle.std.specs.Prelude.{◌≡◌, ◌++◌, [], Err, IfErr, IfOk, List, OnOk, Some, false, true, ℕ};
-ghost use Rattle.can_events.specs.EventsText.{first_line as events_first_line};
-ghost use Rattle.can_events.specs.declared.wanted.Wanted.{Wanted as AWanted};
+ghost use Rattle.std.specs.Prelude.{◌≡◌, ◌++◌, [], Err, IfErr, IfOk, List, OnOk, Option, Some, false, true, ℕ};
 ghost use Rattle.can_record_text.specs.declared.fault.ReadFault.{ReadFault as AFault};
 ghost use Rattle.can_record_text.specs.RecordFaults.{LacksFirst};
 ghost use Rattle.can_record_text.specs.Spelling.{first_line};
 ghost use Rattle.can_record_text.specs.Texts.{StartsWith};
+ghost use Rattle.can_replay.specs.EventsText.{events_version as events_first_line};
+ghost use Rattle.can_replay.specs.declared.wanted.Wanted.{Wanted as AWanted};
 ghost use Rattle.can_replay.specs.declared.text_fault.WrongLine.{WrongLine as AWrongLine};
-ghost use Rattle.can_replay.specs.EventTexts.{Completes, EndsCutEvents, EndsEvents, HasWritten, IsWantedAfter, has_events, held_events, wrong_so_far};
+ghost use Rattle.can_replay.specs.declared.events_text.EventsText.{EventsText as AnEventsText};
+ghost use Rattle.can_replay.specs.EventTexts.{AreWritten, Completes, EndsCutEvents, EndsEvents, HasWritten, IsWantedAfter, has_events, held_events, rules_first, rules_last, wrong_so_far};
 ghost use Rattle.can_replay.specs.TextAudits.{AreTaken, EndsNoLine, FailsAfter, FailsNext, HasFailed, IsLine, TakesOn, Reports, ReportsCut, bus_taken, first_taken, has_end_line};
 
 use crate::entry_audit::EntryAudit;
 use crate::events_text::EventsText;
 use crate::text_fault::{Cut, TextFault};
+use crate::wanted::Wanted;
 use can_bus::BusConfig;
-use can_events::Wanted;
 use can_record_text::ReadFault;
 use can_record_text::lines::read_version;
 use can_record_text::rooms::Rooms;
 use can_record_text::version::Version;
 use std::alloc::{AllocError, Global};
 
-/// How far the lines of a text have come.
+/// The progress of the lines of a text.
 #[derive(Drop)]
 enum Phase {
     /// No line was taken.
@@ -38,7 +39,7 @@ enum Phase {
 /// Contracts name the text so far, as the lines that were taken make it. A line is cut after its LF, and one without
 /// LF is the text's last. After a fault each call answers that fault.
 ///
-/// An audit with events also writes what the entries brought about, as far as they are legal. It holds of that what was
+/// An audit with events also writes the events of the legal entries, and holds the text that was
 /// not cleared.
 #[derive(Drop)]
 pub struct TextAudit {
@@ -62,7 +63,8 @@ impl TextAudit {
         }
     }
 
-    /// The same with events, and with what else is wanted of their lines. Memory is taken for what they are compared with.
+    /// The same with events, and with the other lines that are wanted. Memory is taken for the
+    /// values that they are compared with.
     pub fn with_events(alloc: Global, wanted: Wanted) -> Result<TextAudit, AllocError>
         ensures written { IfOk result (λ audit. HasWritten wanted [] [] audit) }
         ensures none { IfOk result (λ audit. held_events audit.events ≡ []) }
@@ -75,8 +77,8 @@ impl TextAudit {
         })
     }
 
-    /// What the entries brought about and was not cleared, in whole lines: before the first one those of the format and of
-    /// the bus. Nothing of a wrong entry, nor of what follows it.
+    /// Returns the events of the entries that were not cleared, in whole lines. The first are the
+    /// lines of the format and of the bus. A wrong entry and the lines after it add nothing.
     pub fn events(&self) -> &[u8]
         ensures { result.now ≡ held_events self.now.events }
     {
@@ -86,7 +88,7 @@ impl TextAudit {
         }
     }
 
-    /// Clears what the entries so far brought about.
+    /// Clears the events of the entries so far.
     pub fn clear_events(&mut self)
         ensures phase { self.new.phase ≡ self.old.phase }
         ensures events { has_events self.new.events ≡ has_events self.old.events }
@@ -100,10 +102,11 @@ impl TextAudit {
         }
     }
 
-    /// Takes the next line of the text, with its LF if it has one. A fault of the text is reported as soon as its line
-    /// is read, but for those of the whole text, which `finish` reports.
+    /// Takes the next line of the text, with its LF if it has one. A fault of the text is reported
+    /// as soon as its line is read; `finish` reports faults of the whole text.
     ///
-    /// `NoMemory` comes where memory was refused, and past 4,294,967,295 entries; nothing is known of the text then.
+    /// `NoMemory` comes if memory was refused, and past 4,294,967,295 entries; nothing is known of
+    /// the text then.
     pub fn carry(&mut self, alloc: Global, line: &[u8]) -> Result<(), ReadFault>
         ensures taken { OnOk result (TakesOn AreTaken self.old self.new line.now) }
         ensures fault { IfErr result (FailsNext AreTaken self.old line.now) }
@@ -132,7 +135,7 @@ impl TextAudit {
         Err(why)
     }
 
-    // Takes a line where none was at fault.
+    // Takes a line if none was at fault.
     fn take(&mut self, alloc: Global, line: &[u8]) -> Result<(), ReadFault>
         ensures taken { OnOk result (TakesOn AreTaken self.old self.new line.now) }
         ensures fault { IfErr result (FailsNext AreTaken self.old line.now) }
@@ -190,12 +193,26 @@ impl TextAudit {
         Ok(())
     }
 
-    /// The text has ended: how many entries its record has, where it is a legal one.
+    /// Ends the text with the lines of the rules that the bus takes after the last entry, and of
+    /// each end of all rules. They come before the last line of the events, if there are any.
+    pub fn last_rules(&mut self, alloc: Global) -> Result<Vec<u8>, AllocError>
+        ensures lines { IfOk result (λ lines. lines.items ≡ rules_last self.old.events) }
+        ensures phase { self.new.phase ≡ self.old.phase }
+    {
+        let mut lines = Vec::new(alloc);
+        if let Some(events) = &mut self.events {
+            events.put_last_rules(&mut lines)?;
+        }
+        Ok(lines)
+    }
+
+    /// Ends the text, and returns the number of its record's entries, if it is a legal one.
     pub fn finish(self) -> Result<usize, TextFault>
         ensures told { (text : List ℕ) → AreTaken text self → Reports text result }
         ensures again { (why : AFault) → HasFailed why self → result ≡ Err (TextFault.Read why) }
-        ensures events { (w : AWanted) (text cleared : List ℕ) → HasWritten w text cleared self →
-            IfOk result (EndsEvents w self.events text cleared) }
+        ensures events { (w : AWanted) (text cleared : List ℕ) (held : Option AnEventsText) →
+            AreWritten w text cleared self.phase held →
+            IfOk result (EndsEvents w held text cleared) }
         ensures wrong { (w : AWrongLine) → result ≡ Err (TextFault.Wrong w) →
             wrong_so_far self.phase ≡ Some w }
     {
@@ -208,17 +225,18 @@ impl TextAudit {
         }
     }
 
-    /// The text has ended, maybe cut off: how far it reaches, where its record is a legal one so far. The bytes after
-    /// its last LF, which were not taken, are `torn`: where the text is cut off they are not looked at.
+    /// Ends a text that may be cut off, and returns how far it reaches, if its record is legal so
+    /// far. The bytes after its last LF, which were not taken, are `torn`: if the text is cut off
+    /// they are not looked at.
     ///
     /// A text that is cut off within its first two lines is at fault.
     pub fn finish_cut(self, torn: &[u8]) -> Result<Cut, TextFault>
         ensures told { (text : List ℕ) →
             AreTaken text self → EndsNoLine torn.now → ReportsCut (text ++ torn.now) result }
         ensures again { (why : AFault) → HasFailed why self → result ≡ Err (TextFault.Read why) }
-        ensures events { (w : AWanted) (text cleared : List ℕ) → HasWritten w text cleared self →
-            EndsNoLine torn.now →
-            IfOk result (EndsCutEvents w self.events (text ++ torn.now) cleared) }
+        ensures events { (w : AWanted) (text cleared : List ℕ) (held : Option AnEventsText) →
+            AreWritten w text cleared self.phase held → EndsNoLine torn.now →
+            IfOk result (EndsCutEvents w held (text ++ torn.now) cleared) }
         ensures wrong { (w : AWrongLine) → result ≡ Err (TextFault.Wrong w) →
             wrong_so_far self.phase ≡ Some w }
     {
@@ -231,7 +249,7 @@ impl TextAudit {
         }
     }
 
-    /// The record's bus, where its line was taken and no line was at fault.
+    /// The record's bus, if its line was taken and no line was at fault.
     pub fn bus(&self) -> Option<BusConfig>
         ensures { result ≡ bus_taken self.now.phase }
     {
@@ -241,7 +259,7 @@ impl TextAudit {
         }
     }
 
-    /// The first line, where it was taken and no line was at fault; else no bytes.
+    /// The first line, if it was taken and no line was at fault; else no bytes.
     pub fn first_line(&self) -> &'static [u8]
         ensures { result.now ≡ first_taken self.now.phase }
     {
@@ -252,7 +270,7 @@ impl TextAudit {
         }
     }
 
-    /// Whether the line of the end was taken, which nothing may follow.
+    /// Returns whether the line of the end was taken, which nothing may follow.
     pub fn has_end_line(&self) -> bool
         ensures { result ≡ has_end_line self.now.phase }
     {
@@ -263,10 +281,12 @@ impl TextAudit {
     }
 }
 
-// Writes what comes before the events of entries, where there are any: the second line of the text is this one.
+// Writes what comes before the events of entries, if there are any: the second line of the text is
+// this one.
 fn begin_events(events: &mut Option<EventsText>, line: &[u8]) -> Result<(), ReadFault>
     ensures begun { OnOk result ((cleared : List ℕ) → Completes events.old cleared [] →
-        Completes events.new cleared (events_first_line ++ line.now)) }
+        Completes events.new cleared
+        (events_first_line ++ line.now ++ rules_first events.new)) }
     ensures held { IfErr result (λ why. held_events events.new ≡ held_events events.old) }
     ensures memory { IfErr result (λ why. why ≡ ReadFault.NoMemory) }
     ensures kind { has_events events.new ≡ has_events events.old }

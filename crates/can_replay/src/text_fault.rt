@@ -11,7 +11,7 @@ pub struct WrongLine {
     pub entry: Entry,
     /// The reply that would be legal there, `None` past the limit.
     pub legal: Option<Reply>,
-    /// How many entries the bus may have.
+    /// The number of entries that the bus may have.
     pub limit: u32,
 }
 
@@ -33,7 +33,7 @@ pub enum TextFault {
     Wrong(WrongLine),
 }
 
-/// How far a text reaches that may be cut off, of a record that is legal so far.
+/// How far a text reaches that may be cut off; its record is legal so far.
 #[derive(Debug, Clone, Copy, PartialEq, Eq)]
 pub enum Cut {
     /// It is whole, and its record has this many entries.

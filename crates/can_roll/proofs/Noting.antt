@@ -3,7 +3,7 @@ use Rattle.std.proofs.Common.{◌≡◌, ℕ, ◌<◌, List, [], ◌∷◌, ◌+
 use Rattle.can_event.specs.declared.entry.Entry.{Entry}
 use Rattle.can_roll.specs.declared.rule.View.{View}
 use Rattle.can_roll.specs.declared.rule.View.TheVariants.{OfSlip}
-use Rattle.can_roll.specs.Lists.{row, added_all, last_of, without_last}
+use Rattle.can_roll.specs.Lists.{row, added_all, last_pass, without_last}
 use Rattle.can_roll.specs.Seen.{RollSeen, roll_seen}
 use Rattle.can_roll.proofs.Rows.{row_added_all}
 use Rattle.can_roll.proofs.Passes.{last_at_end, without_at_end}
@@ -11,11 +11,11 @@ use Rattle.can_roll.proofs.Passes.{last_at_end, without_at_end}
 -- the roll with the calls noted
 pub once_noted : (old in_hand new : RollSeen) (p : ℕ) (calls : List Entry)
     → in_hand ≡ roll_seen old.number old.lists (old.called ++ p ∷ [])
-    → new ≡ roll_seen in_hand.number (added_all in_hand.lists (last_of in_hand.called) calls) in_hand.called
+    → new ≡ roll_seen in_hand.number (added_all in_hand.lists (last_pass in_hand.called) calls) in_hand.called
     → new ≡ roll_seen old.number (added_all old.lists p calls) (old.called ++ p ∷ [])
 once_noted old in_hand new p calls came noted =
     noted
-    ∙ (λ k. roll_seen (came k).number (added_all (came k).lists (last_of (came k).called) calls) (came k).called)
+    ∙ (λ k. roll_seen (came k).number (added_all (came k).lists (last_pass (came k).called) calls) (came k).called)
     ∙ ap (λ q. roll_seen old.number (added_all old.lists q calls) (old.called ++ p ∷ [])) (last_at_end old.called p)
 
 -- the roll with the pass sent out
@@ -32,10 +32,10 @@ once_sent old in_hand new p calls noted went =
 pub slip_again : (old in_hand : RollSeen) (p : ℕ) (calls : List Entry) (views : List View)
     → in_hand ≡ roll_seen old.number (added_all old.lists p calls) (old.called ++ p ∷ [])
     → p < length old.lists
-    → views ≡ OfSlip (last_of in_hand.called) (row in_hand.lists (last_of in_hand.called)) ∷ []
+    → views ≡ OfSlip (last_pass in_hand.called) (row in_hand.lists (last_pass in_hand.called)) ∷ []
     → views ≡ OfSlip p (calls ++ row old.lists p) ∷ []
 slip_again old in_hand p calls views noted below are =
     are
-    ∙ (λ k. OfSlip (last_of (noted k).called) (row (noted k).lists (last_of (noted k).called)) ∷ [])
+    ∙ (λ k. OfSlip (last_pass (noted k).called) (row (noted k).lists (last_pass (noted k).called)) ∷ [])
     ∙ ap (λ q. OfSlip q (row (added_all old.lists p calls) q) ∷ []) (last_at_end old.called p)
     ∙ ap (λ l. OfSlip p l ∷ []) (row_added_all old.lists p calls below)

@@ -1,6 +1,6 @@
 -- Lists of passes: one more at the end, and the last taken away.
 use Rattle.std.proofs.Common.{◌≡◌, ◌≢◌, ℕ, ◌+◌, ◌<◌, List, [], ◌∷◌, ◌++◌, length, refl, ap, sym, arith}
-use Rattle.can_roll.specs.Lists.{last_of, without_last, NotIn, Distinct, AllBelow}
+use Rattle.can_roll.specs.Lists.{last_pass, without_last, NotIn, Distinct, AllBelow}
 
 pub not_in_below : (n : ℕ) (ps : List ℕ) → AllBelow n ps → NotIn n ps
 not_in_below n [] h = tt
@@ -12,7 +12,7 @@ below_more n m (p ∷ ps) le h = (omega (arith, h.0), below_more n m ps le h.1)
 
 -- ---- one more at the end
 
-pub last_at_end : (ps : List ℕ) (p : ℕ) → last_of (ps ++ p ∷ []) ≡ p
+pub last_at_end : (ps : List ℕ) (p : ℕ) → last_pass (ps ++ p ∷ []) ≡ p
 last_at_end [] p = refl
 last_at_end (q ∷ []) p = refl
 last_at_end (q ∷ r ∷ rs) p = last_at_end (r ∷ rs) p
@@ -40,7 +40,7 @@ below_end n p (q ∷ qs) h le = (h.0, below_end n p qs h.1 le)
 
 -- ---- the last taken away
 
-pub not_the_last : (q : ℕ) (ps : List ℕ) → 0 < length ps → NotIn q ps → q ≢ last_of ps
+pub not_the_last : (q : ℕ) (ps : List ℕ) → 0 < length ps → NotIn q ps → q ≢ last_pass ps
 not_the_last q [] some_in h = absurd (omega arith)
 not_the_last q (p ∷ []) some_in h = h.0
 not_the_last q (p ∷ r ∷ rs) some_in h = not_the_last q (r ∷ rs) (omega arith) h.1
@@ -55,7 +55,7 @@ distinct_rest [] h = tt
 distinct_rest (p ∷ []) h = tt
 distinct_rest (p ∷ r ∷ rs) h = (not_in_rest p (r ∷ rs) h.0, distinct_rest (r ∷ rs) h.1)
 
-pub last_not_in_rest : (ps : List ℕ) → Distinct ps → NotIn (last_of ps) (without_last ps)
+pub last_not_in_rest : (ps : List ℕ) → Distinct ps → NotIn (last_pass ps) (without_last ps)
 last_not_in_rest [] h = tt
 last_not_in_rest (p ∷ []) h = tt
 last_not_in_rest (p ∷ r ∷ rs) h = ((λ e. not_the_last p (r ∷ rs) (omega arith) h.0 (sym e)), last_not_in_rest (r ∷ rs) h.1)
@@ -65,7 +65,7 @@ below_rest n [] h = tt
 below_rest n (p ∷ []) h = tt
 below_rest n (p ∷ r ∷ rs) h = (h.0, below_rest n (r ∷ rs) h.1)
 
-pub last_below : (n : ℕ) (ps : List ℕ) → 0 < length ps → AllBelow n ps → last_of ps < n
+pub last_below : (n : ℕ) (ps : List ℕ) → 0 < length ps → AllBelow n ps → last_pass ps < n
 last_below n [] some_in h = absurd (omega arith)
 last_below n (p ∷ []) some_in h = h.0
 last_below n (p ∷ r ∷ rs) some_in h = last_below n (r ∷ rs) (omega arith) h.1

@@ -3,7 +3,7 @@ use Rattle.std.proofs.Common.{◌≡◌, ◌≢◌, ◌⊎◌, ℕ, zero, suc, �
 use mathlib.Core.Option.{some, some-injective, some-ne-none}
 use lib.ListN.{get_elem?}
 use Rattle.can_event.specs.declared.entry.Entry.{Entry}
-use Rattle.can_roll.specs.Lists.{row, added, added_all}
+use Rattle.can_roll.specs.Lists.{row, call_added, added_all}
 
 pub row_front : (ls : List (List Entry)) (p : ℕ) → row (ls ++ [] ∷ []) p ≡ row ls p
 row_front [] zero = refl
@@ -32,16 +32,16 @@ length-added_all [] p cs = refl
 length-added_all (l ∷ ls) zero cs = refl
 length-added_all (l ∷ ls) (suc p) cs = ap suc (length-added_all ls p cs)
 
-pub row_added : (ls : List (List Entry)) (p : ℕ) (c : Entry) → p < length ls → row (added ls p c) p ≡ c ∷ row ls p
+pub row_added : (ls : List (List Entry)) (p : ℕ) (c : Entry) → p < length ls → row (call_added ls p c) p ≡ c ∷ row ls p
 row_added ls p c h = row_added_all ls p (c ∷ []) h
 
-pub row_added_else : (ls : List (List Entry)) (p q : ℕ) (c : Entry) → q ≢ p → row (added ls p c) q ≡ row ls q
+pub row_added_else : (ls : List (List Entry)) (p q : ℕ) (c : Entry) → q ≢ p → row (call_added ls p c) q ≡ row ls q
 row_added_else ls p q c n = row_added_all_else ls p q (c ∷ []) n
 
-pub length-added : (ls : List (List Entry)) (p : ℕ) (c : Entry) → length (added ls p c) ≡ length ls
+pub length-added : (ls : List (List Entry)) (p : ℕ) (c : Entry) → length (call_added ls p c) ≡ length ls
 length-added ls p c = length-added_all ls p (c ∷ [])
 
--- what is in a list with one more at its end
+-- the elements of a list with one more at its end
 pub at_end : {A : Type 0} (l : List A) (a b : A) (j : ℕ) → get_elem? (l ++ a ∷ []) j ≡ some b → (get_elem? l j ≡ some b) ⊎ ((j ≡ length l) × (a ≡ b))
 at_end [] a b zero e = inr (refl, some-injective a b e)
 at_end [] a b (suc j) e = absurd (some-ne-none b (sym e))

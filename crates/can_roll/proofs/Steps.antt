@@ -8,12 +8,12 @@ use Rattle.atomic_table.proofs.Lists.{at_set}
 use Rattle.can_event.specs.declared.entry.Entry.{Entry}
 use Rattle.can_roll.specs.declared.rule.View.{View}
 use Rattle.can_roll.specs.declared.rule.View.TheVariants.{OfRoll, OfSlip, Spent}
-use Rattle.can_roll.specs.Lists.{row, added_all, last_of, without_last, NotIn, Distinct, AllBelow}
-use Rattle.can_roll.specs.Rule.{IsBrought, Knows, Apart, IsRolled, entered, newcomer, called_in, sent_out, sent, returned, Shows, Returns, noted, Notes, IsAtTable}
+use Rattle.can_roll.specs.Lists.{row, added_all, last_pass, without_last, NotIn, Distinct, AllBelow}
+use Rattle.can_roll.specs.Rule.{IsBrought, Knows, Apart, IsRolled, pass_entered, newcomer, called_in, sent_out, slip_sent, returned, Shows, Returns, calls_noted, Notes, IsAtTable}
 use Rattle.can_roll.proofs.Rows.{row_front, row_past, row_added_all_else, length-added_all, at_end}
 use Rattle.can_roll.proofs.Passes.{not_in_below, below_more, last_at_end, without_at_end, not_in_end, distinct_end, below_end, not_the_last, not_in_rest, distinct_rest, last_not_in_rest, below_rest, last_below}
 
--- ---- the rule where a roll's view is
+-- ---- the rule, if the view is a roll's
 
 -- the rule, in the words of that view
 abbrev Standing : List ℕ → List View → ℕ → List (List Entry) → List ℕ → List (List Entry) → Type 0
@@ -31,7 +31,7 @@ standing words views id lists called brought h at =
     (λ k. (sym mine.0 k, sym mine.1 k, sym mine.2 k, sym mine.3 k))
     (h.4, h.5, h.6, h.7, h.8, h.9)
 
--- what the seats know once the roll's view has changed, if the others know it
+-- the seats' knowledge after the roll's view has changed, if the others know it
 knows_set : (views : List View) (id : ℕ) (lists : List (List Entry)) (called : List ℕ) (brought : List (List Entry))
     → ((j : ℕ) (u : View) → j ≢ id → get_elem? views j ≡ some u → Knows id lists called brought j u)
     → (j : ℕ) (u : View) → get_elem? (set views id (OfRoll lists called brought)) j ≡ some u → Knows id lists called brought j u
@@ -50,7 +50,7 @@ roll_is_no_slip lists called brought p calls e = absurd (cc (e))
 spent_is_no_slip : (p : ℕ) (calls : List Entry) → Spent ≢ OfSlip p calls
 spent_is_no_slip p calls e = absurd (cc (e))
 
--- where a seat becomes no slip
+-- a seat that becomes no slip
 apart_set : (views : List View) (id : ℕ) (w : View) → ((p : ℕ) (xs : List Entry) → w ≢ OfSlip p xs) → Apart views → Apart (set views id w)
 apart_set views id w none_is apart i j p xs ys e f =
     ⊎_elim
@@ -62,7 +62,7 @@ apart_set views id w none_is apart i j p xs ys e f =
     (at_set views id j w (OfSlip p ys) f))
     (at_set views id i w (OfSlip p xs) e)
 
--- where a new slip has a pass of its own
+-- a new slip has a pass of its own
 apart_end : (views : List View) (q : ℕ) (l : List Entry) → ((j : ℕ) (ys : List Entry) → get_elem? views j ≢ some (OfSlip q ys)) → Apart views → Apart (views ++ OfSlip q l ∷ [])
 apart_end views q l fresh apart i j p xs ys e f =
     ⊎_elim
@@ -99,7 +99,7 @@ module _ {S : Type 0} where
   Holds s = IsRolled s.words s.views
 
   pub enters : (id : ℕ) (lists : List (List Entry)) (called : List ℕ)
-      → Splits Holds id (OfRoll lists called []) (entered (OfRoll lists called [])) (newcomer (OfRoll lists called []))
+      → Splits Holds id (OfRoll lists called []) (pass_entered (OfRoll lists called [])) (newcomer (OfRoll lists called []))
   enters id lists called s h at =
       let t = standing s.words s.views id lists called [] h at in
       let more = lists ++ [] ∷ [] in
@@ -210,9 +210,9 @@ module _ {S : Type 0} where
       → Allows Holds slots id (OfRoll lists called [], []) 0 (λ n. n) (Notes calls (step slots 0 0 0 none) (OfRoll lists called [], []))
   notes calls slots id lists called some_in s h homes at fits =
       let t = standing s.words s.views id lists called [] h at in
-      let more = added_all lists (last_of called) calls in
+      let more = added_all lists (last_pass called) calls in
       let w = OfRoll more called [] in
-      let len : length more ≡ length lists = length-added_all lists (last_of called) calls in (
+      let len : length more ≡ length lists = length-added_all lists (last_pass called) calls in (
         w,
         keeps,
         tt,
@@ -232,20 +232,20 @@ module _ {S : Type 0} where
       )
     where
       stay : (calls : List Entry) (id : ℕ) (lists : List (List Entry)) (called : List ℕ) → 0 < length called → (j : ℕ) (u : View)
-          → j ≢ id → Knows id lists called [] j u → Knows id (added_all lists (last_of called) calls) called [] j u
+          → j ≢ id → Knows id lists called [] j u → Knows id (added_all lists (last_pass called) calls) called [] j u
       stay calls id lists called some_in j (OfRoll a b d) n k = absurd (n k.0)
       stay calls id lists called some_in j (OfSlip q m) n k = (
-        row_added_all_else lists (last_of called) q calls (not_the_last q called some_in k.2) ∙ k.0,
-        subst (λ n. q < n) (sym (length-added_all lists (last_of called) calls)) k.1,
+        row_added_all_else lists (last_pass called) q calls (not_the_last q called some_in k.2) ∙ k.0,
+        subst (λ n. q < n) (sym (length-added_all lists (last_pass called) calls)) k.1,
         k.2,
       )
       stay calls id lists called some_in j Spent n k = tt
 
   pub sends : (id : ℕ) (lists : List (List Entry)) (called : List ℕ) → 0 < length called
-      → Splits Holds id (OfRoll lists called []) (sent_out (OfRoll lists called [])) (sent (OfRoll lists called []))
+      → Splits Holds id (OfRoll lists called []) (sent_out (OfRoll lists called [])) (slip_sent (OfRoll lists called []))
   sends id lists called some_in s h at =
       let t = standing s.words s.views id lists called [] h at in
-      let p = last_of called in
+      let p = last_pass called in
       let rest = without_last called in
       let w = OfRoll lists rest [] in
       let old : (j : ℕ) (u : View) → get_elem? (set s.views id w) j ≡ some u → Knows id lists rest [] j u =
@@ -280,9 +280,9 @@ module _ {S : Type 0} where
 -- ---- the same at a view that is known by an equation
 
 pub enters_as : {S : Type 0} (id : ℕ) (me : Me S View) (lists : List (List Entry)) (called : List ℕ)
-    → me ≡ (OfRoll lists called [], []) → Splits (λ (s : State S View). IsRolled s.words s.views) id me.0 (entered me.0) (newcomer me.0)
+    → me ≡ (OfRoll lists called [], []) → Splits (λ (s : State S View). IsRolled s.words s.views) id me.0 (pass_entered me.0) (newcomer me.0)
 enters_as {S} id me lists called is =
-    subst (λ (m : Me S View). Splits (λ (s : State S View). IsRolled s.words s.views) id m.0 (entered m.0) (newcomer m.0)) (sym is) (enters id lists called)
+    subst (λ (m : Me S View). Splits (λ (s : State S View). IsRolled s.words s.views) id m.0 (pass_entered m.0) (newcomer m.0)) (sym is) (enters id lists called)
 
 pub calls_in_as : {S : Type 0} (id other : ℕ) (me you : Me S View) (lists : List (List Entry)) (called : List ℕ) (p : ℕ) (calls : List Entry)
     → me ≡ (OfRoll lists called [], []) → you ≡ (OfSlip p calls, [])
@@ -312,9 +312,9 @@ notes_as {S} calls slots id me lists called some_in is =
     (notes calls slots id lists called some_in)
 
 pub sends_as : {S : Type 0} (id : ℕ) (me : Me S View) (lists : List (List Entry)) (called : List ℕ) → 0 < length called
-    → me ≡ (OfRoll lists called [], []) → Splits (λ (s : State S View). IsRolled s.words s.views) id me.0 (sent_out me.0) (sent me.0)
+    → me ≡ (OfRoll lists called [], []) → Splits (λ (s : State S View). IsRolled s.words s.views) id me.0 (sent_out me.0) (slip_sent me.0)
 sends_as {S} id me lists called some_in is =
-    subst (λ (m : Me S View). Splits (λ (s : State S View). IsRolled s.words s.views) id m.0 (sent_out m.0) (sent m.0)) (sym is) (sends id lists called some_in)
+    subst (λ (m : Me S View). Splits (λ (s : State S View). IsRolled s.words s.views) id m.0 (sent_out m.0) (slip_sent m.0)) (sym is) (sends id lists called some_in)
 
 -- ---- seats after a step
 
@@ -348,8 +348,8 @@ then_returned {S} new me lists called p calls is t =
 
 -- once calls are noted
 pub then_noted : {S : Type 0} (calls : List Entry) (new me : Me S View) (lists : List (List Entry)) (called : List ℕ)
-    → me ≡ (OfRoll lists called [], []) → (new.0 ≡ noted calls me.0) × (new.1 ≡ me.1) → new ≡ (OfRoll (added_all lists (last_of called) calls) called [], [])
-then_noted {S} calls new me lists called is t = (λ k. (t.0 k, t.1 k)) ∙ (λ k. (noted calls (is k).0, (is k).1))
+    → me ≡ (OfRoll lists called [], []) → (new.0 ≡ calls_noted calls me.0) × (new.1 ≡ me.1) → new ≡ (OfRoll (added_all lists (last_pass called) calls) called [], [])
+then_noted {S} calls new me lists called is t = (λ k. (t.0 k, t.1 k)) ∙ (λ k. (calls_noted calls (is k).0, (is k).1))
 
 -- and once the pass is sent out
 pub then_sent : {S : Type 0} (new me : Me S View) (lists : List (List Entry)) (called : List ℕ)

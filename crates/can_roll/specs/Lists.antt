@@ -2,7 +2,7 @@
 use Rattle.std.specs.Prelude.{◌≢◌, ℕ, zero, suc, ◌<◌, List, [], ◌∷◌, ◌++◌}
 use Rattle.can_event.specs.declared.entry.Entry.{Entry}
 
--- the calls of pass p, none where there is no such pass
+-- the calls of pass p, none if there is no such pass
 abbrev pub row : List (List Entry) → ℕ → List Entry
 row [] p = []
 row (calls ∷ others) zero = calls
@@ -15,14 +15,14 @@ added_all (own ∷ others) zero calls = (calls ++ own) ∷ others
 added_all (own ∷ others) (suc p) calls = own ∷ added_all others p calls
 
 -- these lists with one more call in front of those of pass p
-abbrev pub added : List (List Entry) → ℕ → Entry → List (List Entry)
-added lists p call = added_all lists p (call ∷ [])
+abbrev pub call_added : List (List Entry) → ℕ → Entry → List (List Entry)
+call_added lists p call = added_all lists p (call ∷ [])
 
--- the last of these passes, 0 where there is none
-abbrev pub last_of : List ℕ → ℕ
-last_of [] = 0
-last_of (p ∷ []) = p
-last_of (p ∷ q ∷ qs) = last_of (q ∷ qs)
+-- the last of these passes, 0 if there is none
+abbrev pub last_pass : List ℕ → ℕ
+last_pass [] = 0
+last_pass (p ∷ []) = p
+last_pass (p ∷ q ∷ qs) = last_pass (q ∷ qs)
 
 -- these passes without the last
 abbrev pub without_last : List ℕ → List ℕ

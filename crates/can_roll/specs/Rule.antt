@@ -7,16 +7,16 @@ use Rattle.atomic_table.specs.Seated.{TableId}
 use Rattle.can_event.specs.declared.entry.Entry.{Entry}
 use Rattle.can_roll.specs.declared.rule.View.{View}
 use Rattle.can_roll.specs.declared.rule.View.TheVariants.{OfRoll, OfSlip, Spent}
-use Rattle.can_roll.specs.Lists.{row, added_all, last_of, without_last, NotIn, Distinct, AllBelow}
+use Rattle.can_roll.specs.Lists.{row, added_all, last_pass, without_last, NotIn, Distinct, AllBelow}
 
 -- ---- the rule
 
 -- the calls that the pass called in last has brought are the roll's list of that pass; once returned, there are none
 abbrev pub IsBrought : List (List Entry) → List ℕ → List (List Entry) → Type 0
 IsBrought lists called [] = Unit {0}
-IsBrought lists called (calls ∷ more) = row lists (last_of called) ≡ calls
+IsBrought lists called (calls ∷ more) = row lists (last_pass called) ≡ calls
 
--- what the seat `by` knows, where the roll's view is that of the seat `seat`: no other seat has a roll's view, and a
+-- the knowledge of the seat `by`, if the roll's view is that of the seat `seat`: no other seat has a roll's view, and a
 -- slip has the roll's list of its pass, which has entered and is not called in; of a spent view nothing is said
 abbrev pub Knows : ℕ → List (List Entry) → List ℕ → List (List Entry) → ℕ → View → Type 0
 Knows seat lists called brought by (OfRoll lists' called' brought') =
@@ -30,8 +30,8 @@ Apart views =
     (i j p : ℕ) (xs ys : List Entry) → get_elem? views i ≡ some (OfSlip p xs)
     → get_elem? views j ≡ some (OfSlip p ys) → i ≡ j
 
--- the rule: the word is 0, no pass is called in twice, each pass called in has entered, what was brought is the roll's,
--- each seat knows what the roll has, and slips are of different passes
+-- the rule: the word is 0, no pass is called in twice, each pass called in has entered, the calls brought are the
+-- roll's, each seat knows the roll's lists, and slips are of different passes
 abbrev pub IsRolled : List ℕ → List View → Type 0
 IsRolled words views =
     (seat : ℕ) × (lists : List (List Entry)) × (called : List ℕ) × (brought : List (List Entry))
@@ -42,10 +42,10 @@ IsRolled words views =
 -- ---- the steps
 
 -- `enter` leaves the roll with one more list, an empty one
-abbrev pub entered : View → View
-entered (OfRoll lists called brought) = OfRoll (lists ++ [] ∷ []) called brought
-entered (OfSlip p calls) = OfSlip p calls
-entered Spent = Spent
+abbrev pub pass_entered : View → View
+pass_entered (OfRoll lists called brought) = OfRoll (lists ++ [] ∷ []) called brought
+pass_entered (OfSlip p calls) = OfSlip p calls
+pass_entered Spent = Spent
 
 -- and gives the slip of the next pass, with no call
 abbrev pub newcomer : View → View
@@ -53,7 +53,7 @@ newcomer (OfRoll lists called brought) = OfSlip (length lists) []
 newcomer (OfSlip p calls) = Spent
 newcomer Spent = Spent
 
--- a pass is called in: it comes to the end of the passes called in, and brings its calls
+-- a pass is called in: it is appended to the passes called in, and brings its calls
 abbrev pub called_in : View → View → View
 called_in (OfRoll lists called brought) (OfSlip p calls) = OfRoll lists (called ++ p ∷ []) (calls ∷ [])
 called_in (OfRoll lists called brought) (OfRoll lists' called' brought') = OfRoll lists called brought
@@ -67,12 +67,12 @@ returned (OfRoll lists called brought) = OfRoll lists called []
 returned (OfSlip p calls) = OfSlip p calls
 returned Spent = Spent
 
--- what is returned: the calls brought are the roll's list of the pass, which has entered and was not called in before
+-- a returned pass: the calls brought are the roll's list of the pass, which has entered and was not called in before
 abbrev pub Shows : View → Type 0
 Shows (OfRoll lists called (calls ∷ more)) =
-    (row lists (last_of called) ≡ calls)
-    × (last_of called < length lists)
-    × NotIn (last_of called) (without_last called)
+    (row lists (last_pass called) ≡ calls)
+    × (last_pass called < length lists)
+    × NotIn (last_pass called) (without_last called)
 Shows (OfRoll lists called []) = Unit {0}
 Shows (OfSlip p calls) = Unit {0}
 Shows Spent = Unit {0}
@@ -82,14 +82,14 @@ abbrev pub Returns : {S : Type 0} → Step S → Me S View → ℕ → Me S View
 Returns step old found new = (new.0 ≡ returned old.0) × (new.1 ≡ old.1) × Shows old.0
 
 -- the roll with more calls of the pass called in last, the newest first
-abbrev pub noted : List Entry → View → View
-noted more (OfRoll lists called brought) = OfRoll (added_all lists (last_of called) more) called brought
-noted more (OfSlip p calls) = OfSlip p calls
-noted more Spent = Spent
+abbrev pub calls_noted : List Entry → View → View
+calls_noted more (OfRoll lists called brought) = OfRoll (added_all lists (last_pass called) more) called brought
+calls_noted more (OfSlip p calls) = OfSlip p calls
+calls_noted more Spent = Spent
 
 -- the load that notes calls
 abbrev pub Notes : List Entry → {S : Type 0} → Step S → Me S View → ℕ → Me S View → Type 0
-Notes more step old found new = (new.0 ≡ noted more old.0) × (new.1 ≡ old.1)
+Notes more step old found new = (new.0 ≡ calls_noted more old.0) × (new.1 ≡ old.1)
 
 -- sending out leaves the roll without the pass called in last
 abbrev pub sent_out : View → View
@@ -97,15 +97,15 @@ sent_out (OfRoll lists called brought) = OfRoll lists (without_last called) brou
 sent_out (OfSlip p calls) = OfSlip p calls
 sent_out Spent = Spent
 
--- what the slip of pass p knows: the roll's list of that pass
+-- the knowledge of the slip of pass p: the roll's list of that pass
 abbrev pub slip_view : List (List Entry) → ℕ → View
 slip_view lists p = OfSlip p (row lists p)
 
 -- and gives that pass a slip again
-abbrev pub sent : View → View
-sent (OfRoll lists called brought) = slip_view lists (last_of called)
-sent (OfSlip p calls) = Spent
-sent Spent = Spent
+abbrev pub slip_sent : View → View
+slip_sent (OfRoll lists called brought) = slip_view lists (last_pass called)
+slip_sent (OfSlip p calls) = Spent
+slip_sent Spent = Spent
 
 -- ---- readings of a view
 
@@ -127,7 +127,7 @@ calls_of (OfSlip p calls) = calls
 calls_of (OfRoll lists called brought) = []
 calls_of Spent = []
 
--- the view that a badge has, a spent one where it has none
+-- the view that a badge has, a spent one if it has none
 abbrev pub view_in : List View → View
 view_in [] = Spent
 view_in (v ∷ vs) = v

@@ -1,7 +1,7 @@
--- What contracts see of a roll and of a slip.
+-- A roll and a slip, as contracts see them.
 use Rattle.std.specs.Prelude.{ℕ, List, [], ◌∷◌, ◌++◌}
 use Rattle.can_event.specs.declared.entry.Entry.{Entry}
-use Rattle.can_roll.specs.Lists.{added, added_all}
+use Rattle.can_roll.specs.Lists.{call_added, added_all}
 
 -- a roll: its number, the calls of each pass, and the passes called in, the last one at the end
 pub record RollSeen : Type 0 where
@@ -14,12 +14,12 @@ abbrev pub roll_seen : ℕ → List (List Entry) → List ℕ → RollSeen
 roll_seen number lists called = record { number = number; lists = lists; called = called }
 
 -- the roll with one more pass, which has made no call
-abbrev pub with_pass : RollSeen → RollSeen
-with_pass roll = roll_seen roll.number (roll.lists ++ [] ∷ []) roll.called
+abbrev pub roll_with_pass : RollSeen → RollSeen
+roll_with_pass roll = roll_seen roll.number (roll.lists ++ [] ∷ []) roll.called
 
 -- the roll with one more call in front of those of pass p
 abbrev pub with_call : ℕ → Entry → RollSeen → RollSeen
-with_call p call roll = roll_seen roll.number (added roll.lists p call) roll.called
+with_call p call roll = roll_seen roll.number (call_added roll.lists p call) roll.called
 
 -- the roll with more calls, the newest first, in front of those of pass p
 abbrev pub with_calls : ℕ → List Entry → RollSeen → RollSeen
@@ -47,7 +47,7 @@ slip_with_call call slip = slip_seen slip.number slip.pass (call ∷ slip.calls)
 abbrev pub slip_with_calls : List Entry → SlipSeen → SlipSeen
 slip_with_calls calls slip = slip_seen slip.number slip.pass (calls ++ slip.calls)
 
--- what was handed out under a roll's number, the oldest entry first: to a scroll, and as the roll's side knows it
+-- the entries handed out under a roll's number, the oldest first: to a scroll, and as the roll's side knows them
 pub record ScrollSeen : Type 0 where
   pub number : ℕ
   pub entries : List Entry
@@ -56,6 +56,6 @@ pub record ScrollSeen : Type 0 where
 abbrev pub scroll_seen : ℕ → List Entry → ScrollSeen
 scroll_seen number entries = record { number = number; entries = entries }
 
--- with a block more
+-- with one block more
 abbrev pub scroll_with : List Entry → ScrollSeen → ScrollSeen
 scroll_with block scroll = scroll_seen scroll.number (scroll.entries ++ block)

@@ -1,8 +1,8 @@
 ghost use Rattle.std.specs.Prelude.{◌≡◌, ◌<◌, [], ◌∷◌, length, reverse};
 ghost use Rattle.can_event.specs.Replies.{entry_of};
-ghost use Rattle.can_roll.specs.Lists.{row, last_of, without_last, NotIn};
+ghost use Rattle.can_roll.specs.Lists.{row, last_pass, without_last, NotIn};
 ghost use Rattle.can_roll.specs.Rule.{slip_view};
-ghost use Rattle.can_roll.specs.Seen.{roll_seen, slip_seen, slip_with_call, slip_with_calls, with_call, with_calls, with_called_in, with_pass};
+ghost use Rattle.can_roll.specs.Seen.{roll_seen, slip_seen, slip_with_call, slip_with_calls, with_call, with_calls, with_called_in, roll_with_pass};
 
 use crate::roll_name::RollName;
 use crate::rule::{CallsIn, Enters, Law, Note, Return, Says, Sends, View};
@@ -59,8 +59,8 @@ impl Model for WordBlank {
         × (b.seat.me ≡ (OfRoll [] [] [], [])) × (b.table.shared.table_id.words ≡ 1) };
 }
 
-/// The calls of each pass. To a contract it is its number, the list of calls of each pass with the newest in
-/// front, and the passes called in, in the order of their coming.
+/// The calls of each pass. To a contract it is its number, the list of calls of each pass with the
+/// newest in front, and the passes called in, in their order.
 #[derive(Drop)]
 pub struct Roll<N: RollName> {
     table: Word,
@@ -87,8 +87,8 @@ impl<N: RollName> Model for Roll<N> {
         × IsRollSeat r.seat.me r.passes };
 }
 
-/// A roll without passes and its scroll, for [`Roll::new`] or [`roll_with_scroll`](crate::roll_with_scroll). It fails only
-/// where memory is refused.
+/// A roll without passes and its scroll, for [`Roll::new`] or
+/// [`roll_with_scroll`](crate::roll_with_scroll). It fails only if memory is refused.
 pub fn roll_blank(alloc: Global) -> Result<RollBlank, AllocError> {
     Ok(RollBlank {
         passes: word_blank(alloc)?,
@@ -135,7 +135,7 @@ impl<N: RollName> Roll<N> {
         self.number
     }
 
-    /// How many passes have entered.
+    /// Returns how many passes have entered.
     pub fn passes(&self) -> u32
         ensures { result ≡ length self.now.lists }
     {
@@ -146,7 +146,7 @@ impl<N: RollName> Roll<N> {
     /// have entered.
     pub fn enter(&mut self) -> Slip<N>
         requires { length self.old.lists < 4096 }
-        ensures roll { self.new ≡ with_pass self.old }
+        ensures roll { self.new ≡ roll_with_pass self.old }
         ensures slip { result ≡ slip_seen self.old.number (length self.old.lists) [] }
     {
         let table = &self.table;
@@ -228,7 +228,7 @@ impl<N: RollName> Roll<N> {
         requires said { C.said ≡ entry_of event.now reply.now ∷ [] }
         requires some_in { 0 < length self.old.called }
         ensures { self.new
-            ≡ with_call (last_of self.old.called) (entry_of event.now reply.now) self.old }
+            ≡ with_call (last_pass self.old.called) (entry_of event.now reply.now) self.old }
     {
         let table = &self.table;
         table.shared.load::<Note<C>>(&mut self.seat, 0);
@@ -239,7 +239,7 @@ impl<N: RollName> Roll<N> {
         requires said { C.said ≡ reverse calls.now.entries }
         requires some_in { 0 < length self.old.called }
         ensures { self.new
-            ≡ with_calls (last_of self.old.called) (reverse calls.now.entries) self.old }
+            ≡ with_calls (last_pass self.old.called) (reverse calls.now.entries) self.old }
     {
         let table = &self.table;
         table.shared.load::<Note<C>>(&mut self.seat, 0);
@@ -251,7 +251,7 @@ impl<N: RollName> Roll<N> {
         ensures roll { self.new
             ≡ roll_seen self.old.number self.old.lists (without_last self.old.called) }
         ensures table { result.table_id ≡ (N.roll self.old.number).passes }
-        ensures views { result.views ≡ slip_view self.old.lists (last_of self.old.called) ∷ [] }
+        ensures views { result.views ≡ slip_view self.old.lists (last_pass self.old.called) ∷ [] }
     {
         let table = &self.table;
         table

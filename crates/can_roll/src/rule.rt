@@ -3,7 +3,8 @@ use can_event::Entry;
 use std::collections::LinkedList;
 use std::marker::{Brand, PhantomData};
 
-/// What a seat of the table knows. It is for contracts only: the program makes no value of it.
+/// The knowledge of a seat of the table. It is for contracts only: the program makes no value of
+/// it.
 pub enum View {
     /// A roll's seat: the calls of each pass, the passes called in with the last at the end, and, until it is
     /// returned, the one list of calls that the last one brought.
@@ -31,9 +32,9 @@ impl<S> TableRule<S, View, ()> for Law {
 pub struct Enters;
 
 impl Split<View> for Enters {
-    ghost use Rattle.can_roll.specs.Rule.{entered, newcomer};
+    ghost use Rattle.can_roll.specs.Rule.{pass_entered, newcomer};
 
-    ghost left = { entered };
+    ghost left = { pass_entered };
 
     ghost right = { newcomer };
 }
@@ -74,11 +75,11 @@ impl<S, C: Says> Play<S, View> for Note<C> {
 pub struct Sends;
 
 impl Split<View> for Sends {
-    ghost use Rattle.can_roll.specs.Rule.{sent_out, sent};
+    ghost use Rattle.can_roll.specs.Rule.{sent_out, slip_sent};
 
     ghost left = { sent_out };
 
-    ghost right = { sent };
+    ghost right = { slip_sent };
 }
 
 /// Names calls with their replies, the newest first, for contracts only.

@@ -7,8 +7,8 @@ use crate::slip::Slip;
 use can_record::PackedRecord;
 use std::marker::Model;
 
-/// What was handed out under a roll's number, as the other side of its scroll knows it. To a contract it is the number and
-/// the entries, the oldest first.
+/// The entries handed out under a roll's number, as the other side of its scroll knows them. To a
+/// contract it is the number and the entries, the oldest first.
 #[derive(Drop)]
 pub struct HandedOut<N: RollName> {
     roll: Roll<ScrollName<N>>,
@@ -26,8 +26,8 @@ impl<N: RollName> Model for HandedOut<N> {
     ghost invariant = { λ h. h.roll.lists ≡ row h.roll.lists 0 ∷ [] };
 }
 
-/// What was handed out under a roll's number to who has the scroll. To a contract it is the number and the entries, the
-/// oldest first.
+/// The entries handed out under a roll's number to the holder of the scroll. To a contract it is
+/// the number and the entries, the oldest first.
 #[derive(Drop)]
 pub struct Scroll<N: RollName> {
     slip: Slip<ScrollName<N>>,
@@ -42,8 +42,8 @@ impl<N: RollName> Model for Scroll<N> {
     ghost view = { λ s. scroll_seen s.slip.number (reverse s.slip.calls) };
 }
 
-/// The blank as the roll of this number, with no pass, and both sides of its scroll: nothing was handed out. The caller
-/// shows that `N` names the blank so.
+/// The blank as the roll of this number, with no pass, and both sides of its scroll: nothing was
+/// handed out. The caller shows that `N` names the blank in this way.
 pub fn roll_with_scroll<N: RollName>(
     blank: RollBlank,
     number: u8,
@@ -71,8 +71,8 @@ impl<N: RollName> HandedOut<N> {
         self.roll.number()
     }
 
-    /// Hands out a block to who has the scroll: its entries come after those that were handed out before, which both sides
-    /// know as the same. The caller shows that the scroll is of this number.
+    /// Hands out a block to the holder of the scroll. Its entries follow those handed out before,
+    /// which both sides know as the same. The caller shows that the scroll is of this number.
     pub fn hand_out(&mut self, scroll: &mut Scroll<N>, block: &PackedRecord)
         requires { scroll.old.number ≡ self.old.number }
         ensures before { scroll.old.entries ≡ self.old.entries }

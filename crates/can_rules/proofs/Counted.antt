@@ -1,6 +1,6 @@
 use Rattle.std.proofs.Common.{◌≡◌, ◌≤◌, ◌+◌, ◌-◌, ℕ, zero, suc, Bool, true, false, not, ◌&&◌, List, [], ◌∷◌, Some, slice_get, if◌then◌else◌, refl, ap, sym, ◌∙◌, ◌==◌, arith}
 use Rattle.std.proofs.lemmas.Bool.Decides.{nat_tests}
-use Rattle.can_rules.specs.Rules.{Head, chosen, after_chosen, asked, gives, is_due, is_used_up, is_spent, one_less, matches, gives_at, times_given}
+use Rattle.can_rules.specs.Rules.{Head, chosen, after_chosen, asked_rule, gives, is_rule_due, is_used_up, is_spent, one_less, rule_matches, gives_at, times_given}
 use Rattle.can_rules.specs.declared.rule.Rule.{Rule}
 
 -- How often a rule gives its verdict.
@@ -32,13 +32,13 @@ same_rule : (one other : Rule) → Some one ≡ Some other → one ≡ other
 same_rule one other same = cc
 
 -- one attempt, at the first rule
-asked-left : (rule : Rule) (head : Head) (rules : List Rule) (n : ℕ) → rule.left ≡ Some n → Spends (asked rule head ∷ rules) 0 n (gives rule head)
+asked-left : (rule : Rule) (head : Head) (rules : List Rule) (n : ℕ) → rule.left ≡ Some n → Spends (asked_rule rule head ∷ rules) 0 n (gives rule head)
 asked-left rule head rules n has =
     let counted : Rule = record rule { left = one_less rule.left } in
     let skipped : Rule = record rule { skip = rule.skip - 1 } in
-    elim (is_due rule head) as (λ b. is_due rule head ≡ b → Spends ((if b then (if rule.skip == 0 then counted else skipped) else rule) ∷ rules) 0 n (b && (rule.skip == 0))) [
+    elim (is_rule_due rule head) as (λ b. is_rule_due rule head ≡ b → Spends ((if b then (if rule.skip == 0 then counted else skipped) else rule) ∷ rules) 0 n (b && (rule.skip == 0))) [
       | true ↦ λ due.
-          let fresh : (n == 0) ≡ false = ap is_spent (sym has) ∙ first_true (is_used_up rule) (matches rule head) due in
+          let fresh : (n == 0) ≡ false = ap is_spent (sym has) ∙ first_true (is_used_up rule) (rule_matches rule head) due in
           elim (rule.skip == 0) as (λ b. Spends ((if b then counted else skipped) ∷ rules) 0 n b) [
             | true ↦ record { rest = n - 1; has = record { rule = counted; there = refl; left = ap one_less has }; together = some_left n fresh }
             | false ↦ record { rest = n; has = record { rule = skipped; there = refl; left = has }; together = omega arith }
@@ -51,7 +51,7 @@ pub spends : (rules : List Rule) (head : Head) (place n : ℕ) → HasLeft rules
 spends [] head place n had = absurd (cc had.there)
 spends (rule ∷ rules) head zero n had = asked-left rule head (if gives rule head then rules else after_chosen rules head) n (ap (λ (r : Rule). r.left) (same_rule rule had.rule had.there) ∙ had.left)
 spends (rule ∷ rules) head (suc place) n had =
-    elim (gives rule head) as (λ b. Spends (asked rule head ∷ (if b then rules else after_chosen rules head)) (suc place) n (not b && gives_at place rules head)) [
+    elim (gives rule head) as (λ b. Spends (asked_rule rule head ∷ (if b then rules else after_chosen rules head)) (suc place) n (not b && gives_at place rules head)) [
       | true ↦ record { rest = n; has = record { rule = had.rule; there = had.there; left = had.left }; together = omega arith }
       | false ↦
           let later = spends rules head place n (record { rule = had.rule; there = had.there; left = had.left }) in

@@ -3,8 +3,8 @@ use Rattle.std.specs.FinMap.{get}
 use Rattle.can_frame.specs.Frames.{CanFrame, word_of}
 use Rattle.can_fault.specs.declared.verdict.Verdict.{Verdict}
 use Rattle.can_fault.specs.declared.verdict.Verdict.TheVariants.{Good, Global, Local, LastBit}
-use Rattle.can_rules.specs.Rules.{Head, head_of, after_chosen, asked, gives, is_due, is_used_up, one_less, unused}
-use Rattle.can_rules.specs.Plans.{PlanSeen, NumbersGrow, IsNumbered, numbered, with_rule, plan_after, after_planned, head_in}
+use Rattle.can_rules.specs.Rules.{Head, won_by, after_chosen, asked_rule, gives, is_rule_due, is_used_up, one_less, usable}
+use Rattle.can_rules.specs.Plans.{PlanSeen, NumbersGrow, HasOwnNumbers, numbered, with_rule, plan_after, after_planned, head_in}
 use Rattle.can_rules.specs.declared.rule.Rule.{Rule}
 
 -- The numbers of rules.
@@ -20,9 +20,9 @@ grow-push [] rule low high n above h = (omega (arith, above, h), omega arith)
 grow-push (first ∷ rules) rule low high n above h = (h.0, grow-push rules rule first.number high n above h.1)
 
 -- asking keeps numbers
-asked-number : (rule : Rule) (head : Head) → (asked rule head).number ≡ rule.number
+asked-number : (rule : Rule) (head : Head) → (asked_rule rule head).number ≡ rule.number
 asked-number rule head =
-    elim (is_due rule head) as (λ b. (if b then (if rule.skip == 0 then record rule { left = one_less rule.left } else record rule { skip = rule.skip - 1 }) else rule).number ≡ rule.number) [
+    elim (is_rule_due rule head) as (λ b. (if b then (if rule.skip == 0 then record rule { left = one_less rule.left } else record rule { skip = rule.skip - 1 }) else rule).number ≡ rule.number) [
       | true ↦ elim (rule.skip == 0) as (λ b. (if b then record rule { left = one_less rule.left } else record rule { skip = rule.skip - 1 }).number ≡ rule.number) [ true ↦ refl | false ↦ refl ]
       | false ↦ refl
     ]
@@ -38,15 +38,15 @@ grow-asked (rule ∷ rules) head low high h =
     subst (λ (n : ℕ). (low < n) × NumbersGrow n rest high) (sym (asked-number rule head)) (h.0, grown)
 
 -- and so does leaving out those that are used up
-grow-unused : (rules : List Rule) (low high : ℕ) → NumbersGrow low rules high → NumbersGrow low (unused rules) high
+grow-unused : (rules : List Rule) (low high : ℕ) → NumbersGrow low rules high → NumbersGrow low (usable rules) high
 grow-unused [] low high h = h
 grow-unused (rule ∷ rules) low high h =
-    elim (is_used_up rule) as (λ b. NumbersGrow low (if not b then rule ∷ unused rules else unused rules) high) [
-      | true ↦ grow-lower (unused rules) low rule.number high (omega (arith, h.0)) (grow-unused rules rule.number high h.1)
+    elim (is_used_up rule) as (λ b. NumbersGrow low (if not b then rule ∷ usable rules else usable rules) high) [
+      | true ↦ grow-lower (usable rules) low rule.number high (omega (arith, h.0)) (grow-unused rules rule.number high h.1)
       | false ↦ (h.0, grow-unused rules rule.number high h.1)
     ]
 
-pub numbered-given : (rule : Rule) (plan : PlanSeen) → IsNumbered plan → plan.taken < 2 ^ 64 - 1 → IsNumbered (with_rule rule plan)
+pub numbered-given : (rule : Rule) (plan : PlanSeen) → HasOwnNumbers plan → plan.taken < 2 ^ 64 - 1 → HasOwnNumbers (with_rule rule plan)
 numbered-given rule plan h below =
     let more : min (plan.taken + 1) (2 ^ 64 - 1) ≡ plan.taken + 1 = omega (arith, below) in
     grow-push plan.rules rule 0 plan.taken (min (plan.taken + 1) (2 ^ 64 - 1)) (omega (arith, more)) h
@@ -56,7 +56,7 @@ ruled-numbered rules (Some verdict) head high h = h
 ruled-numbered rules None None high h = h
 ruled-numbered rules None (Some head) high h = grow-unused (after_chosen rules head) 0 high (grow-asked rules head 0 high h)
 
-pub numbered-asked : (source : Verdict) (plan : PlanSeen) (attempt : ℕ) (head : Option (ℕ × CanFrame)) → IsNumbered plan → IsNumbered (plan_after source plan attempt head)
+pub numbered-asked : (source : Verdict) (plan : PlanSeen) (attempt : ℕ) (head : Option (ℕ × CanFrame)) → HasOwnNumbers plan → HasOwnNumbers (plan_after source plan attempt head)
 numbered-asked Good plan attempt head h = ruled-numbered plan.rules (get plan.lines attempt) (head_in head) plan.taken h
 numbered-asked (Global kind) plan attempt head h = h
 numbered-asked (Local seen kind) plan attempt head h = h

@@ -1,35 +1,35 @@
 use Rattle.std.proofs.Common.{◌≡◌, Bool, true, false, not, ◌&&◌, List, [], ◌∷◌, ◌++◌, Some, if◌then◌else◌, refl, ap, sym, ◌∙◌, ◌==◌, ◌-◌}
-use Rattle.can_rules.specs.Rules.{Head, chosen, after_chosen, asked, gives, is_due, is_used_up, one_less, matches, verdicts, AreSwapped}
+use Rattle.can_rules.specs.Rules.{Head, chosen, after_chosen, asked_rule, gives, is_rule_due, is_used_up, one_less, rule_matches, verdicts, AreSwapped}
 use Rattle.can_rules.specs.declared.rule.Rule.{Rule}
 
 -- Two neighbours change places.
 
 -- counting does not change what matches
-matches-asked : (rule : Rule) (now head : Head) → matches (asked rule now) head ≡ matches rule head
+matches-asked : (rule : Rule) (now head : Head) → rule_matches (asked_rule rule now) head ≡ rule_matches rule head
 matches-asked rule now head =
-    elim (is_due rule now) as (λ b. matches (if b then (if rule.skip == 0 then record rule { left = one_less rule.left } else record rule { skip = rule.skip - 1 }) else rule) head ≡ matches rule head) [
-      | true ↦ elim (rule.skip == 0) as (λ b. matches (if b then record rule { left = one_less rule.left } else record rule { skip = rule.skip - 1 }) head ≡ matches rule head) [ true ↦ refl | false ↦ refl ]
+    elim (is_rule_due rule now) as (λ b. rule_matches (if b then (if rule.skip == 0 then record rule { left = one_less rule.left } else record rule { skip = rule.skip - 1 }) else rule) head ≡ rule_matches rule head) [
+      | true ↦ elim (rule.skip == 0) as (λ b. rule_matches (if b then record rule { left = one_less rule.left } else record rule { skip = rule.skip - 1 }) head ≡ rule_matches rule head) [ true ↦ refl | false ↦ refl ]
       | false ↦ refl
     ]
 
 -- of a rule that gives, the attempt is
-gives-matches : (rule : Rule) (head : Head) → gives rule head ≡ true → matches rule head ≡ true
-gives-matches rule head gave = parts (not (is_used_up rule)) (matches rule head) (rule.skip == 0) gave where
+gives-matches : (rule : Rule) (head : Head) → gives rule head ≡ true → rule_matches rule head ≡ true
+gives-matches rule head gave = parts (not (is_used_up rule)) (rule_matches rule head) (rule.skip == 0) gave where
   parts : (a b c : Bool) → (a && b && c) ≡ true → b ≡ true
   parts true true c h = refl
   parts true false c h = cc
   parts false b c h = cc
 
 -- a rule that does not match stays as it is, and gives nothing
-asked-other : (rule : Rule) (head : Head) → matches rule head ≡ false → asked rule head ≡ rule
+asked-other : (rule : Rule) (head : Head) → rule_matches rule head ≡ false → asked_rule rule head ≡ rule
 asked-other rule head other =
-    ap (λ b. if b then (if rule.skip == 0 then record rule { left = one_less rule.left } else record rule { skip = rule.skip - 1 }) else rule) (never (not (is_used_up rule)) (matches rule head) other) where
+    ap (λ b. if b then (if rule.skip == 0 then record rule { left = one_less rule.left } else record rule { skip = rule.skip - 1 }) else rule) (never (not (is_used_up rule)) (rule_matches rule head) other) where
       never : (a b : Bool) → b ≡ false → (a && b) ≡ false
       never true b h = h
       never false b h = refl
 
-gives-other : (rule : Rule) (head : Head) → matches rule head ≡ false → gives rule head ≡ false
-gives-other rule head other = never (not (is_used_up rule)) (matches rule head) (rule.skip == 0) other where
+gives-other : (rule : Rule) (head : Head) → rule_matches rule head ≡ false → gives rule head ≡ false
+gives-other rule head other = never (not (is_used_up rule)) (rule_matches rule head) (rule.skip == 0) other where
   never : (a b c : Bool) → b ≡ false → (a && b && c) ≡ false
   never true true c h = cc
   never true false c h = refl
@@ -42,18 +42,18 @@ chosen-gives rule rules head gave = ap (λ b. if b then Some rule.verdict else c
 chosen-past : (rule : Rule) (rules : List Rule) (head : Head) → gives rule head ≡ false → chosen (rule ∷ rules) head ≡ chosen rules head
 chosen-past rule rules head past = ap (λ b. if b then Some rule.verdict else chosen rules head) past
 
-after-gives : (rule : Rule) (rules : List Rule) (head : Head) → gives rule head ≡ true → after_chosen (rule ∷ rules) head ≡ asked rule head ∷ rules
-after-gives rule rules head gave = ap (λ b. asked rule head ∷ (if b then rules else after_chosen rules head)) gave
+after-gives : (rule : Rule) (rules : List Rule) (head : Head) → gives rule head ≡ true → after_chosen (rule ∷ rules) head ≡ asked_rule rule head ∷ rules
+after-gives rule rules head gave = ap (λ b. asked_rule rule head ∷ (if b then rules else after_chosen rules head)) gave
 
-after-past : (rule : Rule) (rules : List Rule) (head : Head) → gives rule head ≡ false → after_chosen (rule ∷ rules) head ≡ asked rule head ∷ after_chosen rules head
-after-past rule rules head past = ap (λ b. asked rule head ∷ (if b then rules else after_chosen rules head)) past
+after-past : (rule : Rule) (rules : List Rule) (head : Head) → gives rule head ≡ false → after_chosen (rule ∷ rules) head ≡ asked_rule rule head ∷ after_chosen rules head
+after-past rule rules head past = ap (λ b. asked_rule rule head ∷ (if b then rules else after_chosen rules head)) past
 
 -- no attempt is of the kind of both
 abbrev pub AreApart : Rule → Rule → Type 0
-AreApart first second = (head : Head) → (matches first head && matches second head) ≡ false
+AreApart first second = (head : Head) → (rule_matches first head && rule_matches second head) ≡ false
 
 apart-back : (first second : Rule) → AreApart first second → AreApart second first
-apart-back first second apart = λ head. turned (matches first head) (matches second head) (apart head) where
+apart-back first second apart = λ head. turned (rule_matches first head) (rule_matches second head) (apart head) where
   turned : (a b : Bool) → (a && b) ≡ false → (b && a) ≡ false
   turned true true h = h
   turned true false h = refl
@@ -61,8 +61,8 @@ apart-back first second apart = λ head. turned (matches first head) (matches se
   turned false false h = refl
 
 -- of two apart, the other does not match where one gives
-other-apart : (first second : Rule) (head : Head) → AreApart first second → gives first head ≡ true → matches second head ≡ false
-other-apart first second head apart gave = ap (λ b. b && matches second head) (sym (gives-matches first head gave)) ∙ apart head
+other-apart : (first second : Rule) (head : Head) → AreApart first second → gives first head ≡ true → rule_matches second head ≡ false
+other-apart first second head apart gave = ap (λ b. b && rule_matches second head) (sym (gives-matches first head gave)) ∙ apart head
 
 -- two neighbours at the front
 front_chosen : (first second : Rule) (back : List Rule) (head : Head) → AreApart first second → chosen (first ∷ second ∷ back) head ≡ chosen (second ∷ first ∷ back) head
@@ -75,39 +75,39 @@ front_chosen first second back head apart = elim (gives first head) as (λ b. gi
 
 front_after : (first second : Rule) (back : List Rule) (head : Head) → AreApart first second → AreSwapped (after_chosen (first ∷ second ∷ back) head) (after_chosen (second ∷ first ∷ back) head)
 front_after first second back head apart =
-    let still : AreApart (asked first head) (asked second head) = λ h.
-    ap (λ m. m && matches (asked second head) h) (matches-asked first head h) ∙ ap (λ m. matches first h && m) (matches-asked second head h) ∙ apart h in
+    let still : AreApart (asked_rule first head) (asked_rule second head) = λ h.
+    ap (λ m. m && rule_matches (asked_rule second head) h) (matches-asked first head h) ∙ ap (λ m. rule_matches first h && m) (matches-asked second head h) ∙ apart h in
     elim (gives first head) as (λ b. gives first head ≡ b → AreSwapped (after_chosen (first ∷ second ∷ back) head) (after_chosen (second ∷ first ∷ back) head)) [
       | true ↦ λ gave.
-          let unlike : matches second head ≡ false = other-apart first second head apart gave in
+          let unlike : rule_matches second head ≡ false = other-apart first second head apart gave in
           record {
             front = [];
-            first = asked first head;
-            second = asked second head;
+            first = asked_rule first head;
+            second = asked_rule second head;
             back = back;
-            one_is = after-gives first (second ∷ back) head gave ∙ ap (λ r. asked first head ∷ r ∷ back) (sym (asked-other second head unlike));
-            other_is = after-past second (first ∷ back) head (gives-other second head unlike) ∙ ap (λ rs. asked second head ∷ rs) (after-gives first back head gave);
+            one_is = after-gives first (second ∷ back) head gave ∙ ap (λ r. asked_rule first head ∷ r ∷ back) (sym (asked-other second head unlike));
+            other_is = after-past second (first ∷ back) head (gives-other second head unlike) ∙ ap (λ rs. asked_rule second head ∷ rs) (after-gives first back head gave);
             apart = still;
           }
       | false ↦ λ past. elim (gives second head) as (λ b. gives second head ≡ b → AreSwapped (after_chosen (first ∷ second ∷ back) head) (after_chosen (second ∷ first ∷ back) head)) [
         | true ↦ λ gave.
-            let unlike : matches first head ≡ false = other-apart second first head (apart-back first second apart) gave in
+            let unlike : rule_matches first head ≡ false = other-apart second first head (apart-back first second apart) gave in
             record {
               front = [];
-              first = asked first head;
-              second = asked second head;
+              first = asked_rule first head;
+              second = asked_rule second head;
               back = back;
-              one_is = after-past first (second ∷ back) head past ∙ ap (λ rs. asked first head ∷ rs) (after-gives second back head gave);
-              other_is = after-gives second (first ∷ back) head gave ∙ ap (λ r. asked second head ∷ r ∷ back) (sym (asked-other first head unlike));
+              one_is = after-past first (second ∷ back) head past ∙ ap (λ rs. asked_rule first head ∷ rs) (after-gives second back head gave);
+              other_is = after-gives second (first ∷ back) head gave ∙ ap (λ r. asked_rule second head ∷ r ∷ back) (sym (asked-other first head unlike));
               apart = still;
             }
         | false ↦ λ past_too. record {
           front = [];
-          first = asked first head;
-          second = asked second head;
+          first = asked_rule first head;
+          second = asked_rule second head;
           back = after_chosen back head;
-          one_is = after-past first (second ∷ back) head past ∙ ap (λ rs. asked first head ∷ rs) (after-past second back head past_too);
-          other_is = after-past second (first ∷ back) head past_too ∙ ap (λ rs. asked second head ∷ rs) (after-past first back head past);
+          one_is = after-past first (second ∷ back) head past ∙ ap (λ rs. asked_rule first head ∷ rs) (after-past second back head past_too);
+          other_is = after-past second (first ∷ back) head past_too ∙ ap (λ rs. asked_rule second head ∷ rs) (after-past first back head past);
           apart = still;
         }
       ] refl
@@ -126,7 +126,7 @@ place_after (rule ∷ front) first second back head apart =
     let other : List Rule = front ++ second ∷ first ∷ back in
     elim (gives rule head) as (λ b. gives rule head ≡ b → AreSwapped (after_chosen (rule ∷ one) head) (after_chosen (rule ∷ other) head)) [
       | true ↦ λ gave. record {
-        front = asked rule head ∷ front;
+        front = asked_rule rule head ∷ front;
         first = first;
         second = second;
         back = back;
@@ -137,12 +137,12 @@ place_after (rule ∷ front) first second back head apart =
       | false ↦ λ past.
           let rest = place_after front first second back head apart in
           record {
-            front = asked rule head ∷ rest.front;
+            front = asked_rule rule head ∷ rest.front;
             first = rest.first;
             second = rest.second;
             back = rest.back;
-            one_is = after-past rule one head past ∙ ap (λ rs. asked rule head ∷ rs) rest.one_is;
-            other_is = after-past rule other head past ∙ ap (λ rs. asked rule head ∷ rs) rest.other_is;
+            one_is = after-past rule one head past ∙ ap (λ rs. asked_rule rule head ∷ rs) rest.one_is;
+            other_is = after-past rule other head past ∙ ap (λ rs. asked_rule rule head ∷ rs) rest.other_is;
             apart = rest.apart;
           }
     ] refl

@@ -1,13 +1,11 @@
-use Rattle.std.proofs.Common.{◌≡◌, ℕ, ◌+◌, ◌%◌, ◌^◌, ◌<◌, ◌≤◌, ◌==◌, Bool, true, false, List, [], ◌∷◌, ◌++◌, length, take, drop, Option, Some, None, Result, Ok, Err, if◌then◌else◌, refl, ap, sym, ◌∙◌, arith, append_assoc, codes}
+use Rattle.std.proofs.Common.{◌≡◌, ℕ, ◌^◌, ◌<◌, ◌≤◌, Bool, true, false, List, [], ◌∷◌, ◌++◌, length, Option, Some, None, Result, Ok, Err, if◌then◌else◌, refl, ap, sym, ◌∙◌, arith, append_assoc, codes}
 use Rattle.std.specs.Prelude.{nat_lt, nat_le, ◌&&◌, decimal}
-use Rattle.std.specs.List.{position_or_len}
 use Rattle.std.specs.Option.{ok_or}
 use Rattle.std.specs.Str.{bytes_eq}
 use Rattle.std.proofs.lemmas.Bool.Decides.{nat_tests}
-use Rattle.std.proofs.lemmas.Fmt.{decimal_by_steps, decimal_nonempty, length-decimal-le}
-use Rattle.std.proofs.lemmas.List.{take_at, drop_at, length_push}
+use Rattle.std.proofs.lemmas.Fmt.{decimal_nonempty, length-decimal-le}
 use Rattle.std.proofs.lemmas.Slice.Eq.{bytes_eq-Decides}
-use Rattle.can_frame.specs.Numbers.{number_after}
+use Rattle.can_frame.specs.Numbers.{number_after, number_in}
 use Rattle.can_frame.proofs.Numerals.{value-decimal}
 use Rattle.can_fault.specs.Scripts.{word, after}
 use Rattle.can_rules.specs.declared.rule.Rule.{Rule}
@@ -16,43 +14,12 @@ use Rattle.can_rules.specs.declared.rule_words.WrongWord.TheVariants as wrong
 use Rattle.can_rules.specs.declared.run_faults.Change.{Change}
 use Rattle.can_rules.specs.declared.run_faults.Change.TheVariants as change
 use Rattle.can_rules.specs.declared.run_faults.Later.{Later}
-use Rattle.can_rules.specs.RuleLines.{given_words, end_words}
+use Rattle.can_rules.specs.RuleLines.{given_words, nofaults_words}
 use Rattle.can_rules.specs.RuleWords.{◌>>=◌, second, beyond, rule_spelling}
 use Rattle.can_rules.specs.RunFaults.{attempt_spelling, change_spelling, later_spelling}
+use Rattle.can_rules.proofs.Cuts.{lacks-decimal, word-cut, after-cut}
 
 -- Lines of rules, and of an end of all rules, are read back.
-
--- no byte is a space
-abbrev pub IsSpaceless : List ℕ → Type 0
-IsSpaceless [] = Unit {0}
-IsSpaceless (b ∷ bs) = ((b == 32) ≡ false) × IsSpaceless bs
-
-spaceless-push : (bs : List ℕ) (b : ℕ) → IsSpaceless bs → (b == 32) ≡ false → IsSpaceless (bs ++ b ∷ [])
-spaceless-push [] b h is = (is, tt)
-spaceless-push (x ∷ xs) b h is = (h.0, spaceless-push xs b h.1 is)
-
-above-space : (b : ℕ) → 48 ≤ b → (b == 32) ≡ false
-above-space b h = grind (arith, nat_tests)
-
-spaceless-decimal : (n : ℕ) → n < 2 ^ 64 → IsSpaceless (decimal n)
-spaceless-decimal n small =
-    decimal_by_steps (λ n ds. IsSpaceless ds)
-    (λ n lt. (above-space (48 + n) (omega arith), tt))
-    (λ n ds le before. spaceless-push ds (48 + n % 10) before (above-space (48 + n % 10) (omega arith)))
-    n small
-
--- a word, a space and what follows
-space-at : (w rest : List ℕ) → IsSpaceless w → position_or_len (λ b. b == 32) (w ++ 32 ∷ rest) ≡ length w
-space-at [] rest h = refl
-space-at (b ∷ bs) rest h = rw (h.0, space-at bs rest h.1) (omega arith)
-
-pub word-cut : (w rest : List ℕ) → IsSpaceless w → word (w ++ 32 ∷ rest) ≡ w
-word-cut w rest h = ap (λ (n : ℕ). take n (w ++ 32 ∷ rest)) (space-at w rest h) ∙ take_at w (32 ∷ rest) (length w) refl
-
-after-cut : (w rest : List ℕ) → IsSpaceless w → after (w ++ 32 ∷ rest) ≡ rest
-after-cut w rest h =
-    ap (λ (n : ℕ). drop (n + 1) (w ++ 32 ∷ rest)) (space-at w rest h)
-    ∙ ap (drop (length w + 1)) (sym (append_assoc w (32 ∷ []) rest)) ∙ drop_at (w ++ 32 ∷ []) rest (length w + 1) (length_push w 32)
 
 -- the number of an attempt
 within : (some few : Bool) (o : Option ℕ) → some ≡ true → few ≡ true → (if some && few then o else None) ≡ o
@@ -64,11 +31,13 @@ lt-true a b h = grind (arith, nat_tests)
 le-true : (a b : ℕ) → a ≤ b → nat_le a b ≡ true
 le-true a b h = grind (arith, nat_tests)
 
-attempt-again : (n : ℕ) → n < 10 ^ 10 → attempt_spelling (decimal n) ≡ Some n
-attempt-again n few =
-    let small : n < 2 ^ 64 = omega arith in
-    within _ _ (number_after 10 (Some 0) (decimal n)) (lt-true 0 (length (decimal n)) (decimal_nonempty n small)) (le-true (length (decimal n)) 10 (length-decimal-le 10 n (omega arith) few small))
+pub number-again : (most n : ℕ) → 0 < most → n < 10 ^ most → n < 2 ^ 64 → number_in 10 most (decimal n) ≡ Some n
+number-again most n some few small =
+    within _ _ (number_after 10 (Some 0) (decimal n)) (lt-true 0 (length (decimal n)) (decimal_nonempty n small)) (le-true (length (decimal n)) most (length-decimal-le most n some few small))
     ∙ value-decimal n small
+
+attempt-again : (n : ℕ) → n < 10 ^ 10 → attempt_spelling (decimal n) ≡ Some n
+attempt-again n few = number-again 10 n (omega arith) few (omega arith)
 
 -- a number and a change
 abbrev later_from : Option ℕ → Result Change WrongWord → Result Later WrongWord
@@ -82,7 +51,7 @@ later-again : (names : List (List ℕ)) (attempt : ℕ) (words : List ℕ) (chan
 unfolding later_spelling
 later-again names attempt words change few read =
     let line : List ℕ = codes "at " ++ (decimal attempt ++ 32 ∷ words) in
-    let digits = spaceless-decimal attempt (omega arith) in
+    let digits = lacks-decimal 32 attempt (omega arith) (omega arith) in
     let past : after line ≡ decimal attempt ++ 32 ∷ words = after-cut (codes "at") (decimal attempt ++ 32 ∷ words) (refl, (refl, tt)) in
     let number : attempt_spelling (second line) ≡ Some attempt = ap (λ (t : List ℕ). attempt_spelling (word t)) past ∙ ap attempt_spelling (word-cut (decimal attempt) words digits) ∙ attempt-again attempt few in
     let rest : change_spelling names (beyond line) ≡ Ok change = ap (λ (t : List ℕ). change_spelling names (after t)) past ∙ ap (change_spelling names) (after-cut (decimal attempt) words digits) ∙ read in
@@ -116,5 +85,5 @@ given-again names words rule attempt few read =
     ap (λ (t : List ℕ). later_spelling names (codes "at " ++ t)) (append_assoc (decimal attempt) (32 ∷ []) words)
     ∙ later-again names attempt words (change.Give rule) few (change-given names words rule read)
 
-pub ended-again : (names : List (List ℕ)) (attempt : ℕ) → attempt < 10 ^ 10 → later_spelling names (end_words attempt) ≡ Ok (record { attempt = attempt; change = change.End })
+pub ended-again : (names : List (List ℕ)) (attempt : ℕ) → attempt < 10 ^ 10 → later_spelling names (nofaults_words attempt) ≡ Ok (record { attempt = attempt; change = change.End })
 ended-again names attempt few = later-again names attempt (codes "nofaults") change.End few (change-ended names)

@@ -11,21 +11,21 @@ use Rattle.can_filter.specs.Filters.{CanFilter}
 use Rattle.can_rules.specs.declared.rule.Rule.{Rule}
 use Rattle.can_rules.specs.declared.rule_words.WrongWord.{WrongWord}
 use Rattle.can_rules.specs.declared.rule_words.WrongWord.TheVariants as wrong
-use Rattle.can_rules.specs.RuleWords.{◌>>=◌, second, beyond, as_word, small_spelling, some_of, count_spelling, of_standard, of_extended, of_words, masked_spelling, plain_spelling, id_in, mask_in, id_spelling, ended, skipping, with_id, with_senders, rule_of, rule_spelling}
+use Rattle.can_rules.specs.RuleWords.{◌>>=◌, second, beyond, as_word, small_spelling, some_of, count_spelling, of_standard, of_extended, of_words, masked_spelling, plain_spelling, before_colon, mask_in, id_spelling, ended, skipping, with_id, with_senders, rule_of, rule_spelling}
 use Rattle.can_rules.proofs.OneLine.{has_feed, feed-cut, feed-words, then-some, number-one-line, set-one-line, verdict-one-line}
 
 -- What spells a rule has no line feed.
 
 -- what was read
-bound : {A B : Type 0} (r : Result A WrongWord) (f : A → Result B WrongWord) (x : B) → (r >>= f) ≡ Ok x → (a : A) × (r ≡ Ok a) × (f a ≡ Ok x)
+pub bound : {A B : Type 0} (r : Result A WrongWord) (f : A → Result B WrongWord) (x : B) → (r >>= f) ≡ Ok x → (a : A) × (r ≡ Ok a) × (f a ≡ Ok x)
 bound (Ok a) f x h = (a, refl, h)
 bound (Err e) f x h = absurd (cc h)
 
-some-read : {A : Type 0} (o : Option A) (e : WrongWord) (a : A) → ok_or o e ≡ Ok a → o ≡ Some a
+pub some-read : {A : Type 0} (o : Option A) (e : WrongWord) (a : A) → ok_or o e ≡ Ok a → o ≡ Some a
 some-read (Some b) e a h = cc
 some-read None e a h = absurd (cc h)
 
-word-read : {A : Type 0} (which : WrongWord) (r : Result A LineFault) (a : A) → as_word which r ≡ Ok a → r ≡ Ok a
+pub word-read : {A : Type 0} (which : WrongWord) (r : Result A LineFault) (a : A) → as_word which r ≡ Ok a → r ≡ Ok a
 word-read which (Ok b) a h = cc
 word-read which (Err fault) a h = absurd (cc h)
 
@@ -56,9 +56,9 @@ masked-one-line id mask f h =
 id-one-line : (text : List ℕ) (f : CanFilter) → id_spelling text ≡ Some f → has_feed text ≡ false
 id-one-line text f h = by_test (length (mask_in text) == 0) h
   where
-    by_test : (b : Bool) → (if b then plain_spelling text else masked_spelling (id_in text) (mask_in text)) ≡ Some f → has_feed text ≡ false
+    by_test : (b : Bool) → (if b then plain_spelling text else masked_spelling (before_colon text) (mask_in text)) ≡ Some f → has_feed text ≡ false
     by_test true e = plain-one-line text f e
-    by_test false e = let parts = masked-one-line (id_in text) (mask_in text) f e in feed-cut 58 text refl parts.0 parts.1
+    by_test false e = let parts = masked-one-line (before_colon text) (mask_in text) f e in feed-cut 58 text refl parts.0 parts.1
 
 -- the parts of a rule, each with its word, if it is there
 part : {A : Type 0} (text key : List ℕ) (read : Result A WrongWord) (on : A → Result Rule WrongWord) (other : Result Rule WrongWord) (rule : Rule) → has_feed key ≡ false

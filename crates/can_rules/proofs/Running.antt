@@ -12,9 +12,9 @@ use Rattle.can_fault.specs.declared.verdict.LocalKind.{LocalKind}
 use Rattle.can_fault.specs.declared.verdict.LocalKind.TheVariants as local
 use Rattle.can_fault.specs.declared.verdict.Verdict.{Verdict}
 use Rattle.can_fault.specs.declared.verdict.Verdict.TheVariants.{Good, Global, Local, LastBit}
-use Rattle.can_rules.specs.Rules.{Head, head_of, deciding, decision_by, GivesAs}
+use Rattle.can_rules.specs.Rules.{Head, won_by, deciding, decision_by, GivesAs}
 use Rattle.can_rules.specs.Plans.{PlanSeen, given, planned, plan_after, decided, decided_with, decided_at, plan_asked, line_taken, lines_taken, plan_spelling, gone_on}
-use Rattle.can_rules.specs.RunFaults.{RunSeen, no_run, changed, made_ready, same_global, same_local, same_verdict, rule_for, rule_given, asked_run, is_later, run_line, run_lines, run_spelling, with_plan, with_later, later_spelling}
+use Rattle.can_rules.specs.RunFaults.{RunSeen, no_run, changed, made_ready, same_global, same_local, same_verdict, rule_for, rule_given, asked_run, is_later, run_line, run_lines, run_spelling, run_with_plan, with_later, later_spelling}
 use Rattle.can_rules.specs.declared.plan.PlanError.{PlanError}
 use Rattle.can_rules.specs.declared.rule.Rule.{Rule}
 use Rattle.can_rules.specs.declared.rule.Decision.{Decision}
@@ -119,8 +119,8 @@ named run head verdict number h = named-with (get (made_ready run).plan.lines ru
 ready-none : (run : RunSeen) → run.later ≡ [] → (made_ready run).plan ≡ run.plan
 ready-none run none = ap (λ later. changed run.plan run.tried later) none
 
-pub asked-none : (run : RunSeen) (winner : ℕ) (frame : CanFrame) → run.later ≡ [] → (asked_run run (head_of winner (word_of frame))).plan ≡ plan_after Good run.plan run.tried (Some (winner, frame))
-asked-none run winner frame none = ap (λ plan. plan_asked plan run.tried (head_of winner (word_of frame))) (ready-none run none)
+pub asked-none : (run : RunSeen) (winner : ℕ) (frame : CanFrame) → run.later ≡ [] → (asked_run run (won_by winner (word_of frame))).plan ≡ plan_after Good run.plan run.tried (Some (winner, frame))
+asked-none run winner frame none = ap (λ plan. plan_asked plan run.tried (won_by winner (word_of frame))) (ready-none run none)
 
 -- a decision has the verdict that is given
 decided-given : (line : Option Verdict) (rules : List Rule) (head : Option Head) → (decided_with line rules head).verdict ≡ planned line rules head
@@ -131,9 +131,9 @@ for-itself : (verdict : Verdict) (decision : Decision) → decision.verdict ≡ 
 for-itself verdict decision same = ap (λ b. if b then decision.rule else None) (ap (λ v. same_verdict v verdict) same ∙ verdict-itself verdict)
 
 pub rule-none : (run : RunSeen) (winner : ℕ) (frame : CanFrame) → run.later ≡ []
-    → rule_given run (head_of winner (word_of frame)) (given Good run.plan run.tried (Some (winner, frame))) ≡ (decided_at run.plan run.tried (head_of winner (word_of frame))).rule
+    → rule_given run (won_by winner (word_of frame)) (given Good run.plan run.tried (Some (winner, frame))) ≡ (decided_at run.plan run.tried (won_by winner (word_of frame))).rule
 rule-none run winner frame none =
-    let head = head_of winner (word_of frame) in
+    let head = won_by winner (word_of frame) in
     let verdict = given Good run.plan run.tried (Some (winner, frame)) in
     ap (λ plan. rule_for verdict (decided_at plan run.tried head)) (ready-none run none)
     ∙ for-itself verdict (decided_at run.plan run.tried head) (decided-given (get run.plan.lines run.tried) run.plan.rules (Some head))
@@ -144,20 +144,20 @@ neither false b h = (refl, h)
 neither true b h = absurd (cc h)
 
 -- a run that has only this plan
-abbrev pub only_plan : PlanSeen → RunSeen
-only_plan plan = record no_run { plan = plan }
+abbrev pub only_plan : List (List ℕ) → PlanSeen → RunSeen
+only_plan names plan = record (no_run names) { plan = plan }
 
 lines-none : (names lines : List (List ℕ)) (plan : PlanSeen) (n : ℕ) → list_any is_later lines ≡ false
-    → run_lines names (only_plan plan) n lines ≡ gone_on (lines_taken names plan n lines) (λ next. Ok (only_plan next))
+    → run_lines names (only_plan names plan) n lines ≡ gone_on (lines_taken names plan n lines) (λ next. Ok (only_plan names next))
 lines-none names [] plan n none = refl
 lines-none names (line ∷ more) plan n none =
     let parts = neither (is_later line) (list_any is_later more) none in
     let on : RunSeen → Result RunSeen PlanError = λ next. run_lines names next (n + 1) more in
-    ap (λ b. gone_on (if b then with_later (only_plan plan) n (later_spelling names line) else with_plan (only_plan plan) (line_taken names plan n line)) on) parts.0
-    ∙ (elim (line_taken names plan n line) as (λ r. gone_on (with_plan (only_plan plan) r) on ≡ gone_on (gone_on r (λ next. lines_taken names next (n + 1) more)) (λ next. Ok (only_plan next))) [
+    ap (λ b. gone_on (if b then with_later (only_plan names plan) n (later_spelling names line) else run_with_plan (only_plan names plan) (line_taken names plan n line)) on) parts.0
+    ∙ (elim (line_taken names plan n line) as (λ r. gone_on (run_with_plan (only_plan names plan) r) on ≡ gone_on (gone_on r (λ next. lines_taken names next (n + 1) more)) (λ next. Ok (only_plan names next))) [
       | Ok next ↦ lines-none names more next (n + 1) parts.1
       | Err why ↦ refl
     ])
 
-pub text-none : (names : List (List ℕ)) (text : List ℕ) → list_any is_later (lines_in text) ≡ false → run_spelling names text ≡ with_plan no_run (plan_spelling names text)
-text-none names text none = lines-none names (lines_in text) no_run.plan 1 none
+pub text-none : (names : List (List ℕ)) (text : List ℕ) → list_any is_later (lines_in text) ≡ false → run_spelling names text ≡ run_with_plan (no_run names) (plan_spelling names text)
+text-none names text none = lines-none names (lines_in text) (no_run names).plan 1 none

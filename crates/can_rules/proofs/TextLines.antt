@@ -13,12 +13,13 @@ use Rattle.can_rules.specs.declared.plan.PlanError.TheVariants as plan
 use Rattle.can_rules.specs.declared.rule.Rule.{Rule}
 use Rattle.can_fault.specs.declared.script.ScriptError.TheVariants as script
 use Rattle.can_rules.specs.Plans.{gone_on, line_taken}
-use Rattle.can_rules.specs.RuleLines.{given_words, given_line, end_words, end_line, IsOfLines, with_change}
+use Rattle.can_rules.specs.RuleLines.{given_words, given_line, nofaults_words, nofaults_line, IsOfLines, with_change}
 use Rattle.can_rules.specs.RuleWords.{rule_spelling}
-use Rattle.can_rules.specs.RunFaults.{RunSeen, no_run, is_later, later_spelling, may_come, with_later, with_plan, run_line, run_lines, run_spelling}
+use Rattle.can_rules.specs.RunFaults.{RunSeen, no_run, is_later, later_spelling, may_come, with_later, run_with_plan, run_line, run_lines, run_spelling}
 use Rattle.can_rules.proofs.OneLine.{has_feed, neither, feed-append}
 use Rattle.can_rules.proofs.RuleOneLine.{rule-one-line}
-use Rattle.can_rules.proofs.Reading.{given-again, ended-again, word-cut}
+use Rattle.can_rules.proofs.Cuts.{word-cut}
+use Rattle.can_rules.proofs.Reading.{given-again, ended-again}
 
 -- Lines after a text of whole lines.
 
@@ -75,7 +76,7 @@ change-after names [] known run n line next is read may h =
     let same : known ≡ run = same-run known run h in
     let on : RunSeen → Result RunSeen PlanError = λ r. run_lines names r (n + 1) ([] ∷ []) in
     let may_here : may_come known.later next.attempt ≡ true = ap (λ (r : RunSeen). may_come r.later next.attempt) same ∙ may in
-    ap (λ (b : Bool). gone_on (if b then with_later known n (later_spelling names line) else with_plan known (line_taken names known.plan n line)) on) is
+    ap (λ (b : Bool). gone_on (if b then with_later known n (later_spelling names line) else run_with_plan known (line_taken names known.plan n line)) on) is
     ∙ ap (λ (r : Result Later _). gone_on (with_later known n r) on) read
     ∙ ap (λ (b : Bool). gone_on (if b then Ok (with_change next known) else Err (plan.Script (script.BadLine n))) on) may_here
     ∙ ap (λ (r : RunSeen). Ok (with_change next r)) same
@@ -89,8 +90,8 @@ after-text : (names : List (List ℕ)) (text line : List ℕ) (run : RunSeen) (n
     → run_spelling names (text ++ (line ++ 10 ∷ [])) ≡ Ok (with_change next run)
 after-text names text line run next whole read may lacks is later =
     let (lines, more, all) = lines-of text whole in
-    let before : run_lines names no_run 1 (lines ++ [] ∷ []) ≡ Ok run = sym (ap (run_lines names no_run 1) all) ∙ read in
-    ap (run_lines names no_run 1) (more line lacks) ∙ change-after names lines no_run run 1 line next is later may before
+    let before : run_lines names (no_run names) 1 (lines ++ [] ∷ []) ≡ Ok run = sym (ap (run_lines names (no_run names) 1) all) ∙ read in
+    ap (run_lines names (no_run names) 1) (more line lacks) ∙ change-after names lines (no_run names) run 1 line next is later may before
 
 -- no byte of these lines ends one
 no-feed : (b : ℕ) → 10 < b → has_feed (b ∷ []) ≡ false
@@ -117,6 +118,6 @@ given-after names text words run rule attempt whole read may few rule_read =
     after-text names text (given_words attempt words) run _ whole read may line_lacks (later-line ((decimal attempt ++ codes " ") ++ words)) (given-again names words rule attempt few rule_read)
 
 pub ended-after : (names : List (List ℕ)) (text : List ℕ) (run : RunSeen) (attempt : ℕ) → IsOfLines text → run_spelling names text ≡ Ok run → may_come run.later attempt ≡ true → attempt < 10 ^ 10
-    → run_spelling names (text ++ end_line (Some attempt)) ≡ Ok (with_change (record { attempt = attempt; change = change.End }) run)
+    → run_spelling names (text ++ nofaults_line (Some attempt)) ≡ Ok (with_change (record { attempt = attempt; change = change.End }) run)
 ended-after names text run attempt whole read may few =
-    after-text names text (end_words attempt) run _ whole read may (feed-line attempt (codes " nofaults") few refl) (later-line (decimal attempt ++ codes " nofaults")) (ended-again names attempt few)
+    after-text names text (nofaults_words attempt) run _ whole read may (feed-line attempt (codes " nofaults") few refl) (later-line (decimal attempt ++ codes " nofaults")) (ended-again names attempt few)

@@ -1,6 +1,6 @@
 use Rattle.std.proofs.Common.{◌≡◌, ℕ, ◌+◌, ◌<◌, List, [], ◌∷◌, ◌++◌, length, take, drop, get_or, set, true, false, Option, Some, None, is_some, if◌then◌else◌, ap, sym, ◌∙◌, append_assoc, add-one, arith}
 use Rattle.std.proofs.lemmas.List.{drop_more, take_more_set, drop-set-lt, set_split}
-use Rattle.can_rules.specs.Rules.{Head, deciding, decision_by, after_chosen, asked, gives, given_by}
+use Rattle.can_rules.specs.Rules.{Head, deciding, decision_by, after_chosen, asked_rule, gives, verdict_by_rule}
 use Rattle.can_rules.specs.declared.rule.Decision.{Decision}
 use Rattle.can_rules.specs.declared.rule.Rule.{Rule}
 use Rattle.can_fault.specs.declared.verdict.Verdict.{Verdict}
@@ -13,7 +13,7 @@ pub record AreLookedAt (before items : List Rule) (i : ℕ) (head : Head) : Type
   pub counts : after_chosen before head ≡ take i items ++ after_chosen (drop i items) head
 
 -- what was given says whether the rule gives
-pub gives-is_some : (rule : Rule) (head : Head) (given : Option Verdict) → given ≡ given_by rule head → gives rule head ≡ is_some given
+pub gives-is_some : (rule : Rule) (head : Head) (given : Option Verdict) → given ≡ verdict_by_rule rule head → gives rule head ≡ is_some given
 gives-is_some rule head given is = elim (gives rule head) as (λ b. given ≡ (if b then Some rule.verdict else None) → b ≡ is_some given) [
   | true ↦ λ e. sym (ap is_some e)
   | false ↦ λ e. sym (ap is_some e)
@@ -21,7 +21,7 @@ gives-is_some rule head given is = elim (gives rule head) as (λ b. given ≡ (i
 
 -- the rule at place i gave nothing
 pub looked_on : (before items : List Rule) (i : ℕ) (head : Head) (blank : Rule) (given : Option Verdict) (next : Rule) → AreLookedAt before items i head → i < length items
-    → given ≡ given_by (get_or items i blank) head → next ≡ asked (get_or items i blank) head → is_some given ≡ false → AreLookedAt before (set items i next) (i + 1) head
+    → given ≡ verdict_by_rule (get_or items i blank) head → next ≡ asked_rule (get_or items i blank) head → is_some given ≡ false → AreLookedAt before (set items i next) (i + 1) head
 looked_on before items i head blank given next at below gave is was_none =
     let rule : Rule = get_or items i blank in
     let nothing : gives rule head ≡ false = gives-is_some rule head given gave ∙ was_none in
@@ -32,7 +32,7 @@ looked_on before items i head blank given next at below gave is was_none =
       deciding = at.deciding ∙ ap (λ rs. deciding rs head) split ∙ ap (λ b. if b then Some rule else deciding (drop (i + 1) items) head) nothing ∙ ap (λ rs. deciding rs head) (sym rest);
       counts = at.counts
           ∙ ap (λ rs. take i items ++ after_chosen rs head) split
-          ∙ ap (λ b. take i items ++ asked rule head ∷ (if b then drop (i + 1) items else after_chosen (drop (i + 1) items) head)) nothing
+          ∙ ap (λ b. take i items ++ asked_rule rule head ∷ (if b then drop (i + 1) items else after_chosen (drop (i + 1) items) head)) nothing
           ∙ ap (λ r. take i items ++ r ∷ after_chosen (drop (i + 1) items) head) (sym is)
           ∙ sym (append_assoc (take i items) (next ∷ []) _)
           ∙ ap (λ xs. xs ++ after_chosen (drop (i + 1) items) head) (sym front)
@@ -52,7 +52,7 @@ gave_its_own rule verdict same = ap (λ v. given_with v rule.number) (same_some 
 
 -- the rule at place i gave its verdict
 pub looked_end : (before items : List Rule) (i : ℕ) (head : Head) (blank : Rule) (verdict : Verdict) (next : Rule) → AreLookedAt before items i head → i < length items
-    → Some verdict ≡ given_by (get_or items i blank) head → next ≡ asked (get_or items i blank) head
+    → Some verdict ≡ verdict_by_rule (get_or items i blank) head → next ≡ asked_rule (get_or items i blank) head
     → (given_with verdict (get_or items i blank).number ≡ decision_by (deciding before head)) × (set items i next ≡ after_chosen before head)
 looked_end before items i head blank verdict next at below gave is =
     let rule : Rule = get_or items i blank in
@@ -62,7 +62,7 @@ looked_end before items i head blank verdict next at below gave is =
           ∙ ap decision_by (sym (at.deciding ∙ ap (λ rs. deciding rs head) split ∙ ap (λ b. if b then Some rule else deciding (drop (i + 1) items) head) gives_it)),
       sym (at.counts
           ∙ ap (λ rs. take i items ++ after_chosen rs head) split
-          ∙ ap (λ b. take i items ++ asked rule head ∷ (if b then drop (i + 1) items else after_chosen (drop (i + 1) items) head)) gives_it
+          ∙ ap (λ b. take i items ++ asked_rule rule head ∷ (if b then drop (i + 1) items else after_chosen (drop (i + 1) items) head)) gives_it
           ∙ ap (λ r. take i items ++ r ∷ drop (i + 1) items) (sym is)
           ∙ rw add-one (sym (set_split items i next below))),
     )

@@ -18,7 +18,7 @@ use Rattle.can_rules.specs.declared.rule_words.WrongWord.{WrongWord}
 use Rattle.can_rules.specs.declared.rule_words.WrongWord.TheVariants as wrong
 use Rattle.can_rules.specs.declared.plan.PlanError.{PlanError}
 use Rattle.can_rules.specs.declared.plan.PlanError.TheVariants as plan
-use Rattle.can_rules.specs.Rules.{Head, head_of, chosen, deciding, decision_by, without_rule, after_chosen, unused}
+use Rattle.can_rules.specs.Rules.{Head, won_by, chosen, deciding, decision_by, without_rule, after_chosen, usable}
 use Rattle.can_rules.specs.RuleWords.{is_rule, rule_spelling}
 
 -- The plan of a bus: the lines of a script, and rules (own choice).
@@ -35,8 +35,8 @@ abbrev pub no_plan : PlanSeen
 no_plan = record { lines = no_verdicts; rules = []; taken = 0 }
 
 -- one more, as far as a count of 64 bits goes
-abbrev pub one_more : ℕ → ℕ
-one_more n = min (n + 1) (2 ^ 64 - 1)
+abbrev pub counted_up : ℕ → ℕ
+counted_up n = min (n + 1) (2 ^ 64 - 1)
 
 -- a rule with this number
 abbrev pub numbered : ℕ → Rule → Rule
@@ -45,8 +45,8 @@ numbered number rule = record rule { number = number }
 -- one rule more, after the others, with its number among all that were taken
 abbrev pub with_rule : Rule → PlanSeen → PlanSeen
 with_rule rule plan = record plan {
-  rules = plan.rules ++ numbered (one_more plan.taken) rule ∷ [];
-  taken = one_more plan.taken;
+  rules = plan.rules ++ numbered (counted_up plan.taken) rule ∷ [];
+  taken = counted_up plan.taken;
 }
 
 -- the numbers of rules grow, from above the one up to the other
@@ -55,8 +55,8 @@ NumbersGrow low [] high = low ≤ high
 NumbersGrow low (rule ∷ rules) high = (low < rule.number) × NumbersGrow rule.number rules high
 
 -- each rule has a number of its own, and none has one that is still to come
-abbrev pub IsNumbered : PlanSeen → Type 0
-IsNumbered plan = NumbersGrow 0 plan.rules plan.taken
+abbrev pub HasOwnNumbers : PlanSeen → Type 0
+HasOwnNumbers plan = NumbersGrow 0 plan.rules plan.taken
 
 -- the lines with these rules
 abbrev pub with_rules : List Rule → PlanSeen → PlanSeen
@@ -69,7 +69,7 @@ without_rules plan = record plan { rules = [] }
 -- what the next attempt tries, as rules see it: nothing where it is idle
 abbrev pub head_in : Option (ℕ × CanFrame) → Option Head
 head_in None = None
-head_in (Some p) = Some (head_of p.0 (word_of p.1))
+head_in (Some p) = Some (won_by p.0 (word_of p.1))
 
 -- the verdict that rules give an attempt, where it tries a frame; else good
 abbrev pub ruled : List Rule → Option Head → Verdict
@@ -84,7 +84,7 @@ decided rules (Some head) = decision_by (deciding rules head)
 -- the rules after it: they are not asked of an idle attempt, and those that are used up go
 abbrev pub after_ruled : List Rule → Option Head → List Rule
 after_ruled rules None = rules
-after_ruled rules (Some head) = unused (after_chosen rules head)
+after_ruled rules (Some head) = usable (after_chosen rules head)
 
 -- the verdict of an attempt for which a script has a line, or none: the line's, also a good one; else that of the rules
 abbrev pub planned : Option Verdict → List Rule → Option Head → Verdict

@@ -29,22 +29,22 @@ abbrev pub given_line : ℕ → List ℕ → List ℕ
 given_line attempt words = given_words attempt words ++ 10 ∷ []
 
 -- the line of an end of all rules before the attempt with this number, without its line feed
-abbrev pub end_words : ℕ → List ℕ
-end_words attempt = codes "at " ++ decimal attempt ++ codes " nofaults"
+abbrev pub nofaults_words : ℕ → List ℕ
+nofaults_words attempt = codes "at " ++ decimal attempt ++ codes " nofaults"
 
 -- the line of an end of all rules before an attempt, if they end
-abbrev pub end_line : Option ℕ → List ℕ
-end_line None = []
-end_line (Some attempt) = end_words attempt ++ 10 ∷ []
+abbrev pub nofaults_line : Option ℕ → List ℕ
+nofaults_line None = []
+nofaults_line (Some attempt) = nofaults_words attempt ++ 10 ∷ []
 
 -- the text of all lines
-abbrev pub lines_of : LinesSeen → List ℕ
-lines_of known = known.text ++ end_line known.ended
+abbrev pub text_of_lines : LinesSeen → List ℕ
+text_of_lines known = known.text ++ nofaults_line known.ended
 
 -- the lines with that of a rule after them, where lines are kept
 abbrev pub with_given : ℕ → List ℕ → LinesSeen → LinesSeen
 with_given attempt words known =
-    if known.kept then record known { text = lines_of known ++ given_line attempt words; ended = None } else known
+    if known.kept then record known { text = text_of_lines known ++ given_line attempt words; ended = None } else known
 
 -- before which attempt all rules ended, where they end before this one: earlier, if they had and none was given since
 abbrev pub first_end : Option ℕ → ℕ → ℕ

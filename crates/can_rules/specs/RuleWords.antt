@@ -1,4 +1,4 @@
-use Rattle.std.specs.Prelude.{ℕ, ◌+◌, ◌^◌, Bool, ◌||◌, ◌==◌, nat_lt, if◌then◌else◌, List}
+use Rattle.std.specs.Prelude.{ℕ, ◌+◌, ◌-◌, ◌^◌, Bool, ◌||◌, ◌==◌, nat_lt, if◌then◌else◌, List}
 use Rattle.std.specs.Prelude.{Option, Some, None, length, Result, Ok, Err, codes, bit_and}
 use Rattle.std.specs.List.{before_first, after_first}
 use Rattle.std.specs.Option.{ok_or, option_and_then}
@@ -30,14 +30,14 @@ abbrev pub beyond : List ℕ → List ℕ
 beyond text = after (after text)
 
 -- which word is wrong, where a part has a fault; an interface that the bus lacks is named as such
-abbrev pub word_of : WrongWord → LineFault → WrongWord
-word_of which line.BadLine = which
-word_of which line.UnknownInterface = wrong.UnknownInterface
+abbrev pub wrong_word_of : WrongWord → LineFault → WrongWord
+wrong_word_of which line.BadLine = which
+wrong_word_of which line.UnknownInterface = wrong.UnknownInterface
 
 -- a part's fault, as that of a word
 abbrev pub as_word : {A : Type 0} → WrongWord → Result A LineFault → Result A WrongWord
 as_word which (Ok x) = Ok x
-as_word which (Err fault) = Err (word_of which fault)
+as_word which (Err fault) = Err (wrong_word_of which fault)
 
 -- 1 to 8 decimal digits
 abbrev pub small_spelling : List ℕ → Option ℕ
@@ -51,13 +51,21 @@ some_of n = if n == 0 then None else Some n
 abbrev pub count_spelling : List ℕ → Option ℕ
 count_spelling text = option_and_then some_of (small_spelling text)
 
+-- the mask of one 11-bit identifier: the bit of 29-bit identifiers, and its 11 bits (CAN_EFF_FLAG, CAN_SFF_MASK)
+abbrev pub standard_bits : ℕ
+standard_bits = 2 ^ 31 + (2 ^ 11 - 1)
+
+-- the mask of one 29-bit identifier: that bit, and its 29 bits (CAN_EFF_FLAG, CAN_EFF_MASK)
+abbrev pub extended_bits : ℕ
+extended_bits = 2 ^ 31 + (2 ^ 29 - 1)
+
 -- the words with this 11-bit identifier, of data frames, FD frames and remote frames
 abbrev pub of_standard : ℕ → Option CanFilter
-of_standard n = if nat_lt n (2 ^ 11) then Some (record { id = n; mask = 2147485695 }) else None
+of_standard n = if nat_lt n (2 ^ 11) then Some (record { id = n; mask = standard_bits }) else None
 
 -- the words with this 29-bit identifier
 abbrev pub of_extended : ℕ → Option CanFilter
-of_extended n = if nat_lt n (2 ^ 29) then Some (record { id = n + 2147483648; mask = 2684354559 }) else None
+of_extended n = if nat_lt n (2 ^ 29) then Some (record { id = n + 2 ^ 31; mask = extended_bits }) else None
 
 -- a filter whose mask has no bit 29
 abbrev pub of_words : ℕ → ℕ → Option CanFilter
@@ -76,8 +84,8 @@ plain_spelling text =
     else None
 
 -- the text before its first colon, or all of it
-abbrev pub id_in : List ℕ → List ℕ
-id_in text = before_first (λ b. b == 58) text
+abbrev pub before_colon : List ℕ → List ℕ
+before_colon text = before_first (λ b. b == 58) text
 
 -- the text after its first colon, or nothing
 abbrev pub mask_in : List ℕ → List ℕ
@@ -86,7 +94,7 @@ mask_in text = after_first (λ b. b == 58) text
 -- an identifier, with or without a colon and a mask after it
 abbrev pub id_spelling : List ℕ → Option CanFilter
 id_spelling text =
-    if length (mask_in text) == 0 then plain_spelling text else masked_spelling (id_in text) (mask_in text)
+    if length (mask_in text) == 0 then plain_spelling text else masked_spelling (before_colon text) (mask_in text)
 
 -- the end of a rule: its verdict
 unfoldable pub ended : List (List ℕ) → Rule → List ℕ → Result Rule WrongWord

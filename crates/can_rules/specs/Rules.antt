@@ -19,17 +19,17 @@ pub record Head : Type 0 where
   pub word : ℕ
 
 -- an attempt that this interface wins, with a frame of this identifier word
-abbrev pub head_of : ℕ → ℕ → Head
-head_of winner word = record { winner = winner; word = word }
+abbrev pub won_by : ℕ → ℕ → Head
+won_by winner word = record { winner = winner; word = word }
 
 -- the interface that wins is one of these; where none are named, any
-abbrev pub is_from : Option IfaceSet → Head → Bool
-is_from None head = true
-is_from (Some senders) head = is_in head.winner senders
+abbrev pub is_won_by : Option IfaceSet → Head → Bool
+is_won_by None head = true
+is_won_by (Some senders) head = is_in head.winner senders
 
 -- an attempt of the rule's kind: by its sender, and by its frame's identifier word, as a filter of linux/can.h sees it
-abbrev pub matches : Rule → Head → Bool
-matches rule head = is_from rule.senders head && fits rule.filter head.word
+abbrev pub rule_matches : Rule → Head → Bool
+rule_matches rule head = is_won_by rule.senders head && fits rule.filter head.word
 
 -- no verdict is left
 abbrev pub is_spent : Option ℕ → Bool
@@ -46,22 +46,22 @@ one_less None = None
 one_less (Some left) = Some (left - 1)
 
 -- it matches, and is not used up: it gives the verdict, or skips
-abbrev pub is_due : Rule → Head → Bool
-is_due rule head = not (is_used_up rule) && matches rule head
+abbrev pub is_rule_due : Rule → Head → Bool
+is_rule_due rule head = not (is_used_up rule) && rule_matches rule head
 
 -- it gives the verdict
 abbrev pub gives : Rule → Head → Bool
-gives rule head = is_due rule head && (rule.skip == 0)
+gives rule head = is_rule_due rule head && (rule.skip == 0)
 
 -- what it gives
-abbrev pub given_by : Rule → Head → Option Verdict
-given_by rule head = if gives rule head then Some rule.verdict else None
+abbrev pub verdict_by_rule : Rule → Head → Option Verdict
+verdict_by_rule rule head = if gives rule head then Some rule.verdict else None
 
 -- the rule after it was looked at: one that does not match, or is used up, is as before; one that still skips
 -- counts that; any other counts the verdict that it gives
-abbrev pub asked : Rule → Head → Rule
-asked rule head =
-    if is_due rule head
+abbrev pub asked_rule : Rule → Head → Rule
+asked_rule rule head =
+    if is_rule_due rule head
     then (if rule.skip == 0 then record rule { left = one_less rule.left } else record rule { skip = rule.skip - 1 })
     else rule
 
@@ -87,11 +87,11 @@ decision_by (Some rule) = record { verdict = rule.verdict; rule = Some rule.numb
 -- the rules after that: those after the one that gives are not looked at
 abbrev pub after_chosen : List Rule → Head → List Rule
 after_chosen [] head = []
-after_chosen (rule ∷ rules) head = asked rule head ∷ (if gives rule head then rules else after_chosen rules head)
+after_chosen (rule ∷ rules) head = asked_rule rule head ∷ (if gives rule head then rules else after_chosen rules head)
 
 -- those that are not used up
-abbrev pub unused : List Rule → List Rule
-unused rules = filter (λ rule. not (is_used_up rule)) rules
+abbrev pub usable : List Rule → List Rule
+usable rules = filter (λ rule. not (is_used_up rule)) rules
 
 -- the verdicts of attempts, one after another
 abbrev pub verdicts : List Rule → List Head → List (Option Verdict)
@@ -132,11 +132,11 @@ pub record AreSwapped (one other : List Rule) : Type 0 where
   pub back : List Rule
   pub one_is : one ≡ front ++ first ∷ second ∷ back
   pub other_is : other ≡ front ++ second ∷ first ∷ back
-  pub apart : (head : Head) → (matches first head && matches second head) ≡ false
+  pub apart : (head : Head) → (rule_matches first head && rule_matches second head) ≡ false
 
 -- a rule is added after the others, or refused where there are 64, or where memory is
-abbrev pub Adds : Rule → List Rule → Result (Unit {0}) RuleRefusal → List Rule → Type 0
-Adds rule old (Ok done) new = (length old < 64) × (new ≡ old ++ rule ∷ [])
-Adds rule old (Err TooManyRules) new = (64 ≤ length old) × (new ≡ old)
-Adds rule old (Err NoMemory) new = (length old < 64) × (new ≡ old)
-Adds rule old (Err why) new = ⊥
+abbrev pub AddsRule : Rule → List Rule → Result (Unit {0}) RuleRefusal → List Rule → Type 0
+AddsRule rule old (Ok done) new = (length old < 64) × (new ≡ old ++ rule ∷ [])
+AddsRule rule old (Err TooManyRules) new = (64 ≤ length old) × (new ≡ old)
+AddsRule rule old (Err NoMemory) new = (length old < 64) × (new ≡ old)
+AddsRule rule old (Err why) new = ⊥

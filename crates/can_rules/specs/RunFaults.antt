@@ -1,7 +1,7 @@
 use Rattle.std.specs.Prelude.{◌≡◌, ℕ, ◌+◌, ◌-◌, Bool, true, false, IsTrue, ◌&&◌, ◌==◌, nat_le, if◌then◌else◌, codes}
 use Rattle.std.specs.Prelude.{List, [], ◌∷◌, ◌++◌, length, slice_get, Option, Some, None, Result, Ok, Err}
 use Rattle.std.specs.List.{list_any}
-use Rattle.std.specs.Option.{ok_or}
+use Rattle.std.specs.Option.{ok_or, option_map}
 use Rattle.std.specs.Str.{bytes_eq}
 use Rattle.can_frame.specs.Numbers.{number_in}
 use Rattle.can_fault.specs.Scripts.{word, after, lines_in}
@@ -21,23 +21,27 @@ use Rattle.can_rules.specs.declared.plan.PlanError.TheVariants as plan
 use Rattle.can_rules.specs.declared.run_faults.Change.{Change}
 use Rattle.can_rules.specs.declared.run_faults.Change.TheVariants as change
 use Rattle.can_rules.specs.declared.run_faults.Later.{Later}
+use Rattle.can_rules.specs.declared.run_faults.Made.{Made}
+use Rattle.can_rules.specs.declared.run_faults.Made.TheVariants as made
 use Rattle.can_rules.specs.Rules.{Head}
 use Rattle.can_rules.specs.RuleWords.{◌>>=◌, second, beyond, rule_spelling}
-use Rattle.can_rules.specs.Plans.{PlanSeen, no_plan, one_more, with_rule, without_rules, decided_at, plan_asked}
+use Rattle.can_rules.specs.Plans.{PlanSeen, no_plan, numbered, counted_up, with_rule, without_rules, decided_at}
+use Rattle.can_rules.specs.Plans.{plan_asked}
 use Rattle.can_rules.specs.Plans.{at_word, line_taken, gone_on, has_bytes}
 
 -- The faults of a run that is over, to find which rule gave an attempt its verdict: a plan, and what was given or ended
 -- while the run went on (own choice).
 
--- the plan, what is still to come, and how many attempts tried a frame so far
+-- the names of its bus, the plan, what is still to come, and how many attempts tried a frame so far
 pub record RunSeen : Type 0 where
+  pub names : List (List ℕ)
   pub plan : PlanSeen
   pub later : List Later
   pub tried : ℕ
 
--- no line, no rule, nothing to come
-abbrev pub no_run : RunSeen
-no_run = record { plan = no_plan; later = []; tried = 0 }
+-- no line, no rule, nothing to come, for a bus with these names
+abbrev pub no_run : List (List ℕ) → RunSeen
+no_run names = record { names = names; plan = no_plan; later = []; tried = 0 }
 
 -- What becomes of the plan.
 
@@ -57,12 +61,41 @@ abbrev pub still_later : ℕ → List Later → List Later
 still_later attempt [] = []
 still_later attempt (next ∷ later) = if nat_le next.attempt attempt then still_later attempt later else next ∷ later
 
+-- the run when the changes are made that come before the attempt with this number
+abbrev pub made_until : ℕ → RunSeen → RunSeen
+made_until attempt run = record run {
+  plan = changed run.plan attempt run.later;
+  later = still_later attempt run.later;
+}
+
 -- the run when the next attempt tries a frame
 abbrev pub made_ready : RunSeen → RunSeen
-made_ready run = record run {
-  plan = changed run.plan run.tried run.later;
-  later = still_later run.tried run.later;
-}
+made_ready run = made_until run.tried run
+
+-- One change after another.
+
+-- what becomes of a change: a rule is taken, with its number, or is not, where 64 are left
+abbrev pub made_of : Change → PlanSeen → Made
+made_of (change.Give rule) known =
+    if nat_le 64 (length known.rules) then made.Refused else made.Taken (numbered (counted_up known.taken) rule)
+made_of change.End known = made.Ended
+
+-- the next change, if it comes before the attempt with this number
+abbrev pub due_of : ℕ → List Later → Option Later
+due_of attempt [] = None
+due_of attempt (next ∷ later) = if nat_le next.attempt attempt then Some next else None
+
+-- what becomes of it
+abbrev pub next_made : ℕ → PlanSeen → List Later → Option Made
+next_made attempt known later = option_map (λ (next : Later). made_of next.change known) (due_of attempt later)
+
+-- the run after it, where this is to come
+abbrev pub after_next : ℕ → RunSeen → List Later → RunSeen
+after_next attempt run [] = run
+after_next attempt run (next ∷ later) =
+    if nat_le next.attempt attempt
+    then record run { plan = after_change next.change run.plan; later = later }
+    else run
 
 -- Which rule gave a verdict.
 
@@ -91,16 +124,22 @@ same_verdict one other = false
 abbrev pub rule_for : Verdict → Decision → Option ℕ
 rule_for verdict decision = if same_verdict decision.verdict verdict then decision.rule else None
 
+-- the number of the rule that gave the next attempt that tries a frame its verdict, if one did, where no change comes
+-- before it
+abbrev pub rule_now : RunSeen → Head → Verdict → Option ℕ
+rule_now run head verdict = rule_for verdict (decided_at run.plan run.tried head)
+
+-- the run after that attempt
+abbrev pub asked_now : RunSeen → Head → RunSeen
+asked_now run head = record run { plan = plan_asked run.plan run.tried head; tried = counted_up run.tried }
+
 -- the number of the rule that gave the next attempt that tries a frame its verdict, if one did
 abbrev pub rule_given : RunSeen → Head → Verdict → Option ℕ
-rule_given run head verdict = rule_for verdict (decided_at (made_ready run).plan run.tried head)
+rule_given run head verdict = rule_now (made_ready run) head verdict
 
 -- the run after that attempt
 abbrev pub asked_run : RunSeen → Head → RunSeen
-asked_run run head = record (made_ready run) {
-  plan = plan_asked (made_ready run).plan run.tried head;
-  tried = one_more run.tried;
-}
+asked_run run head = asked_now (made_ready run) head
 
 -- Runs as texts: the lines of a plan, and lines `at N RULE` and `at N nofaults`.
 
@@ -145,14 +184,14 @@ with_later known n (Ok next) =
 with_later known n (Err which) = Err (at_word n which)
 
 -- a run with this plan, or the plan's fault
-abbrev pub with_plan : RunSeen → Result PlanSeen PlanError → Result RunSeen PlanError
-with_plan known read = gone_on read (λ next. Ok (record known { plan = next }))
+abbrev pub run_with_plan : RunSeen → Result PlanSeen PlanError → Result RunSeen PlanError
+run_with_plan known read = gone_on read (λ next. Ok (record known { plan = next }))
 
 -- the run after a line with this number, where the lines before it gave `known`
 abbrev pub run_line : List (List ℕ) → RunSeen → ℕ → List ℕ → Result RunSeen PlanError
 run_line names known n line =
     if is_later line then with_later known n (later_spelling names line)
-    else with_plan known (line_taken names known.plan n line)
+    else run_with_plan known (line_taken names known.plan n line)
 
 -- the run after lines, the first of them with this number
 abbrev pub run_lines : List (List ℕ) → RunSeen → ℕ → List (List ℕ) → Result RunSeen PlanError
@@ -162,7 +201,7 @@ run_lines names known n (line ∷ more) =
 
 -- the run that a text spells, or its first fault
 abbrev pub run_spelling : List (List ℕ) → List ℕ → Result RunSeen PlanError
-run_spelling names text = run_lines names no_run 1 (lines_in text)
+run_spelling names text = run_lines names (no_run names) 1 (lines_in text)
 
 -- what reading a text returns: what the text spells, or NoMemory, where it has a line
 abbrev pub ReadsRunFaults : List (List ℕ) → List ℕ → Result RunSeen PlanError → Type 0

@@ -1,10 +1,12 @@
 ghost use Rattle.std.specs.Prelude.{◌≡◌, ◌≤◌, ◌<◌, ◌-◌, ◌^◌, ℕ, true, false, List, [], ◌∷◌, ◌++◌, Option, None, Some, Ok, slice_get};
-ghost use Rattle.can_rules.specs.Rules.{Head, head_of, chosen, deciding, after_chosen, unused, verdicts, gives_at, GivesAs, times_given, AreSwapped};
-ghost use Rattle.can_rules.specs.Plans.{PlanSeen, no_plan, with_rule, without_rules, given, plan_after, decided_at, plan_spelling, IsNumbered};
-ghost use Rattle.can_rules.specs.RunFaults.{RunSeen, no_run, made_ready, rule_given, asked_run, is_later, with_plan, run_spelling, later_spelling, may_come};
-ghost use Rattle.can_rules.specs.RuleLines.{given_words, given_line, end_words, end_line, IsOfLines, with_change};
+ghost use Rattle.can_rules.specs.Rules.{Head, won_by, chosen, deciding, after_chosen, usable, verdicts, gives_at, GivesAs, times_given, AreSwapped};
+ghost use Rattle.can_rules.specs.Plans.{PlanSeen, no_plan, with_rule, without_rules, given, plan_after, decided_at, plan_spelling, HasOwnNumbers, numbered};
+ghost use Rattle.can_rules.specs.RunFaults.{RunSeen, no_run, made_ready, rule_given, asked_run, is_later, run_with_plan, run_spelling, later_spelling, may_come};
+ghost use Rattle.can_rules.specs.RuleLines.{given_words, given_line, nofaults_words, nofaults_line, IsOfLines, with_change};
 ghost use Rattle.can_rules.specs.RuleWords.{rule_spelling};
+ghost use Rattle.can_rules.specs.RuleText.{rule_words};
 ghost use Rattle.can_frame.specs.Frames.{CanFrame, word_of};
+ghost use Rattle.can_frame.specs.Names.{AreNames};
 ghost use Rattle.can_fault.specs.Scripts.{lines_in};
 ghost use Rattle.std.specs.List.{list_any};
 ghost use Rattle.std.specs.Option.{option_map};
@@ -32,11 +34,11 @@ pub fn a_plan_without_rules_gives_what_its_lines_give()
 /// A rule that is used up changes nothing: without it the verdicts are the same.
 pub fn a_used_up_rule_changes_nothing()
     ensures verdict { (rules : List Rule) (head : Head) →
-        chosen (unused rules) head ≡ chosen rules head }
+        chosen (usable rules) head ≡ chosen rules head }
     ensures counts { (rules : List Rule) (head : Head) →
-        unused (after_chosen (unused rules) head) ≡ unused (after_chosen rules head) }
+        usable (after_chosen (usable rules) head) ≡ usable (after_chosen rules head) }
     ensures run { (rules : List Rule) (heads : List Head) →
-        verdicts (unused rules) heads ≡ verdicts rules heads }
+        verdicts (usable rules) heads ≡ verdicts rules heads }
 {}
 
 /// The rule at the place that gives an attempt its verdict gives its own.
@@ -71,13 +73,13 @@ pub fn the_rule_that_decides_gives_the_verdict()
 
 /// Each rule has a number of its own: whatever is given, asked or ended, no number is used again.
 pub fn numbers_are_not_used_again()
-    ensures none { IsNumbered no_plan }
+    ensures none { HasOwnNumbers no_plan }
     ensures given { (rule : Rule) (plan : PlanSeen) →
-        IsNumbered plan → plan.taken < 2 ^ 64 - 1 → IsNumbered (with_rule rule plan) }
+        HasOwnNumbers plan → plan.taken < 2 ^ 64 - 1 → HasOwnNumbers (with_rule rule plan) }
     ensures asked { (source : Verdict) (plan : PlanSeen) (attempt : ℕ)
         (head : Option (ℕ × CanFrame)) →
-        IsNumbered plan → IsNumbered (plan_after source plan attempt head) }
-    ensures ended { (plan : PlanSeen) → IsNumbered plan → IsNumbered (without_rules plan) }
+        HasOwnNumbers plan → HasOwnNumbers (plan_after source plan attempt head) }
+    ensures ended { (plan : PlanSeen) → HasOwnNumbers plan → HasOwnNumbers (without_rules plan) }
 {}
 
 /// The rule that is named gave the attempt its verdict: among the rules that there were then, it is the first to give one.
@@ -90,19 +92,19 @@ pub fn the_rule_that_is_named_gave_the_verdict()
 /// A run with nothing to come asks exactly as its plan, and names the rule that the plan asks.
 pub fn a_run_without_changes_asks_as_its_plan()
     ensures after { (run : RunSeen) (winner : ℕ) (frame : CanFrame) → run.later ≡ [] →
-        (asked_run run (head_of winner (word_of frame))).plan
+        (asked_run run (won_by winner (word_of frame))).plan
         ≡ plan_after Good run.plan run.tried (Some (winner, frame)) }
     ensures rule { (run : RunSeen) (winner : ℕ) (frame : CanFrame) → run.later ≡ [] →
-        rule_given run (head_of winner (word_of frame))
+        rule_given run (won_by winner (word_of frame))
         (given Good run.plan run.tried (Some (winner, frame)))
-        ≡ (decided_at run.plan run.tried (head_of winner (word_of frame))).rule }
+        ≡ (decided_at run.plan run.tried (won_by winner (word_of frame))).rule }
 {}
 
 /// A text without changes spells the run that its plan is.
 pub fn a_text_without_changes_spells_its_plan()
     ensures { (names : List (List ℕ)) (text : List ℕ) →
         list_any is_later (lines_in text) ≡ false →
-        run_spelling names text ≡ with_plan no_run (plan_spelling names text) }
+        run_spelling names text ≡ run_with_plan (no_run names) (plan_spelling names text) }
 {}
 
 /// The line of a rule is read as that rule, given before its attempt, and the line of an end as an end of all rules.
@@ -112,7 +114,7 @@ pub fn lines_are_read_as_what_they_are_of()
         later_spelling names (given_words attempt words)
         ≡ Ok (record { attempt = attempt; change = change.Give rule }) }
     ensures ended { (names : List (List ℕ)) (attempt : ℕ) → attempt < 10 ^ 10 →
-        later_spelling names (end_words attempt)
+        later_spelling names (nofaults_words attempt)
         ≡ Ok (record { attempt = attempt; change = change.End }) }
 {}
 
@@ -120,6 +122,18 @@ pub fn lines_are_read_as_what_they_are_of()
 pub fn what_spells_a_rule_is_one_line()
     ensures { (names : List (List ℕ)) (words : List ℕ) (rule : Rule) →
         rule_spelling names words ≡ Ok rule → lines_in words ≡ words ∷ [] }
+{}
+
+/// The words that are written of a rule, which has a number, are read as that rule, and are one line: whatever words it was
+/// given in.
+pub fn a_written_rule_is_read_again()
+    ensures again { (names : List (List ℕ)) (given : List ℕ) (rule : Rule) (number : ℕ) →
+        AreNames names → rule_spelling names given ≡ Ok rule →
+        rule_spelling names (rule_words names (numbered number rule)) ≡ Ok rule }
+    ensures line { (names : List (List ℕ)) (given : List ℕ) (rule : Rule) (number : ℕ) →
+        AreNames names → rule_spelling names given ≡ Ok rule →
+        lines_in (rule_words names (numbered number rule)) ≡
+        rule_words names (numbered number rule) ∷ [] }
 {}
 
 /// After a text of whole lines, the line of a rule is that rule, given after the changes of the text, and the line of an
@@ -134,6 +148,6 @@ pub fn lines_after_a_text_are_read_after_it()
     ensures ended { (names : List (List ℕ)) (text : List ℕ) (run : RunSeen) (attempt : ℕ) →
         IsOfLines text → run_spelling names text ≡ Ok run → may_come run.later attempt ≡ true →
         attempt < 10 ^ 10 →
-        run_spelling names (text ++ end_line (Some attempt))
+        run_spelling names (text ++ nofaults_line (Some attempt))
         ≡ Ok (with_change (record { attempt = attempt; change = change.End }) run) }
 {}

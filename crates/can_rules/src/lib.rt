@@ -1,13 +1,14 @@
 //! Rules of faults: verdicts by who sends what, and the plan of a bus, which is a script's lines and rules.
 //!
 //! A rule gives a verdict to the next attempts, or to all, of some senders or with some identifiers. A plan is asked once
-//! for each attempt that tries a frame, and counts what its rules give.
+//! for each attempt that tries a frame, and counts what its rules give. What is written of a rule is read as that rule.
 #![tactic(auto)]
 
 pub mod laws;
 pub mod plan;
 pub mod rule;
 pub mod rule_lines;
+pub mod rule_text;
 mod rule_words;
 mod rules;
 pub mod run_faults;
@@ -15,6 +16,7 @@ pub mod run_faults;
 pub use plan::{Plan, PlanError, spelled_rule};
 pub use rule::{Decision, Rule};
 pub use rule_lines::RuleLines;
+pub use rule_text::put_rule_words;
 pub use rule_words::{WrongWord, begins_as_rule, read_rule};
 pub use rules::{MAX_RULES, RuleRefusal};
-pub use run_faults::{Change, Later, RunFaults, begins_as_later, read_later};
+pub use run_faults::{Change, Later, Made, RunFaults, begins_as_later, read_later};

@@ -1,6 +1,6 @@
 ghost use Rattle.std.specs.Prelude.{◌≡◌, ◌≤◌, length, true, IfSome, IfNone};
 ghost use Rattle.can_rules.specs.Plans.{no_plan, IsSettled, IsUpToRules, head_in, ruled, decided, after_ruled, decided_at, plan_asked, with_rules, without_rules, SpellsRule, GivesRule, Injected, ReadsPlan, TakesPlanLine, at_word, refusal_of};
-ghost use Rattle.can_rules.specs.Rules.{head_of};
+ghost use Rattle.can_rules.specs.Rules.{won_by};
 ghost use Rattle.can_rules.specs.RuleWords.{is_rule};
 
 use crate::rule::{Decision, Rule};
@@ -166,8 +166,8 @@ impl Plan {
     /// The verdict of the attempt with this number, which this interface wins with a frame of this identifier word, where no
     /// source has a fault: that of the script's line, else that of the rules.
     pub(crate) fn decision(&mut self, attempt: u64, winner: Iface, word: u32) -> Decision
-        ensures decision { result ≡ decided_at self.old attempt (head_of winner word) }
-        ensures after { self.new ≡ plan_asked self.old attempt (head_of winner word) }
+        ensures decision { result ≡ decided_at self.old attempt (won_by winner word) }
+        ensures after { self.new ≡ plan_asked self.old attempt (won_by winner word) }
     {
         match self.script.line(attempt) {
             Some(verdict) => Decision::without_rule(verdict),
@@ -191,6 +191,20 @@ impl Plan {
         ensures few { result ≤ 64 }
     {
         self.rules.len()
+    }
+
+    /// The rules that are left, in their order.
+    pub(crate) fn rules_left(&self) -> &[Rule]
+        ensures { result.now ≡ self.now.rules }
+    {
+        self.rules.as_slice()
+    }
+
+    /// How many rules it took: the number of the last one.
+    pub(crate) fn taken(&self) -> u64
+        ensures { result ≡ self.now.taken }
+    {
+        self.taken
     }
 
     /// Ends all rules. The lines stay.

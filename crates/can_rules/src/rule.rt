@@ -52,7 +52,7 @@ impl Decision {
 
 impl Rule {
     ghost use Rattle.std.specs.Prelude.{◌≡◌};
-    ghost use Rattle.can_rules.specs.Rules.{is_used_up, matches, given_by, asked, head_of};
+    ghost use Rattle.can_rules.specs.Rules.{is_used_up, rule_matches, verdict_by_rule, asked_rule, won_by};
 
     /// Whether it gives no more verdicts.
     pub fn is_used_up(&self) -> bool
@@ -66,7 +66,7 @@ impl Rule {
 
     // Whether it is for an attempt at a frame with this identifier word.
     fn matches(&self, winner: Iface, word: u32) -> bool
-        ensures { result ≡ matches self.now (head_of winner word) }
+        ensures { result ≡ rule_matches self.now (won_by winner word) }
     {
         let is_from = match self.senders {
             Some(senders) => senders.contains(winner),
@@ -77,8 +77,8 @@ impl Rule {
 
     /// Asks the rule for the verdict of an attempt, and counts.
     pub(crate) fn ask(&mut self, winner: Iface, word: u32) -> Option<Verdict>
-        ensures verdict { result ≡ given_by self.old (head_of winner word) }
-        ensures counts { self.new ≡ asked self.old (head_of winner word) }
+        ensures verdict { result ≡ verdict_by_rule self.old (won_by winner word) }
+        ensures counts { self.new ≡ asked_rule self.old (won_by winner word) }
     {
         if self.is_used_up() || !self.matches(winner, word) {
             return None;

@@ -1,7 +1,7 @@
 //! What becomes of the rules of a bus while its run goes on, as the lines that [`RunFaults`](crate::RunFaults) reads.
 ghost use Rattle.std.specs.Prelude.{◌≡◌, ◌++◌, Some, IfOk, OnErr, OnOk};
 ghost use Rattle.can_rules.specs.Plans.{GivesRule};
-ghost use Rattle.can_rules.specs.RuleLines.{never_lines, no_lines, end_line, given_line, lines_of, with_end, with_given, with_none_left};
+ghost use Rattle.can_rules.specs.RuleLines.{never_lines, no_lines, nofaults_line, given_line, text_of_lines, with_end, with_given, with_none_left};
 
 use crate::plan::Plan;
 use crate::rule::Rule;
@@ -91,7 +91,7 @@ impl RuleLines {
     // The line of an end that has none yet, and that of a rule after it.
     fn with_line(&self, attempt: u64, words: &[u8]) -> Result<Vec<u8>, AllocError>
         ensures { IfOk result (λ lines.
-            lines.items ≡ end_line self.now.ended ++ given_line attempt words.now) }
+            lines.items ≡ nofaults_line self.now.ended ++ given_line attempt words.now) }
     {
         let alloc = *self.text.allocator();
         let mut lines = end_of(alloc, self.ended)?;
@@ -115,7 +115,7 @@ impl RuleLines {
 
     /// Takes the lines out. `AllocError` where memory is refused: then they stay.
     pub fn take(&mut self) -> Result<Vec<u8>, AllocError>
-        ensures taken { IfOk result (λ lines. lines.items ≡ lines_of self.old) }
+        ensures taken { IfOk result (λ lines. lines.items ≡ text_of_lines self.old) }
         ensures after { OnOk result (self.new ≡ with_none_left self.old) }
         ensures stays { OnErr result (self.new ≡ self.old) }
     {
@@ -129,7 +129,7 @@ impl RuleLines {
 
 // The line of an end of all rules, if there is one.
 fn end_of(alloc: Global, ended: Option<u64>) -> Result<Vec<u8>, AllocError>
-    ensures { IfOk result (λ line. line.items ≡ end_line ended) }
+    ensures { IfOk result (λ line. line.items ≡ nofaults_line ended) }
 {
     match ended {
         Some(attempt) => end_before(alloc, attempt),
@@ -139,7 +139,7 @@ fn end_of(alloc: Global, ended: Option<u64>) -> Result<Vec<u8>, AllocError>
 
 // The line of an end before this attempt.
 fn end_before(alloc: Global, attempt: u64) -> Result<Vec<u8>, AllocError>
-    ensures { IfOk result (λ line. line.items ≡ end_line (Some attempt)) }
+    ensures { IfOk result (λ line. line.items ≡ nofaults_line (Some attempt)) }
 {
     let mut line = Vec::new(alloc);
     match write!(line, "at {attempt} nofaults\n") {

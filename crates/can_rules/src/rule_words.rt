@@ -1,5 +1,5 @@
 ghost use Rattle.std.specs.Prelude.{◌≡◌, ◌<◌};
-ghost use Rattle.can_rules.specs.RuleWords.{is_rule, rule_of, rule_spelling, with_senders, with_id, skipping, ended, count_spelling, id_spelling, plain_spelling, masked_spelling, small_spelling, of_standard, of_extended, id_in, mask_in, word_of};
+ghost use Rattle.can_rules.specs.RuleWords.{is_rule, rule_of, rule_spelling, with_senders, with_id, skipping, ended, count_spelling, id_spelling, plain_spelling, masked_spelling, small_spelling, of_standard, of_extended, before_colon, mask_in, wrong_word_of};
 
 use crate::rule::Rule;
 use can_fault::Verdict;
@@ -140,7 +140,7 @@ fn read_end(mut rule: Rule, text: &str, names: &Names) -> Result<Rule, WrongWord
 
 // Which word is wrong, where a part has a fault.
 fn wrong_word(which: WrongWord, fault: LineFault) -> WrongWord
-    ensures { result ≡ word_of which fault }
+    ensures { result ≡ wrong_word_of which fault }
 {
     match fault {
         LineFault::BadLine => which,
@@ -181,7 +181,7 @@ fn read_filter(text: &str) -> Option<Filter>
 
 // The text before the first colon, and the text after it; the whole and nothing where there is no colon.
 fn cut_colon(text: &str) -> (&str, &str)
-    ensures id { result.0.now ≡ id_in text.now }
+    ensures id { result.0.now ≡ before_colon text.now }
     ensures mask { result.1.now ≡ mask_in text.now }
 {
     text.split_once(':').unwrap_or((text, ""))

@@ -1,5 +1,5 @@
 ghost use Rattle.std.specs.Prelude.{◌≡◌, ◌==◌, [], ◌≤◌, length};
-ghost use Rattle.can_rules.specs.Rules.{deciding, decision_by, after_chosen, head_of, unused, Adds};
+ghost use Rattle.can_rules.specs.Rules.{deciding, decision_by, after_chosen, won_by, usable, AddsRule};
 
 use crate::rule::{Decision, Rule};
 use can_frame::Iface;
@@ -55,8 +55,8 @@ impl Rules {
 
     /// What the rules give an attempt. A rule that is used up by it goes.
     pub fn decision(&mut self, winner: Iface, word: u32) -> Decision
-        ensures decision { result ≡ decision_by (deciding self.old (head_of winner word)) }
-        ensures counts { self.new ≡ unused (after_chosen self.old (head_of winner word)) }
+        ensures decision { result ≡ decision_by (deciding self.old (won_by winner word)) }
+        ensures counts { self.new ≡ usable (after_chosen self.old (won_by winner word)) }
     {
         let given = decision_among(&mut self.rules, winner, word);
         keep_unused(&mut self.rules);
@@ -65,7 +65,7 @@ impl Rules {
 
     /// One rule more, after the others. `TooManyRules` exactly where there are 64.
     pub fn add(&mut self, rule: Rule) -> Result<(), RuleRefusal>
-        ensures { Adds rule self.old result self.new }
+        ensures { AddsRule rule self.old result self.new }
     {
         if self.rules.len() >= MAX_RULES {
             return Err(RuleRefusal::TooManyRules);
@@ -82,6 +82,13 @@ impl Rules {
         ensures few { result ≤ 64 }
     {
         self.rules.len()
+    }
+
+    /// All of them, in their order.
+    pub fn as_slice(&self) -> &[Rule]
+        ensures { result.now ≡ self.now }
+    {
+        &self.rules
     }
 
     /// Whether there are none.
@@ -101,8 +108,8 @@ impl Rules {
 
 // What the first of the rules to give a verdict gives an attempt.
 fn decision_among(rules: &mut [Rule], winner: Iface, word: u32) -> Decision
-    ensures decision { result ≡ decision_by (deciding rules.old (head_of winner word)) }
-    ensures counts { rules.new ≡ after_chosen rules.old (head_of winner word) }
+    ensures decision { result ≡ decision_by (deciding rules.old (won_by winner word)) }
+    ensures counts { rules.new ≡ after_chosen rules.old (won_by winner word) }
 {
     for rule in rules.iter_mut() {
         let number = rule.number;
@@ -118,7 +125,7 @@ fn decision_among(rules: &mut [Rule], winner: Iface, word: u32) -> Decision
 
 // Lets those go that are used up.
 fn keep_unused(rules: &mut Vec<Rule>)
-    ensures unused { rules.new.items ≡ unused rules.old.items }
+    ensures unused { rules.new.items ≡ usable rules.old.items }
     ensures few { length rules.new.items ≤ length rules.old.items }
 {
     rules.retain(|rule| !rule.is_used_up());

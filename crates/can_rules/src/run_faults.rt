@@ -1,7 +1,7 @@
-ghost use Rattle.std.specs.Prelude.{◌≡◌, ◌↔◌, ◌≤◌, IsTrue, true, drop, length, IfOk, OnOk};
+ghost use Rattle.std.specs.Prelude.{◌≡◌, true, IfOk, OnOk};
 ghost use Rattle.can_frame.specs.Frames.{word_of};
-ghost use Rattle.can_rules.specs.Rules.{head_of};
-ghost use Rattle.can_rules.specs.RunFaults.{no_run, after_change, changed, still_later, made_ready, same_global, same_local, same_verdict, rule_given, asked_run, is_later, attempt_spelling, change_spelling, later_spelling, may_come, ReadsRunFaults, TakesRunLine};
+ghost use Rattle.can_rules.specs.Rules.{won_by};
+ghost use Rattle.can_rules.specs.RunFaults.{no_run, made_of, after_change, due_of, next_made, after_next, same_global, same_local, same_verdict, rule_now, asked_now, is_later, attempt_spelling, change_spelling, later_spelling, may_come, ReadsRunFaults, TakesRunLine};
 
 use crate::plan::{Plan, PlanError};
 use crate::rule::Rule;
@@ -31,10 +31,22 @@ pub struct Later {
     pub change: Change,
 }
 
-/// The faults of a run that is over: its plan, and what was given or ended while it went on. It finds which rule gave an
-/// attempt its verdict.
+/// What became of a change when the run came to it.
+#[derive(Debug, Clone, Copy, PartialEq, Eq)]
+pub enum Made {
+    /// The bus took this rule, which has its number.
+    Taken(Rule),
+    /// The rule was not taken, since 64 were left.
+    Refused,
+    /// All rules were ended.
+    Ended,
+}
+
+/// The faults of a run that is over: its plan, and what was given or ended while it went on. It makes these changes in their
+/// turn, and finds which rule gave an attempt its verdict.
 #[derive(Drop)]
 pub struct RunFaults {
+    names: Names,
     plan: Plan,
     // In the order in which they came.
     changes: Vec<Later>,
@@ -55,6 +67,7 @@ impl Model for RunFaults {
     ghost coded = { Prim.hlevel (codes, verdict_map_code) };
 
     ghost view = { λ r. record {
+      names = r.names;
       plan = r.plan;
       later = drop r.made r.changes.items;
       tried = r.tried;
@@ -64,11 +77,12 @@ impl Model for RunFaults {
 }
 
 impl RunFaults {
-    /// No line, no rule, nothing to come.
-    pub fn new(alloc: Global) -> RunFaults
-        ensures { result ≡ no_run }
+    /// No line, no rule, nothing to come, for a bus with these names.
+    pub fn new(alloc: Global, names: Names) -> RunFaults
+        ensures { result ≡ no_run names }
     {
         RunFaults {
+            names,
             plan: Plan::new(alloc),
             changes: Vec::new(alloc),
             made: 0,
@@ -80,14 +94,14 @@ impl RunFaults {
     /// or `at N RULE` or `at N nofaults`: the rule was given, or all rules were ended, before the attempt with this number
     /// among those that tried a frame, from 0. `N` is 1 to 10 decimal digits, and does not decrease. Time as
     /// `Script::read`.
-    pub fn read(alloc: Global, text: &str, names: &Names) -> Result<RunFaults, PlanError>
-        ensures { ReadsRunFaults names.now text.now result }
+    pub fn read(alloc: Global, text: &str, names: Names) -> Result<RunFaults, PlanError>
+        ensures { ReadsRunFaults names text.now result }
     {
-        let mut faults = RunFaults::new(alloc);
+        let mut faults = RunFaults::new(alloc, names);
         let mut number = 0;
         for line in text.split('\n') {
             number += 1;
-            if let Err(fault) = faults.take_line(line, number, names) {
+            if let Err(fault) = faults.take_line(line, number) {
                 return Err(fault);
             }
         }
@@ -95,22 +109,24 @@ impl RunFaults {
     }
 
     // Takes what a line says, which has this number in its text.
-    fn take_line(&mut self, line: &str, number: usize, names: &Names) -> Result<(), PlanError>
-        ensures { TakesRunLine names.now line.now number self.old result self.new }
+    fn take_line(&mut self, line: &str, number: usize) -> Result<(), PlanError>
+        ensures taken { TakesRunLine self.old.names line.now number self.old result self.new }
+        ensures names { self.new.names ≡ self.old.names }
     {
         if begins_as_later(line) {
-            self.take_later(line, number, names)
+            self.take_later(line, number)
         } else {
-            self.plan.take_line(line, number, names)
+            self.plan.take_line(line, number, &self.names)
         }
     }
 
     // Takes the change that a line with this number is.
-    fn take_later(&mut self, line: &str, number: usize, names: &Names) -> Result<(), PlanError>
+    fn take_later(&mut self, line: &str, number: usize) -> Result<(), PlanError>
         requires { is_later line.now ≡ true }
-        ensures { TakesRunLine names.now line.now number self.old result self.new }
+        ensures taken { TakesRunLine self.old.names line.now number self.old result self.new }
+        ensures names { self.new.names ≡ self.old.names }
     {
-        let next = match read_later(line, names) {
+        let next = match read_later(line, &self.names) {
             Ok(next) => next,
             Err(which) => return Err(which.at(number)),
         };
@@ -123,78 +139,96 @@ impl RunFaults {
         }
     }
 
-    /// The number of the rule that gave the next attempt that tried a frame this verdict, if one did. To be asked of each
-    /// such attempt, in their order. It takes memory only where a rule is given before that attempt, and after an error is
-    /// not meant to be used.
-    pub fn rule_of(
-        &mut self,
-        winner: Iface,
-        frame: &Frame,
-        verdict: Verdict,
-    ) -> Result<Option<u64>, AllocError>
-        ensures rule { IfOk result (λ rule.
-            rule ≡ rule_given self.old (head_of winner (word_of frame.now)) verdict) }
-        ensures after { OnOk result
-            (self.new ≡ asked_run self.old (head_of winner (word_of frame.now))) }
+    /// The names of the bus.
+    pub fn names(&self) -> &Names
+        ensures { result.now ≡ self.now.names }
     {
-        self.make_changes()?;
+        &self.names
+    }
+
+    /// The rules that are left, in their order: before anything is asked or made those of the script.
+    pub fn rules_left(&self) -> &[Rule]
+        ensures { result.now ≡ self.now.plan.rules }
+    {
+        self.plan.rules_left()
+    }
+
+    /// How many attempts tried a frame so far: the number of the next one that does.
+    pub fn tried(&self) -> u64
+        ensures { result ≡ self.now.tried }
+    {
+        self.tried
+    }
+
+    /// Makes the next change, if it came before the attempt with this number, and returns what became of it. After an error it
+    /// is not meant to be used.
+    pub fn make_next(&mut self, attempt: u64) -> Result<Option<Made>, AllocError>
+        ensures made { IfOk result (λ made.
+            made ≡ next_made attempt self.old.plan self.old.later) }
+        ensures after { OnOk result (self.new ≡ after_next attempt self.old self.old.later) }
+    {
+        let Some(next) = due(&self.changes[self.made..], attempt) else {
+            return Ok(None);
+        };
+        let made = next.change.make(&mut self.plan)?;
+        self.made += 1;
+        Ok(Some(made))
+    }
+
+    /// The number of the rule that gave the next attempt that tried a frame this verdict, if one did. To be asked of each such
+    /// attempt, in their order, once the changes before it are made.
+    pub fn rule_of(&mut self, winner: Iface, frame: &Frame, verdict: Verdict) -> Option<u64>
+        ensures rule { result ≡ rule_now self.old (won_by winner (word_of frame.now)) verdict }
+        ensures after { self.new ≡ asked_now self.old (won_by winner (word_of frame.now)) }
+    {
         let decision = self.plan.decision(self.tried, winner, frame.word());
         self.tried = self.tried.saturating_add(1);
         if same_verdict(decision.verdict, verdict) {
-            Ok(decision.rule)
+            decision.rule
         } else {
-            Ok(None)
+            None
         }
-    }
-
-    // Makes the changes that come before the next attempt.
-    fn make_changes(&mut self) -> Result<(), AllocError>
-        ensures { OnOk result (self.new ≡ made_ready self.old) }
-    {
-        let made = make_due(&mut self.plan, &self.changes[self.made..], self.tried)?;
-        self.made += made;
-        Ok(())
     }
 }
 
-// Makes the changes that come before the attempt with this number, and returns how many they are.
-fn make_due(plan: &mut Plan, later: &[Later], attempt: u64) -> Result<usize, AllocError>
-    ensures plan { OnOk result (plan.new ≡ changed plan.old attempt later.now) }
-    ensures most { IfOk result (λ made. made ≤ length later.now) }
-    ensures rest { IfOk result (λ made. drop made later.now ≡ still_later attempt later.now) }
+// The first of these changes, if it comes before the attempt with this number.
+fn due(later: &[Later], attempt: u64) -> Option<Later>
+    ensures { result ≡ due_of attempt later.now }
 {
-    let mut made = 0;
-    for next in later.iter() {
-        if next.attempt > attempt {
-            return Ok(made);
-        }
-        next.change.make(plan)?;
-        made += 1;
+    match later.first() {
+        Some(next) if next.attempt <= attempt => Some(*next),
+        _ => None,
     }
-    Ok(made)
 }
 
 impl Change {
-    // Changes a plan.
-    fn make(self, plan: &mut Plan) -> Result<(), AllocError>
-        ensures { OnOk result (plan.new ≡ after_change self plan.old) }
+    // Changes a plan, and returns what became of the change.
+    fn make(self, plan: &mut Plan) -> Result<Made, AllocError>
+        ensures made { IfOk result (λ made. made ≡ made_of self plan.old) }
+        ensures after { OnOk result (plan.new ≡ after_change self plan.old) }
     {
         match self {
-            Change::Give(rule) => give(plan, rule),
+            Change::Give(rule) => give(plan, &rule),
             Change::End => {
                 plan.end_rules();
-                Ok(())
+                Ok(Made::Ended)
             }
         }
     }
 }
 
 // Gives a rule, which is not taken where 64 are left.
-fn give(plan: &mut Plan, rule: Rule) -> Result<(), AllocError>
-    ensures { OnOk result (plan.new ≡ after_change (Change.Give rule) plan.old) }
+fn give(plan: &mut Plan, rule: &Rule) -> Result<Made, AllocError>
+    ensures made { IfOk result (λ made. made ≡ made_of (Change.Give rule.now) plan.old) }
+    ensures after { OnOk result (plan.new ≡ after_change (Change.Give rule.now) plan.old) }
 {
-    match plan.give(rule) {
-        Ok(()) | Err(RuleRefusal::TooManyRules) => Ok(()),
+    match plan.give(*rule) {
+        Ok(()) => {
+            let mut taken = *rule;
+            taken.number = plan.taken();
+            Ok(Made::Taken(taken))
+        }
+        Err(RuleRefusal::TooManyRules) => Ok(Made::Refused),
         Err(_) => Err(AllocError),
     }
 }

@@ -10,7 +10,7 @@ use Rattle.can_dialog.specs.declared.stage.Stage.{Stage}
 use Rattle.can_dialog.specs.Calls.{Call, Reply}
 use Rattle.can_dialog.specs.Plans.{Plays}
 use Rattle.can_dialog.specs.Turns.{delivery}
-use Rattle.can_dialog.specs.Deliveries.{AreGiven, Gives, Receives, delivery_text, is_item}
+use Rattle.can_dialog.specs.Deliveries.{AreGiven, GivesItems, ReceivesInto, delivery_text, is_item}
 use Rattle.can_server.specs.Batches.{texts_of}
 
 -- the text of a room
@@ -35,7 +35,7 @@ text_rest rooms i front is =
     ap (λ (t : List ℕ). t ++ texts_of (drop i rooms)) is ∙ sym (flat_map-append text_of (take i rooms) (drop i rooms)) ∙ ap texts_of (take-append-drop i rooms)
 
 module _ {P : Type 0} (step : P → (call : Call) → Reply call → P → Type 0) (stage : Stage) (p : P) where
-  module _ (mid q : P) (rooms : List Room) (i : ℕ) (room : Room) (below : i < length rooms) (given : AreGiven step i stage p (texts_of (take i rooms)) mid) (received : Receives step stage mid q room.delivery room.item) where
+  module _ (mid q : P) (rooms : List Room) (i : ℕ) (room : Room) (below : i < length rooms) (given : AreGiven step i stage p (texts_of (take i rooms)) mid) (received : ReceivesInto step stage mid q room.delivery room.item) where
     -- one item more
     pub given_more : is_item room.delivery ≡ true → AreGiven step (i + 1) stage p (texts_of (take (i + 1) (set rooms i room))) q
     given_more is =
@@ -43,30 +43,30 @@ module _ {P : Type 0} (step : P → (call : Call) → Reply call → P → Type 
         subst (λ (n : ℕ). AreGiven step n stage p (texts_of (take (i + 1) (set rooms i room))) q) (sym (add-one i)) (texts_of (take i rooms), mid, text_of room, given, plays, text_set rooms i room below)
 
     -- the last receive, which gave none
-    pub given_last : (most : ℕ) → i < most → is_item room.delivery ≡ false → Gives step most stage p (texts_of (take (i + 1) (set rooms i room))) q false
+    pub given_last : (most : ℕ) → i < most → is_item room.delivery ≡ false → GivesItems step most stage p (texts_of (take (i + 1) (set rooms i room))) q false
     given_last most low is =
         let plays : Plays step (delivery stage) mid q (text_of room) false = subst (λ (b : Bool). Plays step (delivery stage) mid q (text_of room) b) is received in
         (i, texts_of (take i rooms), mid, text_of room, low, given, plays, text_set rooms i room below)
 
-  module _ (q : P) (most items used : ℕ) (rooms front : List Room) (same : front ≡ take used rooms) (uses : used ≡ min most (items + 1)) (within : items ≤ most) (all : items ≡ most → Gives step most stage p (texts_of (take most rooms)) q true) (few : items < most → Gives step most stage p (texts_of (take (items + 1) rooms)) q false) where
+  module _ (q : P) (most items used : ℕ) (rooms front : List Room) (same : front ≡ take used rooms) (uses : used ≡ min most (items + 1)) (within : items ≤ most) (all : items ≡ most → GivesItems step most stage p (texts_of (take most rooms)) q true) (few : items < most → GivesItems step most stage p (texts_of (take (items + 1) rooms)) q false) where
     -- the rooms that were used have the texts of all items
-    used_all : items ≡ most → Gives step most stage p (texts_of front) q true
+    used_all : items ≡ most → GivesItems step most stage p (texts_of front) q true
     used_all is =
         let n : most ≡ used = omega (arith, uses, is) in
-        subst (λ (rs : List Room). Gives step most stage p (texts_of rs) q true) (sym same) (subst (λ (k : ℕ). Gives step most stage p (texts_of (take k rooms)) q true) n (all is))
+        subst (λ (rs : List Room). GivesItems step most stage p (texts_of rs) q true) (sym same) (subst (λ (k : ℕ). GivesItems step most stage p (texts_of (take k rooms)) q true) n (all is))
 
     -- or also that of the receive that gave none
-    used_few : items < most → Gives step most stage p (texts_of front) q false
+    used_few : items < most → GivesItems step most stage p (texts_of front) q false
     used_few low =
         let n : items + 1 ≡ used = omega (arith, uses, low) in
-        subst (λ (rs : List Room). Gives step most stage p (texts_of rs) q false) (sym same) (subst (λ (k : ℕ). Gives step most stage p (texts_of (take k rooms)) q false) n (few low))
+        subst (λ (rs : List Room). GivesItems step most stage p (texts_of rs) q false) (sym same) (subst (λ (k : ℕ). GivesItems step most stage p (texts_of (take k rooms)) q false) n (few low))
 
-    used_as : (is_all : Bool) → (is_all ≡ true → items ≡ most) → (is_all ≡ false → items < most) → Gives step most stage p (texts_of front) q is_all
+    used_as : (is_all : Bool) → (is_all ≡ true → items ≡ most) → (is_all ≡ false → items < most) → GivesItems step most stage p (texts_of front) q is_all
     used_as true full less = used_all (full refl)
     used_as false full less = used_few (less refl)
 
     -- whichever of the two it is
-    pub used_rooms : Gives step most stage p (texts_of front) q (items == most)
+    pub used_rooms : GivesItems step most stage p (texts_of front) q (items == most)
     used_rooms = used_as (items == most) (λ e. eqb-true items most e) (λ e. (let other : items ≢ most = eqb-false items most e in omega (arith, other, within)))
 
 module _ {W : Type 0} (contents : W → Option (List ℕ)) (old : W) (rooms : List Room) where

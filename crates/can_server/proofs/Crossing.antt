@@ -1,5 +1,5 @@
--- What goes from one thread of a server to another, and what they share: what a keeper was given is an enum in itself, of which
--- the rules of the language say nothing.
+-- Values that go from one thread of a server to another, and values that threads share. The list given to a keeper is
+-- an enum, and the rules of the language do not cover it.
 use denote.RattleType.{RattleType}
 use denote.Ref.{NamedLft}
 use denote.Param.Send.{IsSend, IsSync, sendable}
@@ -28,12 +28,12 @@ use Rattle.can_server.specs.contracts.serving.LongServer as long_server
 use Rattle.can_server.specs.contracts.conversation.Conversation as talk
 use Rattle.can_server.specs.contracts.delivering.Delivery as delivery
 
--- what contracts know of what a keeper was given
+-- the entries given to a keeper, as contracts see them
 pub given_send : IsSend given.the_row
 given_send = search sendable depth 20
 
 module _ (N F G : RattleType) (g : roll.Ghosts N.Denot) (g' : meter.Ghosts N.Denot) (g'' : source.Ghosts F.Denot) (f : IsSend F) (s : IsSync G) (κ : NamedLft) where
-  -- what all threads of a server share
+  -- the values that all threads of a server share
   pub server_sync : (C R : RattleType) → IsSync C → IsSync R → IsSync (server.the_row κ N F G C R g g' g'')
   server_sync C R c r =
       declared_sync (server.the_type κ N F G C R g g' g'') (
@@ -61,7 +61,7 @@ module _ (N F G : RattleType) (g : roll.Ghosts N.Denot) (g' : meter.Ghosts N.Den
   talk_send R r =
       declared_send (talk.the_type κ N F G R g g' g'') (session.the_send, (port_send N F G g g' g'' f s κ R r, (batch.the_send, (opening.the_send, (search sendable depth 20, tt)))))
 
-  -- what the thread has that delivers
+  -- the values of the thread that delivers
   pub delivery_sync : (ν : NamedLft) (C R : RattleType) → IsSync C → IsSync R → IsSync (delivery.the_row ν κ N F G C R g g' g'')
   delivery_sync ν C R c r =
       let talks : IsSync (mutex.the_row (talk.the_row κ N F G R g g' g'')) = mutex_sync.the_sync _ (talk_send R r) in

@@ -15,7 +15,7 @@ use Rattle.can_server.specs.declared.clients.Phase.TheVariants as stay
 abbrev pub Shared : Type 0
 Shared = Arc Conn Global
 
--- which client has which place, and whether nobody comes in any more
+-- the client at each place, and whether nobody is let in any more
 pub record ClientsSeen : Type 0 where
   pub places : List (Option Client)
   pub is_closed : Bool
@@ -32,7 +32,7 @@ IsFree places place = slice_get places place ≡ Some None
 abbrev pub NoneFree : List (Option Client) → Type 0
 NoneFree places = (place : ℕ) → ¬ IsFree places place
 
--- a connection gets a place that was free; else nothing changes: nobody comes in any more, or no place is free
+-- a connection gets a free place; else nothing changes: nobody is let in any more, or no place is free
 abbrev pub Admits : ClientsSeen → Shared → ℕ → Result ℕ NotAdmitted → ClientsSeen → Type 0
 Admits old conn now (Ok place) new =
     (old.is_closed ≡ false)

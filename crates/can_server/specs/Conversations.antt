@@ -3,44 +3,44 @@ use Rattle.std.specs.Io.KnownBytes.{Appends}
 use Rattle.can_proto.specs.declared.message.Incoming.{Incoming}
 use Rattle.can_dialog.specs.Calls.{Call, Reply}
 use Rattle.can_dialog.specs.declared.stage.Dialog.{Dialog}
-use Rattle.can_dialog.specs.Deliveries.{Gives}
+use Rattle.can_dialog.specs.Deliveries.{GivesItems}
 use Rattle.can_dialog.specs.Sessions.{SessionState, IsSessionOver, Finishes, TakesTurns, Wrote}
 
--- What goes out to a client of a server, and what its session does for it (own choice).
+-- The texts that go out to a client of a server, and the work of its session for it (own choice).
 
 -- the session ends over the port; one that is over changes nothing
-abbrev pub Ends :
+abbrev pub EndsSession :
     {P : Type 0} → (P → (call : Call) → Reply call → P → Type 0) → SessionState → P → SessionState → P → Type 0
-Ends step old p new q =
+EndsSession step old p new q =
     (IsSessionOver old × (new ≡ old) × (q ≡ p))
     ⊎ (Finishes step old.dialog p q new.dialog × (new.kept ≡ old.kept))
 
--- the items of a piece are carried out, and the client is written what the session says to them
-abbrev pub Hears : {P W : Type 0} → (P → (call : Call) → Reply call → P → Type 0) → (W → Option (List ℕ)) → ℕ
+-- the items of a piece are carried out, and the session's text is written to the client
+abbrev pub HearsItems : {P W : Type 0} → (P → (call : Call) → Reply call → P → Type 0) → (W → Option (List ℕ)) → ℕ
     → List Incoming → Dialog → P → W → Dialog → P → W → Type 0
-Hears step contents moment items before p out after q out' =
+HearsItems step contents moment items before p out after q out' =
     (text : List ℕ) × TakesTurns step moment before items p q text after × Wrote contents out text out'
 
 -- the client is given items, as many as wait or as a batch has
 abbrev pub GivesAll : {P W : Type 0} → (P → (call : Call) → Reply call → P → Type 0) → (W → Option (List ℕ)) → ℕ
     → SessionState → P → W → Bool → SessionState → P → W → Type 0
 GivesAll step contents most old p out is_all new q out' =
-    (text : List ℕ) × Gives step most old.dialog.stage p text q is_all
+    (text : List ℕ) × GivesItems step most old.dialog.stage p text q is_all
     × Appends (contents out) (contents out') text × (new ≡ old)
 
 -- the items are received, and the session ends
 abbrev pub LosesAll :
     {P : Type 0} → (P → (call : Call) → Reply call → P → Type 0) → ℕ → SessionState → P → SessionState → P → Type 0
 LosesAll {P} step most old p new q =
-    (text : List ℕ) × (mid : P) × (is_all : Bool) × Gives step most old.dialog.stage p text mid is_all
-    × Ends step old mid new q
+    (text : List ℕ) × (mid : P) × (is_all : Bool) × GivesItems step most old.dialog.stage p text mid is_all
+    × EndsSession step old mid new q
 
--- where this many items wait, up to 256 are received and written, which is how many the client took; or fewer are
--- there, or the session ends
-abbrev pub Delivers : {P W : Type 0} → (P → (call : Call) → Reply call → P → Type 0) → (W → Option (List ℕ)) → ℕ
+-- if this many items wait, up to 256 are received and written, and the client took that many; or fewer are there, or
+-- the session ends
+abbrev pub DeliversItems : {P W : Type 0} → (P → (call : Call) → Reply call → P → Type 0) → (W → Option (List ℕ)) → ℕ
     → SessionState → P → W → Option ℕ → SessionState → P → W → Type 0
-Delivers step contents waiting old p out (Some n) new q out' =
+DeliversItems step contents waiting old p out (Some n) new q out' =
     (n ≡ min waiting 256) × GivesAll step contents n old p out true new q out'
-Delivers step contents waiting old p out None new q out' =
+DeliversItems step contents waiting old p out None new q out' =
     GivesAll step contents (min waiting 256) old p out false new q out'
     ⊎ LosesAll step (min waiting 256) old p new q

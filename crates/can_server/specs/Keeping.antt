@@ -4,7 +4,7 @@ use Rattle.can_event.specs.declared.bus_config.BusConfig.{BusConfig}
 use Rattle.can_bus.specs.Legal.{IsLegal}
 use Rattle.can_bus.specs.Long.{HasTail}
 
--- What a scribe gives a keeper (own choice).
+-- The entries that a scribe gives to a keeper (own choice).
 
 -- these are the last entries of a legal history
 abbrev pub AreLegalLast : List Entry → Type 0

@@ -9,11 +9,11 @@ use Rattle.can_server.specs.declared.opening.Opening.TheVariants.{Blank, Word, C
 -- 22 (RFC 8446, 5.1).
 
 -- more bytes decide (own choice)
-abbrev pub is_open : Opening → Bool
-is_open Blank = true
-is_open Word = true
-is_open Client = false
-is_open Stranger = false
+abbrev pub is_undecided : Opening → Bool
+is_undecided Blank = true
+is_undecided Word = true
+is_undecided Client = false
+is_undecided Stranger = false
 
 -- one more byte: `<` begins the first message, and before it neither a control byte that is no blank nor a blank after
 -- other bytes may come (own choice)

@@ -6,14 +6,14 @@ use Rattle.can_event.specs.declared.attempt.Attempt.{Attempt}
 use Rattle.can_event.specs.declared.attempt.Attempt.TheVariants as attempt
 use Rattle.can_fault.specs.Sources.{VerdictMap}
 use Rattle.can_station.specs.Held.{Held}
-use Rattle.can_station.specs.Passes.{PassSeen, MadeStep, head_on, next_verdict}
+use Rattle.can_station.specs.Passes.{PassSeen, MadeStep, next_try, next_verdict}
 use Rattle.can_station.specs.Waits.{has_work}
 use Rattle.can_station.specs.declared.refusals.StationRefusal.{StationRefusal}
 use Rattle.can_server.specs.declared.driving.Stepped.{Stepped}
 use Rattle.can_server.specs.declared.driving.Stepped.TheVariants as stepped
 use Rattle.can_wire.specs.Schedules.{Schedule, next_begin, next_moment, after_tried, after_idle}
 
--- How the driver of a bus with bit rates goes by its schedule (own choice).
+-- How the driver of a bus with bit rates follows its schedule (own choice).
 
 -- the moment of the next attempt, which tries the frame of this interface, if there is one
 abbrev pub head_moment : Schedule → Option (ℕ × CanFrame) → ℕ
@@ -25,18 +25,18 @@ abbrev pub after_attempt : Verdict → Attempt → Schedule → Schedule
 after_attempt v (attempt.Tried t) s = after_tried t.frame t.class v s
 after_attempt v (attempt.Idle restarted) s = after_idle s
 
--- an attempt goes by a schedule: the moment of a frame is that of its end, and the schedule goes on by the length
--- of the attempt, by its class and verdict
+-- an attempt follows a schedule: a frame has the moment of its end, and the schedule advances by the length of the
+-- attempt, which depends on its class and verdict
 abbrev pub GoesBy : Schedule → Verdict → Attempt → Schedule → Type 0
 GoesBy old v (attempt.Tried t) new =
     (t.moment ≡ next_moment (Some t.frame) old) × (new ≡ after_tried t.frame t.class v old)
 GoesBy old v (attempt.Idle restarted) new = new ≡ after_idle old
 
--- the schedule of a driver at a moment: where its next attempt would have begun more than 100 ms before, it begins then
+-- the schedule of a driver at a moment: if its next attempt would have begun more than 100 ms earlier, it begins now
 abbrev pub caught_up : ℕ → Schedule → Schedule
 caught_up now s = if nat_le (now * 1000 - next_begin s) 100000000 then s else record s { since = now }
 
--- what a driver goes by: the state under the lock, its pass and its schedule
+-- the state of a driver: the state under the lock, its pass and its schedule
 pub record Driven (F : Type 0) : Type 0 where
   pub held : Held F
   pub pass : PassSeen
@@ -44,7 +44,7 @@ pub record Driven (F : Type 0) : Type 0 where
 
 -- the moment that its schedule has for its next attempt
 abbrev pub moment_for : {F : Type 0} → Driven F → ℕ
-moment_for d = head_moment d.schedule (head_on d.held.journal)
+moment_for d = head_moment d.schedule (next_try d.held.journal)
 
 -- there is something to attempt: it makes an attempt at that moment, and the schedule goes on by it
 abbrev pub Makes : {F : Type 0} → (F → VerdictMap) → Driven F → Driven F → Type 0
@@ -55,8 +55,8 @@ Makes verdicts old new =
     × GoesBy old.schedule (next_verdict verdicts old.held) a new.schedule
 
 -- an attempt at that moment is refused, and the schedule stays
-abbrev pub IsRefused : {F : Type 0} → (F → VerdictMap) → Driven F → Driven F → Type 0
-IsRefused verdicts old new =
+abbrev pub IsAttemptRefused : {F : Type 0} → (F → VerdictMap) → Driven F → Driven F → Type 0
+IsAttemptRefused verdicts old new =
     (why : StationRefusal) × MadeStep verdicts old.held old.pass (moment_for old) (Err why) new.held new.pass
     × (new.schedule ≡ old.schedule)
 
@@ -65,10 +65,10 @@ abbrev pub MakesAll : {F : Type 0} → (F → VerdictMap) → ℕ → Driven F �
 MakesAll verdicts zero old new = new ≡ old
 MakesAll {F} verdicts (suc n) old new = (mid : Driven F) × MakesAll verdicts n old mid × Makes verdicts mid new
 
--- in one hold of the lock it makes up to 64 attempts, and at least one where there is something to attempt; or the next
+-- in one hold of the lock it makes up to 64 attempts, and at least one if there is something to attempt; or the next
 -- one is refused
 abbrev pub MakesDue : {F : Type 0} → (F → VerdictMap) → Stepped → Driven F → Driven F → Type 0
 MakesDue {F} verdicts stepped.Refused old new =
-    (n : ℕ) × (mid : Driven F) × (n < 64) × MakesAll verdicts n old mid × IsRefused verdicts mid new
+    (n : ℕ) × (mid : Driven F) × (n < 64) × MakesAll verdicts n old mid × IsAttemptRefused verdicts mid new
 MakesDue verdicts _ old new =
     (n : ℕ) × (n ≤ 64) × MakesAll verdicts n old new × (n ≡ 0 → has_work old.held.journal ≡ false)

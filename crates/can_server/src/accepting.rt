@@ -15,7 +15,8 @@ use std::thread::Threads;
 use std::time::Duration;
 use std::{thread, time};
 
-/// How long an acceptor rests after a connection that could not be accepted, as for want of file descriptors.
+/// How long an acceptor rests after a connection that it could not accept, for example for lack of
+/// file descriptors.
 const AFTER_A_FAULT_MS: u64 = 100;
 
 /// How often an acceptor tries before this counts as a session: for some 6 seconds.
@@ -37,7 +38,7 @@ pub struct Visit<'d> {
 enum Next {
     /// A client has this place.
     Admitted(usize),
-    /// Nobody could be accepted for all tries, or nobody else is let in now.
+    /// All tries were in vain, or nobody else is let in now.
     Nobody,
     /// The server is closed.
     Closed,
@@ -52,8 +53,9 @@ impl<
     C: Clock + Sync,
     R: Threads + Wait + time::Clock + Sync,
 > Server<'a, N, F, G, C, R> {
-    /// Accepts connections until the acceptor has had its sessions, each served by a thread of its own, closes the acceptor and
-    /// waits for their ends. It accepts no more once the server is closed.
+    /// Accepts connections until the acceptor has had its sessions. A thread serves each
+    /// connection. Then it closes the acceptor and waits for those threads. It accepts no more once
+    /// the server is closed.
     pub fn accept_all(&self, acceptor: &Acceptor) {
         thread::scope(thread::scope_env(), self.rt, |scope| {
             for before in 0..self.most_connections(acceptor) {
@@ -88,7 +90,8 @@ impl<'a, N: BusName, F: FaultSource + Drop, G: Gate + Drop, C: Clock, R: Wait + 
     C,
     R,
 > {
-    /// How many connections an acceptor accepts: each counts as one of its sessions, unless only those count that have been raw.
+    /// Returns how many connections an acceptor accepts. Each counts as one of its sessions, unless
+    /// only those that have been raw count.
     fn most_connections(&self, acceptor: &Acceptor) -> u32 {
         if self.is_long {
             u32::MAX
@@ -110,7 +113,7 @@ impl<'a, N: BusName, F: FaultSource + Drop, G: Gate + Drop, C: Clock, R: Wait + 
         Next::Nobody
     }
 
-    /// Whether nobody is let in at an acceptor any more.
+    /// Returns whether nobody is let in at an acceptor any more.
     fn is_over(&self, acceptor: &Acceptor) -> bool {
         acceptor.is_used_up() || self.clients.lock(self.rt).is_closed()
     }
@@ -129,8 +132,8 @@ impl<'a, N: BusName, F: FaultSource + Drop, G: Gate + Drop, C: Clock, R: Wait + 
         });
     }
 
-    /// Takes a connection in, if the server is not closed. Where as many sessions are at work as a server has, and none
-    /// of them is idle, the client gets `too many sessions`.
+    /// Takes a connection in, if the server is not closed. The client gets `too many sessions` if
+    /// as many sessions are at work as a server has, and none of them is idle.
     fn admit(&self, conn: Conn, session: u32) -> Next {
         let from = if self.host.wants_notices() {
             conn.peer()
@@ -155,8 +158,8 @@ impl<'a, N: BusName, F: FaultSource + Drop, G: Gate + Drop, C: Clock, R: Wait + 
         }
     }
 
-    /// Finds a connection a place among the clients. Where all are taken, idle clients are shut out, and it waits for one
-    /// of their places.
+    /// Finds a place among the clients for a connection. If all are taken, it shuts idle clients
+    /// out and waits for one of their places.
     fn find_place(&self, conn: &Arc<Conn, Global>) -> Result<usize, NotAdmitted> {
         for _ in 0..TURNS {
             let now = self.host.now();

@@ -8,7 +8,7 @@ use std::sync::atomic::{AtomicU64, Ordering};
 /// The most connections that wait at a listener: Linux's `somaxconn`, as it mostly is.
 const MOST_WAITING: u32 = 4096;
 
-/// Where connections come in.
+/// An acceptor, at which connections come in.
 #[derive(Drop)]
 pub enum Listener {
     Tcp(TcpListener),
@@ -31,7 +31,7 @@ impl Listener {
         }
     }
 
-    /// From now on `accept` is a fault where no connection waits.
+    /// From now on `accept` is a fault if no connection waits.
     fn never_waits(&self) -> io::Result<()> {
         match self {
             Listener::Tcp(listener) => listener.set_nonblocking(true),
@@ -60,7 +60,7 @@ pub struct Acceptor {
     listener: Listener,
     shutdown_handle: Conn,
     sessions: u32,
-    /// How many sessions have been raw, where those count.
+    /// The number of sessions that have been raw, if those count.
     raw: AtomicU64,
 }
 
@@ -76,7 +76,7 @@ impl Acceptor {
         })
     }
 
-    /// How many sessions it takes.
+    /// Returns how many sessions it takes.
     pub fn sessions(&self) -> u32 {
         self.sessions
     }
@@ -92,7 +92,7 @@ impl Acceptor {
         before < sessions
     }
 
-    /// Whether as many sessions have been raw as it takes.
+    /// Returns whether as many sessions have been raw as it takes.
     pub(crate) fn is_used_up(&self) -> bool {
         self.raw.load(Ordering::SeqCst) >= u64::from(self.sessions)
     }
@@ -102,14 +102,15 @@ impl Acceptor {
         self.listener.accept()
     }
 
-    /// Lets nobody in any more: who comes later is refused by the system. A thread that waits for a connection returns:
-    /// Linux refuses an `accept` on a listening socket that was shut down.
+    /// Lets nobody in any more: the system refuses connections that come later. A thread that waits
+    /// for a connection returns, because Linux refuses an `accept` on a listening socket that was
+    /// shut down.
     pub(crate) fn close(&self) {
         self.shutdown_handle.shutdown();
     }
 
-    /// Closes the connections that came before the acceptor was closed and that nobody has accepted. Linux still gives those
-    /// of a Unix path.
+    /// Closes the connections that came before the acceptor was closed and that were not accepted.
+    /// Linux still gives those of a Unix path.
     pub(crate) fn turn_away(&self) {
         if self.listener.never_waits().is_err() {
             return;

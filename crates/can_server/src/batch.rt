@@ -1,9 +1,9 @@
-//! What goes out to a client: it is made while the bus is called, and written once the bus is let go.
+//! The output to a client. It is made while the bus is called, and written once the bus is let go.
 ghost use Rattle.std.specs.Prelude.{◌≡◌, ◌+◌, ◌++◌, ◌<◌, ◌≤◌, [], length, take, drop, min, vec_len, IsTrue, false, true, OnOk, IfOk};
 ghost use Rattle.std.specs.Io.KnownBytes.{Appends};
 ghost use Rattle.can_proto.specs.Messages.{messages_of, kept_of};
 ghost use Rattle.can_dialog.specs.Sessions.{TakesTurns, Wrote};
-ghost use Rattle.can_dialog.specs.Deliveries.{Gives};
+ghost use Rattle.can_dialog.specs.Deliveries.{GivesItems};
 ghost use Rattle.can_server.specs.Batches.{texts_of};
 
 use can_bus::Received;
@@ -15,15 +15,16 @@ use std::io::Write;
 /// The most items of a batch.
 const MOST_ITEMS: usize = 256;
 
-/// How many bytes an item's text has at most.
+/// The most bytes of an item's text.
 const LONGEST: usize = 256;
 
-/// What was received at once.
+/// The items that were received at once.
 #[derive(Debug, Clone, Copy, PartialEq, Eq)]
 pub struct Taken {
-    /// How many receives are in the rooms.
+    /// The number of receives in the rooms.
     pub rooms: usize,
-    /// Whether each of them gave an item: as many as were asked for, or as a batch has. There may be more.
+    /// Whether each of them gave an item: as many as were asked for, or as a batch has. There may
+    /// be more.
     pub are_items: bool,
 }
 
@@ -43,8 +44,8 @@ impl Room {
     }
 }
 
-/// What is said to a client at once: of what a port replies the texts are made first, and then written. It keeps its memory
-/// for the next time.
+/// The texts for a client that are written at once. The texts of a port's replies are made first,
+/// and then written. It keeps its memory for the next time.
 #[derive(Drop)]
 pub struct Batch {
     rooms: Vec<Room>,
@@ -67,7 +68,8 @@ impl Batch {
         })
     }
 
-    /// Feeds a session a piece of what its client says. What the session says waits for `write`, and nothing else does.
+    /// Feeds a session a piece of its client's input. The session's text waits for `write`, and
+    /// nothing else does.
     ///
     /// Refusals: those of `Session::feed`.
     pub fn hear<P: Port>(
@@ -87,7 +89,7 @@ impl Batch {
         session.feed(alloc, piece, moment, port, &mut self.text)
     }
 
-    /// How many bytes wait to be written.
+    /// Returns how many bytes wait to be written.
     pub fn waiting(&self) -> usize
         ensures { result ≡ length self.now.text.items }
     {
@@ -106,7 +108,7 @@ impl Batch {
     pub fn take<P: Port>(&mut self, session: &Session, waiting: u64, port: &mut P) -> Taken
         ensures within { result.rooms ≤ 256 }
         ensures all { result.are_items ≡ true → result.rooms ≡ min waiting 256 }
-        ensures takes { Gives P.step (min waiting 256) session.now.dialog.stage port.old
+        ensures takes { GivesItems P.step (min waiting 256) session.now.dialog.stage port.old
             (texts_of (take result.rooms self.new.rooms.items)) port.new result.are_items }
     {
         let most = waiting.min(MOST_ITEMS as u64) as usize;
@@ -145,9 +147,9 @@ fn receive<P: Port>(session: &Session, port: &mut P, rooms: &mut [Room], most: u
     requires { most ≤ length rooms.old }
     ensures within { result ≤ most }
     ensures all { result ≡ most →
-        Gives P.step most session.now.dialog.stage port.old
+        GivesItems P.step most session.now.dialog.stage port.old
         (texts_of (take most rooms.new)) port.new true }
-    ensures few { result < most → Gives P.step most session.now.dialog.stage port.old
+    ensures few { result < most → GivesItems P.step most session.now.dialog.stage port.old
         (texts_of (take (result + 1) rooms.new)) port.new false }
 {
     for place in 0..most {

@@ -17,9 +17,9 @@ const MOST_IDLE: u64 = 60_000_000;
 /// Why a connection has no place.
 #[derive(Debug, Clone, Copy, PartialEq, Eq)]
 pub enum NotAdmitted {
-    /// Nobody comes in any more.
+    /// Nobody is let in any more.
     Closed,
-    /// As many sessions are at work as a server has at once.
+    /// As many sessions are at work as a server may have.
     Full,
 }
 
@@ -30,12 +30,12 @@ pub enum Phase {
     New(Moment),
     /// Its session has been raw.
     Raw,
-    /// It was idle when another found no place, so its connection was shut down.
+    /// It was idle when another client found no place, so its connection was shut down.
     ShutOut,
 }
 
 impl Phase {
-    /// Whether a client may lose its place.
+    /// Returns whether a client may lose its place.
     fn is_idle(self, now: Moment) -> bool
         ensures { result ≡ is_idle now self }
     {
@@ -53,8 +53,8 @@ pub struct Client {
     stay: Phase,
 }
 
-/// The connections of the sessions at work, 64 at most. Contracts see which client has which place, and whether
-/// nobody comes in any more.
+/// The connections of the sessions at work, 64 at most. Contracts see the client at each place, and
+/// whether nobody is let in any more.
 #[derive(Drop)]
 pub struct Clients {
     places: Vec<Option<Client>>,
@@ -73,7 +73,7 @@ impl Model for Clients {
 }
 
 impl Clients {
-    /// Nobody is there. It takes the room for all.
+    /// All places are free. It takes the memory for all of them.
     pub fn new(alloc: Global) -> Result<Clients, AllocError>
         ensures { IfOk result (λ clients. clients ≡ no_clients) }
     {
@@ -87,8 +87,8 @@ impl Clients {
         })
     }
 
-    /// Takes a connection in at this moment: its place. Where nobody comes in any more it has none, however many are
-    /// free.
+    /// Takes a connection in at this moment, and returns its place. It gets none if nobody is let
+    /// in any more, however many places are free.
     pub fn admit(&mut self, conn: Arc<Conn, Global>, now: Moment) -> Result<usize, NotAdmitted>
         ensures { Admits self.old conn now result self.new }
     {
@@ -138,9 +138,9 @@ impl Clients {
         }
     }
 
-    /// Shuts the connections of idle clients down, since another has found no place: of those that came 60 seconds ago
-    /// or earlier and whose sessions have not been raw. Whether a place is about to get free, that of a client that is
-    /// shut out.
+    /// Shuts the connections of idle clients down, because another client has found no place. An
+    /// idle client came 60 seconds ago or earlier, and its session has not been raw. Returns
+    /// whether a place is about to get free: that of a client that is shut out.
     pub fn make_room(&mut self, now: Moment) -> bool
         ensures clients { self.new ≡ record self.old { places = all_asked now self.old.places } }
         ensures soon { IsTrue result ↔ Any IsShutOut self.new.places }
@@ -160,14 +160,15 @@ impl Clients {
         }
     }
 
-    /// Whether nobody comes in any more.
+    /// Returns whether nobody is let in any more.
     pub fn is_closed(&self) -> bool
         ensures { result ≡ self.now.is_closed }
     {
         self.is_closed
     }
 
-    /// Lets nobody in from now on, and shuts all connections down: whether it was open before.
+    /// Lets nobody in from now on, and shuts all connections down. Returns whether it was open
+    /// before.
     pub fn close(&mut self) -> bool
         ensures was_open { result ≡ not self.old.is_closed }
         ensures closed { self.new ≡ record self.old { is_closed = true } }
@@ -193,7 +194,7 @@ fn ask_for_room(place: &mut Option<Client>, now: Moment)
     }
 }
 
-/// Whether the client at a place is shut out.
+/// Returns whether the client at a place is shut out.
 fn is_shut_out(place: &Option<Client>) -> bool
     ensures { IsTrue result ↔ IsShutOut place.now }
 {

@@ -3,7 +3,7 @@ ghost use Rattle.can_hub.specs.PassSteps.{PassStep};
 ghost use Rattle.can_proto.specs.Messages.{messages_of, kept_of};
 ghost use Rattle.can_dialog.specs.Sessions.{Wrote};
 ghost use Rattle.can_dialog.specs.Turns.{greeting};
-ghost use Rattle.can_server.specs.Conversations.{Delivers, Ends, Hears};
+ghost use Rattle.can_server.specs.Conversations.{DeliversItems, EndsSession, HearsItems};
 ghost use Rattle.can_server.specs.Openings.{after_bytes};
 
 use crate::batch::Batch;
@@ -21,7 +21,7 @@ use std::sync::{Mutex, Wait};
 /// The reply to a command that was carried out and has no other.
 const DONE: &[u8] = b"< ok >";
 
-/// Where the socket of a session in raw mode is, and of which interface it is one.
+/// The socket of a session in raw mode, and the interface of that socket.
 #[derive(Drop)]
 pub struct OpenSocket<'a, N: BusName, F: FaultSource + Drop, G: Gate + Drop> {
     pub station: &'a Station<N, F, G, HubBus>,
@@ -29,7 +29,7 @@ pub struct OpenSocket<'a, N: BusName, F: FaultSource + Drop, G: Gate + Drop> {
     pub socket: SocketId,
 }
 
-/// A session with its port: what its two threads share under a lock.
+/// A session with its port, which its two threads share under a lock.
 #[derive(Drop)]
 pub struct Conversation<'a, N: BusName, F: FaultSource + Drop, G: Gate + Drop, R: Wait> {
     session: Session,
@@ -37,7 +37,7 @@ pub struct Conversation<'a, N: BusName, F: FaultSource + Drop, G: Gate + Drop, R
     batch: Batch,
     /// The connection's beginning.
     opening: Opening,
-    /// Whether what was said to the last piece is more than one `< ok >`.
+    /// Whether the last piece was answered by more than one `< ok >`.
     said_more: bool,
 }
 
@@ -69,8 +69,9 @@ impl<'a, N: BusName, F: FaultSource + Drop, G: Gate + Drop, R: Wait> Conversatio
         }
     }
 
-    /// Takes a piece of what the client says: whether the session goes on. Of a connection that begins as no client does
-    /// nothing is carried out. A session whose client does not take what is written ends.
+    /// Takes a piece of the client's input, and returns whether the session goes on. If the
+    /// connection begins as no client's does, nothing is carried out. The session ends if its
+    /// client does not take the output.
     pub fn feed<W: Write>(
         &mut self,
         alloc: Global,
@@ -82,7 +83,7 @@ impl<'a, N: BusName, F: FaultSource + Drop, G: Gate + Drop, R: Wait> Conversatio
         ensures stranger { self.new.opening ≡ Opening.Stranger → (result ≡ false)
             × (self.new.session ≡ self.old.session) × (self.new.port ≡ self.old.port)
             × (out.new ≡ out.old) }
-        ensures hears { IsTrue result → Hears (PassStep F) W.contents moment
+        ensures hears { IsTrue result → HearsItems (PassStep F) W.contents moment
             (messages_of (self.old.session.kept ++ piece.now)) self.old.session.dialog
             self.old.port out.old self.new.session.dialog self.new.port out.new }
         ensures keeps { IsTrue result →
@@ -95,7 +96,7 @@ impl<'a, N: BusName, F: FaultSource + Drop, G: Gate + Drop, R: Wait> Conversatio
         self.carry_out(alloc, piece, moment, out)
     }
 
-    /// Carries out a piece of what the client says, as `feed` does.
+    /// Carries out a piece of the client's input, as `feed` does.
     fn carry_out<W: Write>(
         &mut self,
         alloc: Global,
@@ -104,7 +105,7 @@ impl<'a, N: BusName, F: FaultSource + Drop, G: Gate + Drop, R: Wait> Conversatio
         out: &mut W,
     ) -> bool
         ensures opening { self.new.opening ≡ self.old.opening }
-        ensures hears { IsTrue result → Hears (PassStep F) W.contents moment
+        ensures hears { IsTrue result → HearsItems (PassStep F) W.contents moment
             (messages_of (self.old.session.kept ++ piece.now)) self.old.session.dialog
             self.old.port out.old self.new.session.dialog self.new.port out.new }
         ensures keeps { IsTrue result →
@@ -126,11 +127,11 @@ impl<'a, N: BusName, F: FaultSource + Drop, G: Gate + Drop, R: Wait> Conversatio
         !self.is_over()
     }
 
-    /// Gives the client up to this many items, at most 256: how many it took, or `None` where there can be no more. They
-    /// are received in one hold of the bus's lock, and their texts are written after it. A session whose client does not
-    /// take them ends.
+    /// Gives the client up to this many items, at most 256. Returns how many it took, or `None` if
+    /// there can be no more. They are received in one hold of the bus's lock, and their texts are
+    /// written after it. The session ends if its client does not take them.
     pub fn deliver<W: Write>(&mut self, waiting: u64, out: &mut W) -> Option<u64>
-        ensures { Delivers (PassStep F) W.contents waiting self.old.session self.old.port
+        ensures { DeliversItems (PassStep F) W.contents waiting self.old.session self.old.port
             out.old result self.new.session self.new.port out.new }
     {
         let mut port = LockedPort::new(self.port.take());
@@ -150,23 +151,24 @@ impl<'a, N: BusName, F: FaultSource + Drop, G: Gate + Drop, R: Wait> Conversatio
     /// Ends the session.
     pub fn end(&mut self)
         ensures opening { self.new.opening ≡ self.old.opening }
-        ensures ends { Ends (PassStep F) self.old.session self.old.port
+        ensures ends { EndsSession (PassStep F) self.old.session self.old.port
             self.new.session self.new.port }
     {
         let _ = self.session.end(&mut self.port);
     }
 
-    /// Whether the connection began as no client's does.
+    /// Returns whether the connection began as no client's does.
     pub fn is_strangers(&self) -> bool {
         self.opening == Opening::Stranger
     }
 
-    /// Whether what was said to the last piece is more than one `< ok >`, so that its client reads one text after another.
+    /// Returns whether the last piece was answered by more than one `< ok >`. If so, its client
+    /// reads one text after another.
     pub fn said_more(&self) -> bool {
         self.said_more
     }
 
-    /// Whether the session is over.
+    /// Returns whether the session is over.
     pub fn is_over(&self) -> bool {
         self.session.stage() == Stage::Ended
     }
@@ -176,7 +178,7 @@ impl<'a, N: BusName, F: FaultSource + Drop, G: Gate + Drop, R: Wait> Conversatio
         self.port.station()
     }
 
-    /// Where the socket is, in raw mode.
+    /// Returns the socket, in raw mode.
     pub fn place(&self) -> Option<OpenSocket<'a, N, F, G>> {
         match (self.session.stage(), self.port.station()) {
             (Stage::Raw(raw), Some(station)) => Some(OpenSocket {
@@ -188,22 +190,24 @@ impl<'a, N: BusName, F: FaultSource + Drop, G: Gate + Drop, R: Wait> Conversatio
         }
     }
 
-    /// The interface that the session has restarted since the last look, if it has and did not take it down after that.
+    /// The interface that the session has restarted since the last look, if any. One that it took
+    /// down later does not count.
     pub fn look_for_restart(&mut self) -> Option<Iface> {
         self.port.take_restarted()
     }
 
-    /// The interface that the session has taken down since the last look, if it has and did not restart it after that.
+    /// The interface that the session has taken down since the last look, if any. One that it
+    /// restarted later does not count.
     pub fn look_for_down(&mut self) -> Option<Iface> {
         self.port.take_downed()
     }
 
-    /// What the calls of the session came to.
+    /// Returns the outcomes of the session's calls.
     pub fn tally(&self) -> Tally {
         self.port.tally()
     }
 
-    /// The pass, where a station was entered.
+    /// The pass, if a station was entered.
     pub fn into_pass(self) -> Option<Pass<N>> {
         let Conversation { port, .. } = self;
         port.into_pass()

@@ -10,11 +10,11 @@ use std::sync::{Mutex, Wait};
 use std::time::Duration;
 use std::{thread, time};
 
-/// How many milliseconds the thread waits at first where the reply to `rawmode` went out in a write of its own. Some
-/// clients read it, and what came with it, as one text.
+/// How many milliseconds the thread waits at first if the reply to `rawmode` went out in a write of
+/// its own. Some clients read that reply, and all that came with it, as one text.
 const BEFORE_ITEMS_MS: u64 = 20;
 
-/// What the thread has that delivers the items of a session in raw mode.
+/// The state of the thread that delivers the items of a session in raw mode.
 #[derive(Drop)]
 pub struct Delivery<'s, 't, N: BusName, F: FaultSource + Drop, G: Gate + Drop, C, R: Wait> {
     pub rt: &'s R,
@@ -35,8 +35,9 @@ impl<
     C: Clock,
     R: Wait + time::Clock,
 > Delivery<'s, 't, N, F, G, C, R> {
-    /// Gives the client its items, until the session is over, its socket is closed or the record is full. Where items
-    /// are refused for another reason, as want of memory, or the client does not take them, the session ends.
+    /// Gives the client its items, until the session is over, its socket is closed or the record is
+    /// full. The session also ends if items are refused for another reason, such as lack of memory,
+    /// or if the client does not take them.
     pub fn deliver_all(&self) {
         if self.is_reply_apart {
             thread::sleep(self.rt, Duration::from_millis(BEFORE_ITEMS_MS));
@@ -58,7 +59,8 @@ impl<
         }
     }
 
-    /// Ends the session, and the connection with it. Where the record is full a session goes on that has not ended.
+    /// Ends the session, and the connection with it. If the record is full, a session that has not
+    /// ended goes on.
     fn end_unless_full(&self, station: &Station<N, F, G, HubBus>) {
         let mut talk = self.talk.lock(self.rt);
         if talk.is_over() || !station.is_full() {
@@ -67,7 +69,8 @@ impl<
         }
     }
 
-    /// Waits until the frames are over whose items wait, on a bus with bit rates. No lock is held meanwhile.
+    /// Waits for the ends of the frames whose items wait, on a bus with bit rates. No lock is held
+    /// meanwhile.
     fn await_frames(&self, station: &Station<N, F, G, HubBus>) {
         let Some(end) = self.buses.last_end(usize::from(station.number())) else {
             return;
@@ -92,8 +95,8 @@ impl<
     }
 }
 
-/// Ends the waits of a station whose record is full: no call changes it any more, not even one that closes a socket.
-/// Its driver ends, and reports that to the host.
+/// Ends the waits of a station whose record is full. No call changes such a station, not even one
+/// that closes a socket. Its driver ends, and reports that to the host.
 pub fn stop_full<N: BusName, F: FaultSource + Drop, G: Gate + Drop, R: Wait>(
     rt: &R,
     station: &Station<N, F, G, HubBus>,

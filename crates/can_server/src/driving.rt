@@ -21,12 +21,12 @@ use std::time::Duration;
 /// The most steps of a driver in one hold of the lock.
 pub const MOST_STEPS: u32 = 64;
 
-/// What became of a driver's steps.
+/// The outcome of a driver's steps.
 #[derive(Drop)]
 pub enum Stepped {
     /// It goes on, after an attempt in which these interfaces changed.
     On(Changes),
-    /// It is over: all sessions are, and no attempt would change what they see.
+    /// It is over: all sessions are over, and no attempt would change what they see.
     Out,
     /// A step was refused.
     Refused,
@@ -41,8 +41,9 @@ impl<'a, N: BusName, F: FaultSource + Drop, G: Gate + Drop, C: Clock, R: Wait + 
     C,
     R,
 > {
-    /// Steps a bus while an interface has a frame to send or counts towards its restart, until its station is stopped,
-    /// and hands the pass back. Then it reports a full record, and refused memory, to the host.
+    /// Steps a bus while an interface has a frame to send or counts towards its restart, until its
+    /// station is stopped. Then it hands the pass back, and reports a full record and refused
+    /// memory to the host.
     pub fn drive(&self, bus: usize) {
         if bus >= self.buses.count() {
             return;
@@ -64,8 +65,8 @@ impl<'a, N: BusName, F: FaultSource + Drop, G: Gate + Drop, C: Clock, R: Wait + 
         }
     }
 
-    /// Steps a bus with this pass: whether a step was refused, which ends it: for a full record, for want of memory, or
-    /// since the pass is another station's.
+    /// Steps a bus with this pass, and returns whether a step was refused. A refusal ends it: the
+    /// record is full, memory is refused, or the pass is another station's.
     fn step_all(&self, bus: usize, pass: &mut Pass<N>) -> bool {
         if bus >= self.buses.count() {
             return false;
@@ -104,8 +105,9 @@ impl<'a, N: BusName, F: FaultSource + Drop, G: Gate + Drop, C: Clock, R: Wait + 
         false
     }
 
-    /// Steps a bus up to this many times in one hold of its lock, while an interface has a frame to send or counts towards
-    /// its restart. The attempt in which an interface went bus off, or was restarted, is the last.
+    /// Steps a bus up to this many times in one hold of its lock, while an interface has a frame to
+    /// send or counts towards its restart. It stops after an attempt in which an interface went bus
+    /// off or was restarted.
     fn step_some(
         &self,
         mut hold: Hold<'_, N, F, G, HubBus>,
@@ -163,7 +165,7 @@ pub struct Changes {
 }
 
 impl Changes {
-    /// Of no attempt.
+    /// The changes of no attempt.
     pub fn none() -> Changes {
         Changes {
             off: IfaceSet::empty(),
@@ -171,14 +173,14 @@ impl Changes {
         }
     }
 
-    /// Whether an interface changed.
+    /// Returns whether an interface changed.
     pub fn are_some(&self) -> bool
         ensures { result ≡ false ↔ (self.now.off ≡ no_ifaces) × (self.now.restarted ≡ no_ifaces) }
     {
         !self.off.is_empty() || !self.restarted.is_empty()
     }
 
-    /// Of this attempt.
+    /// The changes of this attempt.
     pub fn of(attempt: &Attempt) -> Changes
         ensures off { result.off ≡ off_in attempt.now }
         ensures restarted { result.restarted ≡ restarted_in (reply.Attempted attempt.now) }
@@ -196,8 +198,8 @@ impl Changes {
     }
 }
 
-/// Whether an attempt neither sent a frame nor restarted an interface. Once all sessions are over, more of these only fill
-/// the record.
+/// Returns whether an attempt neither sent a frame nor restarted an interface. Once all sessions
+/// are over, such attempts only fill the record.
 pub fn makes_no_progress(attempt: &Attempt) -> bool
     ensures { IsTrue result ↔ IsInVain attempt.now }
 {

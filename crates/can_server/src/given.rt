@@ -7,15 +7,15 @@ use std::snapshot::Snapshot;
 
 const _: () = prove!(size_of::<Given>() == 0);
 
-// The entries as contracts see them: no value of this type is kept.
+// The entries as contracts see them. No value of this type is kept.
 #[derive(Drop)]
 enum Chain {
     Empty,
     Block(Snapshot<Chain>, Snapshot<PackedRecord>),
 }
 
-/// The entries that a keeper was given, the oldest first, which only contracts see: it takes no memory, and its methods do
-/// nothing.
+/// The entries given to a keeper, the oldest first. Only contracts see them: it takes no memory,
+/// and its methods do nothing.
 #[derive(Drop)]
 pub struct Given {
     chain: Snapshot<Chain>,
@@ -24,11 +24,11 @@ pub struct Given {
 impl Model for Given {
     ghost use Rattle.std.specs.Prelude.{List};
     ghost use Rattle.can_event.specs.declared.entry.Entry.{Entry};
-    ghost use Rattle.can_server.specs.Givens.{entries_of};
+    ghost use Rattle.can_server.specs.Givens.{entries_of_chain};
 
     ghost Value = { List Entry };
 
-    ghost view = { λ g. entries_of g.chain.value };
+    ghost view = { λ g. entries_of_chain g.chain.value };
 }
 
 impl Given {

@@ -1,15 +1,16 @@
 //! A server: the threads that serve the buses of a hub to many clients.
 //!
-//! [`serve`] takes connections in at its acceptors. Each is a session of two threads, one that reads what the client says
-//! and one that delivers its items, over a pass of the bus that it opens. Each bus has a driver, which steps it while
-//! an interface has a frame to send or counts towards its restart. At the end all passes are handed back, for the hub
-//! to settle.
+//! [`serve`] takes connections in at its acceptors. Each is a session of two threads over a pass of
+//! the bus that it opens: one reads the client's input, the other delivers its items. Each bus has
+//! a driver, which steps it while an interface has a frame to send or counts towards its restart.
+//! At the end all passes are handed back, for the hub to settle.
 //!
-//! Of the threads it is proved that one list of passes is handed back for each bus, and that a server that is closed
-//! lets nobody in ([`Clients`]). The sessions are can_dialog's, each with a pass of its own; what one says, and the texts
-//! of its items, go out in order, each once ([`Batch`]). Which connections begin as no client's does, and are closed, is
-//! [`Opening`]. Not promised: that a peer gets anything, how long anybody waits, that no two wait for each
-//! other.
+//! Two facts about the threads are proved. One list of passes is handed back for each bus, and a
+//! server that is closed lets nobody in ([`Clients`]). The sessions are can_dialog's, each with a
+//! pass of its own. Their texts, and the texts of their items, go out in order, each once
+//! ([`Batch`]). [`Opening`] recognizes connections that no client would begin so; they are closed.
+//! It is not promised that a peer gets anything, that a thread waits only so long, or that no two
+//! wait for each other.
 #![tactic(auto)]
 
 mod accepting;

@@ -1,7 +1,8 @@
 use can_frame::Iface;
 use std::net::SocketAddr;
 
-/// What a server reports to its host while it runs. The sessions of an acceptor are numbered from 1.
+/// The reports of a server to its host while it runs. The sessions of an acceptor are numbered from
+/// 1.
 #[derive(Debug, Clone, Copy)]
 pub enum Notice {
     /// A session begins. Its client has this address, or came to a Unix path.
@@ -9,12 +10,13 @@ pub enum Notice {
         session: u32,
         from: Option<SocketAddr>,
     },
-    /// A client was refused, as there are too many sessions.
+    /// A client was refused because there are too many sessions.
     TurnedAway {
         session: u32,
         from: Option<SocketAddr>,
     },
-    /// A connection began as no client's does, as that of a web page, and is closed.
+    /// A connection was closed because it began as no client's does, for example as that of a web
+    /// page.
     Strange {
         session: u32,
     },
@@ -24,8 +26,8 @@ pub enum Notice {
         bus: usize,
         iface: Iface,
     },
-    /// A session is over. This many frames that it sent were refused, and this many items found no room at its
-    /// socket, as far as that is known where the record is full.
+    /// A session is over. This many of its frames were refused, and this many items did not fit at
+    /// its socket, as far as that is known if the record is full.
     Went {
         session: u32,
         refused: u64,
@@ -41,13 +43,13 @@ pub enum Notice {
         bus: usize,
         iface: Iface,
     },
-    /// The driver of this bus, which has bit rates, was this many milliseconds late, and left out what it missed. It is
-    /// reported at most once in a minute.
+    /// The driver of this bus, which has bit rates, was this many milliseconds late, and skipped
+    /// the time that it missed. It is reported at most once in a minute.
     Late {
         bus: usize,
         millis: u64,
     },
-    /// This bus has nine tenths of the entries that it may have. It is reported once.
+    /// This bus has nine tenths of its entries. It is reported once.
     NearlyFull {
         bus: usize,
     },
@@ -55,7 +57,8 @@ pub enum Notice {
     Full {
         bus: usize,
     },
-    /// Memory was refused to the driver of this bus, so no frame is tried on it any more. It is reported once.
+    /// The driver of this bus was refused memory, so no frame is tried on it any more. It is
+    /// reported once.
     NoDriver {
         bus: usize,
     },

@@ -2,22 +2,23 @@
 //! begins as a client does.
 ghost use Rattle.std.specs.Prelude.{◌≡◌};
 ghost use Rattle.can_proto.specs.Words.{is_blank};
-ghost use Rattle.can_server.specs.Openings.{is_open as is_open_at, after_byte, after_bytes};
+ghost use Rattle.can_server.specs.Openings.{is_undecided as is_open_at, after_byte, after_bytes};
 
 /// The beginning of a connection.
 #[derive(Debug, Clone, Copy, PartialEq, Eq)]
 pub enum Opening {
-    /// With nothing but blanks so far.
+    /// Only blanks so far.
     Blank,
-    /// With other bytes too, and no blank after them so far.
+    /// Other bytes too, and no blank after them so far.
     Word,
-    /// As a client may: its first message has begun.
+    /// It begins as a client may: its first message has begun.
     Client,
-    /// As no client does: a control byte that is no blank, or a blank after other bytes, came before its first message.
+    /// It begins as no client does: a control byte that is no blank, or a blank after other bytes,
+    /// came before its first message.
     Stranger,
 }
 
-/// Whether the byte is a blank of a message.
+/// Returns whether the byte is a blank of a message.
 fn is_space(byte: u8) -> bool
     ensures { result ≡ is_blank byte }
 {
@@ -25,7 +26,7 @@ fn is_space(byte: u8) -> bool
 }
 
 impl Opening {
-    /// Whether more bytes decide.
+    /// Returns whether more bytes decide.
     fn is_open(self) -> bool
         ensures { result ≡ is_open_at self }
     {

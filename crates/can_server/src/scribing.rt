@@ -1,4 +1,5 @@
-//! Where the entries of long runs go while they are served: a thread for each bus takes them in blocks.
+//! The destination of the entries of long runs while they are served: a thread for each bus takes
+//! them in blocks.
 ghost use Rattle.std.specs.Prelude.{◌≡◌};
 
 use crate::given::Given;
@@ -11,10 +12,10 @@ use std::marker::Model;
 use std::sync::Wait;
 use std::time::{Clock, Duration};
 
-/// How many seconds a thread waits for the first entry of a block, before it looks again.
+/// How many seconds a thread waits for the first entry of a block before it looks again.
 const IDLE_SECONDS: u64 = 1;
 
-/// Where the entries of the bus of a long run go.
+/// A destination for the entries of the bus of a long run.
 pub trait Keeper {
     ghost use Rattle.std.specs.Prelude.{◌≡◌, ◌++◌, List};
     ghost use Rattle.can_event.specs.declared.entry.Entry.{Entry};
@@ -23,8 +24,9 @@ pub trait Keeper {
     /// The entries that it was given, the oldest first.
     ghost given: { Self → List Entry };
 
-    /// Keeps the entries of a block, which come after all that it was given before. There may be none: then only time has
-    /// passed. No lock is held meanwhile; while it lasts the bus goes on, until its tail is full.
+    /// Keeps the entries of a block, which follow all that it was given before. There may be none:
+    /// then only time has passed. No lock is held meanwhile, and the bus goes on until its tail is
+    /// full.
     fn keep(&mut self, block: &Block)
         requires { AreLegalLast block.now.entries.entries }
         ensures { given self.new ≡ given self.old ++ block.now.entries.entries };
@@ -44,8 +46,8 @@ impl Keeper for Discard {
     }
 }
 
-/// A keeper with the scroll of its bus: it was given the entries that were handed out to the scroll, and no others. Contracts
-/// see the scroll.
+/// A keeper with the scroll of its bus. It was given the entries that were handed out to the
+/// scroll, and no others. Contracts see the scroll.
 #[derive(Drop)]
 pub struct ScrollKeeper<N: RollName, K: Keeper + Drop> {
     keeper: K,
@@ -64,7 +66,7 @@ impl<N: RollName, K: Keeper + Drop> Model for ScrollKeeper<N, K> {
 }
 
 impl<N: BusName, K: Keeper + Drop> ScrollKeeper<N, K> {
-    /// A keeper that was given what was handed out to the scroll.
+    /// A keeper that was given the entries handed out to the scroll.
     pub fn new(keeper: K, scroll: Scroll<N>) -> ScrollKeeper<N, K>
         requires { K.given keeper ≡ scroll.entries }
         ensures { result ≡ scroll }
@@ -79,7 +81,7 @@ impl<N: BusName, K: Keeper + Drop> ScrollKeeper<N, K> {
         usize::from(self.scroll.number())
     }
 
-    /// The keeper, and the scroll of what it was given.
+    /// The keeper, and the scroll of the entries that it was given.
     pub fn into_parts(self) -> (K, Scroll<N>)
         ensures given { K.given result.0 ≡ self.entries }
         ensures scroll { result.1 ≡ self }
@@ -108,14 +110,15 @@ impl<N: BusName, K: Keeper + Drop> ScrollKeeper<N, K> {
 pub struct Scribe<'k, N: RollName, K: Keeper + Drop> {
     kept: &'k mut ScrollKeeper<N, K>,
     block: Block,
-    /// For how many entries it waits, and how long at most after the first of them.
+    /// The number of entries for which it waits, and the longest wait after the first of them.
     many: u64,
     patience: Duration,
 }
 
 impl<'k, N: BusName, K: Keeper + Drop> Scribe<'k, N, K> {
-    /// A scribe of the scroll's bus, with memory for this many entries, as many as the bus's tail has places. It gives the
-    /// keeper a block once there are half as many, or so long after the first of them.
+    /// A scribe of the scroll's bus, with memory for this many entries: one for each place of the
+    /// bus's tail. It gives the keeper a block once half of them are there, or this long after the
+    /// first of them.
     pub fn new(
         alloc: Global,
         size: u32,
@@ -135,8 +138,8 @@ impl<'k, N: BusName, K: Keeper + Drop> Scribe<'k, N, K> {
         self.kept.bus()
     }
 
-    /// Gives the keeper all entries of the station, until nobody makes calls any more. `WrongStation` where the scroll is
-    /// another station's: then the keeper gets nothing.
+    /// Gives the keeper all entries of the station, until no more calls are made. `WrongStation` if
+    /// the scroll is another station's: then the keeper gets nothing.
     pub fn keep_all<F: FaultSource + Drop, G: Gate + Drop, B: Journaled, R: Wait + Clock>(
         self,
         rt: &R,

@@ -20,7 +20,7 @@ struct Closing<'d> {
     until: &'d UnixStream,
 }
 
-/// What all threads of a server share.
+/// The values that all threads of a server share.
 #[derive(Drop)]
 pub struct Server<'a, N: BusName, F: FaultSource + Drop, G: Gate + Drop, C, R> {
     pub rt: &'a R,
@@ -29,8 +29,8 @@ pub struct Server<'a, N: BusName, F: FaultSource + Drop, G: Gate + Drop, C, R> {
     pub host: &'a C,
     pub clients: &'a Mutex<Clients>,
     pub returned: &'a Mutex<ReturnedPasses<N>>,
-    /// Whether its buses are those of long runs. Then a session may have the pass of one that is over, and counts once it
-    /// is raw.
+    /// Whether its buses are those of long runs. If so, a session may have the pass of one that is
+    /// over, and counts once it is raw.
     pub is_long: bool,
     /// All sessions are over.
     pub is_ending: &'a AtomicBool,

@@ -19,45 +19,48 @@ use std::{thread, time};
 /// The most passes of a bus.
 const MOST_PASSES: u32 = 4096;
 
-/// Some clients, as python-can's, read 1,024 bytes at a time and lose a message that is cut.
+/// Some clients, such as python-can's, read 1,024 bytes at a time and lose a message that is cut.
 const DEFAULT_WRITE: usize = 1024;
 
-/// What a server asks and reports while it runs. Only the time is asked for; a report is dropped where the host does not
-/// say otherwise. No lock is held during a report.
+/// The questions and reports of a server to its host. A host only has to say the time; other
+/// reports are dropped by default. No lock is held during a report.
 pub trait Clock {
     /// The moment of a call.
     fn now(&self) -> Moment;
 
-    /// Whether the host wants reports of sessions, which take a look at each call that they made. It is asked at
-    /// any time, and the reply stays the same.
+    /// Returns whether the host wants reports of sessions, for which each of their calls is looked
+    /// at. It is asked at any time, and the reply stays the same.
     fn wants_notices(&self) -> bool {
         false
     }
 
-    /// The most bytes of items that a client gets in one write, though an item goes out whole. It is asked once for each
-    /// session.
+    /// The most bytes of items that a client gets in one write; an item is never cut. It is asked
+    /// once for each session.
     fn write_bytes(&self) -> usize {
         DEFAULT_WRITE
     }
 
-    /// Takes a notice. Those of sessions lack addresses and counts where the host does not want them.
+    /// Takes a notice. A notice of a session lacks addresses and counts if the host does not want
+    /// them.
     fn notify(&self, _notice: Notice) {}
 }
 
-/// Serves the sessions of all acceptors over the buses of a hub, and hands their passes back, those of each bus in a list
-/// of its own.
+/// Serves the sessions of all acceptors over the buses of a hub, and hands their passes back, those
+/// of each bus in a list of its own.
 ///
-/// Each bus has a driver, which steps while an interface has a frame to send or counts towards its restart; each acceptor a
-/// thread that accepts; each session one that reads and, in raw mode, one that delivers. It returns once as many
-/// sessions as the acceptors have were accepted and all are over, or after the end of `until`: then nobody comes in any
-/// more, and the sessions at work are shut down. After the last of its sessions an acceptor is closed, so that the system
-/// refuses who comes later. The 65th session at once gets `too many sessions` and counts as one that was accepted, unless
-/// a session has not been raw for 60 seconds by the clock: that one is closed, and the newcomer gets its place. Where no
-/// connection can be accepted, as for want of file descriptors, an acceptor tries again each 100 ms; 64 tries in vain count
-/// as one session.
+/// Each bus has a driver, which steps while an interface has a frame to send or counts towards its
+/// restart. Each acceptor has a thread that accepts. Each session has one that reads and, in raw
+/// mode, one that delivers. It returns once as many sessions as the acceptors have were accepted
+/// and are over, or after the end of `until`: then nobody is let in any more, and the sessions at
+/// work are shut down. After the last of its sessions an acceptor is closed, so that the system
+/// refuses later connections. The 65th session at once gets `too many sessions` and counts as
+/// accepted, unless some session has not been raw for 60 seconds by the clock: that one is closed,
+/// and the newcomer gets its place. If no connection can be accepted, for example for lack of file
+/// descriptors, an acceptor tries again every 100 ms. 64 tries in vain count as one session.
 ///
-/// A fault of a session's connection, or memory refused to it, ends only that session. `AllocError` where memory was
-/// refused to the server's own start; then the threads that were started are over too, and the stations are stopped.
+/// A fault of a session's connection, or memory refused to it, ends only that session. `AllocError`
+/// if memory was refused to the server's own start. Then the threads that were started are over
+/// too, and the stations are stopped.
 pub fn serve<
     N: BusName + Send + Sync,
     F: FaultSource + Drop + Send,
@@ -144,10 +147,11 @@ impl<
     }
 }
 
-/// Serves as `serve` does, with scribes where the buses are those of long runs, one for each: without its scribe the sessions
-/// of a bus wait, once its tail is full. Where there are scribes a session may have the pass of one that is over, so that
-/// there is no end to the sessions of a run; and it counts as one of its acceptor's only once it is raw. One that is raw after
-/// the last of these gets `too many sessions`.
+/// Serves as `serve` does. Buses of long runs have scribes, one for each: without its scribe the
+/// sessions of a bus wait once its tail is full. With scribes a session may have the pass of one
+/// that is over, so the sessions of a run have no end. A session then counts as one of its
+/// acceptor's only once it is raw. One that becomes raw after the last of these gets `too many
+/// sessions`.
 ///
 /// The scribes go on until the other threads are over, and then give their keepers the last entries. `AllocError` as by
 /// `serve`; then they are over, too.

@@ -17,7 +17,7 @@ use std::{thread, time};
 /// The most bytes of a piece that is read.
 const PIECE: usize = 4096;
 
-/// What became of a read.
+/// The outcome of a read.
 enum ReadOutcome {
     /// A piece was taken, and the session goes on.
     More,
@@ -47,7 +47,7 @@ impl<
         self.report_end(visit.session, tally);
     }
 
-    /// Talks with a client to the end, and hands its pass back: what its calls came to.
+    /// Talks with a client to the end, hands its pass back, and returns the outcomes of its calls.
     fn converse(&self, visit: &Visit<'_>, conn: &Conn) -> Tally {
         let most = self.host.write_bytes();
         let Ok(mut talk) = Conversation::new(self.rt, self.alloc, self.buses, self.spares(), most)
@@ -73,8 +73,8 @@ impl<
         self.is_long.then_some(self.returned)
     }
 
-    /// Reads what the client says. Once the session is raw, its client keeps its place, and a thread delivers its items
-    /// beside.
+    /// Reads the client's input. Once the session is raw, its client keeps its place, and another
+    /// thread delivers its items.
     fn hear_all(&self, talk: &Mutex<Conversation<'_, N, F, G, R>>, visit: &Visit<'_>, conn: &Conn) {
         let Some(place) = self.hear_until_raw(talk, conn) else {
             self.report_stranger(talk, visit.session);
@@ -116,7 +116,7 @@ impl<'a, N: BusName, F: FaultSource + Drop, G: Gate + Drop, C: Clock, R: Wait + 
     C,
     R,
 > {
-    /// Reads to the end, if the items are delivered beside, and ends the session.
+    /// Reads to the end while another thread delivers the items, and ends the session.
     fn hear_out(
         &self,
         talk: &Mutex<Conversation<'_, N, F, G, R>>,
@@ -131,7 +131,7 @@ impl<'a, N: BusName, F: FaultSource + Drop, G: Gate + Drop, C: Clock, R: Wait + 
         stop_full(self.rt, place.station);
     }
 
-    /// Reads until the session is raw: where its socket is, or none if it ended before.
+    /// Reads until the session is raw, and returns its socket, or none if it ended before.
     fn hear_until_raw<'t>(
         &self,
         talk: &Mutex<Conversation<'t, N, F, G, R>>,

@@ -2,7 +2,7 @@
 ghost use Rattle.std.specs.Prelude.{◌≡◌, IfErr, IfOk};
 ghost use Rattle.can_server.specs.Timed.{GoesBy, MakesDue, after_attempt, caught_up, head_moment};
 ghost use Rattle.can_station.specs.Held.{Held};
-ghost use Rattle.can_station.specs.Passes.{MadeStep, head_on, next_verdict};
+ghost use Rattle.can_station.specs.Passes.{MadeStep, next_try, next_verdict};
 
 use crate::driving::{Changes, MOST_STEPS, Stepped, makes_no_progress};
 use crate::notice::Notice;
@@ -20,21 +20,22 @@ use std::sync::atomic::Ordering;
 use std::time;
 use std::time::Duration;
 
-/// How late a driver may be and still make up for it, in nanoseconds. One that is later leaves out what it missed.
+/// How late a driver may be and still catch up, in nanoseconds. A driver that is later skips the
+/// time that it missed.
 const MOST_LATE: u64 = 100_000_000;
 
-/// How many microseconds after a report that a driver is late the next may follow.
+/// How many microseconds have to pass between two reports that a driver is late.
 const BETWEEN_NOTES: u64 = 60_000_000;
 
-/// What a driver of a bus with bit rates keeps between its holds of the lock.
+/// The state of a driver of a bus with bit rates between its holds of the lock.
 #[derive(Drop)]
 struct Timed {
     schedule: Schedule,
     /// Whether there was something to attempt when it let the lock go.
     has_more: bool,
-    /// By how many milliseconds it was too late, where that is to be reported.
+    /// How many milliseconds it was too late, if that is to be reported.
     note: Option<u64>,
-    /// When it was reported last that it was too late.
+    /// The time of the last report that it was too late.
     noted: Option<Moment>,
 }
 
@@ -48,8 +49,8 @@ impl Timed {
         }
     }
 
-    /// Where the next attempt is too late, it is from now on that there is something to attempt. That is to be reported
-    /// at most once in a minute.
+    /// If the next attempt is too late, its time counts from now on. That is to be reported at most
+    /// once in a minute.
     fn catch_up(&mut self, now: Moment)
         ensures schedule { self.new.schedule ≡ caught_up now self.old.schedule }
         ensures more { self.new.has_more ≡ self.old.has_more }
@@ -78,11 +79,13 @@ impl<'a, N: BusName, F: FaultSource + Drop, G: Gate + Drop, C: Clock, R: Wait + 
     C,
     R,
 > {
-    /// Steps a bus with bit rates while an interface has a frame to send or counts towards its restart, each time when
-    /// the wire is free, until its station is stopped: whether a step was refused, which ends it.
+    /// Steps a bus with bit rates while an interface has a frame to send or counts towards its
+    /// restart, each time when the wire is free, until its station is stopped. Returns whether a
+    /// step was refused, which ends it.
     ///
-    /// Each attempt begins when the one before it is over, by their lengths and not by the clock, so that a driver that
-    /// wakes late is not late for ever. Where it is, it makes up to 64 attempts in one hold of the lock.
+    /// Each attempt begins at the end of the one before it, by their lengths and not by the clock.
+    /// So a driver that wakes late does not stay late. If it is late, it makes up to 64 attempts in
+    /// one hold of the lock.
     pub fn step_in_time(&self, bus: usize, timing: Timing, pass: &mut Pass<N>) -> bool {
         if bus >= self.buses.count() {
             return false;
@@ -116,8 +119,8 @@ impl<'a, N: BusName, F: FaultSource + Drop, G: Gate + Drop, C: Clock, R: Wait + 
         false
     }
 
-    /// Makes the attempt that is due at this moment, and others as long as they are due too, in one hold of the lock, as
-    /// `step_all_due` does.
+    /// Makes the attempt that is due at this moment, and any others that are due too, in one hold
+    /// of the lock, as `step_all_due` does.
     fn step_due(
         &self,
         mut hold: Hold<'_, N, F, G, HubBus>,
@@ -139,8 +142,9 @@ impl<'a, N: BusName, F: FaultSource + Drop, G: Gate + Drop, C: Clock, R: Wait + 
         self.step_all_due(&mut hold, bus, timed, pass, now, is_ending)
     }
 
-    /// Makes the attempt that is due, and others as long as they are due too. The attempt in which an interface went bus
-    /// off, or was restarted, is the last. Once all sessions are over nothing has to be due.
+    /// Makes the attempt that is due, and any others that are due too. It stops after an attempt in
+    /// which an interface went bus off or was restarted. Once all sessions are over, an attempt
+    /// need not be due.
     fn step_all_due(
         &self,
         hold: &mut Hold<'_, N, F, G, HubBus>,
@@ -175,8 +179,9 @@ impl<'a, N: BusName, F: FaultSource + Drop, G: Gate + Drop, C: Clock, R: Wait + 
         Stepped::On(Changes::none())
     }
 
-    /// Makes the next attempt of a schedule, with the moment that the schedule has for it, and notes it there. Who
-    /// delivers its items knows before they are there when it is over.
+    /// Makes the next attempt of a schedule, with the moment that the schedule has for it, and
+    /// notes it there. The thread that delivers its items knows the end of the attempt before the
+    /// items are there.
     fn step_once(
         &self,
         hold: &mut Hold<'_, N, F, G, HubBus>,
@@ -185,7 +190,7 @@ impl<'a, N: BusName, F: FaultSource + Drop, G: Gate + Drop, C: Clock, R: Wait + 
         pass: &mut Pass<N>,
     ) -> Result<Attempt, StationRefusal>
         ensures made { MadeStep F.verdicts hold.old pass.old
-            (head_moment schedule.old (head_on hold.old.journal)) result hold.new pass.new }
+            (head_moment schedule.old (next_try hold.old.journal)) result hold.new pass.new }
         ensures goes_by { IfOk result (λ a.
             GoesBy schedule.old (next_verdict F.verdicts hold.old) a schedule.new) }
         ensures stays { IfErr result (λ why. schedule.new ≡ schedule.old) }
@@ -206,7 +211,7 @@ impl<'a, N: BusName, F: FaultSource + Drop, G: Gate + Drop, C: Clock, R: Wait + 
     }
 }
 
-/// The moment of the next attempt of a schedule, which tries this frame, if one.
+/// The moment of the next attempt of a schedule, which tries this frame, if any.
 fn head_moment(schedule: &Schedule, head: Option<(Iface, Frame)>) -> Moment
     ensures { result ≡ head_moment schedule.now head }
 {
@@ -216,7 +221,7 @@ fn head_moment(schedule: &Schedule, head: Option<(Iface, Frame)>) -> Moment
     }
 }
 
-/// Notes in a schedule what an attempt with this verdict came to.
+/// Notes the outcome of an attempt with this verdict in a schedule.
 fn note_attempt(schedule: &mut Schedule, verdict: Verdict, attempt: &Attempt)
     ensures { schedule.new ≡ after_attempt verdict attempt.now schedule.old }
 {

@@ -16,7 +16,7 @@ use Rattle.can_bus.specs.Run.{IsAnswer, history_after}
 use Rattle.can_bus.proofs.Fitting.{legal_is_spelled}
 use Rattle.can_dialog.specs.declared.port.PortRefusal.TheVariants as port
 use Rattle.can_session.specs.BusSteps.{NamedBus, BusStep, IsEvent, passed_on}
-use Rattle.can_dialog.specs.Calls.{Gives}
+use Rattle.can_dialog.specs.Calls.{Replies}
 use Rattle.can_dialog.specs.Calls.Call.{Receive}
 
 -- a refusal of the bus
@@ -33,8 +33,8 @@ module _ (old new : NamedBus) (names : new.names ≡ old.names) (plan : new.plan
       → IsEvent told old e (Err (port.Bus why)) new
   refused told why e a is = (Err why, refl, refuses old.journal new.journal e why a is, names, plan, schedule)
 
-  -- the reply is a step of the event's kind, for it is the legal one
-  pub gives : (e : Event) (r : Reply) → IsAnswer old.journal.config old.journal.history e r → new.journal ≡ record old.journal { history = history_after e r old.journal.history } → Gives BusStep old e r new
+  -- the reply is a step of the event's kind, because it is the legal one
+  pub gives : (e : Event) (r : Reply) → IsAnswer old.journal.config old.journal.history e r → new.journal ≡ record old.journal { history = history_after e r old.journal.history } → Replies BusStep old e r new
   gives (event.Open iface capacity) (reply.Opened s) a is = given (λ x. reply.Opened x) s _ (record { room = a.0; lawful = a.1; new_is = is })
   gives (event.Close socket) (reply.Closed counts) a is = given (λ x. reply.Closed x) counts _ (record { room = a.0; lawful = a.1; new_is = is })
   gives (event.SetFilters socket filters) reply.Done a is = given done_reply tt _ (record { room = a.0; lawful = a.1; new_is = is })

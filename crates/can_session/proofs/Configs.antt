@@ -1,4 +1,4 @@
--- What a run does keeps the configuration of its bus.
+-- A run keeps the configuration of its bus.
 use Rattle.std.proofs.Common.{◌≡◌, inl, inr, ℕ, zero, suc, Bool, List, [], ◌∷◌, Result, Ok, Err, refl, ap, ◌∙◌}
 use Rattle.can_fault.specs.Sources.{VerdictMap}
 use Rattle.can_fault.specs.declared.verdict.Verdict.{Verdict}

@@ -1,13 +1,13 @@
--- What a line asks for that begins with one of the words that most lines have.
+-- The order of a line that begins with one of the words that most lines have.
 use Rattle.std.proofs.Common.{◌≡◌, ◌+◌, ℕ, Bool, List, ◌∷◌, length, take, drop, Option, Some, None, cond, ap, arith}
 use Rattle.std.specs.Option.{option_map, option_and_then}
 use Rattle.std.proofs.lemmas.Bool.{lt-ltb}
 use Rattle.can_frame.specs.Moments.{moment_in}
-use Rattle.can_session.specs.Orders.{Effect, Sets, Drains, asked_by, order_of, fed_by, parted, session_of}
+use Rattle.can_session.specs.Orders.{Effect, Sets, Drains, asked_by_word, order_of, fed_by, parted, session_of}
 
--- what a line asks for, by the place of its first space, if there is one
+-- the order of a line, by the place of its first space, if there is one
 abbrev asked : List ℕ → ℕ → Bool → Option Effect
-asked line n there = option_and_then asked_by (option_map (λ k. (take k line, drop (k + 1) line)) (cond there (Some n) None))
+asked line n there = option_and_then asked_by_word (option_map (λ k. (take k line, drop (k + 1) line)) (cond there (Some n) None))
 
 pub at_first : (rest : List ℕ) → order_of (97 ∷ 116 ∷ 32 ∷ rest) ≡ option_map Sets (moment_in rest)
 at_first rest = ap (asked (97 ∷ 116 ∷ 32 ∷ rest) 2) (lt-ltb 2 (length (97 ∷ 116 ∷ 32 ∷ rest)) (omega arith))

@@ -14,7 +14,7 @@ parted bytes some =
     let len : length bytes - 1 + 1 ≡ length bytes = omega (arith, some) in
     sym (ap (λ (n : ℕ). take n bytes) len ∙ take_all (length bytes) bytes (omega arith)) ∙ take_more bytes (length bytes - 1) 0 (omega (arith, some))
 
--- what the last byte decides
+-- the last byte decides
 pub last_decides : (begun : Bool) (bytes : List ℕ) (b : ℕ) → 1 ≤ length bytes → get_or bytes (length bytes - 1) 0 ≡ b
     → begun_after begun bytes ≡ (if b == 60 then true else if b == 62 then false else begun_after begun (take (length bytes - 1) bytes))
 last_decides begun bytes b some is =

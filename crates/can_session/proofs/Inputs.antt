@@ -1,10 +1,10 @@
--- What an input leaves, step by step.
+-- The rest of an input, step by step.
 use Rattle.std.proofs.Common.{◌≡◌, ℕ, ◌+◌, inl, List, [], ◌∷◌, ◌++◌, length, take, drop, Option, Some, None, refl, sym, ap, subst, ◌∙◌, append_assoc, arith, false}
 use Rattle.std.specs.Io.KnownBytes.{Consumes, Keeps, prepend_known}
 use Rattle.std.proofs.lemmas.List.{take-append-drop, length-append, length-take-le}
 use Rattle.can_session.specs.inner.Reads.{Gains}
 use Rattle.can_session.specs.inner.Looks.{LineAt}
-use Rattle.can_session.specs.Lines.{Input, Waits, Overruns, TakesLine, left_of}
+use Rattle.can_session.specs.Lines.{Input, Waits, Overruns, TakesInputLine, left_of}
 
 -- a list of one
 one_of : (xs : List ℕ) → length xs ≡ 1 → (x : ℕ) × (xs ≡ x ∷ [])
@@ -37,12 +37,12 @@ passed (Some x) None held front rest h e = absurd h
 passed (Some x) (Some y) held front rest h e = sym h ∙ ap (λ l. l ++ y) e ∙ append_assoc front rest y
 
 -- the current line was at the front of what was held
-pub takes : (old mid new : Input) (len : ℕ) → old.ended ≡ false → mid.fault ≡ old.fault → Waits old mid → LineAt mid.held len → new ≡ record mid { line = take len mid.held; given = mid.given + (len + 1); held = drop (len + 1) mid.held } → TakesLine old new
+pub takes : (old mid new : Input) (len : ℕ) → old.ended ≡ false → mid.fault ≡ old.fault → Waits old mid → LineAt mid.held len → new ≡ record mid { line = take len mid.held; given = mid.given + (len + 1); held = drop (len + 1) mid.held } → TakesInputLine old new
 takes old mid new len going fine waits at is =
     let front = take len mid.held ++ 10 ∷ [] in
     let split : mid.held ≡ front ++ drop (len + 1) mid.held = sym (take-append-drop (len + 1) mid.held) ∙ ap (λ l. l ++ drop (len + 1) mid.held) at.ended in
     let count : length front ≡ len + 1 = omega (arith, length-append (take len mid.held) (10 ∷ []), length-take-le len mid.held (omega (arith, at.within))) in
-    subst (TakesLine old) (sym is) (
+    subst (TakesInputLine old) (sym is) (
       going,
       at.line,
       inl (record {

@@ -1,10 +1,10 @@
--- Bytes in order are messages and blanks, and what is outside does not depend on where they are cut.
+-- Bytes in order are messages and blanks. The bytes outside do not depend on where the stream is cut.
 use Rattle.std.proofs.Common.{◌≡◌, ◌↔◌, ℕ, ◌==◌, ◌||◌, ◌⊎◌, inl, inr, Bool, true, false, if◌then◌else◌, List, [], ◌∷◌, ◌++◌, refl, sym, ap, ◌∙◌, append_assoc, arith}
 use Rattle.std.specs.List.{flat_map, AllByRecursion}
 use Rattle.std.proofs.lemmas.Bool.{eqb-true}
 use Rattle.can_proto.specs.Messages.{has_mark}
 use Rattle.can_proto.specs.Words.{is_blank}
-use Rattle.can_session.specs.IgnoredInput.{begun_after, has_outside, Part, part_text, IsPart, IsTail, AreInOrder}
+use Rattle.can_session.specs.IgnoredInput.{begun_after, has_outside, Part, part_text, IsPart, IsTail, AreMessagesInOrder}
 use Rattle.can_session.specs.IgnoredInput.Part.{Gap, Whole}
 use Rattle.can_session.proofs.Heard.{closed}
 
@@ -34,7 +34,7 @@ cut-outside true (b ∷ bs) more = by (b == 60) (b == 62) (cut-outside true bs m
 
 -- after a `<`: no mark comes, or a `>` ends the message and what follows is in order
 abbrev GoesOn : List ℕ → Bool → Type 0
-GoesOn bytes begun = (inside : List ℕ) × (has_mark inside ≡ false) × (((bytes ≡ inside) × (begun ≡ true)) ⊎ ((rest : List ℕ) × (bytes ≡ inside ++ 62 ∷ rest) × AreInOrder rest begun))
+GoesOn bytes begun = (inside : List ℕ) × (has_mark inside ≡ false) × (((bytes ≡ inside) × (begun ≡ true)) ⊎ ((rest : List ℕ) × (bytes ≡ inside ++ 62 ∷ rest) × AreMessagesInOrder rest begun))
 
 clear-more : (b : ℕ) (inside : List ℕ) → (b == 60) ≡ false → (b == 62) ≡ false → has_mark inside ≡ false → has_mark (b ∷ inside) ≡ false
 clear-more b inside begins ends clear = by (b == 60) (b == 62) (has_mark inside) begins ends clear
@@ -42,9 +42,9 @@ clear-more b inside begins ends clear = by (b == 60) (b == 62) (has_mark inside)
     by : (x y z : Bool) → x ≡ false → y ≡ false → z ≡ false → ((x || y) || z) ≡ false
     by x y z h k l = rw (h, k, l) refl
 
--- what follows a `<`
+-- the bytes after a `<`
 
-opened : (b : ℕ) (bs : List ℕ) (begun : Bool) → b ≡ 60 → GoesOn bs begun → AreInOrder (b ∷ bs) begun
+opened : (b : ℕ) (bs : List ℕ) (begun : Bool) → b ≡ 60 → GoesOn bs begun → AreMessagesInOrder (b ∷ bs) begun
 opened b bs begun is (inside, clear, inl (same, begins)) = record {
   parts = [];
   tail = 60 ∷ inside;
@@ -63,7 +63,7 @@ opened b bs begun is (inside, clear, inr (rest, same, order)) = record {
       ∙ sym (append_assoc (inside ++ 62 ∷ []) (flat_map part_text order.parts) order.tail));
 }
 
-blank : (b : ℕ) (bs : List ℕ) (begun : Bool) → is_blank b ≡ true → AreInOrder bs begun → AreInOrder (b ∷ bs) begun
+blank : (b : ℕ) (bs : List ℕ) (begun : Bool) → is_blank b ≡ true → AreMessagesInOrder bs begun → AreMessagesInOrder (b ∷ bs) begun
 blank b bs begun is order = record {
   parts = Gap b ∷ order.parts;
   tail = order.tail;
@@ -76,19 +76,19 @@ longer : (b : ℕ) (bs : List ℕ) (begun : Bool) → (b == 60) ≡ false → (b
 longer b bs begun begins ends (inside, clear, inl (same, is)) = (b ∷ inside, clear-more b inside begins ends clear, inl (ap (λ (x : List ℕ). b ∷ x) same, is))
 longer b bs begun begins ends (inside, clear, inr (rest, same, order)) = (b ∷ inside, clear-more b inside begins ends clear, inr (rest, ap (λ (x : List ℕ). b ∷ x) same, order))
 
--- with nothing outside the bytes are in order, after a `<` too
-parsed : (bytes : List ℕ) → ((has_outside false bytes ≡ false → AreInOrder bytes (begun_after false bytes)) × (has_outside true bytes ≡ false → GoesOn bytes (begun_after true bytes)))
+-- if nothing is outside, the bytes are in order, after a `<` too
+parsed : (bytes : List ℕ) → ((has_outside false bytes ≡ false → AreMessagesInOrder bytes (begun_after false bytes)) × (has_outside true bytes ≡ false → GoesOn bytes (begun_after true bytes)))
 parsed [] = (λ h. record { parts = []; tail = []; good = tt; last = refl; whole = refl }, λ h. ([], refl, inl (refl, refl)))
 parsed (b ∷ bs) = let again = parsed bs in (outside (b == 60) (is_blank b) (b == 62) refl refl again.0 again.1, inside (b == 60) (b == 62) refl refl again.0 again.1)
   where
-    outside : (x y z : Bool) → (b == 60) ≡ x → is_blank b ≡ y → (has_outside false bs ≡ false → AreInOrder bs (begun_after false bs)) → (has_outside true bs ≡ false → GoesOn bs (begun_after true bs))
-        → (if x then has_outside true bs else if y then has_outside false bs else true) ≡ false → AreInOrder (b ∷ bs) (begun_after (if x then true else if z then false else false) bs)
+    outside : (x y z : Bool) → (b == 60) ≡ x → is_blank b ≡ y → (has_outside false bs ≡ false → AreMessagesInOrder bs (begun_after false bs)) → (has_outside true bs ≡ false → GoesOn bs (begun_after true bs))
+        → (if x then has_outside true bs else if y then has_outside false bs else true) ≡ false → AreMessagesInOrder (b ∷ bs) (begun_after (if x then true else if z then false else false) bs)
     outside true y z is blank_is stays goes h = opened b bs (begun_after true bs) (eqb-true b 60 is) (goes h)
     outside false true true is blank_is stays goes h = blank b bs (begun_after false bs) blank_is (stays h)
     outside false true false is blank_is stays goes h = blank b bs (begun_after false bs) blank_is (stays h)
     outside false false z is blank_is stays goes h = absurd cc
 
-    inside : (x z : Bool) → (b == 60) ≡ x → (b == 62) ≡ z → (has_outside false bs ≡ false → AreInOrder bs (begun_after false bs)) → (has_outside true bs ≡ false → GoesOn bs (begun_after true bs))
+    inside : (x z : Bool) → (b == 60) ≡ x → (b == 62) ≡ z → (has_outside false bs ≡ false → AreMessagesInOrder bs (begun_after false bs)) → (has_outside true bs ≡ false → GoesOn bs (begun_after true bs))
         → (if x then true else has_outside (if z then false else true) bs) ≡ false → GoesOn (b ∷ bs) (begun_after (if x then true else if z then false else true) bs)
     inside true z begins ends stays goes h = absurd cc
     inside false true begins ends stays goes h = ([], refl, inr (bs, ap (λ (x : ℕ). x ∷ bs) (eqb-true b 62 ends), stays h))
@@ -120,5 +120,5 @@ ordered (Whole inside ∷ parts) tail begun good last =
     ap (has_outside true) (append_assoc (inside ++ 62 ∷ []) (flat_map part_text parts) tail ∙ append_assoc inside (62 ∷ []) rest)
     ∙ closed inside rest good.0 ∙ ordered parts tail begun good.1 last
 
-pub in-order : (bytes : List ℕ) → (has_outside false bytes ≡ false) ↔ AreInOrder bytes (begun_after false bytes)
+pub in-order : (bytes : List ℕ) → (has_outside false bytes ≡ false) ↔ AreMessagesInOrder bytes (begun_after false bytes)
 in-order bytes = ((parsed bytes).0, λ order. ap (has_outside false) order.whole ∙ ordered order.parts order.tail (begun_after false bytes) order.good order.last)

@@ -11,10 +11,10 @@ use Rattle.can_session.specs.declared.lines.InputFault.{InputFault}
 use Rattle.can_session.specs.declared.lines.InputFault.TheVariants as line
 use Rattle.can_session.specs.declared.bench_run.BenchFault.{BenchFault}
 use Rattle.can_session.specs.declared.bench_run.BenchFault.TheVariants.{BadConfig, BadLine, TooLong, Read, Write, NoMemory}
-use Rattle.can_session.specs.Lines.{Input, unread, IsLine, IsWithin, FindsEnd, TakesLine, Given, Stops, Repeats, left_of, lines_of, spelled}
+use Rattle.can_session.specs.Lines.{Input, unread, IsInputLine, IsWithinLimits, FindsEnd, TakesInputLine, Given, Stops, Repeats, left_of, lines_of_text, spelled}
 use Rattle.can_session.specs.Orders.{order_of}
 use Rattle.can_session.specs.Benches.{BenchState, IsCarriedOut, AreCarriedOut, IsRefused}
-use Rattle.can_session.specs.Runs.{AreAll, AreFirst, IsNext, ComeBeforeBad, ComeBeforeStop, Ran, Ends, EndsAt}
+use Rattle.can_session.specs.Runs.{AreAll, AreFirst, IsNextOfInput, ComeBeforeBad, ComeBeforeStop, Ran, EndsRun, EndsAt}
 use Rattle.can_session.proofs.LineLaws.{first_lines, next, end, stop, all_given}
 
 -- these lines were given of the input, if the reader says what its bytes are
@@ -29,20 +29,20 @@ pub of_start : (input : Option (List ℕ)) (now : Input) → left_of now ≡ inp
 of_start None now left none = tt
 of_start (Some text) now left none = given_start text now left none
 
-pub of_more : (input : Option (List ℕ)) (lines : List (List ℕ)) (old new : Input) → AreOf input lines old → TakesLine old new → AreOf input (lines ++ new.line ∷ []) new
+pub of_more : (input : Option (List ℕ)) (lines : List (List ℕ)) (old new : Input) → AreOf input lines old → TakesInputLine old new → AreOf input (lines ++ new.line ∷ []) new
 of_more None lines old new h k = tt
 of_more (Some text) lines old new h k = next text lines old new h k
 
 -- all of the text, within the limit
-all_within : (text : List ℕ) (lines : List (List ℕ)) (old new : Input) → Given text lines old → FindsEnd old new → IsWithin new → (lines ≡ lines_of text) × (length text ≤ 16777216)
+all_within : (text : List ℕ) (lines : List (List ℕ)) (old new : Input) → Given text lines old → FindsEnd old new → IsWithinLimits new → (lines ≡ lines_of_text text) × (length text ≤ 16777216)
 all_within text lines old new h k within = let all = end text lines old new h k in (all.0, omega (arith, all.1, within.bytes))
 
-pub of_all : (input : Option (List ℕ)) (lines : List (List ℕ)) (old new : Input) → AreOf input lines old → FindsEnd old new → IsWithin new → AreAll input lines
+pub of_all : (input : Option (List ℕ)) (lines : List (List ℕ)) (old new : Input) → AreOf input lines old → FindsEnd old new → IsWithinLimits new → AreAll input lines
 of_all None lines old new h k within = tt
 of_all (Some text) lines old new h k within = all_within text lines old new h k within
 
 -- an input without a fault is so after a line
-pub fine_behind : (old new : Input) → old.fault ≡ None → TakesLine old new → new.fault ≡ None
+pub fine_behind : (old new : Input) → old.fault ≡ None → TakesInputLine old new → new.fault ≡ None
 fine_behind old new fine (going, line, inl gives) = gives.fault ∙ fine
 fine_behind old new fine (going, line, inr last) = last.0.fault ∙ fine
 
@@ -51,8 +51,8 @@ pub first_fault : (old new : Input) (fault : InputFault) → old.fault ≡ None 
 first_fault old new fault fine (inl stops) = stops
 first_fault old new fault fine (inr again) = let no = again.0 in cc
 
-given_first : (text : List ℕ) (lines : List (List ℕ)) (now : Input) → Given text lines now → (more : List (List ℕ)) × (lines_of text ≡ lines ++ more)
-given_first text lines now (inl g) = (lines_of g.rest, ap lines_of g.split ∙ first_lines lines g.rest g.unbroken)
+given_first : (text : List ℕ) (lines : List (List ℕ)) (now : Input) → Given text lines now → (more : List (List ℕ)) × (lines_of_text text ≡ lines ++ more)
+given_first text lines now (inl g) = (lines_of_text g.rest, ap lines_of_text g.split ∙ first_lines lines g.rest g.unbroken)
 given_first text lines now (inr h) = ([], sym h.all ∙ sym (append-nil lines))
 
 of_first : (input : Option (List ℕ)) (lines : List (List ℕ)) (now : Input) → AreOf input lines now → AreFirst input lines
@@ -69,14 +69,14 @@ carried_more v (l ∷ lines) line b mid after text more h k =
     let again = carried_more v lines line h.1 mid after h.2 more h.4 k in
     (h.0, h.1, h.2 ++ more, h.3, again, ap (λ (t : List ℕ). t ++ more) h.5 ∙ append_assoc h.0 h.2 more)
 
-one_short : (line : List ℕ) → IsLine line → All IsLine (line ∷ [])
-one_short line h = All-cons IsLine line [] h (All-nil IsLine)
+one_short : (line : List ℕ) → IsInputLine line → All IsInputLine (line ∷ [])
+one_short line h = All-cons IsInputLine line [] h (All-nil IsInputLine)
 
 pub ran_more : {W : Type 0} (contents : W → Option (List ℕ)) (v : VerdictMap) (lines : List (List ℕ)) (line : List ℕ) (b mid after : BenchState) (out between new : W) (more : List ℕ)
-    → Ran contents v lines b out mid between → IsLine line → IsCarriedOut v line mid more after → Appends (contents between) (contents new) more → Ran contents v (lines ++ line ∷ []) b out after new
+    → Ran contents v lines b out mid between → IsInputLine line → IsCarriedOut v line mid more after → Appends (contents between) (contents new) more → Ran contents v (lines ++ line ∷ []) b out after new
 ran_more {W} contents v lines line b mid after out between new more h short k wrote =
     record {
-      short = All-append IsLine lines (line ∷ []) h.short (one_short line short);
+      short = All-append IsInputLine lines (line ∷ []) h.short (one_short line short);
       text = h.text ++ more;
       carried = carried_more v lines line b mid after h.text more h.carried k;
       wrote = Appends-trans (contents out) (contents between) (contents new) h.text more h.wrote wrote;
@@ -88,37 +88,37 @@ ran_kept {W} contents v lines b after out between new h k =
     record { text = h.text; short = h.short; carried = h.carried; wrote = Appends-kept (contents out) (contents between) (contents new) h.text h.wrote k }
 
 pub ran_start : {W : Type 0} (contents : W → Option (List ℕ)) (v : VerdictMap) (b : BenchState) (out : W) → Ran contents v [] b out b out
-ran_start {W} contents v b out = record { text = []; short = All-nil IsLine; carried = (refl, refl); wrote = Appends-nil (contents out) }
+ran_start {W} contents v b out = record { text = []; short = All-nil IsInputLine; carried = (refl, refl); wrote = Appends-nil (contents out) }
 
 -- the current line is short
-pub short_line : (old new : Input) → TakesLine old new → IsLine new.line
+pub short_line : (old new : Input) → TakesInputLine old new → IsInputLine new.line
 short_line old new (going, line, gives) = line
 
 -- a line is read within the limit, and its LF or the end of the text too
-within_behind : (text : List ℕ) (lines : List (List ℕ)) (old new : Input) → Given text lines old → TakesLine old new → IsWithin new → (length (spelled lines) + length new.line < 16777216) ⊎ (length text ≤ 16777216)
+within_behind : (text : List ℕ) (lines : List (List ℕ)) (old new : Input) → Given text lines old → TakesInputLine old new → IsWithinLimits new → (length (spelled lines) + length new.line < 16777216) ⊎ (length text ≤ 16777216)
 within_behind text lines old new (inl so) (going, line, inl gives) within = inl (omega (arith, so.counted, gives.counted, within.bytes, length-append new.line (10 ∷ [])))
 within_behind text lines old new (inl so) (going, line, inr last) within = inr (omega (arith, all_given text lines old new so last.0 last.2, within.bytes))
 within_behind text lines old new (inr done) (going, line, gives) within = let no = done.ended in cc
 
 -- the next line comes after the lines given
-is_next : (input : Option (List ℕ)) (lines : List (List ℕ)) (old new : Input) → AreOf input lines old → IsWithin new → TakesLine old new → IsNext input lines new.line
+is_next : (input : Option (List ℕ)) (lines : List (List ℕ)) (old new : Input) → AreOf input lines old → IsWithinLimits new → TakesInputLine old new → IsNextOfInput input lines new.line
 is_next None lines old new h within k = tt
 is_next (Some text) lines old new h within k =
     let first = given_first text (lines ++ new.line ∷ []) new (next text lines old new h k) in
     (first.0, first.1 ∙ append_assoc lines (new.line ∷ []) first.0, within_behind text lines old new h k within)
 
-before_stop : (fault : InputFault) (input : Option (List ℕ)) (lines : List (List ℕ)) (old new : Input) → AreOf input lines old → IsWithin new → Stops fault old new → ComeBeforeStop fault input lines new
+before_stop : (fault : InputFault) (input : Option (List ℕ)) (lines : List (List ℕ)) (old new : Input) → AreOf input lines old → IsWithinLimits new → Stops fault old new → ComeBeforeStop fault input lines new
 before_stop fault None lines old new h within why = why.1
 before_stop fault (Some text) lines old new h within why = (why.1, stop text lines old new fault h why within)
 
-before_bad : (input : Option (List ℕ)) (lines : List (List ℕ)) (old new : Input) (b : BenchState) → AreOf input lines old → IsWithin new
-    → (TakesLine old new × IsRefused (order_of new.line) b) ⊎ (Stops line.LineTooLong old new) → ComeBeforeBad input lines new b
+before_bad : (input : Option (List ℕ)) (lines : List (List ℕ)) (old new : Input) (b : BenchState) → AreOf input lines old → IsWithinLimits new
+    → (TakesInputLine old new × IsRefused (order_of new.line) b) ⊎ (Stops line.LineTooLong old new) → ComeBeforeBad input lines new b
 before_bad input lines old new b h within (inl why) = inl (record { next = is_next input lines old new h within why.0; line = short_line old new why.0; refused = why.1 })
 before_bad input lines old new b h within (inr why) = inr (before_stop line.LineTooLong input lines old new h within why)
 
 -- a run ends at the next line as that line's fault says
 pub ends_at : {A W : Type 0} (leaves : A → BenchState → Type 0) (contents : W → Option (List ℕ)) (v : VerdictMap) (input : Option (List ℕ)) (lines : List (List ℕ)) (number : ℕ) (old now : Input) (b mid : BenchState) (out new : W) (fault : BenchFault)
-    → AreOf input lines old → IsWithin now → number ≡ length lines + 1 → Ran contents v lines b out mid new → EndsAt number fault old now mid → Ends leaves contents v input b out (Err fault) now new
+    → AreOf input lines old → IsWithinLimits now → number ≡ length lines + 1 → Ran contents v lines b out mid new → EndsAt number fault old now mid → EndsRun leaves contents v input b out (Err fault) now new
 ends_at {A} {W} leaves contents v input lines number old now b mid out new BadConfig h within is ran why = absurd why
 ends_at {A} {W} leaves contents v input lines number old now b mid out new (BadLine n) h within is ran why = (lines, mid, before_bad input lines old now mid h within why.1, ran, why.0 ∙ is)
 ends_at {A} {W} leaves contents v input lines number old now b mid out new TooLong h within is ran why = (lines, mid, before_stop line.TooLong input lines old now h within why, ran)
@@ -127,14 +127,14 @@ ends_at {A} {W} leaves contents v input lines number old now b mid out new Write
 ends_at {A} {W} leaves contents v input lines number old now b mid out new NoMemory h within is ran why = (lines, mid, of_first input lines old h, ran)
 
 -- each line counts
-comes_more : (old new : Input) → TakesLine old new → old.given + 1 ≤ new.given
+comes_more : (old new : Input) → TakesInputLine old new → old.given + 1 ≤ new.given
 comes_more old new (going, line, inl gives) = let n = gives.counted in let len = length-append new.line (10 ∷ []) in omega (arith, n, len)
 comes_more old new (going, line, inr last) = let n = last.0.counted in let some = last.1 in omega (arith, n, some)
 
 pub push_length : (lines : List (List ℕ)) (line : List ℕ) → length (lines ++ line ∷ []) ≡ length lines + 1
 push_length lines line = length-append lines (line ∷ [])
 
-pub counted_more : (lines : List (List ℕ)) (old new : Input) → length lines ≤ old.given → TakesLine old new → length (lines ++ new.line ∷ []) ≤ new.given
+pub counted_more : (lines : List (List ℕ)) (old new : Input) → length lines ≤ old.given → TakesInputLine old new → length (lines ++ new.line ∷ []) ≤ new.given
 counted_more lines old new h k = let more = comes_more old new k in let len = push_length lines new.line in omega (arith, h, more, len)
 
 pub match_true : {A : Type 0} (B : Type 0) (b : Bool) → b ≡ true → MatchBool b A B → A
@@ -147,17 +147,17 @@ match_false A true is h = cc
 
 -- a line was carried out with the verdicts that there were at the start
 pub ran_on : {W : Type 0} (contents : W → Option (List ℕ)) (v w : VerdictMap) (lines : List (List ℕ)) (line : List ℕ) (b mid after : BenchState) (out between new : W)
-    → w ≡ v → Ran contents v lines b out mid between → IsLine line → (more : List ℕ) × IsCarriedOut w line mid more after × Appends (contents between) (contents new) more
+    → w ≡ v → Ran contents v lines b out mid between → IsInputLine line → (more : List ℕ) × IsCarriedOut w line mid more after × Appends (contents between) (contents new) more
     → Ran contents v (lines ++ line ∷ []) b out after new
 ran_on {W} contents v w lines line b mid after out between new same h short (more, carried, wrote) =
     ran_more contents v lines line b mid after out between new more h short (subst (λ (u : VerdictMap). IsCarriedOut u line mid more after) same carried) wrote
 
--- a run ends at the next line; but for a fault of the writer nothing more was written
+-- a run ends at the next line; nothing more was written unless the writer failed
 pub ends_stop : {A W : Type 0} (leaves : A → BenchState → Type 0) (contents : W → Option (List ℕ)) (v : VerdictMap) (input : Option (List ℕ)) (lines : List (List ℕ)) (number : ℕ) (old now : Input) (b mid : BenchState) (out between new : W) (fault : BenchFault)
-    → AreOf input lines old → IsWithin now → number ≡ length lines + 1 → Ran contents v lines b out mid between
-    → EndsAt number fault old now mid × ((fault ≡ Write) ⊎ Keeps (contents between) (contents new)) → Ends leaves contents v input b out (Err fault) now new
+    → AreOf input lines old → IsWithinLimits now → number ≡ length lines + 1 → Ran contents v lines b out mid between
+    → EndsAt number fault old now mid × ((fault ≡ Write) ⊎ Keeps (contents between) (contents new)) → EndsRun leaves contents v input b out (Err fault) now new
 ends_stop {A} {W} leaves contents v input lines number old now b mid out between new fault h within is ran (why, inl write) =
-    subst (λ (f : BenchFault). Ends {A = A} {W = W} leaves contents v input b out (Err f) now new) (sym write) tt
+    subst (λ (f : BenchFault). EndsRun {A = A} {W = W} leaves contents v input b out (Err f) now new) (sym write) tt
 ends_stop {A} {W} leaves contents v input lines number old now b mid out between new fault h within is ran (why, inr same) =
     ends_at leaves contents v input lines number old now b mid out new fault h within is (ran_kept contents v lines b mid out between new ran same) why
 
@@ -167,23 +167,23 @@ err_is (Err x) e h = ap (λ y. Err y) h.1
 
 first_none : (input : Option (List ℕ)) → AreFirst input []
 first_none None = tt
-first_none (Some text) = (lines_of text, refl)
+first_none (Some text) = (lines_of_text text, refl)
 
 -- memory was refused before the first line
 pub ends_before : {A W : Type 0} (leaves : A → BenchState → Type 0) (contents : W → Option (List ℕ)) (v : VerdictMap) (input : Option (List ℕ)) (b : BenchState) (out : W) (now : Input)
-    → Ends leaves contents v input b out (Err NoMemory) now out
+    → EndsRun leaves contents v input b out (Err NoMemory) now out
 ends_before {A} {W} leaves contents v input b out now = ([], b, first_none input, ran_start contents v b out)
 
 -- no bench was made
 pub ends_unmade : {A W : Type 0} (leaves : A → BenchState → Type 0) (contents : W → Option (List ℕ)) (v : VerdictMap) (input : Option (List ℕ)) (b : BenchState) (out : W) (now : Input) (fault : BenchFault)
-    → (fault ≡ BadConfig) ⊎ (fault ≡ NoMemory) → (fault ≡ BadConfig → ⊥) → Ends leaves contents v input b out (Err fault) now out
+    → (fault ≡ BadConfig) ⊎ (fault ≡ NoMemory) → (fault ≡ BadConfig → ⊥) → EndsRun leaves contents v input b out (Err fault) now out
 ends_unmade {A} {W} leaves contents v input b out now fault (inl bad) not_bad = absurd (not_bad bad)
 ends_unmade {A} {W} leaves contents v input b out now fault (inr none) not_bad =
-    subst (λ (f : BenchFault). Ends {A = A} {W = W} leaves contents v input b out (Err f) now out) (sym none) (ends_before leaves contents v input b out now)
+    subst (λ (f : BenchFault). EndsRun {A = A} {W = W} leaves contents v input b out (Err f) now out) (sym none) (ends_before leaves contents v input b out now)
 
--- how a run ends by a fault has nothing to do with what it leaves
+-- the fault that ends a run is independent of its results
 pub ends_err : {A B W : Type 0} (leaves : A → BenchState → Type 0) (others : B → BenchState → Type 0) (contents : W → Option (List ℕ)) (v : VerdictMap) (input : Option (List ℕ)) (b : BenchState) (out : W) (now : Input) (new : W) (fault : BenchFault)
-    → Ends leaves contents v input b out (Err fault) now new → Ends others contents v input b out (Err fault) now new
+    → EndsRun leaves contents v input b out (Err fault) now new → EndsRun others contents v input b out (Err fault) now new
 ends_err {A} {B} {W} leaves others contents v input b out now new BadConfig h = absurd h
 ends_err {A} {B} {W} leaves others contents v input b out now new (BadLine n) h = h
 ends_err {A} {B} {W} leaves others contents v input b out now new TooLong h = h

@@ -7,11 +7,11 @@ use Rattle.std.proofs.lemmas.List.{drop_more, length-drop}
 use Rattle.std.proofs.lemmas.Option.{slice_get-get_or}
 use Rattle.can_frame.specs.Sets.{is_in, no_ifaces}
 use Rattle.can_frame.specs.declared.iface.IfaceSet.{IfaceSet}
-use Rattle.can_session.specs.AttemptLines.{names_from, after_commas, member_text, joined, name_text, set_text}
+use Rattle.can_session.specs.AttemptLines.{names_from, after_commas, member_text, joined_by_commas, name_text, set_text}
 
--- what is still to be written of names
+-- the names that are still to be written
 abbrev pub rest_text : Bool → List (List ℕ) → List ℕ
-rest_text true names = joined names
+rest_text true names = joined_by_commas names
 rest_text false names = after_commas names
 
 -- the names of the set that are still to come at place i
@@ -80,13 +80,13 @@ run_step names set first (suc n) i lt members =
     ∙ ap (λ (t : List ℕ). member_text first t ++ rest) (sym more)
     ∙ ap (λ (k : ℕ). member_text first (join_with_byte 44 (take (suc (suc n)) (drop i names))) ++ rest_text false (to_come names set k)) there
 
--- nothing is to come past the last name
+-- no name follows the last
 past_names : (names : List (List ℕ)) (set : IfaceSet) (i : ℕ) → length names ≤ i → to_come names set i ≡ []
 past_names names set i past =
     let none : drop i names ≡ [] = grind (arith, common_steps, past) in
     ap (λ (ns : List (List ℕ)). names_from i ns set) none
 
--- the text so far and what is still to come stay the whole text, where names in a row were written
+-- the text so far and the rest stay the whole text when names in a row were written
 pub run_kept : (names : List (List ℕ)) (set : IfaceSet) (i e : ℕ) (first next : Bool) (said more whole : List ℕ)
     → i < e → e ≤ length names → ((k : ℕ) → i ≤ k → k < e → is_in k set ≡ true) → (e < length names → is_in e set ≡ false) → next ≡ false
     → more ≡ said ++ member_text first (join_with_byte 44 (slice_range names i e)) → said ++ rest_text first (to_come names set i) ≡ whole
@@ -111,7 +111,7 @@ run_kept names set i e first next said more whole some within members out last w
     ∙ ap (λ (t : List ℕ). said ++ t) (sym step)
     ∙ h
 
--- and where an interface is none of the set
+-- the same for an interface outside the set
 pub other_kept : (names : List (List ℕ)) (set : IfaceSet) (i : ℕ) (first next : Bool) (said more whole : List ℕ)
     → i < length names → is_in i set ≡ false → next ≡ first → more ≡ said
     → said ++ rest_text first (to_come names set i) ≡ whole → more ++ rest_text next (to_come names set (i + 1)) ≡ whole
@@ -128,4 +128,4 @@ none_named i (name ∷ names) =
 
 -- the text of no interface
 pub none_text : (names : List (List ℕ)) → set_text names no_ifaces ≡ codes "-"
-none_text names = ap joined (none_named 0 names)
+none_text names = ap joined_by_commas (none_named 0 names)

@@ -21,7 +21,7 @@ speaks does s k b old new said text bus at there did put =
       after_is = ap (λ (n : ℕ). record b { sessions = slice_set b.sessions n (Some new); bus = bus }) at;
     }
 
--- what follows a session's number and a space is ended as it is spoken
+-- the text after a session's number and a space is ended as it is spoken
 pub ends_spoken : (s n : ℕ) (text begun said after : List ℕ) → begun ≡ decimal s ++ 32 ∷ [] → n ≡ length begun → said ≡ begun ++ text
     → (length said ≡ n → after ≡ []) → (n < length said → after ≡ said ++ 10 ∷ []) → after ≡ spoken s text
 ends_spoken s n [] begun said after front len is none some = none (ap length (is ∙ append-nil begun) ∙ sym len)

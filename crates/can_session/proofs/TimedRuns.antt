@@ -16,10 +16,10 @@ use Rattle.can_bus.specs.Attempts.{winner, attempt_reply, tried_head}
 use Rattle.can_bus.specs.Transmit.{head_of}
 use Rattle.can_rules.specs.declared.rule.Decision.{Decision}
 use Rattle.can_rules.specs.Plans.{PlanSeen}
-use Rattle.can_session.specs.AttemptLines.{attempt_line}
+use Rattle.can_session.specs.AttemptLines.{bench_attempt_line}
 use Rattle.can_session.specs.Wires.{Schedule, attempt_moment}
 use Rattle.can_session.specs.BusSteps.{NamedBus, head_on, waits_in_time, verdict_on, decision_on, plan_left}
-use Rattle.can_session.specs.Benches.{BenchState, IsTriedIf, IsFull, sourced, next_moment, said_moment, said_decision, passed}
+use Rattle.can_session.specs.Benches.{BenchState, IsTriedIf, IsFull, sourced, next_moment_on, said_moment, said_decision, passed}
 use Rattle.can_session.specs.inner.Acts.{Puts}
 
 -- an attempt is refused by no entry
@@ -32,7 +32,7 @@ not_refused : (c : BusConfig) (past : List Entry) (m : ℕ) (v : Verdict) (why :
 not_refused c past m v why None is = cc
 not_refused c past m v why (Some w) is = not_refused_head c past m v why w (head_of past w) is
 
--- so its refusal says that the record is full
+-- so it was refused for a full record
 full : (old : Journal) (m : ℕ) (v : Verdict) (why : Refusal) (new : Journal) → Refuses old (event.Attempt m v) why new → old.config.limit ≤ length old.history
 full old m v refusal.RecordFull new h = h.0
 full old m v refusal.NoMemory new h = absurd h.1
@@ -42,7 +42,7 @@ refused : (old : Journal) (m : ℕ) (v : Verdict) (outcome : Result Attempt Refu
 refused old m v (Ok a) new is h = cc
 refused old m v (Err why) new is h = full old m v why new h
 
--- an attempt is made, but where the record is full
+-- an attempt is made, unless the record is full
 pub stops_full : (v : VerdictMap) (b : BenchState) (text : List ℕ) (after : BenchState) → IsTriedIf false v b text after → IsFull b
 stops_full v b text after (one, none) = refused b.bus.journal _ _ one.outcome one.journal none one.answers
 
@@ -71,28 +71,28 @@ pub record Made (verdicts : VerdictMap) (b : BenchState) (bus : NamedBus) (sourc
 
 -- the moment is that of the next attempt
 moment_of : (verdicts : VerdictMap) (b : BenchState) (bus : NamedBus) (source : Verdict) (decision : Decision) (waits : Bool) (moment : ℕ) (when : Option ℕ) (shown : Option Decision) (outcome : Result Attempt Refusal) → Made verdicts b bus source decision waits moment when shown outcome
-    → moment ≡ next_moment b
+    → moment ≡ next_moment_on b
 moment_of verdicts b bus source decision waits moment when shown outcome h = h.moment_is ∙ ap (λ (w : Bool). attempt_moment b.moment w (head_on b.bus) b.bus.schedule) h.waits_is
 
 answers_of : (verdicts : VerdictMap) (b : BenchState) (bus : NamedBus) (source : Verdict) (decision : Decision) (waits : Bool) (moment : ℕ) (when : Option ℕ) (shown : Option Decision) (outcome : Result Attempt Refusal) → Made verdicts b bus source decision waits moment when shown outcome
-    → Answers reply.Attempted b.bus.journal (event.Attempt (next_moment b) (verdict_on b.bus (sourced verdicts b.bus))) outcome bus.journal
+    → Answers reply.Attempted b.bus.journal (event.Attempt (next_moment_on b) (verdict_on b.bus (sourced verdicts b.bus))) outcome bus.journal
 answers_of verdicts b bus source decision waits moment when shown outcome h =
-    subst (λ (s : Verdict). Answers reply.Attempted b.bus.journal (event.Attempt (next_moment b) (verdict_on b.bus s)) outcome bus.journal) h.source_is
+    subst (λ (s : Verdict). Answers reply.Attempted b.bus.journal (event.Attempt (next_moment_on b) (verdict_on b.bus s)) outcome bus.journal) h.source_is
     (subst (λ (m : ℕ). Answers reply.Attempted b.bus.journal (event.Attempt m (verdict_on b.bus source)) outcome bus.journal) (moment_of verdicts b bus source decision waits moment when shown outcome h) h.answers)
 
 pub tried_by : (verdicts : VerdictMap) (b after : BenchState) (bus : NamedBus) (source : Verdict) (decision : Decision) (waits : Bool) (moment : ℕ) (when : Option ℕ) (shown : Option Decision) (outcome : Result Attempt Refusal) (names : List (List ℕ)) (said new : List ℕ) (is : Bool)
-    → Made verdicts b bus source decision waits moment when shown outcome → names ≡ bus.names → new ≡ said ++ attempt_line names when shown outcome
+    → Made verdicts b bus source decision waits moment when shown outcome → names ≡ bus.names → new ≡ said ++ bench_attempt_line names when shown outcome
     → after ≡ passed waits decision.verdict outcome (record b { bus = bus }) → is ≡ is_ok outcome → Puts (IsTriedIf is verdicts) b said after new
 tried_by verdicts b after bus source decision waits moment when shown outcome names said new is h names_are put passes is_tried = (
-  attempt_line names when shown outcome,
+  bench_attempt_line names when shown outcome,
   (
     record {
       outcome = outcome;
       journal = bus.journal;
       answers = answers_of verdicts b bus source decision waits moment when shown outcome h;
-      text_is = ap (λ (ns : List (List ℕ)). attempt_line ns when shown outcome) (names_are ∙ h.names)
-          ∙ ap (λ (w : Option ℕ). attempt_line b.bus.names w shown outcome) (h.when_is ∙ ap (said_moment b.bus.schedule) (moment_of verdicts b bus source decision waits moment when shown outcome h))
-          ∙ ap (λ (d : Option Decision). attempt_line b.bus.names (said_moment b.bus.schedule (next_moment b)) d outcome)
+      text_is = ap (λ (ns : List (List ℕ)). bench_attempt_line ns when shown outcome) (names_are ∙ h.names)
+          ∙ ap (λ (w : Option ℕ). bench_attempt_line b.bus.names w shown outcome) (h.when_is ∙ ap (said_moment b.bus.schedule) (moment_of verdicts b bus source decision waits moment when shown outcome h))
+          ∙ ap (λ (d : Option Decision). bench_attempt_line b.bus.names (said_moment b.bus.schedule (next_moment_on b)) d outcome)
           (h.shown_is ∙ ap (said_decision b.shows_faults) (h.decision_is ∙ ap (decision_on b.bus) h.source_is));
       after_is = passes
           ∙ ap (λ (w : Bool). passed w decision.verdict outcome (record b { bus = bus })) h.waits_is
@@ -104,7 +104,7 @@ tried_by verdicts b after bus source decision waits moment when shown outcome na
   put,
 )
 
--- with the verdicts that there were at the start
+-- with the verdicts of the start
 pub tried_as : (v w : VerdictMap) (is other : Bool) (b : BenchState) (text : List ℕ) (after : BenchState) → w ≡ v → is ≡ other → IsTriedIf is w b text after → IsTriedIf other v b text after
 tried_as v w is other b text after same was h =
     subst (λ (u : VerdictMap). IsTriedIf other u b text after) same (subst (λ (t : Bool). IsTriedIf t w b text after) was h)

@@ -16,9 +16,9 @@ use Rattle.can_event.specs.declared.attempt.Attempt.TheVariants as attempt
 use Rattle.can_event.specs.declared.refusal.Refusal.{Refusal}
 use Rattle.can_event.specs.declared.attempt.Tried.{Tried}
 
--- What the bench puts out for an attempt (own choice).
+-- The output of the bench for an attempt (own choice).
 
--- the names of the interfaces of a set by rising number, where the first of these names is interface i's
+-- the names of the interfaces of a set by rising number; the first of these names is that of interface i
 abbrev pub names_from : ℕ → List (List ℕ) → IfaceSet → List (List ℕ)
 names_from i [] set = []
 names_from i (name ∷ names) set =
@@ -39,38 +39,38 @@ abbrev pub run_text : Bool → List (List ℕ) → ℕ → ℕ → List ℕ
 run_text is_first names first end = member_text is_first (join_with_byte 44 (slice_range names first end))
 
 -- names joined by commas, or a dash for none
-abbrev pub joined : List (List ℕ) → List ℕ
-joined [] = codes "-"
-joined (name ∷ names) = name ++ after_commas names
+abbrev pub joined_by_commas : List (List ℕ) → List ℕ
+joined_by_commas [] = codes "-"
+joined_by_commas (name ∷ names) = name ++ after_commas names
 
 -- a set of interfaces by their names
 abbrev pub set_text : List (List ℕ) → IfaceSet → List ℕ
-set_text names set = joined (names_from 0 names set)
+set_text names set = joined_by_commas (names_from 0 names set)
 
 -- an interface by its name
 abbrev pub name_text : Option (List ℕ) → List ℕ
 name_text None = codes "?"
 name_text (Some name) = name
 
--- whose frame was tried, and its number there
+-- the interface whose frame was tried, and the frame's number there
 abbrev pub whose_text : List (List ℕ) → Tried → List ℕ
 whose_text names t = codes "tried " ++ name_text (slice_get names t.winner) ++ codes " " ++ decimal t.number
 
--- how it ended, who accepted it, and who went bus off
+-- how it ended, the interfaces that accepted it, and those that went bus off
 abbrev pub ending_text : List (List ℕ) → Tried → List ℕ
 ending_text names t =
     codes " " ++ class_word t.class ++ codes " " ++ set_text names t.accepted ++ codes " " ++ set_text names t.off
 
--- who was restarted, if anybody was
+-- the interfaces that were restarted, if any
 abbrev pub restarted_text : List (List ℕ) → IfaceSet → List ℕ
 restarted_text names set = if set.0 == 0 then [] else codes " restarted " ++ set_text names set
 
--- when it was, where the line says so
+-- the moment of the attempt, if the line has it
 abbrev pub when_text : Option ℕ → List ℕ
 when_text None = []
 when_text (Some moment) = codes " at " ++ moment_text moment
 
--- who was restarted, and when it was
+-- the interfaces that were restarted, and the moment
 abbrev pub after_text : List (List ℕ) → Option ℕ → IfaceSet → List ℕ
 after_text names when restarted = restarted_text names restarted ++ when_text when
 
@@ -92,12 +92,12 @@ abbrev pub rule_text : Option ℕ → List ℕ
 rule_text None = []
 rule_text (Some number) = codes "; rule " ++ decimal number
 
--- its fault and the rule, where the line says so
+-- its fault and the rule, if the line has them
 abbrev pub decision_text : List (List ℕ) → Option Decision → List ℕ
 decision_text names None = []
 decision_text names (Some decision) = fault_text names decision.verdict ++ rule_text decision.rule
 
--- how the line ends
+-- the end of the line
 abbrev pub end_text : List (List ℕ) → Option ℕ → Option Decision → IfaceSet → List ℕ
 end_text names when decision restarted =
     after_text names when restarted ++ decision_text names decision ++ codes "\n"
@@ -110,9 +110,9 @@ tried_line names when decision t = whose_text names t ++ ending_text names t ++ 
 abbrev pub idle_line : List (List ℕ) → Option ℕ → IfaceSet → List ℕ
 idle_line names when restarted = codes "idle" ++ end_text names when None restarted
 
--- the line of an attempt, with its moment, and with its fault and the rule that gave it, if they are to be said; the
--- only refusal that there is says that the record is full, and has neither
-abbrev pub attempt_line : List (List ℕ) → Option ℕ → Option Decision → Result Attempt Refusal → List ℕ
-attempt_line names when decision (Ok (attempt.Tried t)) = tried_line names when decision t
-attempt_line names when decision (Ok (attempt.Idle restarted)) = idle_line names when restarted
-attempt_line names when decision (Err why) = codes "record full\n"
+-- the line of an attempt, with its moment, and with its fault and the rule that gave it, if they are wanted; the only
+-- refusal is that of a full record, which has neither
+abbrev pub bench_attempt_line : List (List ℕ) → Option ℕ → Option Decision → Result Attempt Refusal → List ℕ
+bench_attempt_line names when decision (Ok (attempt.Tried t)) = tried_line names when decision t
+bench_attempt_line names when decision (Ok (attempt.Idle restarted)) = idle_line names when restarted
+bench_attempt_line names when decision (Err why) = codes "record full\n"

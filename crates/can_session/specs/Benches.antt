@@ -27,7 +27,7 @@ use Rattle.can_dialog.specs.Plans.{Plays}
 use Rattle.can_dialog.specs.Turns.{ending, delivery, greeting}
 use Rattle.can_dialog.specs.Deliveries.{AreGiven}
 use Rattle.can_dialog.specs.Sessions.{SessionState, Turns, beginning}
-use Rattle.can_session.specs.BusSteps.{NamedBus, BusStep, next_number, head_on, verdict_on, decision_on, plan_left}
+use Rattle.can_session.specs.BusSteps.{NamedBus, BusStep, next_number_on, head_on, verdict_on, decision_on, plan_left}
 use Rattle.can_session.specs.BusSteps.{waits_in_time}
 use Rattle.can_session.specs.Wires.{Schedule, attempt_moment, schedule_left, moment_left, begins_before}
 use Rattle.can_session.specs.declared.ignored_input.IgnoredInput.{IgnoredInput}
@@ -35,12 +35,12 @@ use Rattle.can_session.specs.IgnoredInput.{ignored_then}
 use Rattle.can_session.specs.Orders.{Effect, order_of}
 use Rattle.can_session.specs.Orders.Effect.{Does_nothing, Sets, Starts, Feeds, Drains, Ends, Attempts, Runs, Injects}
 use Rattle.can_session.specs.Orders.Effect.{TakesDown, BringsUp}
-use Rattle.can_session.specs.AttemptLines.{attempt_line}
+use Rattle.can_session.specs.AttemptLines.{bench_attempt_line}
 
--- What the bench does and writes: its lines, one after another (own choice).
+-- The work and the output of the bench: its lines, one after another (own choice).
 
--- the state of a bench: how many items a socket holds, whether the lines of attempts have their faults, the bus, the
--- sessions by number, the moment set, and what was fed that is in no message
+-- the state of a bench: the number of items that a socket holds, whether the lines of attempts show their faults, the
+-- bus, the sessions by number, the moment set, and the input outside messages
 pub record BenchState : Type 0 where
   pub capacity : ℕ
   pub shows_faults : Bool
@@ -49,7 +49,7 @@ pub record BenchState : Type 0 where
   pub moment : ℕ
   pub ignored : IgnoredInput
 
--- session s: `Some None` where it was not started, `None` where there is no such number
+-- session s: `Some None` if it was not started, `None` if there is no such number
 abbrev pub session_at : BenchState → ℕ → Option (Option SessionState)
 session_at b s = slice_get b.sessions (s - 1)
 
@@ -57,11 +57,11 @@ session_at b s = slice_get b.sessions (s - 1)
 abbrev pub with_session : BenchState → ℕ → SessionState → NamedBus → BenchState
 with_session b s st bus = record b { sessions = slice_set b.sessions (s - 1) (Some st); bus = bus }
 
--- the bench where these bytes, fed to session s, are noted
+-- the bench after these bytes, fed to session s, are noted
 abbrev pub with_fed : BenchState → ℕ → List ℕ → BenchState
 with_fed b s bytes = record b { ignored = ignored_then b.ignored s bytes }
 
--- what a session says in a line: its number, a space, the bytes and LF, or nothing at all
+-- the output of a session in a line: its number, a space, the bytes and LF, or nothing at all
 abbrev pub spoken : ℕ → List ℕ → List ℕ
 spoken s [] = []
 spoken s (b ∷ bs) = decimal s ++ 32 ∷ (b ∷ bs) ++ 10 ∷ []
@@ -82,7 +82,7 @@ IsFedAt _ moment bytes old p text new q = Hears moment bytes old p text new q
 abbrev pub IsFed : ℕ → List ℕ → SessionState → NamedBus → List ℕ → SessionState → NamedBus → Type 0
 IsFed moment bytes = λ old. IsFedAt old.dialog.stage moment bytes old
 
--- items are given to a session until there is none
+-- items are given to a session until none is left
 pub record IsDrained (old : SessionState) (p : NamedBus) (text : List ℕ) (new : SessionState)
     (q : NamedBus) : Type 0 where
   pub items : ℕ
@@ -94,13 +94,13 @@ pub record IsDrained (old : SessionState) (p : NamedBus) (text : List ℕ) (new 
   pub said : text ≡ before ++ last
   pub same : new ≡ old
 
--- a session ends, and says nothing
+-- a session ends without a text
 pub record IsEnded (old : SessionState) (p : NamedBus) (text : List ℕ) (new : SessionState)
     (q : NamedBus) : Type 0 where
   pub ends : Plays BusStep (ending old.dialog.stage old.dialog) p q text new.dialog
   pub keeps : new.kept ≡ old.kept
 
--- session s, which was started before, does this; what it says is put out
+-- session s, which was started before, does this; its output is put out
 pub record Speaks (does : SessionState → NamedBus → List ℕ → SessionState → NamedBus → Type 0) (s : ℕ)
     (b : BenchState) (text : List ℕ) (after : BenchState) : Type 0 where
   pub old : SessionState
@@ -121,23 +121,23 @@ IsStarted s b text after =
 
 -- the verdict that the source has for the next attempt
 abbrev pub sourced : VerdictMap → NamedBus → Verdict
-sourced verdicts bus = verdict_in verdicts (next_number bus)
+sourced verdicts bus = verdict_in verdicts (next_number_on bus)
 
 -- the moment of the next attempt
-abbrev pub next_moment : BenchState → ℕ
-next_moment b = attempt_moment b.moment (waits_in_time b.bus) (head_on b.bus) b.bus.schedule
+abbrev pub next_moment_on : BenchState → ℕ
+next_moment_on b = attempt_moment b.moment (waits_in_time b.bus) (head_on b.bus) b.bus.schedule
 
--- what its line says of that: nothing where the bus has no bit rates
+-- the part of its line for the moment: nothing if the bus has no bit rates
 abbrev pub said_moment : Option Schedule → ℕ → Option ℕ
 said_moment schedule moment = option_map (λ s. moment) schedule
 
--- what it says of what was decided on the attempt: its fault and the rule that gave it, where faults are shown
+-- the part of its line for the fault on the attempt and the rule that gave it, if faults are shown
 abbrev pub said_decision : Bool → Decision → Option Decision
 said_decision true decision = Some decision
 said_decision false decision = None
 
--- the bench when the time of an attempt has passed that had this verdict and came to this, and before which an
--- interface waited for its restart in time or none did; one that is refused takes no time
+-- the bench after the time of an attempt with this verdict and this outcome has passed; before it an interface waited
+-- for its restart in time or none did; a refused attempt takes no time
 abbrev pub passed : Bool → Verdict → Result Attempt Refusal → BenchState → BenchState
 passed waits v (Ok a) b = record b {
   moment = moment_left b.moment (schedule_left b.moment waits v a b.bus.schedule);
@@ -150,8 +150,8 @@ pub record IsTried (verdicts : VerdictMap) (b : BenchState) (text : List ℕ) (a
   pub outcome : Result Attempt Refusal
   pub journal : Journal
   pub answers : Answers reply.Attempted b.bus.journal
-      (event.Attempt (next_moment b) (verdict_on b.bus (sourced verdicts b.bus))) outcome journal
-  pub text_is : text ≡ attempt_line b.bus.names (said_moment b.bus.schedule (next_moment b))
+      (event.Attempt (next_moment_on b) (verdict_on b.bus (sourced verdicts b.bus))) outcome journal
+  pub text_is : text ≡ bench_attempt_line b.bus.names (said_moment b.bus.schedule (next_moment_on b))
       (said_decision b.shows_faults (decision_on b.bus (sourced verdicts b.bus))) outcome
   pub after_is : after ≡ passed (waits_in_time b.bus) (verdict_on b.bus (sourced verdicts b.bus)) outcome (record b {
     bus = record b.bus { journal = journal; plan = plan_left b.bus (sourced verdicts b.bus) };
@@ -161,9 +161,9 @@ pub record IsTried (verdicts : VerdictMap) (b : BenchState) (text : List ℕ) (a
 abbrev pub IsTriedIf : Bool → VerdictMap → BenchState → List ℕ → BenchState → Type 0
 IsTriedIf is_made verdicts b text after = (one : IsTried verdicts b text after) × (is_ok one.outcome ≡ is_made)
 
--- an attempt would begin before this moment, and there is a frame for it to try, or an interface waits for its restart
-abbrev pub is_due : ℕ → BenchState → Bool
-is_due moment b =
+-- an attempt would begin before this moment, and there is a frame for it to try or an interface waits for its restart
+abbrev pub is_attempt_due : ℕ → BenchState → Bool
+is_attempt_due moment b =
     begins_before b.moment moment b.bus.schedule && (is_some (head_on b.bus) || waits_in_time b.bus)
 
 -- this many attempts, each of which was due and is made; the last one is the last step
@@ -172,7 +172,7 @@ AreTried verdicts moment zero b text after = (text ≡ []) × (after ≡ b)
 AreTried verdicts moment (suc n) b text after =
     (before : List ℕ) × (mid : BenchState) × (last : List ℕ)
     × AreTried verdicts moment n b before mid
-    × (is_due moment mid ≡ true)
+    × (is_attempt_due moment mid ≡ true)
     × IsTriedIf true verdicts mid last after
     × (text ≡ before ++ last)
 
@@ -183,8 +183,8 @@ IsFull b = b.bus.journal.config.limit ≤ length b.bus.journal.history
 -- no attempt is due any more; or one is, and its refusal is put out, since the record is full
 abbrev pub NoneFollows : VerdictMap → ℕ → BenchState → List ℕ → BenchState → Type 0
 NoneFollows verdicts moment b text after =
-    ((is_due moment b ≡ false) × (text ≡ []) × (after ≡ b))
-    ⊎ ((is_due moment b ≡ true) × IsFull b × IsTried verdicts b text after)
+    ((is_attempt_due moment b ≡ false) × (text ≡ []) × (after ≡ b))
+    ⊎ ((is_attempt_due moment b ≡ true) × IsFull b × IsTried verdicts b text after)
 
 -- attempts are made as long as one is due before this moment
 pub record AreMade (verdicts : VerdictMap) (moment : ℕ) (b : BenchState) (text : List ℕ)
@@ -197,7 +197,7 @@ pub record AreMade (verdicts : VerdictMap) (moment : ℕ) (b : BenchState) (text
   pub ends : NoneFollows verdicts moment mid last after
   pub said : text ≡ before ++ last
 
--- the same, and then this moment is set: the bus has bit rates, and the moment that was set is no later
+-- the same, and then this moment is set: the bus has bit rates, and the moment set before is no later
 pub record IsRun (verdicts : VerdictMap) (moment : ℕ) (b : BenchState) (text : List ℕ)
     (after : BenchState) : Type 0 where
   pub timed : b.bus.schedule ≢ None
@@ -216,13 +216,13 @@ pub record IsInjected (rule : List ℕ) (b after : BenchState) : Type 0 where
   pub takes : Injected b.bus.names rule b.bus.plan (Ok tt) plan
   pub after_is : after ≡ record b { bus = record b.bus { plan = plan } }
 
--- the bus's plan refuses it, not for want of memory
+-- the bus's plan refuses it, not for lack of memory
 pub record IsWrongRule (rule : List ℕ) (b : BenchState) : Type 0 where
   pub why : RuleRefusal
   pub refuses : Injected b.bus.names rule b.bus.plan (Err why) b.bus.plan
   pub fault : why ≢ refusal.NoMemory
 
--- what a line puts out that takes an interface down or brings it up: that the record is full, if it is
+-- the output of a line that takes an interface down or brings it up: a note if the record is full
 abbrev pub change_line : Result (Unit {0}) Refusal → List ℕ
 change_line (Ok done) = []
 change_line (Err why) = codes "record full\n"
@@ -258,7 +258,7 @@ pub record IsDenied (event_of : ℕ → ℕ → Event) (name : List ℕ) (b : Be
 abbrev pub IsWrongChange : (ℕ → ℕ → Event) → List ℕ → BenchState → Type 0
 IsWrongChange event_of name b = (place_of b.bus.names name ≡ None) ⊎ IsDenied event_of name b
 
--- what a good line does: the bench before it, what is put out, and the bench after it
+-- the work of a good line: the bench before it, its output, and the bench after it
 abbrev pub Does : VerdictMap → Effect → BenchState → List ℕ → BenchState → Type 0
 Does verdicts Does_nothing b text after = (text ≡ []) × (after ≡ b)
 Does verdicts (Sets moment) b text after = (text ≡ []) × (after ≡ record b { moment = moment })
@@ -279,9 +279,8 @@ pub record IsCarriedOut (verdicts : VerdictMap) (line : List ℕ) (b : BenchStat
   pub reads : order_of line ≡ Some effect
   pub does : Does verdicts effect b text after
 
--- a line is refused: it is no good line, it starts a session whose number was used before, it is of one that was never
--- started, it runs to a moment and cannot, it is of a rule that is not taken, or of an interface that is not there or
--- that the bus refuses to bring up
+-- a line is refused: it is wrong, it starts a session whose number was used before, its session was never started, it
+-- runs to a moment and cannot, its rule is not taken, or its interface is not there or the bus refuses to bring it up
 abbrev pub IsRefused : Option Effect → BenchState → Type 0
 IsRefused None b = Unit {0}
 IsRefused (Some (Starts s)) b = session_at b s ≢ Some None

@@ -40,10 +40,10 @@ pub record NamedBus : Type 0 where
   pub schedule : Option Schedule
 
 -- the number of the next attempt that tries a frame
-abbrev pub next_number : NamedBus → ℕ
-next_number bus = length (tape bus.journal.history)
+abbrev pub next_number_on : NamedBus → ℕ
+next_number_on bus = length (tape bus.journal.history)
 
--- what the next attempt tries
+-- the interface and the frame that the next attempt tries
 abbrev pub head_on : NamedBus → Option (ℕ × CanFrame)
 head_on bus = next_head bus.journal.config bus.journal.history
 
@@ -53,15 +53,15 @@ waits_in_time bus = is_some bus.schedule && is_counting bus.journal.config bus.j
 
 -- the verdict of the next attempt, for which the source has this one
 abbrev pub verdict_on : NamedBus → Verdict → Verdict
-verdict_on bus source = given source bus.plan (next_number bus) (head_on bus)
+verdict_on bus source = given source bus.plan (next_number_on bus) (head_on bus)
 
--- the same, with the rule that gives it, if one does
+-- the same, with the rule that gives it, if any
 abbrev pub decision_on : NamedBus → Verdict → Decision
-decision_on bus source = decided_for source bus.plan (next_number bus) (head_on bus)
+decision_on bus source = decided_for source bus.plan (next_number_on bus) (head_on bus)
 
 -- the plan after that attempt
 abbrev pub plan_left : NamedBus → Verdict → PlanSeen
-plan_left bus source = plan_after source bus.plan (next_number bus) (head_on bus)
+plan_left bus source = plan_after source bus.plan (next_number_on bus) (head_on bus)
 
 -- a bus's reply, as a port gives it
 abbrev pub passed_on : {A : Type 0} → Result A Refusal → Result A PortRefusal
@@ -73,7 +73,7 @@ abbrev pub interface_at : Option ℕ → Result ℕ PortRefusal
 interface_at None = Err (port.Bus refusal.NoInterface)
 interface_at (Some iface) = Ok iface
 
--- the error counters among the counts of an interface: 0/0 where there is no such interface
+-- the error counters among the counts of an interface: 0/0 if there is no such interface
 abbrev pub counters_in : Option IfaceStats → ErrorCounts
 counters_in None = at_start
 counters_in (Some counts) = counts.counters
@@ -88,9 +88,9 @@ IsEvent {A} told old event answer new =
     × (new.plan ≡ old.plan)
     × (new.schedule ≡ old.schedule)
 
--- a rule of faults is taken, or refused as the plan refuses it
-abbrev pub IsInjected : NamedBus → List ℕ → Result (Unit {0}) PortRefusal → NamedBus → Type 0
-IsInjected old rule answer new =
+-- a fault rule is taken, or refused as the plan refuses it
+abbrev pub IsRuleAnswered : NamedBus → List ℕ → Result (Unit {0}) PortRefusal → NamedBus → Type 0
+IsRuleAnswered old rule answer new =
     (outcome : Result (Unit {0}) RuleRefusal)
     × (answer ≡ reply_to_rule outcome)
     × Injected old.names rule old.plan outcome new.plan
@@ -115,7 +115,7 @@ BusStep old (CountsOfIface iface) answer new =
 BusStep old (CountersOfIface iface) answer new =
     (answer ≡ counters_in (iface_stats_of old.journal.config old.journal.history iface)) × (new ≡ old)
 BusStep old (LoadAt moment) answer new = (answer ≡ load_at moment old.schedule) × (new ≡ old)
-BusStep old (Inject rule) answer new = IsInjected old rule answer new
+BusStep old (Inject rule) answer new = IsRuleAnswered old rule answer new
 BusStep old CountsRules answer new = (answer ≡ length old.plan.rules) × (new ≡ old)
 BusStep old EndsRules answer new = new ≡ record old { plan = without_rules old.plan }
 BusStep old (Down iface moment) answer new = IsEvent done_reply old (event.Down iface moment) answer new

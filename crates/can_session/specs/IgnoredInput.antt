@@ -5,14 +5,14 @@ use Rattle.can_proto.specs.Messages.{has_mark}
 use Rattle.can_proto.specs.Words.{is_blank}
 use Rattle.can_session.specs.declared.ignored_input.IgnoredInput.{IgnoredInput}
 
--- What sessions are fed that is in no message (own choice).
+-- The input of sessions outside messages (own choice).
 
--- whether a message is begun and not ended after these bytes, where `begun` says whether one was before
+-- whether a message is begun and not ended after these bytes; `begun` is whether one was before
 abbrev pub begun_after : Bool → List ℕ → Bool
 begun_after begun [] = begun
 begun_after begun (b ∷ bs) = begun_after (if b == 60 then true else if b == 62 then false else begun) bs
 
--- whether some of these bytes are outside messages and not blank, or in a message that a `<` begins anew
+-- some of these bytes are outside messages and not blank, or in a message that a `<` begins anew
 abbrev pub has_outside : Bool → List ℕ → Bool
 has_outside begun [] = false
 has_outside false (b ∷ bs) = if b == 60 then has_outside true bs else if is_blank b then has_outside false bs else true
@@ -33,13 +33,13 @@ abbrev pub IsPart : Part → Type 0
 IsPart (Gap b) = is_blank b ≡ true
 IsPart (Whole inside) = has_mark inside ≡ false
 
--- what comes after the parts: nothing, or a message that is begun
+-- the bytes after the parts: nothing, or a message that is begun
 abbrev pub IsTail : Bool → List ℕ → Type 0
 IsTail false tail = tail ≡ []
 IsTail true tail = (inside : List ℕ) × (tail ≡ 60 ∷ inside) × (has_mark inside ≡ false)
 
 -- bytes that are messages with nothing but blanks between them, and at the end nothing, or a message that is begun
-pub record AreInOrder (bytes : List ℕ) (begun : Bool) : Type 0 where
+pub record AreMessagesInOrder (bytes : List ℕ) (begun : Bool) : Type 0 where
   pub parts : List Part
   pub tail : List ℕ
   pub good : AllByRecursion IsPart parts
@@ -47,18 +47,18 @@ pub record AreInOrder (bytes : List ℕ) (begun : Bool) : Type 0 where
   pub whole : bytes ≡ flat_map part_text parts ++ tail
 
 -- the flag of session s
-abbrev pub flag : List Bool → ℕ → Bool
-flag flags s = get_or flags (s - 1) false
+abbrev pub is_set : List Bool → ℕ → Bool
+is_set flags s = get_or flags (s - 1) false
 
 -- in which sessions a message is begun and not ended, after session s was fed these bytes
 abbrev pub begun_then : List Bool → ℕ → List ℕ → List Bool
-begun_then begun s bytes = slice_set begun (s - 1) (begun_after (flag begun s) bytes)
+begun_then begun s bytes = slice_set begun (s - 1) (begun_after (is_set begun s) bytes)
 
 -- which sessions were fed bytes outside messages, after session s was fed these
 abbrev pub outside_then : List Bool → List Bool → ℕ → List ℕ → List Bool
-outside_then outside begun s bytes = slice_set outside (s - 1) (flag outside s || has_outside (flag begun s) bytes)
+outside_then outside begun s bytes = slice_set outside (s - 1) (is_set outside s || has_outside (is_set begun s) bytes)
 
--- of no session, before any of them was fed
+-- before any session was fed
 abbrev pub none_ignored : IgnoredInput
 none_ignored = record { begun = replicate 64 false; outside = replicate 64 false }
 

@@ -17,27 +17,27 @@ with_byte b [] = (b ∷ []) ∷ []
 with_byte b (line ∷ lines) = (b ∷ line) ∷ lines
 
 -- the lines of a text, without their LFs: each LF ends one, and what follows the last LF is one if it is not empty
-abbrev pub lines_of : List ℕ → List (List ℕ)
-lines_of [] = []
-lines_of (b ∷ bs) = if is_lf b then [] ∷ lines_of bs else with_byte b (lines_of bs)
+abbrev pub lines_of_text : List ℕ → List (List ℕ)
+lines_of_text [] = []
+lines_of_text (b ∷ bs) = if is_lf b then [] ∷ lines_of_text bs else with_byte b (lines_of_text bs)
 
 -- the lines of a text that have their LF: as many as it has LFs
 abbrev pub whole_lines : List ℕ → List (List ℕ)
-whole_lines text = take (count_by is_lf text) (lines_of text)
+whole_lines text = take (count_by is_lf text) (lines_of_text text)
 
 -- bytes that may be a line: no LF is among them, and they are not too many
-pub record IsLine (bytes : List ℕ) : Type 0 where
+pub record IsInputLine (bytes : List ℕ) : Type 0 where
   pub unbroken : list_any is_lf bytes ≡ false
   pub short : length bytes ≤ 4096
 
 -- a text that begins with too long a line: its first 4,097 bytes hold no LF
-pub record IsLong (text : List ℕ) : Type 0 where
+pub record BeginsTooLong (text : List ℕ) : Type 0 where
   pub long : 4096 < length text
   pub unbroken : list_any is_lf (take 4097 text) ≡ false
 
--- an input that is read line by line: the current line, how many bytes were given as lines with their LFs, what was
--- read and not given, what the reader still has where that is known, how many reads gave bytes, whether all was given,
--- and the fault that ended it, if one did
+-- an input that is read line by line: the current line, the number of bytes given as lines with their LFs, the bytes
+-- read and not given, the rest of the reader if it is known, the number of reads that gave bytes, whether all was
+-- given, and the fault that ended it, if any
 pub record Input : Type 0 where
   pub line : List ℕ
   pub given : ℕ
@@ -59,12 +59,12 @@ after_line line width i = record i { line = take line i.held; given = i.given + 
 abbrev pub after_last : Input → Input
 after_last i = record i { line = i.held; given = i.given + length i.held; held = []; ended = true }
 
--- what is left to be given, where that is known
+-- the bytes left to be given, if they are known
 abbrev pub left_of : Input → Option (List ℕ)
 left_of i = prepend_known i.held i.coming
 
 -- an input within its limits, of which each read that counts gave a byte; once it has ended nothing is left
-pub record IsWithin (i : Input) : Type 0 where
+pub record IsWithinLimits (i : Input) : Type 0 where
   pub bytes : i.given + length i.held ≤ 16777216
   pub reads : i.reads ≤ i.given + length i.held
   pub over : i.ended ≡ true → (i.held ≡ []) × IsAtEnd i.coming
@@ -75,7 +75,7 @@ pub record IsOver (i : Input) : Type 0 where
   pub held : i.held ≡ []
   pub coming : IsAtEnd i.coming
 
--- how many bytes came of an input: those given as lines, and those held
+-- the number of bytes taken from an input: those given as lines, and those held
 abbrev pub came : Input → ℕ
 came i = i.given + length i.held
 
@@ -85,28 +85,28 @@ pub record Counts (old new : Input) : Type 0 where
   pub bytes : new.reads + came old ≤ old.reads + came new
 
 -- these bytes were left, and are given now, without a fault
-pub record Gives (old new : Input) (bytes : List ℕ) : Type 0 where
+pub record GivesBytes (old new : Input) (bytes : List ℕ) : Type 0 where
   pub taken : Consumes (left_of old) (left_of new) bytes
   pub counted : new.given ≡ old.given + length bytes
   pub reads : Counts old new
   pub fault : new.fault ≡ old.fault
 
 -- the input had not ended, and the next line is the current one: it had its LF, or it is the last and not empty
-abbrev pub TakesLine : Input → Input → Type 0
-TakesLine old new =
+abbrev pub TakesInputLine : Input → Input → Type 0
+TakesInputLine old new =
     (old.ended ≡ false)
-    × IsLine new.line
-    × (Gives old new (new.line ++ 10 ∷ []) ⊎ (Gives old new new.line × (0 < length new.line) × IsOver new))
+    × IsInputLine new.line
+    × (GivesBytes old new (new.line ++ 10 ∷ []) ⊎ (GivesBytes old new new.line × (0 < length new.line) × IsOver new))
 
 -- there was no line left
 abbrev pub FindsEnd : Input → Input → Type 0
-FindsEnd old new = Gives old new [] × IsOver new
+FindsEnd old new = GivesBytes old new [] × IsOver new
 
 -- whether there was a next line
 abbrev pub ComesNext : Bool → Input → Input → Type 0
-ComesNext found old new = MatchBool found (TakesLine old new) (FindsEnd old new)
+ComesNext found old new = MatchBool found (TakesInputLine old new) (FindsEnd old new)
 
--- no byte was given: what was left is left
+-- no byte was given: the rest stays the same
 pub record Waits (old new : Input) : Type 0 where
   pub same : Keeps (left_of old) (left_of new)
   pub given : new.given ≡ old.given
@@ -127,10 +127,11 @@ Fails LineTooLong old new = ⊥
 Fails TooLong old new = (Waits old new × (new.reads ≡ 16777216)) ⊎ Overruns old new
 Fails Read old new = Waits old new × (new.reads < 16777216)
 
--- why there is no next line: what is held begins with too long a line, or it is no whole line and no more can be read
+-- why there is no next line: the bytes held begin with too long a line, or they are no whole line and no more can be
+-- read
 abbrev pub Halts : InputFault → Input → Input → Type 0
-Halts LineTooLong old new = Waits old new × IsLong new.held
-Halts fault old new = IsLine new.held × Fails fault old new
+Halts LineTooLong old new = Waits old new × BeginsTooLong new.held
+Halts fault old new = IsInputLine new.held × Fails fault old new
 
 -- the input had not ended, and there is no next line: the fault is returned
 abbrev pub Stops : InputFault → Input → Input → Type 0
@@ -156,7 +157,7 @@ abbrev pub spelled : List (List ℕ) → List ℕ
 spelled lines = flat_map (λ line. line ++ 10 ∷ []) lines
 
 -- these lines of a text were given, each with its LF, and the others are left
-pub record GoesOn (text : List ℕ) (lines : List (List ℕ)) (now : Input) : Type 0 where
+pub record GivesLines (text : List ℕ) (lines : List (List ℕ)) (now : Input) : Type 0 where
   pub unbroken : AllByRecursion (λ line. list_any is_lf line ≡ false) lines
   pub rest : List ℕ
   pub left : left_of now ≡ Some rest
@@ -166,12 +167,12 @@ pub record GoesOn (text : List ℕ) (lines : List (List ℕ)) (now : Input) : Ty
 -- all lines of a text were given, and the input has ended
 pub record HasEnded (text : List ℕ) (lines : List (List ℕ)) (now : Input) : Type 0 where
   pub ended : now.ended ≡ true
-  pub all : lines ≡ lines_of text
+  pub all : lines ≡ lines_of_text text
   pub counted : now.given ≡ length text
 
 -- the lines that an input gave of a text, up to its current line
 abbrev pub Given : List ℕ → List (List ℕ) → Input → Type 0
-Given text lines now = GoesOn text lines now ⊎ HasEnded text lines now
+Given text lines now = GivesLines text lines now ⊎ HasEnded text lines now
 
 -- the reader gave so much of a text, at most 16,777,216 bytes, and has the rest; the lines that have their LF in
 -- it were given, and no long line is begun after them
@@ -202,7 +203,7 @@ pub record ReadsOver (text : List ℕ) (lines : List (List ℕ)) (now : Input) :
 pub record ComesToLong (text : List ℕ) (lines : List (List ℕ)) : Type 0 where
   pub line : List ℕ
   pub more : List (List ℕ)
-  pub next : lines_of text ≡ lines ++ line ∷ more
+  pub next : lines_of_text text ≡ lines ++ line ∷ more
   pub long : 4096 < length line
   pub within : length (spelled lines) + 4097 ≤ 16777216
 

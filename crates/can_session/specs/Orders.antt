@@ -8,10 +8,10 @@ use Rattle.can_session.specs.declared.order.Order.{Order}
 use Rattle.can_session.specs.declared.order.Order.TheVariants.{Nothing, At, Session, Feed}
 use Rattle.can_session.specs.declared.order.Order.TheVariants.{Drain, End, Attempt, Run, Fault, Down, Up}
 
--- What a line of the bench's input asks for (own choice).
+-- The order that a line of the bench's input gives (own choice).
 
--- what a line does: it sets a moment, in microseconds, starts, feeds, drains or ends a session, makes an attempt,
--- or those that begin before a moment, gives a rule of faults, or takes the interface of a name down or brings it up
+-- the order of a line: it sets a moment, in microseconds, starts, feeds, drains or ends a session, makes an attempt, or
+-- those that begin before a moment, adds a fault rule, or takes the interface of a name down or brings it up
 pub data Effect : Type 0 where
   Does_nothing : Effect
   Sets : ℕ → Effect
@@ -39,7 +39,7 @@ effect_of (Fault rule) = Injects rule.now
 effect_of (Down name) = TakesDown name.now
 effect_of (Up name) = BringsUp name.now
 
--- what comes before the first of these marks, and what follows it
+-- the bytes before the first of these marks, and the bytes after it
 abbrev pub parted : ℕ → List ℕ → Option (List ℕ × List ℕ)
 parted mark text = option_map (λ n. (take n text, drop (n + 1) text)) (position (λ b. b == mark) text)
 
@@ -55,9 +55,9 @@ session_of word = if slice_index word 0 == 48 then None else option_and_then ses
 abbrev pub fed_by : List ℕ × List ℕ → Option Effect
 fed_by (session, bytes) = option_map (λ s. Feeds s bytes) (session_of session)
 
--- what a line with a space does, by the word before the space and what follows it
-abbrev pub asked_by : List ℕ × List ℕ → Option Effect
-asked_by (word, rest) =
+-- the order of a line with a space, by the word before the space and the bytes after it
+abbrev pub asked_by_word : List ℕ × List ℕ → Option Effect
+asked_by_word (word, rest) =
     if is_word word (codes "at") then option_map Sets (moment_in rest) else
     if is_word word (codes "session") then option_map Starts (session_of rest) else
     if is_word word (codes "feed") then option_and_then fed_by (parted 32 rest) else
@@ -73,8 +73,8 @@ abbrev pub is_remark : List ℕ → Bool
 is_remark [] = true
 is_remark (b ∷ bs) = b == 35
 
--- what a line does, or `None` where it is no good line
+-- the order of a line, or `None` if the line is wrong
 abbrev pub order_of : List ℕ → Option Effect
 order_of line =
     if is_remark line then Some Does_nothing else
-    if is_word line (codes "attempt") then Some Attempts else option_and_then asked_by (parted 32 line)
+    if is_word line (codes "attempt") then Some Attempts else option_and_then asked_by_word (parted 32 line)

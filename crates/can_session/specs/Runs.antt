@@ -14,7 +14,8 @@ use Rattle.can_session.specs.declared.lines.InputFault.TheVariants as line
 use Rattle.can_session.specs.declared.bench_run.BenchFault.{BenchFault}
 use Rattle.can_session.specs.declared.bench_run.BenchFault.TheVariants.{BadConfig, BadLine, TooLong}
 use Rattle.can_session.specs.declared.bench_run.BenchFault.TheVariants.{Read, Write, NoMemory}
-use Rattle.can_session.specs.Lines.{Input, IsLine, IsOver, FindsEnd, TakesLine, Stops, StopsAfter, lines_of, spelled}
+use Rattle.can_session.specs.Lines.{Input, IsInputLine, IsOver, FindsEnd, TakesInputLine, Stops, StopsAfter}
+use Rattle.can_session.specs.Lines.{lines_of_text, spelled}
 use Rattle.can_session.specs.declared.ignored_input.IgnoredInput.{IgnoredInput}
 use Rattle.can_session.specs.IgnoredInput.{none_ignored}
 use Rattle.can_session.specs.Orders.{order_of}
@@ -23,16 +24,16 @@ use Rattle.can_session.specs.Benches.{BenchState, AreCarriedOut, IsCarriedOut, I
 
 -- A run of the bench over an input (own choice).
 
--- what a bench may be made with: a bus within its limits, a name for each interface, and a receive queue within
--- its limits
+-- the parts that a bench may be made with: a bus within its limits, a name for each interface, and a receive queue
+-- within its limits
 pub record IsBench (names : List (List ℕ)) (config : BusConfig) (capacity : ℕ) : Type 0 where
   pub bus : IsConfig config
   pub named : length names ≡ config.ifaces
   pub some_items : 1 ≤ capacity
   pub few_items : capacity ≤ max_rx_capacity
 
--- a bench before its first line, whose lines of attempts have their faults or do not, with a plan of faults, and bit
--- rates if its bus has some
+-- a bench before its first line, with a plan of faults, and bit rates if its bus has any; its lines of attempts show
+-- their faults or do not
 abbrev pub at_start_with : Bool → PlanSeen → Option BusTiming → List (List ℕ) → BusConfig → ℕ → BenchState
 at_start_with shows_faults plan timing names config capacity = record {
   capacity = capacity;
@@ -49,35 +50,35 @@ at_start_with shows_faults plan timing names config capacity = record {
 }
 
 -- a bench before its first line, without a plan
-abbrev pub at_start : Bool → Option BusTiming → List (List ℕ) → BusConfig → ℕ → BenchState
-at_start shows_faults timing names config capacity = at_start_with shows_faults no_plan timing names config capacity
+abbrev pub new_bench : Bool → Option BusTiming → List (List ℕ) → BusConfig → ℕ → BenchState
+new_bench shows_faults timing names config capacity = at_start_with shows_faults no_plan timing names config capacity
 
--- Of a reader that does not say what its bytes are nothing is said of the lines.
+-- If a reader does not say what its bytes are, the lines are left open.
 
 -- these are all the lines of the input, which has at most 16,777,216 bytes
 abbrev pub AreAll : Option (List ℕ) → List (List ℕ) → Type 0
 AreAll None lines = Unit {0}
-AreAll (Some text) lines = (lines ≡ lines_of text) × (length text ≤ 16777216)
+AreAll (Some text) lines = (lines ≡ lines_of_text text) × (length text ≤ 16777216)
 
 -- these are the first lines of the input
 abbrev pub AreFirst : Option (List ℕ) → List (List ℕ) → Type 0
 AreFirst None lines = Unit {0}
-AreFirst (Some text) lines = (more : List (List ℕ)) × (lines_of text ≡ lines ++ more)
+AreFirst (Some text) lines = (more : List (List ℕ)) × (lines_of_text text ≡ lines ++ more)
 
 -- these lines, and then this one, are the first lines of the input; the LF of the last, or the end of the input,
 -- is within the limit
-abbrev pub IsNext : Option (List ℕ) → List (List ℕ) → List ℕ → Type 0
-IsNext None lines line = Unit {0}
-IsNext (Some text) lines line =
+abbrev pub IsNextOfInput : Option (List ℕ) → List (List ℕ) → List ℕ → Type 0
+IsNextOfInput None lines line = Unit {0}
+IsNextOfInput (Some text) lines line =
     (more : List (List ℕ))
-    × (lines_of text ≡ lines ++ line ∷ more)
+    × (lines_of_text text ≡ lines ++ line ∷ more)
     × ((length (spelled lines) + length line < 16777216) ⊎ (length text ≤ 16777216))
 
 -- after these lines of the input comes one of at most 4,096 bytes that the bench refuses
 pub record ComesToRefused (input : Option (List ℕ)) (lines : List (List ℕ)) (now : Input)
     (b : BenchState) : Type 0 where
-  pub next : IsNext input lines now.line
-  pub line : IsLine now.line
+  pub next : IsNextOfInput input lines now.line
+  pub line : IsInputLine now.line
   pub refused : IsRefused (order_of now.line) b
 
 -- these lines were given of the input before this fault
@@ -93,81 +94,81 @@ ComeBeforeBad input lines now b = ComesToRefused input lines now b ⊎ ComeBefor
 pub record Ran {W : Type 0} (contents : W → Option (List ℕ)) (verdicts : VerdictMap) (lines : List (List ℕ))
     (b : BenchState) (out : W) (after : BenchState) (new : W) : Type 0 where
   pub text : List ℕ
-  pub short : All IsLine lines
+  pub short : All IsInputLine lines
   pub carried : AreCarriedOut verdicts lines b text after
   pub wrote : Appends (contents out) (contents new) text
 
--- how a run over an input ends, and where in its input: at its end, or after the lines that a fault leaves; of
--- what went out before a fault of the writer nothing is said
-abbrev pub Ends : {A W : Type 0} → (A → BenchState → Type 0) → (W → Option (List ℕ)) → VerdictMap → Option (List ℕ)
+-- how a run over an input ends, and where in its input: at its end, or after the lines that a fault leaves. Output
+-- before a fault of the writer is left open
+abbrev pub EndsRun : {A W : Type 0} → (A → BenchState → Type 0) → (W → Option (List ℕ)) → VerdictMap → Option (List ℕ)
     → BenchState → W → Result A BenchFault → Input → W → Type 0
-Ends {A} {W} leaves contents verdicts input b out (Ok a) now new =
+EndsRun {A} {W} leaves contents verdicts input b out (Ok a) now new =
     (lines : List (List ℕ)) × (after : BenchState)
     × AreAll input lines
     × IsOver now
     × (now.fault ≡ None)
     × Ran contents verdicts lines b out after new
     × leaves a after
-Ends {A} {W} leaves contents verdicts input b out (Err (BadLine n)) now new =
+EndsRun {A} {W} leaves contents verdicts input b out (Err (BadLine n)) now new =
     (lines : List (List ℕ)) × (after : BenchState)
     × ComeBeforeBad input lines now after
     × Ran contents verdicts lines b out after new
     × (n ≡ length lines + 1)
-Ends {A} {W} leaves contents verdicts input b out (Err TooLong) now new =
+EndsRun {A} {W} leaves contents verdicts input b out (Err TooLong) now new =
     (lines : List (List ℕ)) × (after : BenchState) × ComeBeforeStop line.TooLong input lines now
     × Ran contents verdicts lines b out after new
-Ends {A} {W} leaves contents verdicts input b out (Err Read) now new =
+EndsRun {A} {W} leaves contents verdicts input b out (Err Read) now new =
     (lines : List (List ℕ)) × (after : BenchState) × ComeBeforeStop line.Read input lines now
     × Ran contents verdicts lines b out after new
-Ends {A} {W} leaves contents verdicts input b out (Err NoMemory) now new =
+EndsRun {A} {W} leaves contents verdicts input b out (Err NoMemory) now new =
     (lines : List (List ℕ)) × (after : BenchState) × AreFirst input lines × Ran contents verdicts lines b out after new
-Ends {A} {W} leaves contents verdicts input b out (Err Write) now new = Unit {0}
-Ends {A} {W} leaves contents verdicts input b out (Err BadConfig) now new = ⊥
+EndsRun {A} {W} leaves contents verdicts input b out (Err Write) now new = Unit {0}
+EndsRun {A} {W} leaves contents verdicts input b out (Err BadConfig) now new = ⊥
 
--- the record that a bench leaves is that of its bus
-pub record IsRecordOf (r : Kept) (b : BenchState) : Type 0 where
+-- the record of a bench is that of its bus
+pub record IsRecordOfBench (r : Kept) (b : BenchState) : Type 0 where
   pub config : r.config ≡ b.bus.journal.config
   pub history : r.history ≡ b.bus.journal.history
 
--- how a run that leaves a record ends, wherever it leaves its input
+-- the end of a run that leaves a record, anywhere in its input
 abbrev pub EndsOver : {W : Type 0} → (W → Option (List ℕ)) → VerdictMap → Option (List ℕ) → BenchState → W
     → Result Kept BenchFault → W → Type 0
 EndsOver contents verdicts input b out result new =
-    (now : Input) × Ends IsRecordOf contents verdicts input b out result now new
+    (now : Input) × EndsRun IsRecordOfBench contents verdicts input b out result now new
 
 -- a run over all lines of an input leaves this noted of what sessions were fed
-abbrev pub Notes :
+abbrev pub NotesFed :
     {W : Type 0} → (W → Option (List ℕ)) → VerdictMap → Option (List ℕ) → BenchState → W → IgnoredInput → W → Type 0
-Notes contents verdicts input b out ignored new =
+NotesFed contents verdicts input b out ignored new =
     (now : Input)
-    × Ends (λ (_ : Unit {0}) after. ignored ≡ after.ignored) contents verdicts input b out (Ok tt) now new
+    × EndsRun (λ (_ : Unit {0}) after. ignored ≡ after.ignored) contents verdicts input b out (Ok tt) now new
 
 -- why a bench is not made
 abbrev pub IsStartFault : BenchFault → Type 0
 IsStartFault fault = (fault ≡ BadConfig) ⊎ (fault ≡ NoMemory)
 
--- the next line is carried out, and the writer takes what it puts out; or there is no line left, and nothing is done
+-- the next line is carried out, and the writer takes its output; or there is no line left, and nothing is done
 abbrev pub StepsOn : {W : Type 0} → (W → Option (List ℕ)) → VerdictMap → Bool → Input → Input → BenchState
     → BenchState → W → W → Type 0
 StepsOn {W} contents verdicts more old new b after out wrote =
     MatchBool more
-    (TakesLine old new × (text : List ℕ)
+    (TakesInputLine old new × (text : List ℕ)
     × IsCarriedOut verdicts new.line b text after
     × Appends (contents out) (contents wrote) text)
     (FindsEnd old new × (after ≡ b) × Keeps (contents out) (contents wrote))
 
--- how a fault at the next line, which has this number, is reported
-abbrev pub fault_of : ℕ → InputFault → BenchFault
-fault_of number line.LineTooLong = BadLine number
-fault_of number line.TooLong = TooLong
-fault_of number line.Read = Read
+-- the report of a fault at the next line, which has this number
+abbrev pub input_fault_of : ℕ → InputFault → BenchFault
+input_fault_of number line.LineTooLong = BadLine number
+input_fault_of number line.TooLong = TooLong
+input_fault_of number line.Read = Read
 
--- why a run ends at the next line, which has this number
+-- the end of a run at the next line, which has this number
 abbrev pub EndsAt : ℕ → BenchFault → Input → Input → BenchState → Type 0
 EndsAt number (BadLine n) old new b =
-    (n ≡ number) × ((TakesLine old new × IsRefused (order_of new.line) b) ⊎ Stops line.LineTooLong old new)
+    (n ≡ number) × ((TakesInputLine old new × IsRefused (order_of new.line) b) ⊎ Stops line.LineTooLong old new)
 EndsAt number TooLong old new b = Stops line.TooLong old new
 EndsAt number Read old new b = Stops line.Read old new
-EndsAt number NoMemory old new b = TakesLine old new
+EndsAt number NoMemory old new b = TakesInputLine old new
 EndsAt number Write old new b = Unit {0}
 EndsAt number BadConfig old new b = ⊥

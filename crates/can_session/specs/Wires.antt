@@ -5,7 +5,7 @@ use Rattle.can_fault.specs.declared.verdict.Verdict.{Verdict}
 use Rattle.can_event.specs.declared.attempt.Attempt.{Attempt}
 use Rattle.can_event.specs.declared.attempt.Attempt.TheVariants as attempt
 use Rattle.can_wire.specs.Loads.{recent_of, permille_at}
-use Rattle.can_proto.specs.Spelling.{no_load}
+use Rattle.can_proto.specs.Spelling.{no_bus_load}
 use Rattle.can_proto.specs.declared.answer.BusLoad.{BusLoad}
 use Rattle.can_wire.specs.Schedules.{next_moment, begin_moment, after_tried, after_idle, after_no_time}
 use Rattle.can_wire.specs.Wires.{moment_of, is_before}
@@ -14,33 +14,33 @@ pub use Rattle.can_wire.specs.Schedules.{Schedule, nothing_yet}
 -- When attempts are made on a bench whose bus has bit rates (own choice; how long frames and attempts last, and when
 -- they begin and end on a schedule, is can_wire's).
 
--- the schedule where this moment is set: the next attempt begins then, or once the wire is free
+-- the schedule after this moment is set: the next attempt begins then, or once the wire is free
 abbrev pub set_to : ℕ → Schedule → Schedule
 set_to moment s = record s { since = moment }
 
--- the moment of the next attempt: that of the end of the frame that it tries; where it tries none, but an interface
--- waits for its restart, that of its own end, and else that of its begin
+-- the moment of the next attempt: the end of the frame that it tries; if it tries none, but an interface waits for its
+-- restart, the end of the attempt; else its begin
 abbrev pub moment_on : Bool → Option (ℕ × CanFrame) → Schedule → ℕ
 moment_on waits None s = if waits then next_moment None s else begin_moment s
 moment_on waits (Some (iface, frame)) s = next_moment (Some frame) s
 
--- the same, if this moment is set: without bit rates it is this one
+-- the same, if this moment is set; without bit rates it is this one
 abbrev pub attempt_moment : ℕ → Bool → Option (ℕ × CanFrame) → Option Schedule → ℕ
 attempt_moment moment waits head None = moment
 attempt_moment moment waits head (Some s) = moment_on waits head (set_to moment s)
 
--- the schedule after an attempt that was struck by this verdict: one that tries no frame takes 11 bits if an interface
--- waited for its restart, and no time else
+-- the schedule after an attempt with this verdict: one that tries no frame takes 11 bits if an interface waited for its
+-- restart, and no time else
 abbrev pub schedule_after : Bool → Verdict → Attempt → Schedule → Schedule
 schedule_after waits v (attempt.Tried t) s = after_tried t.frame t.class v s
 schedule_after waits v (attempt.Idle restarted) s = if waits then after_idle s else after_no_time s
 
--- what an attempt tried: whose frame, and the frame
+-- the frame that an attempt tried, and its interface
 abbrev pub tried_in : Attempt → Option (ℕ × CanFrame)
 tried_in (attempt.Tried t) = Some (t.winner, t.frame)
 tried_in (attempt.Idle restarted) = None
 
--- the schedule after an attempt, if there is one, where this moment was set
+-- the schedule after an attempt, if there is one, when this moment was set
 abbrev pub schedule_left : ℕ → Bool → Verdict → Attempt → Option Schedule → Option Schedule
 schedule_left moment waits v a schedule = option_map (λ s. schedule_after waits v a (set_to moment s)) schedule
 
@@ -58,8 +58,8 @@ abbrev pub begins_before : ℕ → ℕ → Option Schedule → Bool
 begins_before set moment None = false
 begins_before set moment (Some s) = is_before set s.wire moment
 
--- what a session reads of how busy the wire is at a moment: in how many thousandths of the last whole second before it
--- the wire was busy, for how many microseconds in all, and the bit rates
+-- the load of the wire at a moment, as a session reads it: the thousandths of the last whole second before it in which
+-- the wire was busy, the busy microseconds in all, and the bit rates
 abbrev pub shown_at : ℕ → Schedule → BusLoad
 shown_at moment s = record {
   permille = permille_at moment (recent_of s.load);
@@ -68,7 +68,7 @@ shown_at moment s = record {
   dbitrate = s.wire.timing.rates.fast;
 }
 
--- where a bus has no bit rates all is 0
+-- if a bus has no bit rates all is 0
 abbrev pub load_at : ℕ → Option Schedule → BusLoad
-load_at moment None = no_load
+load_at moment None = no_bus_load
 load_at moment (Some s) = shown_at moment s

@@ -1,4 +1,4 @@
-//! What the line of an attempt says of its fault and of the rule that gave it.
+//! The part of an attempt's line for its fault and the rule that gave it.
 ghost use Rattle.std.specs.Prelude.{◌≡◌, ◌++◌, OnOk};
 ghost use Rattle.can_fault.specs.Grammar.{kind_word};
 ghost use Rattle.can_session.specs.AttemptLines.{verdict_text, fault_text, rule_text, decision_text};
@@ -26,7 +26,7 @@ pub fn put_decision(
     }
 }
 
-// A function of its own, as few runs show faults.
+// It is a function of its own because few runs show faults.
 #[inline(never)]
 fn put_shown(said: &mut Vec<u8>, names: &Names, decision: Decision) -> Result<(), AllocError>
     ensures { OnOk result (said.new.items ≡ said.old.items

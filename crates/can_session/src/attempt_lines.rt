@@ -1,7 +1,7 @@
 ghost use Rattle.std.specs.Prelude.{ℕ, ◌≡◌, ◌<◌, ◌≤◌, ◌++◌, OnOk, true, false, length, slice_get};
 ghost use Rattle.can_frame.specs.Sets.{is_in};
 ghost use Rattle.can_session.specs.AttemptLines.{set_text, name_text, run_text, whose_text, ending_text, restarted_text, when_text, after_text, end_text};
-ghost use Rattle.can_session.specs.AttemptLines.{attempt_line, idle_line, tried_line};
+ghost use Rattle.can_session.specs.AttemptLines.{bench_attempt_line, idle_line, tried_line};
 
 use crate::attempt_faults::put_decision;
 use crate::numbers::put_number;
@@ -19,7 +19,7 @@ pub fn put_attempt(
     outcome: &Result<Attempt, Refusal>,
 ) -> Result<(), AllocError>
     ensures { OnOk result (said.new.items ≡ said.old.items
-        ++ attempt_line names.now when decision outcome.now) }
+        ++ bench_attempt_line names.now when decision outcome.now) }
 {
     match outcome {
         Ok(Attempt::Tried(tried)) => put_tried(said, names, when, decision, tried),
@@ -70,7 +70,7 @@ fn put_end(
     said.extend_from_slice(b"\n")
 }
 
-// Who came back, and when it was.
+// The interfaces that were restarted, and the moment.
 fn put_after(
     said: &mut Vec<u8>,
     names: &Names,

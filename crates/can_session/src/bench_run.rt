@@ -2,9 +2,9 @@ ghost use Rattle.std.specs.Prelude.{◌≡◌, ◌≢◌, ◌+◌, ◌<◌, ◌�
 ghost use Rattle.std.specs.Io.KnownBytes.{Appends, Keeps};
 ghost use Rattle.can_bus.specs.Headline.{Headline};
 ghost use Rattle.can_bus.specs.Legal.{IsLegal};
-ghost use Rattle.can_session.specs.Lines.{ComesNext, IsWithin, unread};
+ghost use Rattle.can_session.specs.Lines.{ComesNext, IsWithinLimits, unread};
 ghost use Rattle.can_session.specs.Benches.{BenchState};
-ghost use Rattle.can_session.specs.Runs.{IsBench, IsRecordOf, at_start, at_start_with, Ends, EndsOver, Notes, EndsAt, StepsOn, fault_of};
+ghost use Rattle.can_session.specs.Runs.{IsBench, IsRecordOfBench, new_bench, at_start_with, EndsRun, EndsOver, NotesFed, EndsAt, StepsOn, input_fault_of};
 
 use crate::bench_state::Bench;
 use crate::ignored_input::IgnoredInput;
@@ -42,7 +42,7 @@ pub enum BenchFault {
     NoMemory,
 }
 
-/// What a bench is made with.
+/// The parts that a bench is made with.
 #[derive(Drop)]
 pub struct BenchConfig<F> {
     /// The names of the interfaces, as many as the bus has.
@@ -51,21 +51,23 @@ pub struct BenchConfig<F> {
     pub config: BusConfig,
     /// The faults of its attempts.
     pub script: F,
-    /// How many items a socket holds, 1 to 65,536.
+    /// The number of items that a socket holds, 1 to 65,536.
     pub rx_capacity: u32,
-    /// How fast the bits of the bus go, if its attempts are to take time. Without it each has the moment that is set.
+    /// The bit rates of the bus, if its attempts are to take time. Without them each attempt has
+    /// the moment that is set.
     pub timing: Option<Timing>,
-    /// Whether the lines of attempts have their faults, and the rules that gave them.
+    /// Whether the lines of attempts show their faults, and the rules that gave them.
     pub shows_faults: bool,
 }
 
 /// Carries out the lines of an input on one bus, and writes what they put out: the bus's record.
 ///
-/// The output of each line that has any is written in one call, so a writer that is slow for small writes wants a
-/// buffer around it. Before each read the writer is flushed, so that whoever writes the input has the replies to all lines
-/// so far. Of the input no more than 8,192 bytes are kept, at any length. The time grows with the lines and with what they
-/// do on the bus. `NoMemory` comes before the first line or in place of a line; what the lines before it put out was
-/// written. `bench_lines` says more on how far the input was read.
+/// The output of each line is written in one call, so a writer that is slow for small writes wants
+/// a buffer around it. Before each read the writer is flushed, so that the source of the input has
+/// the replies to all lines so far. No more than 8,192 bytes of the input are kept, at any length.
+/// The time grows with the lines and with their work on the bus. `NoMemory` comes before the first
+/// line or in place of a line; the output of the lines before it was written. `bench_lines` reports
+/// more on how far the input was read.
 pub fn bench<F: FaultSource + Drop, R: Read + Drop, W: Write>(
     alloc: Global,
     config: BenchConfig<F>,
@@ -77,7 +79,7 @@ pub fn bench<F: FaultSource + Drop, R: Read + Drop, W: Write>(
     ensures untouched { result ≡ Err BenchFault.BadConfig → out.new ≡ out.old }
     ensures runs { result ≢ Err BenchFault.BadConfig →
         EndsOver W.contents (F.verdicts config.script) (R.remaining input)
-        (at_start config.shows_faults config.timing config.names config.config config.rx_capacity)
+        (new_bench config.shows_faults config.timing config.names config.config config.rx_capacity)
         out.old result out.new }
     ensures good { OnOk result (IsBench config.names config.config config.rx_capacity) }
     ensures config { IfOk result (λ r. r.config ≡ config.config) }
@@ -88,8 +90,8 @@ pub fn bench<F: FaultSource + Drop, R: Read + Drop, W: Write>(
     bench_noting(alloc, config, plan, input, out, &mut IgnoredInput::none())
 }
 
-/// As `bench`, with a plan of the bus's faults beside the source, and notes what sessions were fed that is in no message,
-/// where the run comes to its end.
+/// Works as `bench` does, with a plan of the bus's faults besides the source. If the run comes to
+/// its end, it notes input of sessions outside messages.
 pub fn bench_noting<F: FaultSource + Drop, R: Read + Drop, W: Write>(
     alloc: Global,
     config: BenchConfig<F>,
@@ -106,7 +108,7 @@ pub fn bench_noting<F: FaultSource + Drop, R: Read + Drop, W: Write>(
         (at_start_with config.shows_faults plan config.timing config.names config.config
         config.rx_capacity)
         out.old result out.new }
-    ensures notes { OnOk result (Notes W.contents (F.verdicts config.script) (R.remaining input)
+    ensures notes { OnOk result (NotesFed W.contents (F.verdicts config.script) (R.remaining input)
         (at_start_with config.shows_faults plan config.timing config.names config.config
         config.rx_capacity)
         out.old ignored.new out.new) }
@@ -134,8 +136,9 @@ pub fn bench_noting<F: FaultSource + Drop, R: Read + Drop, W: Write>(
     Ok(state.into_record())
 }
 
-/// As `bench`, over lines of which nothing was read: afterwards they are where the run ended. That says how far the
-/// reader was read, so a reader that failed and too long an input are not taken for one another.
+/// Works as `bench` does, over lines of which nothing was read. Afterwards they are at the end of
+/// the run, which shows how far the reader was read. So a reader that failed and a line that is too
+/// long are told apart.
 pub fn bench_lines<F: FaultSource + Drop, R: Read + Drop, W: Write>(
     alloc: Global,
     config: BenchConfig<F>,
@@ -148,8 +151,8 @@ pub fn bench_lines<F: FaultSource + Drop, R: Read + Drop, W: Write>(
     ensures untouched { result ≡ Err BenchFault.BadConfig →
         (out.new ≡ out.old) × (lines.new ≡ lines.old) }
     ensures runs { result ≢ Err BenchFault.BadConfig →
-        Ends IsRecordOf W.contents (F.verdicts config.script) lines.old.coming
-        (at_start config.shows_faults config.timing config.names config.config config.rx_capacity)
+        EndsRun IsRecordOfBench W.contents (F.verdicts config.script) lines.old.coming
+        (new_bench config.shows_faults config.timing config.names config.config config.rx_capacity)
         out.old result lines.new out.new }
     ensures good { OnOk result (IsBench config.names config.config config.rx_capacity) }
     ensures config { IfOk result (λ r. r.config ≡ config.config) }
@@ -180,7 +183,7 @@ fn run<F: FaultSource, R: Read + Drop, W: Write>(
     out: &mut W,
 ) -> Result<(), BenchFault>
     requires { lines.old ≡ unread lines.old.coming }
-    ensures { Ends (λ (_ : Unit {0}) after. after ≡ state.new) W.contents (F.verdicts script.old)
+    ensures { EndsRun (λ (_ : Unit {0}) after. after ≡ state.new) W.contents (F.verdicts script.old)
         lines.old.coming state.old out.old result lines.new out.new }
 {
     let mut said = Vec::new(alloc);
@@ -209,7 +212,7 @@ fn go_on<F: FaultSource, R: Read + Drop, W: Write>(
     ensures stops { IfErr result (λ fault. EndsAt number fault lines.old lines.new state.old
         × ((fault ≡ BenchFault.Write) ⊎ Keeps (W.contents out.old) (W.contents out.new))) }
     ensures keeps { F.verdicts script.new ≡ F.verdicts script.old }
-    ensures within { IsWithin lines.new }
+    ensures within { IsWithinLimits lines.new }
 {
     if !next_line(lines, number, out)? {
         return Ok(false);
@@ -236,7 +239,7 @@ fn next_line<R: Read + Drop, W: Write>(
         (b : BenchState) → EndsAt number fault lines.old lines.new b) }
     ensures keeps { result ≢ Err BenchFault.Write →
         Keeps (W.contents out.old) (W.contents out.new) }
-    ensures within { IsWithin lines.new }
+    ensures within { IsWithinLimits lines.new }
 {
     if lines.take_held() {
         return Ok(true);
@@ -264,9 +267,9 @@ fn put<W: Write>(out: &mut W, said: &[u8]) -> Result<(), BenchFault>
     }
 }
 
-/// How a fault of the input is reported, at the line of this number.
+/// The report of a fault of the input, at the line of this number.
 fn bench_fault(fault: InputFault, number: u32) -> BenchFault
-    ensures { result ≡ fault_of number fault }
+    ensures { result ≡ input_fault_of number fault }
 {
     match fault {
         InputFault::LineTooLong => BenchFault::BadLine(number),

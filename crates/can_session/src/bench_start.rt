@@ -1,4 +1,4 @@
-//! What a bench begins with.
+//! The beginning of a bench.
 ghost use Rattle.std.specs.Prelude.{◌≡◌, [], ◌↔◌, None, Err, replicate, OnOk, IfOk, IfErr};
 ghost use Rattle.can_event.specs.Events.{IsConfig};
 ghost use Rattle.can_session.specs.Runs.{IsStartFault};

@@ -2,10 +2,10 @@ ghost use Rattle.std.specs.Prelude.{◌≡◌, ◌≢◌, [], ◌↔◌, Some, N
 ghost use Rattle.can_event.specs.declared.event.Event.TheVariants as event;
 ghost use Rattle.can_bus.specs.Headline.{Headline};
 ghost use Rattle.can_bus.specs.Legal.{IsLegal};
-ghost use Rattle.can_session.specs.Runs.{IsBench, IsRecordOf, IsStartFault, at_start_with};
+ghost use Rattle.can_session.specs.Runs.{IsBench, IsRecordOfBench, IsStartFault, at_start_with};
 ghost use Rattle.can_session.specs.Orders.{order_of};
 ghost use Rattle.can_session.specs.Benches.{session_at, Speaks, IsStarted, IsTriedIf, IsRun, IsWrongRun, IsInjected, IsWrongRule, IsCarriedOut, IsRefused};
-ghost use Rattle.can_session.specs.Benches.{AreMade, is_due, said_moment, said_decision, passed};
+ghost use Rattle.can_session.specs.Benches.{AreMade, is_attempt_due, said_moment, said_decision, passed};
 ghost use Rattle.can_session.specs.Benches.{IsChanged, IsWrongChange, change_line, is_good_change};
 ghost use Rattle.can_session.specs.inner.Acts.{done_by, noted, noted_by, Puts};
 
@@ -97,7 +97,7 @@ impl Bench {
         })
     }
 
-    /// What its sessions were fed that is in no message.
+    /// Returns the input of its sessions that is outside messages.
     pub fn ignored(&self) -> IgnoredInput
         ensures { result ≡ self.now.ignored }
     {
@@ -106,7 +106,7 @@ impl Bench {
 
     /// The record of its bus.
     pub fn into_record(self) -> Record
-        ensures record { IsRecordOf result self }
+        ensures record { IsRecordOfBench result self }
         ensures legal { IsLegal result.config result.history }
         ensures headline { Headline result.config result.history }
     {
@@ -177,7 +177,7 @@ impl Bench {
         }
     }
 
-    /// Starts a session, if its number was not used before: whether it was not.
+    /// Starts a session, and returns whether its number was not used before.
     pub fn start(&mut self, session: SessionNumber, said: &mut Vec<u8>) -> Result<bool, AllocError>
         requires { said.old.items ≡ [] }
         ensures { IfOk result (λ good. MatchBool good
@@ -214,8 +214,8 @@ impl Bench {
         }
     }
 
-    /// Takes the interface of this name down at the moment set, if there is one: whether there is. Where the record is full,
-    /// that is put out.
+    /// Takes the interface of this name down at the moment set, and returns whether there is one.
+    /// If the record is full, it puts that out.
     pub fn take_down(&mut self, name: &[u8], said: &mut Vec<u8>) -> Result<bool, AllocError>
         requires { said.old.items ≡ [] }
         ensures { IfOk result (λ good. MatchBool good
@@ -229,8 +229,8 @@ impl Bench {
         put_change(said, outcome)
     }
 
-    /// Brings the interface of this name up at the moment set, if there is one that is bus off or down: whether there is.
-    /// Where the record is full, that is put out.
+    /// Restarts the interface of this name at the moment set, if it is bus off or down, and returns
+    /// whether there is one. If the record is full, it puts that out.
     pub fn bring_up(&mut self, name: &[u8], said: &mut Vec<u8>) -> Result<bool, AllocError>
         requires { said.old.items ≡ [] }
         ensures { IfOk result (λ good. MatchBool good
@@ -305,16 +305,16 @@ impl Bench {
         Ok(())
     }
 
-    /// Whether an attempt would begin before a moment, and there is a frame for it to try, or an interface waits for its
-    /// restart.
+    /// Returns whether an attempt would begin before a moment, and there is a frame for it to try
+    /// or an interface waits for its restart.
     fn is_due(&self, moment: Moment) -> bool
-        ensures { result ≡ is_due moment self.now }
+        ensures { result ≡ is_attempt_due moment self.now }
     {
         self.port.begins_before(self.moment, moment)
             && (self.port.next_head().is_some() || self.port.waits_in_time())
     }
 
-    /// What the line of an attempt says of its moment.
+    /// Returns the part of an attempt's line for its moment.
     fn said_moment(&self, moment: Moment) -> Option<Moment>
         ensures { result ≡ said_moment self.now.bus.schedule moment }
     {
@@ -325,7 +325,7 @@ impl Bench {
         }
     }
 
-    /// What it says of its fault and of the rule that gave it.
+    /// Returns the part of its line for the fault and the rule that gave it.
     fn said_decision(&self, decision: Decision) -> Option<Decision>
         ensures { result ≡ said_decision self.now.shows_faults decision }
     {
@@ -336,8 +336,8 @@ impl Bench {
         }
     }
 
-    /// Lets the time of an attempt pass that had this verdict and came to this, and before which an interface waited for
-    /// its restart in time or none did.
+    /// Lets the time of an attempt with this verdict and this outcome pass; before it an interface
+    /// waited for its restart in time or none did.
     fn pass(&mut self, waits: bool, verdict: Verdict, outcome: &Result<Attempt, Refusal>)
         ensures { self.new ≡ passed waits verdict outcome.now self.old }
     {
@@ -350,8 +350,8 @@ impl Bench {
     }
 }
 
-/// Puts out that the record is full, where that is why an interface was not taken down or brought up: whether that is so,
-/// or it was.
+/// Puts out that the record is full, if it kept an interface from being taken down or brought up.
+/// Returns whether that is so, or it was done.
 fn put_change(said: &mut Vec<u8>, outcome: Result<(), Refusal>) -> Result<bool, AllocError>
     requires { said.old.items ≡ [] }
     ensures good { IfOk result (λ good. good ≡ is_good_change outcome) }

@@ -5,7 +5,7 @@ ghost use Rattle.can_record.specs.Outcomes.{done_reply};
 ghost use Rattle.can_event.specs.declared.reply.Reply.TheVariants as reply;
 ghost use Rattle.can_event.specs.declared.event.Event.TheVariants as event;
 ghost use Rattle.can_rules.specs.Plans.{no_plan, Injected};
-ghost use Rattle.can_session.specs.BusSteps.{next_number, head_on, waits_in_time, verdict_on, decision_on, plan_left, passed_on};
+ghost use Rattle.can_session.specs.BusSteps.{next_number_on, head_on, waits_in_time, verdict_on, decision_on, plan_left, passed_on};
 ghost use Rattle.can_session.specs.Wires.{attempt_moment, begins_before, free_at, schedule_left};
 
 use crate::timed_attempts::{load_at, moment_on, note_attempt, set_to};
@@ -24,8 +24,9 @@ use can_wire::Schedule;
 use std::alloc::{AllocError, Global};
 use std::marker::Model;
 
-/// A bus as a port: the bus with the names of its interfaces and the plan of its faults. Each call is one event of the bus,
-/// but for the look-ups of a name, of counts and of error counters, and the calls of rules, which are none.
+/// A bus as a port: the bus with the names of its interfaces and the plan of its faults. Each call
+/// is one event of the bus, except look-ups of a name, of counts and of error counters, and the
+/// calls about rules.
 #[derive(Drop)]
 pub struct BusPort<T: BoundedQueue<Pending>, R: BoundedQueue<Received>, A: Arbiter> {
     alloc: Global,
@@ -66,7 +67,8 @@ impl<T: BoundedQueue<Pending>, R: BoundedQueue<Received>, A: Arbiter> BusPort<T,
         BusPort::with_plan(alloc, names, bus, Plan::new(alloc), None)
     }
 
-    /// The same, with a plan of the bus's faults, and the schedule of its attempts, if it has bit rates.
+    /// The same, with a plan of the bus's faults, and the schedule of its attempts, if it has bit
+    /// rates.
     pub fn with_plan(
         alloc: Global,
         names: Names,
@@ -106,7 +108,7 @@ impl<T: BoundedQueue<Pending>, R: BoundedQueue<Received>, A: Arbiter> BusPort<T,
 
     /// The number of the next attempt that tries a frame.
     pub fn next_attempt(&self) -> u64
-        ensures { result ≡ next_number self.now }
+        ensures { result ≡ next_number_on self.now }
     {
         self.bus.next_attempt()
     }
@@ -118,21 +120,22 @@ impl<T: BoundedQueue<Pending>, R: BoundedQueue<Received>, A: Arbiter> BusPort<T,
         self.bus.next_head()
     }
 
-    /// Whether the bus has bit rates.
+    /// Returns whether the bus has bit rates.
     pub(crate) fn is_timed(&self) -> bool
         ensures { result ≡ is_some self.now.schedule }
     {
         self.schedule.is_some()
     }
 
-    /// Whether the bus has bit rates, and an interface waits for its restart: then an attempt without a frame takes time.
+    /// Returns whether the bus has bit rates, and an interface waits for its restart: then an
+    /// attempt without a frame takes time.
     pub(crate) fn waits_in_time(&self) -> bool
         ensures { result ≡ waits_in_time self.now }
     {
         self.schedule.is_some() && self.bus.is_counting()
     }
 
-    /// Whether the next attempt would begin before a moment, where this one is set.
+    /// Returns whether the next attempt would begin before a moment, if this one is set.
     pub(crate) fn begins_before(&self, set: Moment, moment: Moment) -> bool
         ensures { result ≡ begins_before set moment self.now.schedule }
     {
@@ -142,8 +145,8 @@ impl<T: BoundedQueue<Pending>, R: BoundedQueue<Received>, A: Arbiter> BusPort<T,
         }
     }
 
-    /// The moment of the next attempt, where this one is set. Where it tries no frame, `waits` is whether an interface
-    /// waits for its restart.
+    /// The moment of the next attempt, if this one is set. If it tries no frame, `waits` is whether
+    /// an interface waits for its restart.
     pub(crate) fn next_moment(&self, set: Moment, waits: bool) -> Moment
         ensures { result ≡ attempt_moment set waits (head_on self.now) self.now.schedule }
     {
@@ -153,9 +156,10 @@ impl<T: BoundedQueue<Pending>, R: BoundedQueue<Received>, A: Arbiter> BusPort<T,
         }
     }
 
-    /// Tries the frame that wins the bus, if a live interface has one to send, and restarts the interfaces whose time it
-    /// is. The attempt has the verdict that the source has for it, or where that is good, the plan's: it is returned
-    /// with the rule that gave it, if one did, and with what the attempt came to. Refusal: `RecordFull`.
+    /// Tries the frame that wins the bus, if a live interface has one to send, and restarts the
+    /// interfaces whose time it is. The verdict is the source's, or the plan's if the source's is
+    /// good. Returns the verdict, the rule that gave it, if any, and the outcome. Refusal:
+    /// `RecordFull`.
     pub fn attempt(
         &mut self,
         moment: Moment,
@@ -210,8 +214,8 @@ impl<T: BoundedQueue<Pending>, R: BoundedQueue<Received>, A: Arbiter> BusPort<T,
         self.plan.inject(rule, &self.names)
     }
 
-    /// Lets the time of an attempt pass that had this verdict and came to this, where this moment was set, if the bus has
-    /// bit rates: the moment at which the wire is free again.
+    /// Lets the time of an attempt with this verdict and this outcome pass, from this moment, if
+    /// the bus has bit rates. Returns the moment at which the wire is free again.
     pub(crate) fn pass_time(
         &mut self,
         set: Moment,

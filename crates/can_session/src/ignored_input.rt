@@ -1,7 +1,7 @@
-//! What sessions are fed that is in no message, so that a run can report it.
+//! The input of sessions outside messages, noted so that a run can report it.
 ghost use Rattle.std.specs.Prelude.{◌≡◌, true, false};
 ghost use Rattle.can_proto.specs.Messages.{has_mark};
-ghost use Rattle.can_session.specs.IgnoredInput.{begun_after, flag, has_outside, none_ignored, ignored_then};
+ghost use Rattle.can_session.specs.IgnoredInput.{begun_after, is_set, has_outside, none_ignored, ignored_then};
 
 use crate::order::SessionNumber;
 
@@ -15,7 +15,7 @@ pub struct IgnoredInput {
 }
 
 impl IgnoredInput {
-    /// Of no session.
+    /// No session was fed yet.
     pub fn none() -> IgnoredInput
         ensures { result ≡ none_ignored }
     {
@@ -25,16 +25,17 @@ impl IgnoredInput {
         }
     }
 
-    /// Whether the session's last message was begun and not ended.
+    /// Returns whether the session's last message was begun and not ended.
     pub fn has_begun(&self, session: SessionNumber) -> bool
-        ensures { result ≡ flag self.now.begun session }
+        ensures { result ≡ is_set self.now.begun session }
     {
         self.begun[session.place()]
     }
 
-    /// Whether the session was fed bytes outside messages, or a message that a `<` inside began anew.
+    /// Returns whether the session was fed bytes outside messages, or a message that a `<` inside
+    /// began anew.
     pub fn has_outside(&self, session: SessionNumber) -> bool
-        ensures { result ≡ flag self.now.outside session }
+        ensures { result ≡ is_set self.now.outside session }
     {
         self.outside[session.place()]
     }
@@ -52,7 +53,7 @@ impl IgnoredInput {
     }
 }
 
-// Whether a message is begun and not ended after these bytes: the last mark decides.
+// Returns whether a message is begun and not ended after these bytes: the last mark decides.
 fn is_begun_after(bytes: &[u8], was_begun: bool) -> bool
     ensures { result ≡ begun_after was_begun bytes.now }
 {
@@ -67,7 +68,7 @@ fn is_begun_after(bytes: &[u8], was_begun: bool) -> bool
     was_begun
 }
 
-// Whether some of the bytes are outside messages, or in a message that a `<` begins anew.
+// Returns whether some of the bytes are outside messages, or in a message that a `<` begins anew.
 fn are_outside(bytes: &[u8], was_begun: bool) -> bool
     ensures { result ≡ has_outside was_begun bytes.now }
 {
@@ -88,7 +89,7 @@ fn are_outside(bytes: &[u8], was_begun: bool) -> bool
     false
 }
 
-// Whether the bytes are one message and no more, as they mostly are.
+// Returns whether the bytes are one message and no more, as they mostly are.
 fn is_message(bytes: &[u8]) -> bool
     ensures { result ≡ true → has_outside false bytes.now ≡ false }
 {
@@ -98,7 +99,8 @@ fn is_message(bytes: &[u8]) -> bool
     }
 }
 
-// Whether a message begins or ends among the bytes. No byte decides early, so that the compiler can compare many at once.
+// Returns whether a message begins or ends among the bytes. No byte decides early, so that the
+// compiler can compare many at once.
 fn has_marks(bytes: &[u8]) -> bool
     ensures { result ≡ has_mark bytes.now }
 {

@@ -4,38 +4,38 @@ ghost use Rattle.can_fault.specs.declared.verdict.Verdict.{Verdict};
 ghost use Rattle.can_event.specs.declared.attempt.Attempt.{Attempt};
 ghost use Rattle.can_event.specs.declared.refusal.Refusal.{Refusal};
 ghost use Rattle.can_rules.specs.declared.rule.Decision.{Decision};
-ghost use Rattle.can_session.specs.Benches.{BenchState, is_due, next_moment, passed, said_decision, said_moment};
+ghost use Rattle.can_session.specs.Benches.{BenchState, is_attempt_due, next_moment_on, passed, said_decision, said_moment};
 ghost use Rattle.can_session.specs.Wires.{Schedule, moment_on, schedule_after, set_to, tried_in};
 ghost use Rattle.can_wire.specs.Schedules.{next_begin};
-ghost use Rattle.can_session.specs.Lines.{FindsEnd, Given, Input, IsWithin, Stops, StopsAfter, TakesLine, left_of, lines_of};
+ghost use Rattle.can_session.specs.Lines.{FindsEnd, Given, Input, IsWithinLimits, Stops, StopsAfter, TakesInputLine, left_of, lines_of_text};
 ghost use Rattle.can_session.specs.declared.lines.InputFault.{InputFault};
 ghost use Rattle.can_session.specs.declared.lines.InputFault.TheVariants.{TooLong, Read};
-ghost use Rattle.can_session.specs.IgnoredInput.{AreInOrder, begun_after, has_outside};
+ghost use Rattle.can_session.specs.IgnoredInput.{AreMessagesInOrder, begun_after, has_outside};
 
-/// What the calls of `Lines` give together are the lines of the text that the reader had, in order. At a fault they
-/// are the lines before too long a line, or those of all that was read which have their LF. The place in the
-/// input distinguishes a reader that failed from an input that is too long.
+/// The calls of `Lines` together give the lines of the reader's text, in order. At a fault they
+/// give the lines before too long a line, or all lines of the text read that have their LF. The
+/// place in the input distinguishes a reader that failed from an input that is too long.
 pub fn lines_given_are_those_of_the_text()
     ensures start { (text : List ℕ) (now : Input) →
         left_of now ≡ Some text → now.given ≡ 0 → Given text [] now }
     ensures next { (text : List ℕ) (lines : List (List ℕ)) (old new : Input) →
-        Given text lines old → TakesLine old new → Given text (lines ++ new.line ∷ []) new }
-    ensures forward { (old new : Input) → TakesLine old new → old.given < new.given }
+        Given text lines old → TakesInputLine old new → Given text (lines ++ new.line ∷ []) new }
+    ensures forward { (old new : Input) → TakesInputLine old new → old.given < new.given }
     ensures end { (text : List ℕ) (lines : List (List ℕ)) (old new : Input) →
         Given text lines old → FindsEnd old new →
-        (lines ≡ lines_of text) × (new.given ≡ length text) }
+        (lines ≡ lines_of_text text) × (new.given ≡ length text) }
     ensures stop { (text : List ℕ) (lines : List (List ℕ)) (old new : Input) →
-        (fault : InputFault) → Given text lines old → Stops fault old new → IsWithin new →
+        (fault : InputFault) → Given text lines old → Stops fault old new → IsWithinLimits new →
         StopsAfter fault text lines new }
     ensures apart { (text : List ℕ) (lines others : List (List ℕ)) (now : Input) →
         StopsAfter Read text lines now → ¬ StopsAfter TooLong text others now }
 {}
 
-/// Nothing of a stream is outside messages exactly where it is messages with only blanks between them, of which the last
-/// may have no end. Two pieces of a stream give the same one after the other as joined.
+/// Nothing of a stream is outside messages exactly if it is messages with only blanks between them;
+/// the last may have no end. Two pieces of a stream give the same one after the other as joined.
 pub fn nothing_is_outside_messages_and_blanks()
     ensures order { (bytes : List ℕ) →
-        (has_outside false bytes ≡ false) ↔ AreInOrder bytes (begun_after false bytes) }
+        (has_outside false bytes ≡ false) ↔ AreMessagesInOrder bytes (begun_after false bytes) }
     ensures outside { (begun : Bool) (piece more : List ℕ) →
         has_outside begun (piece ++ more)
         ≡ (has_outside begun piece || has_outside (begun_after begun piece) more) }
@@ -43,24 +43,27 @@ pub fn nothing_is_outside_messages_and_blanks()
         begun_after begun (piece ++ more) ≡ begun_after (begun_after begun piece) more }
 {}
 
-/// On a bus without bit rates attempts have the moment that is set, their lines do not say it, and they take no time.
+/// On a bus without bit rates attempts have the moment that is set, their lines leave it out, and
+/// they take no time.
 pub fn attempts_take_no_time_without_bit_rates()
-    ensures moment { (b : BenchState) → b.bus.schedule ≡ None → next_moment b ≡ b.moment }
+    ensures moment { (b : BenchState) → b.bus.schedule ≡ None → next_moment_on b ≡ b.moment }
     ensures said { (b : BenchState) (moment : ℕ) → b.bus.schedule ≡ None →
         said_moment b.bus.schedule moment ≡ None }
     ensures passed { (waits : Bool) (b : BenchState) (v : Verdict)
         (outcome : Result Attempt Refusal) → b.bus.schedule ≡ None → passed waits v outcome b ≡ b }
-    ensures due { (b : BenchState) (moment : ℕ) → b.bus.schedule ≡ None → is_due moment b ≡ false }
+    ensures due { (b : BenchState) (moment : ℕ) →
+        b.bus.schedule ≡ None → is_attempt_due moment b ≡ false }
 {}
 
-/// Where faults are not shown, the lines of attempts do not say what was decided on them.
+/// If faults are not shown, the lines of attempts do not depend on them.
 pub fn lines_have_faults_only_where_they_are_shown()
     ensures { (b : BenchState) (decision : Decision) → b.shows_faults ≡ false →
         said_decision b.shows_faults decision ≡ None }
 {}
 
-/// On one with bit rates an attempt begins neither before the moment that is set nor before the wire is free, and
-/// afterwards the wire is free no earlier than that. Its moment is not before that of the attempt before it.
+/// On a bus with bit rates an attempt begins neither before the moment that is set nor before the
+/// wire is free. Afterwards the wire is free no earlier than that. Its moment is not before that of
+/// the previous attempt.
 pub fn one_attempt_comes_after_another()
     ensures begins { (s : Schedule) (moment : ℕ) →
         (moment * 1000 ≤ next_begin (set_to moment s))

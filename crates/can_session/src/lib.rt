@@ -1,9 +1,10 @@
 //! The bench: one bus with up to 64 sessions, driven by the lines of an input.
 //!
-//! `bench` reads the lines, carries them out one after another, and writes what each puts out. `specs/Benches.antt`
-//! says what a line does, `specs/Runs.antt` how a run ends. Where the bus has bit rates its attempts take time, as
-//! `specs/Wires.antt` says. The sessions are can_dialog's, over the bus with its names as a port ([`BusPort`]), and can be
-//! named through this crate too.
+//! `bench` reads the lines, carries them out one after another, and writes the output of each.
+//! `specs/Benches.antt` defines the work of a line, `specs/Runs.antt` the end of a run. If the bus
+//! has bit rates its attempts take time, as `specs/Wires.antt` defines. The sessions are
+//! can_dialog's. Their port is the bus with its names ([`BusPort`]), and they can be named through
+//! this crate too.
 #![tactic(auto)]
 
 mod attempt_faults;

@@ -1,4 +1,4 @@
-//! What a session says in a line: its number, a space, its words and LF, or nothing at all.
+//! The output of a session in a line: its number, a space, its words and LF, or nothing at all.
 ghost use Rattle.std.specs.Prelude.{◌≡◌, ◌++◌, ◌∷◌, ◌<◌, [], length, OnOk, IfOk};
 ghost use Rattle.std.specs.Fmt.{decimal};
 

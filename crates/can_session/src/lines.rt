@@ -1,7 +1,7 @@
 ghost use Rattle.std.specs.Prelude.{◌≡◌, ◌≤◌, ◌<◌, ◌+◌, ◌⊎◌, true, false, length, take, drop, position, Some, None, IfOk, IfErr, IfSome, OnOk, OnErr, MatchBool};
 ghost use Rattle.std.specs.List.{list_any};
 ghost use Rattle.std.specs.Io.KnownBytes.{IsAtEnd};
-ghost use Rattle.can_session.specs.Lines.{is_lf, unread, after_line, after_last, ComesNext, Fails, Fills, Halts, IsOver, IsWithin, Repeats, Stops, TakesLine};
+ghost use Rattle.can_session.specs.Lines.{is_lf, unread, after_line, after_last, ComesNext, Fails, Fills, Halts, IsOver, IsWithinLimits, Repeats, Stops, TakesInputLine};
 ghost use Rattle.can_session.specs.inner.Looks.{Shows};
 
 use crate::byte_search::place_of;
@@ -10,10 +10,10 @@ use std::alloc::{AllocError, Global};
 use std::io::Read;
 use std::marker::Model;
 
-/// How many bytes a line has at most, without its LF.
+/// The most bytes of a line, without its LF.
 pub const LONGEST_LINE: usize = 4096;
 
-/// How many bytes, and how many reads, an input has at most.
+/// The most bytes, and the most reads, of an input.
 pub const LONGEST_INPUT: usize = 16_777_216;
 
 /// Why there is no next line.
@@ -32,13 +32,13 @@ pub enum InputFault {
 #[derive(Drop)]
 pub struct Lines<R: Read + Drop> {
     input: R,
-    // It begins with the current line, and with the LF of that line if it has one.
+    // The bytes held: they begin with the current line, and its LF if it has one.
     buffer: ReadBuffer,
-    // How many bytes the current line has without its LF, and with it.
+    // The length of the current line without its LF, and with it.
     line: usize,
     width: usize,
     given: usize,
-    // How many reads gave bytes.
+    // The number of reads that gave bytes.
     reads: usize,
     is_over: bool,
     fault: Option<InputFault>,
@@ -46,7 +46,7 @@ pub struct Lines<R: Read + Drop> {
 
 impl<R: Read + Drop> Model for Lines<R> {
     ghost use Rattle.std.specs.Prelude.{◌≤◌, length, take, drop};
-    ghost use Rattle.can_session.specs.Lines.{Input, IsWithin};
+    ghost use Rattle.can_session.specs.Lines.{Input, IsWithinLimits};
 
     ghost Value = { Input };
 
@@ -62,7 +62,7 @@ impl<R: Read + Drop> Model for Lines<R> {
 
     ghost invariant = { λ l.
         (l.line ≤ l.width) × (l.width ≤ length l.buffer)
-        × IsWithin (record {
+        × IsWithinLimits (record {
           line = take l.line l.buffer;
           given = l.given;
           held = drop l.width l.buffer;
@@ -100,9 +100,9 @@ impl<R: Read + Drop> Lines<R> {
 
     /// Goes on to the next line without a read, if it was read whole: whether it was.
     pub fn take_held(&mut self) -> bool
-        ensures took { MatchBool result (TakesLine self.old self.new) (self.new ≡ self.old) }
+        ensures took { MatchBool result (TakesInputLine self.old self.new) (self.new ≡ self.old) }
         ensures fine { result ≡ true → self.old.fault ≡ None }
-        ensures within { IsWithin self.new }
+        ensures within { IsWithinLimits self.new }
     {
         if self.fault().is_some() || self.is_over() {
             return false;
@@ -116,16 +116,17 @@ impl<R: Read + Drop> Lines<R> {
         }
     }
 
-    /// Goes on to the next line, of at most 4,096 bytes, and returns whether there is one. It reads only while no
-    /// whole line was read, so at a fault all whole lines before it were given: `LineTooLong` at the 4,097th byte
-    /// of a line, `TooLong` at the byte or the read past the limit, `Read` where the reader failed. After a
-    /// fault nothing more is read, and each call returns that fault.
+    /// Goes on to the next line, of at most 4,096 bytes, and returns whether there is one. It reads
+    /// only while no whole line was read, so at a fault all whole lines before it were given:
+    /// `LineTooLong` at the 4,097th byte of a line, `TooLong` at the byte or the read past the
+    /// limit, `Read` if the reader failed. After a fault nothing more is read, and each call
+    /// returns that fault.
     pub fn next_line(&mut self) -> Result<bool, InputFault>
         ensures ok { IfOk result (λ found. ComesNext found self.old self.new) }
         ensures fine { OnOk result (self.old.fault ≡ None) }
         ensures err { IfErr result (λ fault.
             Stops fault self.old self.new ⊎ Repeats fault self.old self.new) }
-        ensures within { IsWithin self.new }
+        ensures within { IsWithinLimits self.new }
     {
         if let Some(fault) = self.fault() {
             return Err(fault);
@@ -143,10 +144,10 @@ impl<R: Read + Drop> Lines<R> {
     // Reads on to the next line.
     fn read_line(&mut self) -> Result<bool, InputFault>
         requires going { self.old.ended ≡ false }
-        requires within { IsWithin self.old }
+        requires within { IsWithinLimits self.old }
         ensures ok { IfOk result (λ found. ComesNext found self.old self.new) }
         ensures err { IfErr result (λ fault. Halts fault self.old self.new) }
-        ensures within { IsWithin self.new }
+        ensures within { IsWithinLimits self.new }
     {
         let mut searched = 0;
         loop {
@@ -168,7 +169,7 @@ impl<R: Read + Drop> Lines<R> {
 
     // Returns the fault from now on.
     fn stop(&mut self, fault: InputFault)
-        ensures within { IsWithin self.new }
+        ensures within { IsWithinLimits self.new }
         ensures told { self.new ≡ record self.old { fault = Some fault } }
     {
         self.fault = Some(fault);
@@ -176,7 +177,7 @@ impl<R: Read + Drop> Lines<R> {
 
     fn fault(&self) -> Option<InputFault>
         ensures told { result ≡ self.now.fault }
-        ensures within { IsWithin self.now }
+        ensures within { IsWithinLimits self.now }
     {
         self.fault
     }
@@ -184,12 +185,12 @@ impl<R: Read + Drop> Lines<R> {
     fn is_over(&self) -> bool
         ensures ended { result ≡ self.now.ended }
         ensures over { result ≡ true → IsOver self.now }
-        ensures within { IsWithin self.now }
+        ensures within { IsWithinLimits self.now }
     {
         self.is_over
     }
 
-    // What was read and not given.
+    // Returns the bytes that were read and not given.
     fn held(&self) -> &[u8]
         ensures { result.now ≡ self.now.held }
     {
@@ -201,7 +202,7 @@ impl<R: Read + Drop> Lines<R> {
         requires line { line ≤ width }
         requires width { width ≤ length self.old.held }
         requires going { self.old.ended ≡ false }
-        ensures within { IsWithin self.new }
+        ensures within { IsWithinLimits self.new }
         ensures given { self.new ≡ after_line line width self.old }
     {
         self.buffer.consume(self.width);
@@ -213,7 +214,7 @@ impl<R: Read + Drop> Lines<R> {
     // Gives all that is held as the last line.
     fn finish(&mut self)
         requires end { IsAtEnd self.old.coming }
-        ensures within { IsWithin self.new }
+        ensures within { IsWithinLimits self.new }
         ensures given { self.new ≡ after_last self.old }
     {
         self.buffer.consume(self.width);
@@ -224,15 +225,15 @@ impl<R: Read + Drop> Lines<R> {
         self.is_over = true;
     }
 
-    // Reads once, and returns how many bytes came. The reader is asked for no byte past the input's limit, but for
-    // the one that shows that the limit is passed.
+    // Reads once, and returns how many bytes came. It asks the reader for no byte past the input's
+    // limit, except for the one that shows that the limit is passed.
     fn fill(&mut self) -> Result<usize, InputFault>
         requires short { length self.old.held ≤ 4096 }
         requires going { self.old.ended ≡ false }
         ensures ok { IfOk result (λ n. Fills self.old self.new n) }
         ensures err { IfErr result (λ fault. Fails fault self.old self.new) }
         ensures held { OnErr result (self.new.held ≡ self.old.held) }
-        ensures within { IsWithin self.new }
+        ensures within { IsWithinLimits self.new }
     {
         if self.reads == LONGEST_INPUT {
             return Err(InputFault::TooLong);
@@ -256,7 +257,7 @@ impl<R: Read + Drop> Lines<R> {
     }
 }
 
-// What is at the front of what is held.
+// The beginning of the bytes held.
 enum LineSearch {
     // A line of this many bytes and its LF.
     Line(usize),
@@ -266,7 +267,7 @@ enum LineSearch {
     Begun,
 }
 
-// Looks for a line, where the first bytes were searched before and hold no LF.
+// Looks for a line; the first bytes were searched before and hold no LF.
 fn find_line(held: &[u8], searched: usize) -> LineSearch
     requires searched { searched ≤ length held.now }
     requires short { searched ≤ 4096 }

@@ -1,5 +1,5 @@
 ghost use Rattle.std.specs.Prelude.{◌≡◌, ◌≤◌, ◌<◌, ◌-◌, ◌∷◌, option_map, option_and_then, IfSome};
-ghost use Rattle.can_session.specs.Orders.{Effect, effect_of, order_of, asked_by, fed_by, is_remark, session_number, session_of, parted};
+ghost use Rattle.can_session.specs.Orders.{Effect, effect_of, order_of, asked_by_word, fed_by, is_remark, session_number, session_of, parted};
 ghost use Rattle.can_frame.specs.Moments.{moment_in};
 ghost use Rattle.can_proto.specs.Verbs.{is_word};
 
@@ -54,34 +54,34 @@ impl SessionNumber {
     }
 }
 
-/// What a line of the bench's input asks for.
+/// The order of a line of the bench's input.
 #[derive(Clone, Copy)]
 pub enum Order<'a> {
-    /// Nothing: an empty line or a remark.
+    /// Do nothing: an empty line or a remark.
     Nothing,
-    /// To set the moment.
+    /// Set the moment.
     At(Moment),
-    /// To start a session.
+    /// Start a session.
     Session(SessionNumber),
-    /// To feed a session these bytes.
+    /// Feed these bytes to a session.
     Feed(SessionNumber, &'a [u8]),
-    /// To give a session what its socket received.
+    /// Give a session the items that its socket received.
     Drain(SessionNumber),
-    /// To end a session.
+    /// End a session.
     End(SessionNumber),
-    /// To put a frame on the bus.
+    /// Put a frame on the bus.
     Attempt,
-    /// To put frames on the bus as long as that begins before this moment.
+    /// Put frames on the bus as long as they begin before this moment.
     Run(Moment),
-    /// To give the bus a rule of faults, of which this is the text.
+    /// Add the fault rule with this text to the bus.
     Fault(&'a [u8]),
-    /// To take the interface of this name down.
+    /// Take the interface of this name down.
     Down(&'a [u8]),
-    /// To bring the interface of this name up, by a restart.
+    /// Bring the interface of this name up, by a restart.
     Up(&'a [u8]),
 }
 
-/// The order that a line spells, without its LF, or `None` where it spells none.
+/// The order that a line spells, without its LF, or `None` if it spells none.
 pub fn read_order(line: &[u8]) -> Option<Order<'_>>
     ensures { option_map effect_of result ≡ order_of line.now }
 {
@@ -106,7 +106,7 @@ pub fn read_order(line: &[u8]) -> Option<Order<'_>>
 
 // The order of a line with a space, by what comes before the space and what follows it.
 fn read_asked<'a>(word: &[u8], rest: &'a [u8]) -> Option<Order<'a>>
-    ensures { option_map effect_of result ≡ asked_by (word.now, rest.now) }
+    ensures { option_map effect_of result ≡ asked_by_word (word.now, rest.now) }
 {
     if is_word(word, b"at") {
         read_at(rest)
@@ -133,7 +133,7 @@ fn read_asked<'a>(word: &[u8], rest: &'a [u8]) -> Option<Order<'a>>
 
 // Lines that begin with the words of most lines are not searched for a space.
 
-// What follows `at` and a space.
+// Returns the bytes after `at` and a space.
 fn after_at(line: &[u8]) -> Option<&[u8]>
     ensures { IfSome result (λ rest. line.now ≡ 97 ∷ 116 ∷ 32 ∷ rest.now) }
 {
@@ -143,7 +143,7 @@ fn after_at(line: &[u8]) -> Option<&[u8]>
     }
 }
 
-// What follows `feed` and a space.
+// Returns the bytes after `feed` and a space.
 fn after_feed(line: &[u8]) -> Option<&[u8]>
     ensures { IfSome result (λ rest. line.now ≡ 102 ∷ 101 ∷ 101 ∷ 100 ∷ 32 ∷ rest.now) }
 {
@@ -153,7 +153,7 @@ fn after_feed(line: &[u8]) -> Option<&[u8]>
     }
 }
 
-// What follows `drain` and a space.
+// Returns the bytes after `drain` and a space.
 fn after_drain(line: &[u8]) -> Option<&[u8]>
     ensures { IfSome result (λ rest. line.now ≡ 100 ∷ 114 ∷ 97 ∷ 105 ∷ 110 ∷ 32 ∷ rest.now) }
 {
@@ -163,7 +163,7 @@ fn after_drain(line: &[u8]) -> Option<&[u8]>
     }
 }
 
-// What the word `at` asks for, by what follows it.
+// Returns the order of the word `at`, by the bytes after it.
 fn read_at(rest: &[u8]) -> Option<Order<'_>>
     ensures { option_map effect_of result ≡ option_map Effect.Sets (moment_in rest.now) }
 {
@@ -185,7 +185,7 @@ fn read_drain(rest: &[u8]) -> Option<Order<'_>>
     Some(Order::Drain(read_session(rest)?))
 }
 
-// Whether a line is empty or a remark.
+// Returns whether a line is empty or a remark.
 fn is_remark(line: &[u8]) -> bool
     ensures { result ≡ is_remark line.now }
 {
@@ -195,14 +195,14 @@ fn is_remark(line: &[u8]) -> bool
     }
 }
 
-// Whether a word of a line is the one of this name.
+// Returns whether a word of a line is the one of this name.
 fn is_word(word: &[u8], name: &[u8]) -> bool
     ensures { result ≡ is_word word.now name.now }
 {
     word == name
 }
 
-// What comes before the first of these marks, and what follows it.
+// Returns the bytes before the first of these marks, and those after it.
 fn split_at_first(text: &[u8], mark: u8) -> Option<(&[u8], &[u8])>
     ensures { option_map (λ parts. (parts.0.now, parts.1.now)) result ≡ parted mark text.now }
 {

@@ -8,7 +8,7 @@ use std::io;
 use std::io::Read;
 use std::marker::Model;
 
-/// How many bytes a buffer holds at most.
+/// The most bytes that a buffer holds.
 const ROOM: usize = 8192;
 
 /// Bytes that were read and not yet used, in order, at most 8,192.
@@ -87,7 +87,7 @@ impl ReadBuffer {
     }
 }
 
-// Moves what is between two places to the front, and returns where it ends then.
+// Moves the bytes between two places to the front, and returns their end.
 fn move_to_front(bytes: &mut [u8], start: usize, end: usize) -> usize
     requires ordered { start ≤ end }
     requires within { end ≤ length bytes.old }

@@ -18,7 +18,7 @@ pub fn first_schedule(timing: Option<Timing>) -> Option<Schedule>
     }
 }
 
-/// The schedule where this moment is set.
+/// The schedule after this moment is set.
 pub fn set_to(mut schedule: Schedule, moment: Moment) -> Schedule
     ensures { result ≡ set_to moment schedule }
 {
@@ -26,8 +26,8 @@ pub fn set_to(mut schedule: Schedule, moment: Moment) -> Schedule
     schedule
 }
 
-/// The moment of the next attempt, which tries this frame, if one. Where it tries none, `waits` is whether an interface
-/// waits for its restart.
+/// The moment of the next attempt, which tries this frame, if any. If it tries none, `waits` is
+/// whether an interface waits for its restart.
 pub fn moment_on(schedule: &Schedule, waits: bool, head: Option<(Iface, Frame)>) -> Moment
     ensures { result ≡ moment_on waits head schedule.now }
 {

@@ -17,18 +17,18 @@ use std::alloc::{AllocError, Global};
 /// The bus of a bench, with its names.
 pub type BenchPort = BusPort<RingQueue<Pending>, RingQueue<Received>, IndexArbiter>;
 
-/// What a session does at a line.
+/// The work of a session at a line.
 #[derive(Clone, Copy)]
 pub enum Act<'a> {
     /// It is fed these bytes.
     Feed(&'a [u8]),
-    /// It is given its items until there is none.
+    /// It is given its items until none is left.
     Drain,
     /// It ends.
     End,
 }
 
-/// Starts a session with this number, and keeps what it says in its first line.
+/// Starts a session with this number, and keeps the text of its first line.
 pub fn start_session(
     alloc: Global,
     capacity: u32,
@@ -80,7 +80,7 @@ pub fn carry_out(
     }
 }
 
-/// Feeds a session a piece, and adds what it says. A session that is over hears nothing.
+/// Feeds a session a piece, and adds its text. A session that is over reads nothing.
 fn feed(
     session: &mut Session,
     alloc: Global,

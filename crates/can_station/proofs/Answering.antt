@@ -3,14 +3,14 @@ use Rattle.can_event.specs.declared.event.Event.{Event}
 use Rattle.can_event.specs.declared.reply.Reply.{Reply}
 use Rattle.can_event.specs.declared.refusal.Refusal.TheVariants as refusal
 use Rattle.can_station.specs.Held.{StationSeen}
-use Rattle.can_station.specs.Passes.{Answered, IsAnsweredIn, InSome, Reports}
+use Rattle.can_station.specs.Passes.{Answered, IsAnsweredIn, InSome, ReportsReply}
 use Rattle.can_station.specs.declared.refusals.StationRefusal.{StationRefusal}
 use Rattle.can_station.specs.declared.refusals.StationRefusal.TheVariants as station
 
--- What a caller gets of a reply, where the reply is one of the record.
+-- The part of a reply that a caller gets, if the reply is one of the record.
 
 module _ (F : Type 0) {A : Type 0} (told : A → Reply) (seen : StationSeen) (e : Event) (r : Reply) where
-  pub answered : (outcome : Result A StationRefusal) → Reports told outcome r → InSome F seen (λ held. IsAnsweredIn held e r) → Answered F told seen e outcome
+  pub answered : (outcome : Result A StationRefusal) → ReportsReply told outcome r → InSome F seen (λ held. IsAnsweredIn held e r) → Answered F told seen e outcome
   answered (Ok a) is found = subst (λ (t : Reply). InSome F seen (λ held. IsAnsweredIn held e t)) is found
   answered (Err (station.Bus refusal.RecordFull)) is found = subst (λ (t : Reply). InSome F seen (λ held. IsAnsweredIn held e t)) is found
   answered (Err (station.Bus refusal.NoInterface)) is found = subst (λ (t : Reply). InSome F seen (λ held. IsAnsweredIn held e t)) is found

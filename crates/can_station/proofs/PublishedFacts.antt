@@ -19,11 +19,11 @@ use Rattle.can_bus.specs.Stats.{all_counts}
 use Rattle.can_bus.proofs.Bounds.{legal-short}
 use Rattle.can_bus.proofs.NodeFacts.{all_counts-at}
 use Rattle.can_meter.specs.declared.status.Status.{Status}
-use Rattle.can_meter.specs.Publications.{published, newest, Ends}
+use Rattle.can_meter.specs.Publications.{published, newest, AreEndsOf}
 use Rattle.can_meter.specs.Readings.{Readings, readings}
 use Rattle.can_event.specs.Replies.{enters, entry_of}
 use Rattle.can_station.specs.Passes.{PassSeen}
-use Rattle.can_station.specs.Published.{are_same, published_after, publications_of, counts_before, counts_in, IsPublished, AllEarlier, Publishes, AllSeen, AreTrue, TakesBack, TakesBackScroll}
+use Rattle.can_station.specs.Published.{are_same, published_after, publications_of, counts_before, counters_at, IsPublished, AllEarlier, Publishes, AllSeen, AreTrue, TakesBack, TakesBackScroll}
 use Rattle.can_station.proofs.Replies.{after-entered, after-kept}
 
 -- Publications of a history that is one entry longer.
@@ -47,7 +47,7 @@ later keeper number j e r at is at_is enters_is i below =
     let there : i < j.config.ifaces = omega (arith, is.ifaces_are) in
     subst (λ (ps : List Status). (newest ps).at < at) (sym (is.each i there)) (omega (arith, newest-within j.config j.history i, at_is ∙ ap length (after-entered e r j.history enters_is)))
 
--- an entry more
+-- one entry more
 entered : (keeper keeper' : Readings) (number : ℕ) (j : Journal) (e : Entry) (before after : List ErrorCounts) (at : ℕ) → IsLongConfig j.config → IsPublished keeper number j
     → keeper'.number ≡ keeper.number → keeper'.ifaces ≡ keeper.ifaces → at ≡ suc (length j.history)
     → before ≡ all_counts j.config j.history → after ≡ all_counts j.config (e ∷ j.history)
@@ -58,13 +58,13 @@ entered keeper keeper' number j e before after at proper is number_same ifaces_s
   ifaces_are = ifaces_same ∙ is.ifaces_are;
   each = λ i below.
       let few : i < 16 = omega (arith, proper.few_ifaces) in
-      let old : counts_in before i ≡ counts_of j.config j.history i = ap (λ cs. counts_in cs i) before_is ∙ all_counts-at j.config j.history i few in
-      let new : counts_in after i ≡ counts_of j.config (e ∷ j.history) i = ap (λ cs. counts_in cs i) after_is ∙ all_counts-at j.config (e ∷ j.history) i few in
+      let old : counters_at before i ≡ counts_of j.config j.history i = ap (λ cs. counters_at cs i) before_is ∙ all_counts-at j.config j.history i few in
+      let new : counters_at after i ≡ counts_of j.config (e ∷ j.history) i = ap (λ cs. counters_at cs i) after_is ∙ all_counts-at j.config (e ∷ j.history) i few in
       lists i (omega (arith, is.ifaces_are))
       ∙ (λ k. published_after (old k) (new k) (at_is k) (is.each i below k));
 }
 
--- what was published is that of the history after a call
+-- after a call the keeper has published the history after that call
 published_as : (b : Bool) (keeper keeper' : Readings) (number : ℕ) (j : Journal) (e : Event) (r : Reply) (before after : List ErrorCounts) (at : ℕ) → enters r ≡ b → IsLongConfig j.config → IsPublished keeper number j
     → keeper'.number ≡ keeper.number → keeper'.ifaces ≡ keeper.ifaces → at ≡ length (history_after e r j.history)
     → before ≡ all_counts j.config j.history → after ≡ all_counts j.config (history_after e r j.history)
@@ -100,7 +100,7 @@ kept_before j (event.Attempt m v) told before is kept = cc (is, kept)
 kept_before j (event.Restart i m) told before is kept = cc (is, kept)
 kept_before j (event.Down i m) told before is kept = cc (is, kept)
 
--- an event before which none were kept changes none
+-- an event for which no counters were kept changes none
 unchanged : (j : Journal) (e : Event) (r : Reply) (i : ℕ) → counts_before j e ≡ None → counts_of j.config (entry_of e r ∷ j.history) i ≡ counts_of j.config j.history i
 unchanged j (event.Open k n) r i none = refl
 unchanged j (event.Close s) r i none = refl
@@ -112,7 +112,7 @@ unchanged j (event.Attempt m v) r i none = absurd (cc (none))
 unchanged j (event.Restart k m) r i none = absurd (cc (none))
 unchanged j (event.Down k m) r i none = absurd (cc (none))
 
--- and publishes nothing
+-- and it publishes nothing
 published_same : (k : ErrorCounts) (at : ℕ) (before : List Status) → published_after k k at before ≡ before
 published_same k at before = rw (both k.tec k.rec k.down) refl
   where
@@ -135,14 +135,14 @@ published_still keeper number number' j j' e r told told_is none is number_is jo
     subst (λ (x : ℕ × Journal). IsPublished keeper x.0 x.1) (λ k. (sym number_is k, sym journal_is k))
     (record { number_is = is.number_is; ifaces_are = is.ifaces_are; each = λ i below. is.each i below ∙ sym (publishes_nothing (enters r) j e r i refl (sym told_is ∙ none)) })
 
--- nothing is published of an empty history
+-- an empty history has no publications
 pub nothing_published : (number : ℕ) (c : BusConfig) → IsPublished (readings number c.ifaces []) number (record { config = c; history = [] })
 nothing_published number c = record { number_is = refl; ifaces_are = refl; each = λ i below. refl }
 
--- what gauges saw of a keeper are publications of the history
+-- a gauge has seen only publications of the history
 pub all_true : (keeper : Readings) (number : ℕ) (j : Journal) (gauges : List Readings) → IsPublished keeper number j → AllSeen gauges keeper → AreTrue j gauges
 all_true keeper number j gauges is seen =
-    All-weaker (λ (g : Readings). Ends g.lists keeper.lists) (λ (g : Readings). (i : ℕ) → i < j.config.ifaces → IsSuffix (published g.lists i) (publications_of j.config j.history i))
+    All-weaker (λ (g : Readings). AreEndsOf g.lists keeper.lists) (λ (g : Readings). (i : ℕ) → i < j.config.ifaces → IsSuffix (published g.lists i) (publications_of j.config j.history i))
     (λ g ends i below. subst (IsSuffix (published g.lists i)) (is.each i below) (ends i)) gauges seen
 
 -- the length of a legal history fits a word
@@ -151,7 +151,7 @@ short c past n proper legal is =
     let few : length past ≤ c.limit = legal-short c past legal in
     omega (arith, proper.few_entries)
 
--- with a scroll of the station's, too
+-- the same if the station has a scroll too
 pub with_scroll : {A E : Type 0} (number scroll : ℕ) (passes : List PassSeen) (gauges : List Readings) (result : Result A E) → scroll ≡ number → TakesBack number passes gauges result
     → TakesBackScroll number scroll passes gauges result
 with_scroll number scroll passes gauges (Ok left) own back = (own, back.0, back.1)

@@ -5,7 +5,7 @@ use Rattle.can_event.specs.declared.refusal.Refusal.TheVariants as refusal
 use Rattle.can_event.specs.declared.reply.Reply.TheVariants as reply
 use Rattle.can_fault.specs.Sources.{VerdictMap}
 use Rattle.can_station.specs.Held.{Held, StationSeen}
-use Rattle.can_station.specs.Passes.{PassSeen, IsAnsweredIn, IsStateOf, StepsIn, Stepped, Reports, next_attempt, pass_after}
+use Rattle.can_station.specs.Passes.{PassSeen, IsAnsweredIn, IsStateOf, StepsIn, Stepped, ReportsReply, next_attempt, pass_after}
 use Rattle.can_station.specs.declared.refusals.StationRefusal.{StationRefusal}
 use Rattle.can_station.specs.declared.refusals.StationRefusal.TheVariants as station
 
@@ -15,7 +15,7 @@ module _ {F : Type 0} (verdicts : F → VerdictMap) (held : Held F) (seen : Stat
   steps : (r told : Reply) → r ≡ told → IsAnsweredIn held (next_attempt verdicts held moment) r → new ≡ pass_after (next_attempt verdicts held moment) r old → StepsIn verdicts seen old moment told new
   steps r told is answer kept = subst (λ (t : Reply). StepsIn verdicts seen old moment t new) is (own, (held, state, (answer, kept)))
 
-  pub stepped : (outcome : Result Attempt StationRefusal) (r : Reply) → Reports reply.Attempted outcome r → IsAnsweredIn held (next_attempt verdicts held moment) r → new ≡ pass_after (next_attempt verdicts held moment) r old → Stepped verdicts seen old moment outcome new
+  pub stepped : (outcome : Result Attempt StationRefusal) (r : Reply) → ReportsReply reply.Attempted outcome r → IsAnsweredIn held (next_attempt verdicts held moment) r → new ≡ pass_after (next_attempt verdicts held moment) r old → Stepped verdicts seen old moment outcome new
   stepped (Ok a) r is answer kept = steps r (reply.Attempted a) is answer kept
   stepped (Err (station.Bus refusal.RecordFull)) r is answer kept = steps r _ is answer kept
   stepped (Err (station.Bus refusal.NoInterface)) r is answer kept = steps r _ is answer kept

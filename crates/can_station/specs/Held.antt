@@ -9,12 +9,12 @@ use Rattle.can_record.specs.Journal.{Journal}
 use Rattle.can_bus.specs.Run.{history_after}
 use Rattle.can_record.specs.Tapes.{tape}
 use Rattle.can_rules.specs.Plans.{PlanSeen, without_rules}
-use Rattle.can_rules.specs.RuleLines.{LinesSeen, lines_of, no_lines, with_end, with_given, with_none_left}
+use Rattle.can_rules.specs.RuleLines.{LinesSeen, text_of_lines, no_lines, with_end, with_given, with_none_left}
 use Rattle.can_rules.specs.declared.rules.RuleRefusal.{RuleRefusal}
-use Rattle.can_roll.specs.Lists.{added}
+use Rattle.can_roll.specs.Lists.{call_added}
 use Rattle.can_roll.specs.Seen.{RollSeen, SlipSeen, roll_seen, slip_seen}
 
--- A station, and what it keeps under its lock (own).
+-- A station, and the state under its lock (own).
 
 -- a station: its number, and the configuration of its bus
 pub record StationSeen : Type 0 where
@@ -25,8 +25,8 @@ pub record StationSeen : Type 0 where
 abbrev pub station_seen : ℕ → BusConfig → StationSeen
 station_seen number config = record { number = number; config = config }
 
--- the station's number, its bus, the calls of each pass, the source of verdicts, the plan of faults, the lines of what
--- became of its rules, and whether waits end
+-- the state under the lock: the station's number, its bus, the calls of each pass, the source of verdicts, the plan of
+-- faults, the lines about its rules, and whether waits end
 pub record Held (F : Type 0) : Type 0 where
   pub number : ℕ
   pub journal : Journal
@@ -52,40 +52,40 @@ new_held number journal source plan = record {
   stopped = false;
 }
 
--- the same with this plan of faults, and these lines of what became of its rules
-abbrev pub with_rules : {F : Type 0} → PlanSeen → LinesSeen → Held F → Held F
-with_rules plan changes h = record h { plan = plan; changes = changes }
+-- the same with this plan of faults, and these lines about its rules
+abbrev pub with_plan_lines : {F : Type 0} → PlanSeen → LinesSeen → Held F → Held F
+with_plan_lines plan changes h = record h { plan = plan; changes = changes }
 
--- how many attempts tried a frame, which is the number of the next one that does
+-- the number of attempts that tried a frame; the next such attempt has this number
 abbrev pub next_number : {F : Type 0} → Held F → ℕ
 next_number h = length (tape h.journal.history)
 
--- a rule comes, in these words: it is taken, and its line comes after the others, or nothing changes
-abbrev pub Takes : {F : Type 0} → List ℕ → Held F → Result (Unit {0}) RuleRefusal → Held F → Type 0
-Takes words old (Ok done) new = new ≡ with_rules new.plan (with_given (next_number old) words old.changes) old
-Takes words old (Err why) new = new ≡ old
+-- a rule with this text: it is taken and its line follows the others, or nothing changes
+abbrev pub TakesRule : {F : Type 0} → List ℕ → Held F → Result (Unit {0}) RuleRefusal → Held F → Type 0
+TakesRule words old (Ok done) new = new ≡ with_plan_lines new.plan (with_given (next_number old) words old.changes) old
+TakesRule words old (Err why) new = new ≡ old
 
--- all rules end, and where there were any their end comes after the lines
+-- all rules end; if there were any, a line for their end follows the others
 abbrev pub after_end : {F : Type 0} → Held F → Held F
 after_end h =
     if length h.plan.rules == 0 then h
-    else with_rules (without_rules h.plan) (with_end (next_number h) h.changes) h
+    else with_plan_lines (without_rules h.plan) (with_end (next_number h) h.changes) h
 
--- the lines of what became of the rules are taken out, or none where memory is refused
+-- the lines about the rules are taken out, or none if memory is refused
 abbrev pub LinesTaken : {F : Type 0} → Held F → List ℕ → Held F → Type 0
 LinesTaken old lines new =
-    ((lines ≡ lines_of old.changes) × (new ≡ with_rules old.plan (with_none_left old.changes) old))
+    ((lines ≡ text_of_lines old.changes) × (new ≡ with_plan_lines old.plan (with_none_left old.changes) old))
     ⊎ ((lines ≡ []) × (new ≡ old))
 
 -- the calls of each pass, after a call of pass p
 abbrev pub lists_after : ℕ → Event → Reply → List (List Entry) → List (List Entry)
-lists_after p e r lists = if enters r then added lists p (entry_of e r) else lists
+lists_after p e r lists = if enters r then call_added lists p (entry_of e r) else lists
 
 -- the roll after a call of pass p
 abbrev pub roll_after : ℕ → Event → Reply → RollSeen → RollSeen
 roll_after p e r roll = roll_seen roll.number (lists_after p e r roll.lists) roll.called
 
--- what is kept after a call of pass p: one event of the bus, which is that pass's
+-- the state after a call of pass p, which is one event of the bus
 abbrev pub held_after : {F : Type 0} → ℕ → Event → Reply → Held F → Held F
 held_after p e r h = record {
   number = h.number;
@@ -105,7 +105,7 @@ slip_after e r s = record { number = s.number; pass = s.pass; calls = history_af
 abbrev pub with_pass : {F : Type 0} → Held F → Held F
 with_pass h = record h { lists = h.lists ++ [] ∷ [] }
 
--- no pass is left: 4,096 have entered
+-- no pass is left: 4,096 passes have entered
 abbrev pub NoPassLeft : {F : Type 0} → Held F → Type 0
 NoPassLeft h = 4096 ≤ length h.lists
 

@@ -14,14 +14,14 @@ marked p [] past = []
 marked p (m ∷ ms) [] = []
 marked p (m ∷ ms) (e ∷ past) = if m == p then e ∷ marked p ms past else marked p ms past
 
--- each entry has a mark, the number of a pass, and the roll's list of each pass is the entries marked with it
+-- each entry is marked with the number of a pass, and the roll lists for each pass exactly its entries
 pub record IsMarked (lists : List (List Entry)) (marks : List ℕ) (past : List Entry) : Type 0 where
   pub long : length marks ≡ length past
   pub below : AllBelow (length lists) marks
   pub each : (p : ℕ) → row lists p ≡ marked p marks past
 
--- what lies under the lock agrees: the bus's history is legal, its entries can be marked so that the roll is
--- theirs, and no pass is called in
+-- the state under the lock agrees: the bus's history is legal, its entries can be marked so that they match the roll,
+-- and no pass is called in
 pub record IsBooked (roll : RollSeen) (journal : Journal) : Type 0 where
   pub proper : IsLongConfig journal.config
   pub legal : IsLegal journal.config journal.history

@@ -31,10 +31,10 @@ use Rattle.can_station.specs.Marks.{IsMarked, marked}
 use Rattle.can_station.specs.declared.refusals.StationRefusal.{StationRefusal}
 use Rattle.can_station.specs.declared.refusals.StationRefusal.TheVariants as station
 
--- What callers see of their passes, and what a station's calls do to them (own).
+-- The passes as their callers see them, and the effect of a station's calls on them (own).
 
--- a pass: its station's number, its own number, the calls made with it, the newest first, and whether it keeps a
--- list of them, which a program can read
+-- a pass: its station's number, its own number, its calls, the newest first, and whether a program can read them as a
+-- list
 pub record PassSeen : Type 0 where
   pub number : ℕ
   pub pass : ℕ
@@ -49,7 +49,7 @@ new_pass number pass = record { number = number; pass = pass; calls = []; keeps 
 abbrev pub new_light_pass : ℕ → ℕ → PassSeen
 new_light_pass number pass = record { number = number; pass = pass; calls = []; keeps = false }
 
--- a pass with this slip and this list, if it keeps one
+-- a pass with this slip and, if it keeps one, this list
 abbrev pub pass_seen : SlipSeen → Option (List Entry) → PassSeen
 pass_seen slip listed = record { number = slip.number; pass = slip.pass; calls = slip.calls; keeps = is_some listed }
 
@@ -61,44 +61,44 @@ kept_calls p = if p.keeps then p.calls else []
 abbrev pub pass_after : Event → Reply → PassSeen → PassSeen
 pass_after e r p = record p { calls = history_after e r p.calls }
 
--- what the caller gets of a reply: its value, or why the bus refuses
-abbrev pub Reports : {A : Type 0} → (A → Reply) → Result A StationRefusal → Reply → Type 0
-Reports told (Ok a) r = r ≡ told a
-Reports told (Err (station.Bus why)) r = r ≡ reply.Refused why
-Reports told (Err station.WrongStation) r = ⊥
+-- the caller's part of a reply: its value, or the bus's refusal
+abbrev pub ReportsReply : {A : Type 0} → (A → Reply) → Result A StationRefusal → Reply → Type 0
+ReportsReply told (Ok a) r = r ≡ told a
+ReportsReply told (Err (station.Bus why)) r = r ≡ reply.Refused why
+ReportsReply told (Err station.WrongStation) r = ⊥
 
--- what is in a pass's list, the newest first, if it keeps one
+-- the entries of a pass's list, the newest first, if it keeps one
 abbrev pub calls_listed : Option ListedEntries → Option (List Entry)
 calls_listed None = None
 calls_listed (Some calls) = Some (reverse calls.entries)
 
--- what is in the list are these calls, where there is one
-abbrev pub AreKept : Option (List Entry) → List Entry → Type 0
-AreKept None calls = Unit {0}
-AreKept (Some listed) calls = listed ≡ calls
+-- these calls are in the list, if there is one
+abbrev pub AreListedCalls : Option (List Entry) → List Entry → Type 0
+AreListedCalls None calls = Unit {0}
+AreListedCalls (Some listed) calls = listed ≡ calls
 
--- the memory for a call that is no close: a place, one that is left for a close, and what a wide entry takes; a
--- pass without a list needs none
-abbrev pub IsReady : Option ListedEntries → Type 0
-IsReady None = Unit {0}
-IsReady (Some calls) = (length calls.entries + 1 < calls.room) × (calls.spare ≡ true)
+-- the memory for a call that does not close: a place, one more that is left for a close, and the memory of a wide
+-- entry; a pass without a list needs none
+abbrev pub HasMemoryForCall : Option ListedEntries → Type 0
+HasMemoryForCall None = Unit {0}
+HasMemoryForCall (Some calls) = (length calls.entries + 1 < calls.room) × (calls.spare ≡ true)
 
--- there is a place for one call more, where there is a list
-abbrev pub HasPlace : Option ListedEntries → Type 0
-HasPlace None = Unit {0}
-HasPlace (Some calls) = length calls.entries < calls.room
+-- the list, if there is one, has a place for one call more
+abbrev pub HasPlaceForCall : Option ListedEntries → Type 0
+HasPlaceForCall None = Unit {0}
+HasPlaceForCall (Some calls) = length calls.entries < calls.room
 
 -- the memory for a call: a close takes one place, and is never wide
 abbrev pub IsReadyFor : Event → Option ListedEntries → Type 0
-IsReadyFor (event.Close s) calls = HasPlace calls
-IsReadyFor e calls = IsReady calls
+IsReadyFor (event.Close s) calls = HasPlaceForCall calls
+IsReadyFor e calls = HasMemoryForCall calls
 
 -- there is a place left for a close
 abbrev pub CanClose : Event → Option ListedEntries → Type 0
-CanClose (event.Close s) calls = HasPlace calls
+CanClose (event.Close s) calls = HasPlaceForCall calls
 CanClose e calls = ⊥
 
--- what a call of the station with this number returns, and what it leaves of the caller's pass
+-- the result of a call of the station with this number, and the caller's pass after it
 abbrev pub Called : {A : Type 0} → (A → Reply) → ℕ → PassSeen → Event → Result A StationRefusal → PassSeen → Type 0
 Called told number old e (Ok a) new = (old.number ≡ number) × (new ≡ pass_after e (told a) old)
 Called told number old e (Err (station.Bus why)) new =
@@ -109,26 +109,26 @@ Called told number old e (Err station.WrongStation) new = ¬ (old.number ≡ num
 abbrev pub IsAnsweredIn : {F : Type 0} → Held F → Event → Reply → Type 0
 IsAnsweredIn held e r = IsAnswer held.journal.config held.journal.history e r
 
--- an event is carried out for the pass of a slip: its reply comes from the record, and it is noted there and in
--- the slip
-pub record IsCarriedOut {F : Type 0} (old : Held F) (slip : SlipSeen) (e : Event) (r : Reply) (new : Held F)
+-- an event is carried out for the pass of a slip: the bus gives its reply, and both are noted in the record and in the
+-- slip
+pub record IsCarriedOutForSlip {F : Type 0} (old : Held F) (slip : SlipSeen) (e : Event) (r : Reply) (new : Held F)
     (slip' : SlipSeen) : Type 0 where
   pub answer : IsAnsweredIn old e r
   pub after : new ≡ held_after slip.pass e r old
   pub noted : slip' ≡ slip_after e r slip
 
--- a receive is carried out so: this is what it came to, and an item is in the room
-abbrev pub IsReceived :
+-- a receive is carried out in the same way: it came to this, and an item is in the room
+abbrev pub IsReceivedForSlip :
     {F : Type 0} → Held F → SlipSeen → SocketId → Received → Result Bool Refusal → Held F → SlipSeen → Type 0
-IsReceived old slip socket room outcome new slip' =
-    IsCarriedOut old slip (event.Receive socket) (receive_reply room outcome) new slip'
+IsReceivedForSlip old slip socket room outcome new slip' =
+    IsCarriedOutForSlip old slip (event.Receive socket) (receive_reply room outcome) new slip'
 
--- nothing changes: what a station keeps, a slip, and the list of its pass
+-- nothing changes: neither the station's state, nor a slip, nor the list of its pass
 abbrev pub ChangesNothing :
     {F : Type 0} → Held F → SlipSeen → Option ListedEntries → Held F → SlipSeen → Option ListedEntries → Type 0
 ChangesNothing old slip calls new slip' calls' = (new ≡ old) × (slip' ≡ slip) × (calls' ≡ calls)
 
--- what is in a pass's list after a call: it is kept with its reply, unless the record was full or memory was refused
+-- a pass's list after a call: the call is kept with its reply, unless the record was full or memory was refused
 abbrev pub listed_after : Event → Reply → Option (List Entry) → Option (List Entry)
 listed_after e r None = None
 listed_after e r (Some listed) = Some (history_after e r listed)
@@ -137,7 +137,7 @@ listed_after e r (Some listed) = Some (history_after e r listed)
 abbrev pub Keeps : Option ListedEntries → Event → Reply → Option ListedEntries → Type 0
 Keeps old e r new = calls_listed new ≡ listed_after e r (calls_listed old)
 
--- a call that is carried out: its reply comes from the record, it is noted there, and in the caller's pass
+-- a call that is carried out: the bus gives its reply, and both are noted in the record and in the caller's pass
 pub record IsMade {F : Type 0} (old : Held F) (pass : PassSeen) (e : Event) (r : Reply) (new : Held F)
     (pass' : PassSeen) : Type 0 where
   pub own : pass.number ≡ old.number
@@ -167,21 +167,21 @@ next_number held = length (tape held.journal.history)
 abbrev pub source_verdict : {F : Type 0} → (F → VerdictMap) → Held F → Verdict
 source_verdict verdicts held = verdict_in (verdicts held.source) (next_number held)
 
--- what the next attempt on a bus tries
-abbrev pub head_on : Journal → Option (ℕ × CanFrame)
-head_on journal = next_head journal.config journal.history
+-- the interface and the frame that the next attempt on a bus tries
+abbrev pub next_try : Journal → Option (ℕ × CanFrame)
+next_try journal = next_head journal.config journal.history
 
--- the verdict of the next attempt: the source's where it is a fault, else the plan's
+-- the verdict of the next attempt: the source's if it is a fault, else the plan's
 abbrev pub next_verdict : {F : Type 0} → (F → VerdictMap) → Held F → Verdict
-next_verdict verdicts held = given (source_verdict verdicts held) held.plan (next_number held) (head_on held.journal)
+next_verdict verdicts held = given (source_verdict verdicts held) held.plan (next_number held) (next_try held.journal)
 
--- the plan once it gave that verdict
+-- the plan after it gave that verdict
 abbrev pub next_plan : {F : Type 0} → (F → VerdictMap) → Held F → PlanSeen
-next_plan verdicts held = plan_after (source_verdict verdicts held) held.plan (next_number held) (head_on held.journal)
+next_plan verdicts held = plan_after (source_verdict verdicts held) held.plan (next_number held) (next_try held.journal)
 
--- what is kept once this source and the plan were asked for the next attempt, before the attempt is made
-abbrev pub asked : {F : Type 0} → (F → VerdictMap) → F → Held F → Held F
-asked verdicts source held = record held { source = source; plan = next_plan verdicts held }
+-- the state after this source and the plan were asked for the next attempt, before the attempt is made
+abbrev pub asked_for_attempt : {F : Type 0} → (F → VerdictMap) → F → Held F → Held F
+asked_for_attempt verdicts source held = record held { source = source; plan = next_plan verdicts held }
 
 -- an attempt at the moment, with that verdict
 abbrev pub next_attempt : {F : Type 0} → (F → VerdictMap) → Held F → ℕ → Event
@@ -190,15 +190,15 @@ next_attempt verdicts held moment = event.Attempt moment (next_verdict verdicts 
 -- such an attempt is carried out for the pass of a slip, once the source and the plan were asked
 abbrev pub IsStepped : {F : Type 0} → (F → VerdictMap) → Held F → SlipSeen → ℕ → Reply → Held F → SlipSeen → Type 0
 IsStepped verdicts old slip moment r new slip' =
-    IsCarriedOut (asked verdicts new.source old) slip (next_attempt verdicts old moment) r new slip'
+    IsCarriedOutForSlip (asked_for_attempt verdicts new.source old) slip (next_attempt verdicts old moment) r new slip'
 
 -- the same for a pass
 abbrev pub IsStepMade : {F : Type 0} → (F → VerdictMap) → Held F → PassSeen → ℕ → Reply → Held F → PassSeen → Type 0
 IsStepMade verdicts old pass moment r new pass' =
-    IsMade (asked verdicts new.source old) pass (next_attempt verdicts old moment) r new pass'
+    IsMade (asked_for_attempt verdicts new.source old) pass (next_attempt verdicts old moment) r new pass'
 
--- a step in one hold of the lock: such an attempt is carried out, or nothing changes, since the pass's list can't
--- grow or the bus has no place for an entry, or the pass is another station's
+-- a step in one hold of the lock: such an attempt is carried out, or nothing changes. It fails if the pass's list can't
+-- grow, the bus has no place for an entry, or the pass is another station's
 abbrev pub MadeStep : {F : Type 0} → (F → VerdictMap) → Held F → PassSeen → ℕ → Result Attempt StationRefusal
     → Held F → PassSeen → Type 0
 MadeStep verdicts old pass moment (Ok a) new pass' = IsStepMade verdicts old pass moment (reply.Attempted a) new pass'
@@ -208,7 +208,7 @@ MadeStep verdicts old pass moment (Err (station.Bus why)) new pass' =
 MadeStep verdicts old pass moment (Err station.WrongStation) new pass' =
     ¬ (pass.number ≡ old.number) × IsUnchanged old pass new pass'
 
--- what an attempt came to, without its verdict
+-- the outcome of an attempt, without its verdict
 abbrev pub without_verdict : Result (Verdict × Attempt) StationRefusal → Result Attempt StationRefusal
 without_verdict (Ok r) = Ok r.1
 without_verdict (Err why) = Err why
@@ -249,7 +249,8 @@ IsNewLightPass F station p =
 abbrev pub HadNoPassLeft : (F : Type 0) → StationSeen → Type 0
 HadNoPassLeft F station = InSome F station (λ held. NoPassLeft held)
 
--- what a call returns is the result in some state of the station, unless memory is refused or the pass is another's
+-- the result of a call is the result in some state of the station, unless memory is refused or the pass is another
+-- station's
 abbrev pub Answered : (F : Type 0) {A : Type 0} → (A → Reply) → StationSeen → Event → Result A StationRefusal → Type 0
 Answered F told seen e (Ok a) = InSome F seen (λ held. IsAnsweredIn held e (told a))
 Answered F told seen e (Err (station.Bus refusal.NoMemory)) = Unit {0}
@@ -272,7 +273,7 @@ Stepped verdicts seen old moment (Err (station.Bus refusal.NoMemory)) new = new 
 Stepped verdicts seen old moment (Err (station.Bus why)) new = StepsIn verdicts seen old moment (reply.Refused why) new
 Stepped verdicts seen old moment (Err station.WrongStation) new = ¬ (old.number ≡ seen.number) × (new ≡ old)
 
--- a rule came to this in some state of the station, whose interfaces have these names
+-- the outcome of a rule in some state of the station whose interfaces have these names
 abbrev pub InjectsIn : (F : Type 0) → StationSeen → List (List ℕ) → List ℕ → Result (Unit {0}) RuleRefusal → Type 0
 InjectsIn F seen names text outcome =
     InSome F seen (λ held. (after : PlanSeen) × Injected names text held.plan outcome after)

@@ -11,7 +11,7 @@ use Rattle.can_bus.specs.Counters.{counts_of}
 use Rattle.can_record.specs.Journal.{Journal, Kept}
 use Rattle.can_bus.specs.Stats.{all_counts}
 use Rattle.can_meter.specs.declared.status.Status.{Status}
-use Rattle.can_meter.specs.Publications.{published, newest, Ends}
+use Rattle.can_meter.specs.Publications.{published, newest, AreEndsOf}
 use Rattle.can_meter.specs.Readings.{Readings}
 use Rattle.can_station.specs.Passes.{PassSeen, AllOf, SomeOther}
 
@@ -33,7 +33,7 @@ publications_of c [] i = []
 publications_of c (e ∷ past) i =
     published_after (counts_of c past i) (counts_of c (e ∷ past) i) (suc (length past)) (publications_of c past i)
 
--- the counters of all interfaces, where this event can change some: it tries a frame, restarts an interface or takes it
+-- the counters of all interfaces, if this event can change any: it tries a frame, restarts an interface or takes it
 -- down
 abbrev pub counts_before : Journal → Event → Option (List ErrorCounts)
 counts_before j (event.Attempt m v) = Some (all_counts j.config j.history)
@@ -42,16 +42,16 @@ counts_before j (event.Down i m) = Some (all_counts j.config j.history)
 counts_before j _ = None
 
 -- the counters at a place of a list of them
-abbrev pub counts_in : List ErrorCounts → ℕ → ErrorCounts
-counts_in counts i = slice_index_or counts i at_start
+abbrev pub counters_at : List ErrorCounts → ℕ → ErrorCounts
+counters_at counts i = slice_index_or counts i at_start
 
--- the keeper is this station's, and has published of each interface what its history has changed
+-- the keeper is this station's, and has published each change of the interfaces in its history
 pub record IsPublished (keeper : Readings) (number : ℕ) (j : Journal) : Type 0 where
   pub number_is : keeper.number ≡ number
   pub ifaces_are : keeper.ifaces ≡ j.config.ifaces
   pub each : (i : ℕ) → i < j.config.ifaces → published keeper.lists i ≡ publications_of j.config j.history i
 
--- all that a keeper has published is of records shorter than this
+-- a keeper has published only for records shorter than this
 abbrev pub AllEarlier : Readings → ℕ → Type 0
 AllEarlier keeper at = (i : ℕ) → i < keeper.ifaces → (newest (published keeper.lists i)).at < at
 
@@ -59,10 +59,10 @@ AllEarlier keeper at = (i : ℕ) → i < keeper.ifaces → (newest (published ke
 abbrev pub PublishesOf : Readings → ℕ → ErrorCounts → ErrorCounts → ℕ → Readings → Type 0
 PublishesOf old i before after at new = published new.lists i ≡ published_after before after at (published old.lists i)
 
--- a keeper publishes each interface's counters so
+-- a keeper publishes each interface's counters in this way
 abbrev pub Publishes : Readings → List ErrorCounts → List ErrorCounts → ℕ → Readings → Type 0
 Publishes old before after at new =
-    (i : ℕ) → i < old.ifaces → PublishesOf old i (counts_in before i) (counts_in after i) at new
+    (i : ℕ) → i < old.ifaces → PublishesOf old i (counters_at before i) (counters_at after i) at new
 
 -- all gauges are of the station with this number
 abbrev pub GaugesOf : ℕ → List Readings → Type 0
@@ -72,22 +72,22 @@ GaugesOf number gauges = All (λ g. g.number ≡ number) gauges
 abbrev pub SomeOtherGauge : ℕ → List Readings → Type 0
 SomeOtherGauge number gauges = ¬ GaugesOf number gauges
 
--- passes and gauges are taken back exactly where all are of the station with this number
+-- passes and gauges are taken back exactly if all are of the station with this number
 abbrev pub TakesBack : {A E : Type 0} → ℕ → List PassSeen → List Readings → Result A E → Type 0
 TakesBack number passes gauges (Ok left) = AllOf number passes × GaugesOf number gauges
 TakesBack number passes gauges (Err refused) = SomeOther number passes ⊎ SomeOtherGauge number gauges
 
--- a scroll, passes and gauges are taken back exactly where all are of the station with this number
+-- a scroll, passes and gauges are taken back exactly if all are of the station with this number
 abbrev pub TakesBackScroll : {A E : Type 0} → ℕ → ℕ → List PassSeen → List Readings → Result A E → Type 0
 TakesBackScroll number scroll passes gauges (Ok left) = (scroll ≡ number) × AllOf number passes × GaugesOf number gauges
 TakesBackScroll number scroll passes gauges (Err refused) =
     ¬ (scroll ≡ number) ⊎ (SomeOther number passes ⊎ SomeOtherGauge number gauges)
 
--- what each gauge has seen was published by this keeper
+-- this keeper published everything that each gauge has seen
 abbrev pub AllSeen : List Readings → Readings → Type 0
-AllSeen gauges keeper = All (λ g. Ends g.lists keeper.lists) gauges
+AllSeen gauges keeper = All (λ g. AreEndsOf g.lists keeper.lists) gauges
 
--- what each gauge has seen of an interface are publications of the history, all but the newest if it missed some
+-- a gauge has seen publications of the history: all of them, or all but the newest
 abbrev pub AreTrue : Journal → List Readings → Type 0
 AreTrue left gauges =
     All

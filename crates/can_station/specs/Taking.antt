@@ -3,10 +3,9 @@ use Rattle.can_bus.specs.Long.{HasTail}
 use Rattle.can_station.specs.Held.{Held, LinesTaken}
 use Rattle.can_station.specs.declared.long.Block.{Block}
 
--- What is taken out of a station (own choice).
+-- The entries that are taken out of a station (own choice).
 
--- a block has the last entries of a history, and the lines of what became of the rules, or none of them where memory is
--- refused
+-- a block has the last entries of a history, and the lines about the rules, or none of them if memory is refused
 pub record IsTaken {F : Type 0} (held : Held F) (block : Block) : Type 0 where
   pub entries : HasTail held.journal.history block.entries.entries block.start
   pub after : Held F

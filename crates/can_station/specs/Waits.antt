@@ -10,9 +10,9 @@ use Rattle.can_station.specs.Held.{Held}
 use Rattle.can_station.specs.declared.waits.WakeReason.{WakeReason}
 use Rattle.can_station.specs.declared.waits.WakeReason.TheVariants as wake
 
--- How a wait ends, whether it does, and what a station reports without an event (own).
+-- How a wait ends, whether it ends, and the reports that a station makes without an event (own).
 
--- what a stop signals to those who wait
+-- the signals of a stop to all that wait
 abbrev pub stopped_wake : Bool → Option WakeReason
 stopped_wake stopped = if stopped then Some wake.Stopped else None
 
@@ -29,7 +29,7 @@ frame_wake h s = item_wake (socket_stats_of h.journal.config h.journal.history s
 abbrev pub has_work : Journal → Bool
 has_work j = is_some (winner j.config j.history) || is_counting j.config j.history
 
--- nine tenths of the entries that the bus may have are there, or more
+-- the bus has nine tenths or more of the entries that it may have
 abbrev pub IsNearlyFull : Journal → Type 0
 IsNearlyFull j = j.config.limit - j.config.limit / 10 ≤ length j.history
 
@@ -42,17 +42,17 @@ abbrev pub IsIdleAndStopped : {F : Type 0} → Held F → Type 0
 IsIdleAndStopped h = (has_work h.journal ≡ false) × (h.stopped ≡ true)
 
 -- the items that were queued and not taken
-abbrev pub left_of : Option SocketStats → ℕ
-left_of None = 0
-left_of (Some counts) = counts.queued - counts.taken
+abbrev pub items_left : Option SocketStats → ℕ
+items_left None = 0
+items_left (Some counts) = counts.queued - counts.taken
 
--- how many items wait at socket s
-abbrev pub waiting_at : Journal → ℕ → ℕ
-waiting_at j s = left_of (socket_stats_of j.config j.history s)
+-- the number of items that wait at socket s
+abbrev pub items_waiting_at : Journal → ℕ → ℕ
+items_waiting_at j s = items_left (socket_stats_of j.config j.history s)
 
 -- a wait for an item of socket s ends so, with this many items that wait there
 abbrev pub EndsItemWait : {F : Type 0} → Held F → ℕ → WakeReason × ℕ → Type 0
-EndsItemWait h s end = (frame_wake h s ≡ Some end.0) × (end.1 ≡ waiting_at h.journal s)
+EndsItemWait h s end = (frame_wake h s ≡ Some end.0) × (end.1 ≡ items_waiting_at h.journal s)
 
 -- the counts of socket s and of interface i
 abbrev pub AreCounts : Journal → ℕ → ℕ → Option SocketStats × Option IfaceStats → Type 0

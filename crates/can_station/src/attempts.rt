@@ -5,7 +5,7 @@ use crate::refusals::StationRefusal;
 use can_bus::Attempt;
 use can_fault::Verdict;
 
-/// What an attempt came to, with its verdict.
+/// Returns the outcome of an attempt, with its verdict.
 pub(crate) fn with_verdict(
     verdict: Verdict,
     outcome: Result<Attempt, StationRefusal>,

@@ -15,11 +15,12 @@ use can_frame::{Frame, Iface, Moment};
 use std::alloc::Global;
 use std::sync::Wait;
 
-// The nine calls of a pass: each is one event of the bus. Before the bus's own refusals come `NoMemory`, where the pass's
-// list of calls can't grow, and `WrongStation`, where the pass is another station's; neither changes anything.
+// The nine calls of a pass. Each is one event of the bus. The station refuses before the bus does:
+// with `NoMemory` if the pass's list of calls can't grow, with `WrongStation` if the pass is
+// another station's. Neither changes anything.
 impl<N: BusName, F: FaultSource + Drop, G: Gate + Drop, B: Journaled> Station<N, F, G, B> {
-    /// Opens a socket on an interface, where `capacity` items may wait. Refusals of the bus: `RecordFull`,
-    /// `NoInterface`, `BadCapacity`, `TooManySockets`, `NoMemory`.
+    /// Opens a socket on an interface; up to `capacity` items may wait there. Refusals of the bus:
+    /// `RecordFull`, `NoInterface`, `BadCapacity`, `TooManySockets`, `NoMemory`.
     pub fn open<R: Wait>(
         &self,
         rt: &R,
@@ -37,8 +38,8 @@ impl<N: BusName, F: FaultSource + Drop, G: Gate + Drop, B: Journaled> Station<N,
             .map_err(StationRefusal::Bus)
     }
 
-    /// Closes a socket, and counts what nobody took and what found no room. Refusals of the bus: `RecordFull`,
-    /// `NoSocket`.
+    /// Closes a socket, and counts the items that were not taken and those that did not fit.
+    /// Refusals of the bus: `RecordFull`, `NoSocket`.
     pub fn close<R: Wait>(
         &self,
         rt: &R,
@@ -114,7 +115,8 @@ impl<N: BusName, F: FaultSource + Drop, G: Gate + Drop, B: Journaled> Station<N,
             .map_err(StationRefusal::Bus)
     }
 
-    /// Takes the oldest item of a socket: `None` where nothing waits. Refusals of the bus: `RecordFull`, `NoSocket`.
+    /// Takes the oldest item of a socket: `None` if nothing waits. Refusals of the bus:
+    /// `RecordFull`, `NoSocket`.
     pub fn receive<R: Wait>(
         &self,
         rt: &R,
@@ -131,9 +133,10 @@ impl<N: BusName, F: FaultSource + Drop, G: Gate + Drop, B: Journaled> Station<N,
             .map_err(StationRefusal::Bus)
     }
 
-    /// Tries the frame that wins the bus, with this verdict and not the source's: `Idle` where no live interface has a
-    /// frame to send. Interfaces whose count has run out are restarted. A frame that is tried takes the next attempt's
-    /// number, and the source's verdict for it is never used. Refusal of the bus: `RecordFull`.
+    /// Tries the frame that wins the bus, with this verdict instead of the source's: `Idle` if no
+    /// live interface has a frame to send. Interfaces whose count has run out are restarted. An
+    /// attempt that tries a frame takes the next number, and the source's verdict for that number
+    /// is never used. Refusal of the bus: `RecordFull`.
     pub fn attempt<R: Wait>(
         &self,
         rt: &R,
@@ -171,8 +174,8 @@ impl<N: BusName, F: FaultSource + Drop, G: Gate + Drop, B: Journaled> Station<N,
             .map_err(StationRefusal::Bus)
     }
 
-    /// Takes an interface down, at a moment: until a restart it takes no part, and the frames in its transmit queue are
-    /// lost. Refusals of the bus: `RecordFull`, `NoInterface`.
+    /// Takes an interface down, at a moment. It takes no part until it is restarted, and the frames
+    /// in its transmit queue are lost. Refusals of the bus: `RecordFull`, `NoInterface`.
     pub fn down<R: Wait>(
         &self,
         rt: &R,

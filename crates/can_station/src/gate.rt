@@ -1,4 +1,4 @@
-/// Where a station asks its gate.
+/// The places at which a station asks its gate.
 #[derive(Debug, Clone, Copy, PartialEq, Eq)]
 pub enum Point {
     /// In `step` and `hold_work`, before the lock is taken.
@@ -9,13 +9,13 @@ pub enum Point {
     AfterReply,
 }
 
-/// A place where a test may hold a thread.
+/// A gate, at which a test may hold a thread.
 pub trait Gate {
     /// Returns once the thread may go on.
     fn at(&self, point: Point);
 }
 
-/// The gate of production: it holds nobody.
+/// The gate of production. It holds no thread.
 #[derive(Debug, Clone, Copy, PartialEq, Eq)]
 pub struct Open;
 

@@ -3,8 +3,8 @@ ghost use Rattle.can_bus.specs.Heads.{next_head};
 ghost use Rattle.can_event.specs.Replies.{receive_reply, taken_reply};
 ghost use Rattle.can_event.specs.declared.event.Event.TheVariants as event;
 ghost use Rattle.can_rules.specs.Plans.{Injected};
-ghost use Rattle.can_station.specs.Held.{Takes, after_end};
-ghost use Rattle.can_station.specs.Passes.{ChangesNothing, IsCarriedOut, IsReady, IsReadyFor, IsReceived, IsStepped, Keeps, Suits, Called, Made, MadeJudged, MadeStep, next_attempt, next_verdict, same};
+ghost use Rattle.can_station.specs.Held.{TakesRule, after_end};
+ghost use Rattle.can_station.specs.Passes.{ChangesNothing, IsCarriedOutForSlip, HasMemoryForCall, IsReadyFor, IsReceivedForSlip, IsStepped, Keeps, Suits, Called, Made, MadeJudged, MadeStep, next_attempt, next_verdict, same};
 ghost use Rattle.can_station.specs.Waits.{IsNearlyFull, has_work};
 
 use crate::attempts::with_verdict;
@@ -28,8 +28,8 @@ use std::sync::MutexGuard;
 
 /// A station's lock, taken for several calls. Each is one event of the bus, as a call of the station itself is.
 ///
-/// Contracts see it as the state under the lock. Whoever the calls have given something to do is woken once the lock is
-/// free again.
+/// Contracts see it as the state under the lock. Threads for which the calls have made work are
+/// woken once the lock is free again.
 pub struct Hold<'s, N: BusName, F: FaultSource + Drop, G: Gate + Drop, B: Journaled = RingBus> {
     pub(crate) station: &'s Station<N, F, G, B>,
     pub(crate) state: MutexGuard<'s, StationState<N, F, B>>,
@@ -58,21 +58,23 @@ impl<'s, N: BusName, F: FaultSource + Drop, G: Gate + Drop, B: Journaled> Hold<'
         self.state.number()
     }
 
-    /// Whether a live interface has a frame to send, or an interface counts towards its restart.
+    /// Returns whether a live interface has a frame to send, or an interface counts towards its
+    /// restart.
     pub fn has_work(&self) -> bool
         ensures { result ≡ has_work self.now.journal }
     {
         self.state.has_work()
     }
 
-    /// Whether nine tenths of the entries that the bus may have are there, or more.
+    /// Returns whether nine tenths of the entries that the bus may have are there, or more.
     pub fn is_nearly_full(&self) -> bool
         ensures { IsTrue result ↔ IsNearlyFull self.now.journal }
     {
         self.state.is_nearly_full()
     }
 
-    /// The interface and the frame that the next attempt tries: `None` where no live interface has one to send.
+    /// The interface and the frame that the next attempt tries: `None` if no live interface has one
+    /// to send.
     pub fn next_head(&self) -> Option<(Iface, Frame)>
         ensures { result ≡ next_head self.now.journal.config self.now.journal.history }
     {
@@ -100,8 +102,8 @@ impl<'s, N: BusName, F: FaultSource + Drop, G: Gate + Drop, B: Journaled> Hold<'
             .ok_or(StationRefusal::Bus(Refusal::NoMemory))
     }
 
-    /// Carries out an event for the pass of this slip, and keeps it among its calls. `None` where the bus has no place for
-    /// an entry: then nothing changes.
+    /// Carries out an event for the pass of this slip, and keeps it among its calls. `None` if the
+    /// bus has no place for an entry: then nothing changes.
     pub(crate) fn carry_out(
         &mut self,
         alloc: Global,
@@ -112,7 +114,7 @@ impl<'s, N: BusName, F: FaultSource + Drop, G: Gate + Drop, B: Journaled> Hold<'
         requires own { slip.old.number ≡ self.old.number }
         requires ready { IsReadyFor event calls.old }
         ensures carried { IfSome result
-            (λ r. IsCarriedOut self.old slip.old event r self.new slip.new) }
+            (λ r. IsCarriedOutForSlip self.old slip.old event r self.new slip.new) }
         ensures calls { IfSome result (λ r. Keeps calls.old event r calls.new) }
         ensures suits { IfSome result (λ r. Suits event r) }
         ensures none { IfNone result
@@ -124,8 +126,8 @@ impl<'s, N: BusName, F: FaultSource + Drop, G: Gate + Drop, B: Journaled> Hold<'
         Some(reply)
     }
 
-    /// Receives into the caller's room, as the station's `receive` does: whether there was an item. The room stays where
-    /// there was none.
+    /// Receives into the caller's room, as the station's `receive` does: whether there was an item.
+    /// The room stays if there was none.
     pub fn receive_into(
         &mut self,
         alloc: Global,
@@ -161,9 +163,9 @@ impl<'s, N: BusName, F: FaultSource + Drop, G: Gate + Drop, B: Journaled> Hold<'
         room: &mut Received,
     ) -> Option<Result<bool, Refusal>>
         requires own { slip.old.number ≡ self.old.number }
-        requires ready { IsReady calls.old }
+        requires ready { HasMemoryForCall calls.old }
         ensures carried { IfSome result
-            (λ r. IsReceived self.old slip.old socket room.new r self.new slip.new) }
+            (λ r. IsReceivedForSlip self.old slip.old socket room.new r self.new slip.new) }
         ensures calls { IfSome result
             (λ r. Keeps calls.old (event.Receive socket) (receive_reply room.new r) calls.new) }
         ensures stays { result ≢ Some (Ok true) → room.new ≡ room.old }
@@ -233,7 +235,7 @@ impl<'s, N: BusName, F: FaultSource + Drop, G: Gate + Drop, B: Journaled> Hold<'
         moment: Moment,
     ) -> Option<Reply>
         requires own { slip.old.number ≡ self.old.number }
-        requires ready { IsReady calls.old }
+        requires ready { HasMemoryForCall calls.old }
         ensures carried { IfSome result
             (λ r. IsStepped F.verdicts self.old slip.old moment r self.new slip.new) }
         ensures source { F.verdicts self.new.source ≡ F.verdicts self.old.source }
@@ -256,7 +258,7 @@ impl<'s, N: BusName, F: FaultSource + Drop, G: Gate + Drop, B: Journaled> Hold<'
         moment: Moment,
     ) -> Option<(Verdict, Reply)>
         requires own { slip.old.number ≡ self.old.number }
-        requires ready { IsReady calls.old }
+        requires ready { HasMemoryForCall calls.old }
         ensures verdict { IfSome result (λ r. r.0 ≡ next_verdict F.verdicts self.old) }
         ensures carried { IfSome result
             (λ r. IsStepped F.verdicts self.old slip.old moment r.1 self.new slip.new) }
@@ -279,12 +281,12 @@ impl<'s, N: BusName, F: FaultSource + Drop, G: Gate + Drop, B: Journaled> Hold<'
     /// Takes the rule that a text spells, as the station's `inject` does.
     pub fn inject(&mut self, text: &[u8], names: &Names) -> Result<(), RuleRefusal>
         ensures injected { Injected names.now text.now self.old.plan result self.new.plan }
-        ensures takes { Takes text.now self.old result self.new }
+        ensures takes { TakesRule text.now self.old result self.new }
     {
         self.state.inject(text, names)
     }
 
-    /// How many rules are left.
+    /// Returns how many rules are left.
     pub fn rules(&self) -> usize
         ensures rules { result ≡ length self.now.plan.rules }
         ensures few { result ≤ 64 }

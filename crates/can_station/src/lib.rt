@@ -5,15 +5,16 @@
 //! A [`Hold`] of the lock makes several calls. At the end `settle` takes the passes back and hands out the record: a
 //! legal history in which each pass's calls are in the order that it made them.
 //!
-//! A station is over any bus that is [`Journaled`](can_bus::Journaled), and if none is named over one with its whole
-//! record. Over the bus of a long run (`new_long`) another thread takes the entries in a [`Block`] at a time, and calls
-//! wait where it is late. It has the station's [`Scroll`], and `settle_scroll` says that all blocks together are the first
-//! entries of the history.
+//! A station is over any [`Journaled`](can_bus::Journaled) bus, by default over one with its whole
+//! record. On the bus of a long run (`new_long`) another thread takes the entries in a [`Block`] at
+//! a time, and calls wait if it is late. That thread has the station's [`Scroll`], and by
+//! `settle_scroll` all blocks together are the first entries of the history.
 //!
-//! What the lock keeps is a [`StationState`]. Its calls carry the proofs; a [`Station`] adds the lock and the
-//! waiting. Who waits sleeps, and is woken only by a call that can matter to it.
+//! The lock holds a [`StationState`], whose calls carry the proofs. A [`Station`] adds the lock and
+//! the waiting. A thread that waits sleeps, and only a call that can matter to it wakes it.
 //!
-//! Not promised of threads: how long a call waits for the lock, who comes first, that no two wait for each other.
+//! Nothing is promised of how long a call waits for the lock, of the order of the threads, or that
+//! no two wait for each other.
 #![tactic(auto)]
 
 mod attempts;

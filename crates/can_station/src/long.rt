@@ -20,20 +20,20 @@ use std::alloc::{AllocError, Global};
 use std::sync::Wait;
 use std::time::{Clock, Duration};
 
-/// Entries that a station handed out, in order, and what became of its rules of faults.
+/// Entries that a station handed out, in order, and the lines about its rules of faults.
 #[derive(Drop)]
 pub struct Block {
-    /// How many entries of the station came before these.
+    /// The number of the station's entries before these.
     pub start: u64,
     pub entries: PackedRecord,
-    /// The lines of the rules that were given since the block before, as `take_changes` returns them: all that count for these
-    /// entries. Where memory is refused they come with a later block.
+    /// The lines of the rules that were given since the previous block, as `take_changes` returns
+    /// them: all that count for these entries. If memory is refused, a later block has them.
     pub changes: Vec<u8>,
 }
 
 impl Block {
-    /// A block without entries, which has memory for this many: 32 bytes for each, and 76 for its FD frame. `AllocError`
-    /// where there is none.
+    /// A block without entries, which has memory for this many: 32 bytes for each, and 76 for its
+    /// FD frame. `AllocError` if there is none.
     pub fn new(alloc: Global, size: u32) -> Result<Block, AllocError>
         ensures { IfOk result (λ b. b.entries.entries ≡ []) }
     {
@@ -46,11 +46,12 @@ impl Block {
 }
 
 impl<N: BusName, F: FaultSource + Drop, G: Gate + Drop> Station<N, F, G, LongRingBus> {
-    /// A station over the bus of a long run, which keeps in memory only the entries that were not taken yet, and the scroll
-    /// of who takes them. It takes memory for this many: `TAIL_SIZE`, but for tests.
+    /// A station over the bus of a long run, and the scroll for the thread that takes its entries.
+    /// It keeps in memory only the entries that were not taken yet. It takes memory for this many:
+    /// `TAIL_SIZE`, except in tests.
     ///
-    /// `BadConfig` exactly where the configuration is outside the limits of a long run, or has another number of
-    /// interfaces than the blanks; else `NoMemory` where memory was refused.
+    /// `BadConfig` exactly if the configuration is outside the limits of a long run, or has another
+    /// number of interfaces than the blanks; else `NoMemory` if memory was refused.
     pub fn new_long(
         alloc: Global,
         blanks: Blanks,
@@ -77,14 +78,15 @@ impl<N: BusName, F: FaultSource + Drop, G: Gate + Drop> Station<N, F, G, LongRin
 }
 
 impl<N: BusName, F: FaultSource + Drop, G: Gate + Drop, B: Journaled> Station<N, F, G, B> {
-    /// Takes the entries that were not taken yet, in order, into a block, whose own are let go, and puts them at the end of
-    /// the scroll's; with the lines of what became of the rules. Calls that wait for a place go on. A bus with its whole record
-    /// gives no entries.
+    /// Takes the entries that were not taken yet into a block, in order, and appends them to the
+    /// scroll's. The block's own entries are let go, and it gets the lines about the rules. Calls
+    /// that wait for a place go on. A bus with its whole record gives no entries.
     ///
-    /// `WrongStation` exactly where the scroll is another station's; then nothing changes.
+    /// `WrongStation` exactly if the scroll is another station's; then nothing changes.
     ///
-    /// The lock is held while two pointers are swapped, and no memory is taken but for a line of `nofaults`: from then on the station's entries go
-    /// where the block had memory for its own. Where that is none, each call is refused with `NoMemory`.
+    /// The lock is held only while two pointers are swapped. No memory is taken, except for a line
+    /// of `nofaults`. From then on the station's entries go where the block had memory for its own.
+    /// If it had none, each call is refused with `NoMemory`.
     pub fn take_entries<R: Wait>(
         &self,
         rt: &R,
@@ -108,8 +110,9 @@ impl<N: BusName, F: FaultSource + Drop, G: Gate + Drop, B: Journaled> Station<N,
         Ok(())
     }
 
-    /// Waits until there are this many entries that were not taken yet, or too few places for a call, or so long.
-    /// `Stopped` after `end_entries`, else `Ready`. A bus with its whole record always has places.
+    /// Waits until this many entries were not taken yet, until there are too few places for a call,
+    /// or this long. `Stopped` after `end_entries`, else `Ready`. A bus with its whole record
+    /// always has places.
     pub fn wait_entries<R: Wait + Clock>(
         &self,
         rt: &R,
@@ -127,8 +130,8 @@ impl<N: BusName, F: FaultSource + Drop, G: Gate + Drop, B: Journaled> Station<N,
         }
     }
 
-    /// Ends the waits for entries, now and from now on, once no calls are made any more. A call that is made all the same
-    /// waits for no place: where there is none it is refused with `NoMemory`.
+    /// Ends the waits for entries, now and from now on, once no more calls are made. A call that is
+    /// made later waits for no place: if there is none, it is refused with `NoMemory`.
     pub fn end_entries<R: Wait>(&self, rt: &R) {
         self.state.lock(rt).end_entries();
         self.written.notify_all();

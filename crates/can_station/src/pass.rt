@@ -1,7 +1,7 @@
 ghost use Rattle.std.specs.Prelude.{◌≡◌, ◌<◌, [], length, reverse, ◌==◌, slice_get, IsTrue, IsOk, OnOk, ◌↔◌};
 ghost use Rattle.can_roll.specs.Seen.{roll_seen};
 ghost use Rattle.can_roll.specs.Lists.{Distinct, AllBelow};
-ghost use Rattle.can_station.specs.Passes.{AllOf, AllMatch, CanClose, IsReady, IsReadyFor, HasPlace, Keeps, Suits, calls_listed, kept_calls, numbers_of};
+ghost use Rattle.can_station.specs.Passes.{AllOf, AllMatch, CanClose, HasMemoryForCall, IsReadyFor, HasPlaceForCall, Keeps, Suits, calls_listed, kept_calls, numbers_of};
 
 use can_bus::{EntryRef, Event, Record, Reply};
 use can_record::PackedList;
@@ -18,13 +18,13 @@ pub struct Pass<N: RollName> {
 }
 
 impl<N: RollName> Model for Pass<N> {
-    ghost use Rattle.can_station.specs.Passes.{AreKept, PassSeen, calls_listed, pass_seen};
+    ghost use Rattle.can_station.specs.Passes.{AreListedCalls, PassSeen, calls_listed, pass_seen};
 
     ghost Value = { PassSeen };
 
     ghost view = { λ p. pass_seen p.slip (calls_listed p.calls) };
 
-    ghost invariant = { λ p. AreKept (calls_listed p.calls) p.slip.calls };
+    ghost invariant = { λ p. AreListedCalls (calls_listed p.calls) p.slip.calls };
 }
 
 impl<N: RollName> Pass<N> {
@@ -35,7 +35,7 @@ impl<N: RollName> Pass<N> {
         self.slip.number()
     }
 
-    /// How many calls it keeps: all that were made with it, none where it is light.
+    /// Returns how many calls it keeps: all that were made with it, none if it is light.
     pub fn len(&self) -> usize
         ensures { result ≡ length (kept_calls self.now) }
     {
@@ -45,7 +45,7 @@ impl<N: RollName> Pass<N> {
         }
     }
 
-    /// Whether it keeps no call.
+    /// Returns whether it keeps no call.
     pub fn is_empty(&self) -> bool
         ensures { result ≡ (length (kept_calls self.now) == 0) }
     {
@@ -73,18 +73,19 @@ impl<N: RollName> Pass<N> {
     }
 }
 
-/// What a station leaves: what its bus left, a record where it had one, and how many passes there were.
+/// The rest of a station at its end: what its bus left, a record if it had one, and the number of
+/// passes.
 #[derive(Drop)]
 pub struct Settled<L: Drop = Record> {
     pub history: L,
     pub passes: u32,
 }
 
-/// Takes the memory for a call that is no close. A place is left for a close, so the close of a socket that the pass
-/// opened is never refused for memory. A light pass takes none.
+/// Takes the memory for a call that does not close. A place is left for a close, so closing a
+/// socket that the pass opened is never refused for memory. A light pass takes none.
 pub(crate) fn make_ready(calls: &mut Option<PackedList>, alloc: Global) -> Result<(), AllocError>
     ensures same { calls_listed calls.new ≡ calls_listed calls.old }
-    ensures ready { OnOk result (IsReady calls.new) }
+    ensures ready { OnOk result (HasMemoryForCall calls.new) }
 {
     let Some(list) = calls else {
         return Ok(());
@@ -93,11 +94,11 @@ pub(crate) fn make_ready(calls: &mut Option<PackedList>, alloc: Global) -> Resul
     list.reserve_spare(alloc)
 }
 
-/// Takes the memory for a close: what is left for it.
+/// Takes the memory that was left for a close.
 fn make_ready_for_close(calls: &mut Option<PackedList>) -> Result<(), AllocError>
     ensures same { calls_listed calls.new ≡ calls_listed calls.old }
-    ensures ready { OnOk result (HasPlace calls.new) }
-    ensures close { HasPlace calls.old → IsOk result }
+    ensures ready { OnOk result (HasPlaceForCall calls.new) }
+    ensures close { HasPlaceForCall calls.old → IsOk result }
 {
     match calls {
         Some(list) => list.reserve(1),
@@ -135,7 +136,7 @@ pub(crate) fn keep(calls: &mut Option<PackedList>, event: Event, reply: &Reply)
     }
 }
 
-/// Whether all are passes of the station with this number.
+/// Returns whether all are passes of the station with this number.
 pub(crate) fn are_all_of<N: RollName>(passes: &[Pass<N>], number: u8) -> bool
     ensures { IsTrue result ↔ AllOf number passes.now }
 {

@@ -17,8 +17,8 @@ pub(crate) fn counters_before<B: Journaled>(bus: &B, event: &Event) -> Option<[C
     }
 }
 
-/// Publishes the counters that a call changed, where it left an entry: all with the record's length, that entry
-/// included.
+/// Publishes the counters that a call changed, if it left an entry. All get the record's length
+/// with that entry.
 pub(crate) fn publish_changes<N: MeterName>(
     keeper: &mut Keeper<N>,
     reply: &Reply,
@@ -57,7 +57,7 @@ fn publish_all<N: MeterName>(
     }
 }
 
-/// Publishes an interface's counters, where they changed.
+/// Publishes an interface's counters if they changed.
 fn publish_change<N: MeterName>(
     keeper: &mut Keeper<N>,
     place: usize,

@@ -2,12 +2,12 @@ ghost use Rattle.std.specs.Prelude.{◌≡◌};
 ghost use Rattle.can_event.specs.Replies.{enters, receive_reply};
 ghost use Rattle.can_event.specs.declared.event.Event.TheVariants as event;
 ghost use Rattle.can_event.specs.declared.received.Received.{Received};
-ghost use Rattle.can_station.specs.Passes.{IsReady, Keeps};
+ghost use Rattle.can_station.specs.Passes.{HasMemoryForCall, Keeps};
 
 use can_bus::{Received, Refusal, SocketId};
 use can_record::PackedList;
 
-/// Whether a receive that came to this leaves an entry.
+/// Returns whether a receive that came to this leaves an entry.
 fn leaves_entry(outcome: Result<bool, Refusal>) -> bool
     ensures { (room : Received) → result ≡ enters (receive_reply room outcome) }
 {
@@ -24,7 +24,7 @@ pub(crate) fn keep_receive(
     outcome: Result<bool, Refusal>,
     room: &Received,
 )
-    requires { IsReady calls.old }
+    requires { HasMemoryForCall calls.old }
     ensures { Keeps calls.old (event.Receive socket) (receive_reply room.now outcome) calls.new }
 {
     let Some(list) = calls else {

@@ -1,7 +1,7 @@
 use can_bus::Refusal;
 use thiserror::Error;
 
-/// Why a call of a station is refused.
+/// Why a station refuses a call.
 #[derive(Debug, Clone, Copy, PartialEq, Eq, Error)]
 pub enum StationRefusal {
     /// The bus refuses, or memory was refused.
@@ -12,7 +12,7 @@ pub enum StationRefusal {
     WrongStation,
 }
 
-/// As many passes were entered as a station has: 4,096.
+/// All 4,096 passes of the station have entered.
 #[derive(Debug, Clone, Copy, PartialEq, Eq, Error)]
 #[error("too many passes")]
 pub struct TooManyPasses;

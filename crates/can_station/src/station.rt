@@ -2,7 +2,7 @@ ghost use Rattle.std.specs.Prelude.{◌≡◌, ◌≢◌, ◌<◌, ◌≤◌, []
 ghost use Rattle.std.specs.Sync.Mutex.{mutex_guard_value};
 ghost use Rattle.can_event.specs.Events.{IsConfig, IsLongConfig};
 ghost use Rattle.can_roll.specs.Seen.{scroll_seen};
-ghost use Rattle.can_rules.specs.RuleLines.{lines_of};
+ghost use Rattle.can_rules.specs.RuleLines.{text_of_lines};
 ghost use Rattle.can_station.specs.Held.{station_seen};
 ghost use Rattle.can_station.specs.Passes.{HadNoPassLeft, InSome, InjectsIn, IsNewLightPass, IsNewPass, IsStateOf, SettlesIn, Suits, Answered, Called, Stepped, same};
 ghost use Rattle.can_station.specs.Published.{AreTrue, TakesBack, TakesBackScroll};
@@ -27,7 +27,7 @@ use std::marker::Model;
 use std::sync::atomic::AtomicU8;
 use std::sync::{Condvar, Mutex, MutexGuard, Wait};
 
-/// What a station is made of before it has a name: the blanks of its roll and of its meter.
+/// The parts of a station before it has a name: the blanks of its roll and of its meter.
 #[derive(Drop)]
 pub struct Blanks {
     pub roll: RollBlank,
@@ -35,7 +35,7 @@ pub struct Blanks {
 }
 
 impl Blanks {
-    /// Blanks for a bus of 1 to 16 interfaces. `AllocError` where there is no memory.
+    /// Blanks for a bus of 1 to 16 interfaces. `AllocError` if there is no memory.
     pub fn new(alloc: Global, ifaces: usize) -> Result<Blanks, AllocError>
         requires { (0 < ifaces) × (ifaces ≤ 16) }
         ensures { IfOk result (λ b. b.meter.words ≡ ifaces) }
@@ -49,20 +49,20 @@ impl Blanks {
 
 /// A bus that threads share. Contracts see it as its number with its configuration.
 ///
-/// Each of the eight calls of a pass, and `step`, is one event of the bus in one hold of the lock. What the lock
-/// keeps is a [`StationState`].
+/// Each of the eight calls of a pass, and `step`, is one event of the bus in one hold of the lock.
+/// The lock holds a [`StationState`].
 #[derive(Drop)]
 pub struct Station<N: BusName, F: FaultSource + Drop, G: Gate + Drop, B: Journaled = RingBus> {
     pub(crate) state: Mutex<StationState<N, F, B>>,
-    /// Where drivers wait for frames to send and interfaces to restart.
+    /// Drivers wait here for frames to send and interfaces to restart.
     pub(crate) work: Condvar,
-    /// Where receivers wait for items.
+    /// Receivers wait here for items.
     pub(crate) items: WaitQueues,
-    /// Where rests wait for the end.
+    /// Sleeping threads wait here for the end.
     pub(crate) ends: Condvar,
-    /// Where calls wait for a place in the bus's tail.
+    /// Calls wait here for a place in the bus's tail.
     pub(crate) room: Condvar,
-    /// Where those wait who take entries.
+    /// The threads that take entries wait here.
     pub(crate) written: Condvar,
     pub(crate) gate: G,
     pub(crate) number: u8,
@@ -81,11 +81,11 @@ impl<N: BusName, F: FaultSource + Drop, G: Gate + Drop, B: Journaled> Model
 }
 
 impl<N: BusName, F: FaultSource + Drop, G: Gate + Drop> Station<N, F, G> {
-    /// A station with an empty record, named by `N` under this number, and with no plan of faults: the source's verdicts are
-    /// those of its attempts. It takes memory for all of `limit` entries.
+    /// A station with an empty record, named by `N` under this number, and with no plan of faults:
+    /// the source gives the verdicts of its attempts. It takes memory for all `limit` entries.
     ///
-    /// `BadConfig` exactly where the configuration is outside the limits of a bus, or has another number of
-    /// interfaces than the blanks; else `NoMemory` where memory was refused.
+    /// `BadConfig` exactly if the configuration is outside the limits of a bus, or has another
+    /// number of interfaces than the blanks; else `NoMemory` if memory was refused.
     pub fn new(
         alloc: Global,
         blanks: Blanks,
@@ -111,8 +111,8 @@ impl<N: BusName, F: FaultSource + Drop, G: Gate + Drop> Station<N, F, G> {
 }
 
 impl<N: BusName, F: FaultSource + Drop, G: Gate + Drop, B: Journaled> Station<N, F, G, B> {
-    /// A station over a bus with this configuration, on which nothing was done, with this plan of faults, and the scroll of
-    /// who takes its entries. `NoMemory` where memory was refused.
+    /// A station over a fresh bus with this configuration and this plan of faults, and the scroll
+    /// for the thread that takes its entries. `NoMemory` if memory was refused.
     pub fn over(
         alloc: Global,
         blanks: Blanks,
@@ -169,8 +169,8 @@ impl<N: BusName, F: FaultSource + Drop, G: Gate + Drop, B: Journaled> Station<N,
         self.config
     }
 
-    /// The state under the lock. It has the station's number and configuration since `new`. No type says so: for others
-    /// this would wait for ever.
+    /// The state under the lock. Since `new` it has the station's number and configuration. No type
+    /// guarantees that: on any other state this would wait for ever.
     pub(crate) fn hold<R: Wait>(&self, rt: &R) -> MutexGuard<'_, StationState<N, F, B>>
         ensures { IsStateOf self.now (mutex_guard_value result) }
     {
@@ -195,8 +195,8 @@ impl<N: BusName, F: FaultSource + Drop, G: Gate + Drop, B: Journaled> Station<N,
 
     /// Takes the lock for several calls. Until the hold is dropped, all other calls of the station wait.
     ///
-    /// Over the bus of a long run it waits first for places in the tail: 512, or half of a tail that is smaller. A call of
-    /// the hold that finds none all the same is refused with `NoMemory`.
+    /// On the bus of a long run it waits first for places in the tail: 512, or half of a smaller
+    /// tail. A call of the hold that still finds none is refused with `NoMemory`.
     pub fn lock<R: Wait>(&self, rt: &R) -> Hold<'_, N, F, G, B>
         ensures { IsStateOf self.now result }
     {
@@ -222,7 +222,7 @@ impl<N: BusName, F: FaultSource + Drop, G: Gate + Drop, B: Journaled> Station<N,
         })
     }
 
-    /// The next pass, as `enter` gives it, but for its list: it keeps none, so that its calls take no memory.
+    /// The next pass, like `enter`, but one that keeps no list: its calls take no memory.
     pub fn enter_light<R: Wait>(&self, rt: &R) -> Result<Pass<N>, TooManyPasses>
         ensures ok { IfOk result (λ pass. IsNewLightPass F self.now pass) }
         ensures err { OnErr result (HadNoPassLeft F self.now) }
@@ -231,17 +231,17 @@ impl<N: BusName, F: FaultSource + Drop, G: Gate + Drop, B: Journaled> Station<N,
         Ok(Pass { slip, calls: None })
     }
 
-    /// Another gauge of the station's meter, which reads the error counters without the lock. `AllocError` where
-    /// there is no memory.
+    /// Another gauge of the station's meter, which reads the error counters without the lock.
+    /// `AllocError` if there is no memory.
     pub fn gauge<R: Wait>(&self, rt: &R) -> Result<Gauge<N>, AllocError>
         ensures { IfOk result (λ g. g.number ≡ self.now.number) }
     {
         self.hold(rt).gauge()
     }
 
-    /// Makes an event with a pass, in one hold of the lock, and returns the bus's reply, which is of the event's kind or a
-    /// refusal. `Err` where the event did not come to the bus: `NoMemory` where the pass's list of calls can't grow, then
-    /// `WrongStation`.
+    /// Makes an event with a pass, in one hold of the lock, and returns the bus's reply. The reply
+    /// is of the event's kind, or a refusal. `Err` if the event did not reach the bus: `NoMemory`
+    /// if the pass's list of calls can't grow, then `WrongStation`.
     pub fn call<R: Wait>(
         &self,
         rt: &R,
@@ -269,10 +269,12 @@ impl<N: BusName, F: FaultSource + Drop, G: Gate + Drop, B: Journaled> Station<N,
         Ok(reply)
     }
 
-    /// Tries the frame that wins the bus, with the verdict that the source has for the next attempt where that is a fault, else
-    /// with the plan's: `Idle` where no live interface has a frame to send. Interfaces whose count has run out are restarted.
+    /// Tries the frame that wins the bus: `Idle` if no live interface has a frame to send. Its
+    /// verdict is the source's for this attempt if that is a fault, else the plan's. Interfaces
+    /// whose count has run out are restarted.
     ///
-    /// Refusals, in this order: `NoMemory` where the pass's list of calls can't grow, `WrongStation`, `RecordFull`.
+    /// Refusals, in this order: `NoMemory` if the pass's list of calls can't grow, `WrongStation`,
+    /// `RecordFull`.
     pub fn step<R: Wait>(
         &self,
         rt: &R,
@@ -296,19 +298,19 @@ impl<N: BusName, F: FaultSource + Drop, G: Gate + Drop, B: Journaled> Station<N,
         reply.into_attempted().map_err(StationRefusal::Bus)
     }
 
-    /// Takes the rule that a text spells, whose interfaces have these names: it counts from the next attempt on, after the
-    /// rules that are left. It is no event, and wakes nobody.
+    /// Takes the rule with this text, whose interfaces have these names. It counts from the next
+    /// attempt on, after the rules that are left. It is no event, and wakes no thread.
     ///
-    /// Errors, in this order: `BadRule` where a word is wrong, `UnknownInterface` where only a name is of none of these
-    /// interfaces, `TooManyRules` where 64 rules are left, `NoMemory`, also where 64 MiB of lines wait for `take_changes`; after
-    /// one all is as before.
+    /// Errors, in this order: `BadRule` if a word is wrong, `UnknownInterface` if only a name is
+    /// unknown, `TooManyRules` if 64 rules are left, `NoMemory`. `NoMemory` also comes if 64 MiB of
+    /// lines wait for `take_changes`. After an error all is as before.
     pub fn inject<R: Wait>(&self, rt: &R, text: &[u8], names: &Names) -> Result<(), RuleRefusal>
         ensures { InjectsIn F self.now names.now text.now result }
     {
         self.hold(rt).inject(text, names)
     }
 
-    /// How many rules are left, at most 64.
+    /// Returns how many rules are left, at most 64.
     pub fn rules<R: Wait>(&self, rt: &R) -> usize
         ensures rules { InSome F self.now (λ held. result ≡ length held.plan.rules) }
         ensures few { result ≤ 64 }
@@ -321,27 +323,30 @@ impl<N: BusName, F: FaultSource + Drop, G: Gate + Drop, B: Journaled> Station<N,
         self.hold(rt).end_rules();
     }
 
-    /// Keeps no lines of what becomes of the rules of the bus from now on, where nobody is to take them: else they would wait for
-    /// ever. Lines that wait are let go.
+    /// Keeps no lines about the rules from now on, because nothing will take them; else they would
+    /// pile up. Lines that wait are let go.
     pub fn keep_no_changes<R: Wait>(&self, rt: &R) {
         self.hold(rt).keep_no_changes();
     }
 
-    /// Takes out the lines of what became of the rules of the bus since the start or the last such call, as
-    /// [`RunFaults`](can_rules::RunFaults) reads them: each rule that was taken, and each end of all rules, with the number of the
-    /// next attempt that tries a frame. `AllocError` where memory is refused: then they stay.
+    /// Takes out the lines about the rules of the bus since the start or the last such call, as
+    /// [`RunFaults`](can_rules::RunFaults) reads them. There is a line for each rule that was taken
+    /// and for each end of all rules, with the number of the next attempt that tries a frame.
+    /// `AllocError` if memory is refused: then they stay.
     pub fn take_changes<R: Wait>(&self, rt: &R) -> Result<Vec<u8>, AllocError>
         ensures { IfOk result (λ lines.
-            InSome F self.now (λ held. lines.items ≡ lines_of held.changes)) }
+            InSome F self.now (λ held. lines.items ≡ text_of_lines held.changes)) }
     {
         self.hold(rt).take_changes()
     }
 
-    /// Takes passes and gauges back, and hands out the record, or what else the bus leaves: a legal history of the
-    /// station's configuration, whose entries can be marked with passes so that the calls of each of these passes are its
-    /// entries, in order. What the gauges have seen are publications of that history.
+    /// Takes passes and gauges back, and hands out the record, or what else the bus leaves. It is a
+    /// legal history of the station's configuration, whose entries can be marked with passes so
+    /// that the calls of each of these passes are its entries, in order. The gauges have seen
+    /// publications of that history.
     ///
-    /// `WrongStation` exactly where some pass or gauge is another station's; then nothing is handed back.
+    /// `WrongStation` exactly if some pass or gauge is another station's; then nothing is handed
+    /// back.
     pub fn settle<R: Wait>(
         self,
         rt: &R,
@@ -356,10 +361,10 @@ impl<N: BusName, F: FaultSource + Drop, G: Gate + Drop, B: Journaled> Station<N,
         self.into_state(rt).settle(passes, gauges)
     }
 
-    /// Takes the scroll back as well: what was handed out to it is what the bus handed out, of the one history that settles all
-    /// passes; so these are the first entries of what a long run's bus leaves.
+    /// Takes the scroll back as well. The scroll got what the bus handed out of the one history
+    /// that settles all passes, so its entries are the first ones of a long run.
     ///
-    /// `WrongStation` also exactly where the scroll is another station's.
+    /// `WrongStation` also exactly if the scroll is another station's.
     pub fn settle_scroll<R: Wait>(
         self,
         rt: &R,
@@ -377,7 +382,7 @@ impl<N: BusName, F: FaultSource + Drop, G: Gate + Drop, B: Journaled> Station<N,
         self.into_state(rt).settle_scroll(scroll, passes, gauges)
     }
 
-    /// What the lock kept, which is the station's state, as `own` has it.
+    /// Returns the state that the lock kept, which is the station's state, as `own` has it.
     fn into_state<R: Wait>(self, rt: &R) -> StationState<N, F, B>
         ensures { IsStateOf self result }
     {

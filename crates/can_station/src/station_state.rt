@@ -5,15 +5,15 @@ ghost use Rattle.can_bus.specs.Heads.{next_head};
 ghost use Rattle.can_bus.specs.Legal.{IsLegal};
 ghost use Rattle.can_event.specs.declared.event.Event.TheVariants as event;
 ghost use Rattle.can_meter.specs.Readings.{readings};
-ghost use Rattle.can_rules.specs.RuleLines.{lines_of, never_lines, with_none_left};
-ghost use Rattle.can_station.specs.Held.{HasEntered, HasNoPlace, NoPassLeft, Takes, after_end, new_held, roll_after, slip_after, station_seen, with_rules};
+ghost use Rattle.can_rules.specs.RuleLines.{text_of_lines, never_lines, with_none_left};
+ghost use Rattle.can_station.specs.Held.{HasEntered, HasNoPlace, NoPassLeft, TakesRule, after_end, new_held, roll_after, slip_after, station_seen, with_plan_lines};
 ghost use Rattle.can_rules.specs.Plans.{Injected, given, plan_after};
 ghost use Rattle.can_station.specs.Marks.{IsBooked, IsMarked};
-ghost use Rattle.can_station.specs.Passes.{IsCarriedOut, IsReceived, IsStateOf, IsStepped, SettlesIn, Suits, head_on, next_verdict};
+ghost use Rattle.can_station.specs.Passes.{IsCarriedOutForSlip, IsReceivedForSlip, IsStateOf, IsStepped, SettlesIn, Suits, next_try, next_verdict};
 ghost use Rattle.can_bus.specs.Run.{IsAnswered};
 ghost use Rattle.can_roll.specs.Seen.{scroll_seen};
 ghost use Rattle.can_station.specs.Published.{AreTrue, IsPublished, TakesBack, TakesBackScroll};
-ghost use Rattle.can_station.specs.Waits.{AreCounts, IsNearlyFull, frame_wake, has_work, work_wake, stopped_wake, waiting_at};
+ghost use Rattle.can_station.specs.Waits.{AreCounts, IsNearlyFull, frame_wake, has_work, work_wake, stopped_wake, items_waiting_at};
 
 use crate::bus_name::BusName;
 use crate::gauges::{are_gauges_of, take_back_gauges};
@@ -39,12 +39,13 @@ use std::marker::Model;
 /// The most passes of a station.
 const MAX_PASSES: u32 = 4096;
 
-/// What a station keeps under its lock: the bus with the source of its verdicts, the plan of its faults and what became of its
-/// rules, the roll, and the keeper of its meter.
+/// The state under a station's lock: the bus with the source of its verdicts, the plan of its
+/// faults with the lines about its rules, the roll, and the keeper of its meter.
 ///
-/// Whenever the lock is free the record is a legal history, its entries can be marked with passes so that the roll's
-/// list of each pass is the entries marked with it, the keeper has published each change of an interface's error
-/// counters, and what was handed out to the scroll is what the bus has handed out.
+/// Whenever the lock is free, four things hold. The record is a legal history. Its entries can be
+/// marked with passes so that the roll's list of each pass is the entries marked with it. The
+/// keeper has published each change of an interface's error counters. The scroll got what the bus
+/// has handed out.
 #[derive(Drop)]
 pub struct StationState<N: BusName, F: FaultSource + Drop, B: Journaled = RingBus> {
     pub(crate) bus: B,
@@ -149,14 +150,15 @@ impl<N: BusName, F: FaultSource + Drop, B: Journaled> StationState<N, F, B> {
         self.roll.number()
     }
 
-    /// Whether it is a state of the station with this number and this configuration.
+    /// Returns whether it is a state of the station with this number and this configuration.
     pub(crate) fn is_of(&self, number: u8, config: &BusConfig) -> bool
         ensures { result ≡ true → IsStateOf (station_seen number config.now) self.now }
     {
         self.roll.number() == number && self.config == *config
     }
 
-    /// How many entries there are: those of a legal history, which can be marked with the passes that made them.
+    /// Returns how many entries there are: those of a legal history, which can be marked with the
+    /// passes that made them.
     pub fn count(&self) -> u64
         ensures count { result ≡ length self.now.journal.history }
         ensures legal { IsLegal self.now.journal.config self.now.journal.history }
@@ -172,7 +174,8 @@ impl<N: BusName, F: FaultSource + Drop, B: Journaled> StationState<N, F, B> {
         &self.keeper
     }
 
-    /// The next pass, numbered from 0, which has made no call. `TooManyPasses` exactly where there are 4,096.
+    /// The next pass, numbered from 0, which has made no call. `TooManyPasses` exactly if there are
+    /// 4,096.
     pub fn enter(&mut self) -> Result<Slip<N>, TooManyPasses>
         ensures ok { IfOk result (λ slip. HasEntered self.old slip self.new) }
         ensures err { OnErr result (NoPassLeft self.old × (self.new ≡ self.old)) }
@@ -183,7 +186,7 @@ impl<N: BusName, F: FaultSource + Drop, B: Journaled> StationState<N, F, B> {
         Ok(self.roll.enter())
     }
 
-    /// Another gauge of the station's meter, or `AllocError` where there is no memory for it.
+    /// Another gauge of the station's meter, or `AllocError` if there is no memory for it.
     pub fn gauge(&mut self) -> Result<Gauge<N>, AllocError>
         ensures same { self.new ≡ self.old }
         ensures gauge { IfOk result (λ g. g.number ≡ self.old.number) }
@@ -191,13 +194,13 @@ impl<N: BusName, F: FaultSource + Drop, B: Journaled> StationState<N, F, B> {
         self.spare.another()
     }
 
-    /// Carries out an event for the pass of this slip: its reply comes from the record, it is noted there and in
-    /// the pass's list, and what it changed of the error counters is published. `None` where the bus has no place for an
-    /// entry until some are taken: then nothing changes.
+    /// Carries out an event for the pass of this slip. The bus gives its reply; both are noted in
+    /// the record and in the pass's list, and changes of the error counters are published. `None`
+    /// if the bus has no place for an entry until some are taken: then nothing changes.
     pub fn call(&mut self, alloc: Global, slip: &mut Slip<N>, event: &Event) -> Option<Reply>
         requires { slip.old.number ≡ self.old.number }
         ensures carried { IfSome result (λ r.
-            IsCarriedOut self.old slip.old event.now r self.new slip.new) }
+            IsCarriedOutForSlip self.old slip.old event.now r self.new slip.new) }
         ensures suits { IfSome result (λ r. Suits event.now r) }
         ensures place { IfNone result (HasNoPlace B.journal B.places_in self.old.journal) }
         ensures none { IfNone result ((self.new ≡ self.old) × (slip.new ≡ slip.old)) }
@@ -215,8 +218,9 @@ impl<N: BusName, F: FaultSource + Drop, B: Journaled> StationState<N, F, B> {
         ))
     }
 
-    /// Carries out a receive into the caller's room for the pass of this slip, as `call` does: whether there was an item.
-    /// The room stays where there was none. No error counter changes. `None` as in `call`.
+    /// Carries out a receive into the caller's room for the pass of this slip, as `call` does:
+    /// whether there was an item. The room stays if there was none. No error counter changes.
+    /// `None` as in `call`.
     pub fn receive_into(
         &mut self,
         slip: &mut Slip<N>,
@@ -225,7 +229,7 @@ impl<N: BusName, F: FaultSource + Drop, B: Journaled> StationState<N, F, B> {
     ) -> Option<Result<bool, Refusal>>
         requires { slip.old.number ≡ self.old.number }
         ensures carried { IfSome result (λ r.
-            IsReceived self.old slip.old socket room.new r self.new slip.new) }
+            IsReceivedForSlip self.old slip.old socket room.new r self.new slip.new) }
         ensures stays { result ≢ Some (Ok true) → room.new ≡ room.old }
         ensures place { IfNone result (HasNoPlace B.journal B.places_in self.old.journal) }
         ensures none { IfNone result ((self.new ≡ self.old) × (slip.new ≡ slip.old)) }
@@ -240,8 +244,9 @@ impl<N: BusName, F: FaultSource + Drop, B: Journaled> StationState<N, F, B> {
         Some(outcome)
     }
 
-    /// Carries out an attempt at a moment, and returns its verdict and the reply. The verdict is the source's for its number
-    /// where that is a fault, else the plan's, whose rules count it. `None` as in `call`: nobody was asked.
+    /// Carries out an attempt at a moment, and returns its verdict and the reply. The verdict is
+    /// the source's for its number if that is a fault, else the plan's, whose rules count it.
+    /// `None` as in `call`: then neither was asked.
     pub fn step(
         &mut self,
         alloc: Global,
@@ -275,19 +280,20 @@ impl<N: BusName, F: FaultSource + Drop, B: Journaled> StationState<N, F, B> {
         Some((verdict, reply))
     }
 
-    /// Takes the rule that a text spells, whose interfaces have these names: it counts from the next attempt on, after the
-    /// rules that are left. Errors, in this order: `BadRule`, `UnknownInterface`, `TooManyRules` where 64 are left, `NoMemory`,
-    /// also where 64 MiB of lines wait to be taken; after one all is as before.
+    /// Takes the rule with this text, whose interfaces have these names. It counts from the next
+    /// attempt on, after the rules that are left. Errors, in this order: `BadRule`,
+    /// `UnknownInterface`, `TooManyRules` if 64 are left, `NoMemory`. `NoMemory` also comes if 64
+    /// MiB of lines wait to be taken. After an error all is as before.
     pub fn inject(&mut self, text: &[u8], names: &Names) -> Result<(), RuleRefusal>
         ensures injected { Injected names.now text.now self.old.plan result self.new.plan }
-        ensures takes { Takes text.now self.old result self.new }
+        ensures takes { TakesRule text.now self.old result self.new }
     {
         let rule = spelled_rule(text, names)?;
         let attempt = self.bus.next_attempt();
         self.changes.give(&mut self.plan, rule, attempt, text)
     }
 
-    /// How many rules are left.
+    /// Returns how many rules are left.
     pub fn rules(&self) -> usize
         ensures rules { result ≡ length self.now.plan.rules }
         ensures few { result ≤ 64 }
@@ -306,19 +312,20 @@ impl<N: BusName, F: FaultSource + Drop, B: Journaled> StationState<N, F, B> {
         self.changes.end(self.bus.next_attempt());
     }
 
-    /// Keeps no lines of what becomes of the rules from now on, since nobody takes them, and lets go of those that wait.
+    /// Keeps no lines about the rules from now on, since nothing takes them, and lets go of those
+    /// that wait.
     pub fn keep_no_changes(&mut self)
-        ensures { self.new ≡ with_rules self.old.plan never_lines self.old }
+        ensures { self.new ≡ with_plan_lines self.old.plan never_lines self.old }
     {
         self.changes.keep_none();
     }
 
-    /// Takes out the lines of what became of the rules since the start or the last such call. `AllocError` where memory is
-    /// refused: then they stay.
+    /// Takes out the lines about the rules since the start or the last such call. `AllocError` if
+    /// memory is refused: then they stay.
     pub fn take_changes(&mut self) -> Result<Vec<u8>, AllocError>
-        ensures taken { IfOk result (λ lines. lines.items ≡ lines_of self.old.changes) }
+        ensures taken { IfOk result (λ lines. lines.items ≡ text_of_lines self.old.changes) }
         ensures after { OnOk result (self.new
-            ≡ with_rules self.old.plan (with_none_left self.old.changes) self.old) }
+            ≡ with_plan_lines self.old.plan (with_none_left self.old.changes) self.old) }
         ensures stays { OnErr result (self.new ≡ self.old) }
     {
         self.changes.take()
@@ -335,9 +342,9 @@ impl<N: BusName, F: FaultSource + Drop, B: Journaled> StationState<N, F, B> {
         (self.bus.socket_stats(socket), self.bus.iface_stats(iface))
     }
 
-    /// How many items are queued to this socket: 0 where it is not open.
+    /// Returns how many items are queued to this socket: 0 if it is not open.
     pub(crate) fn waiting(&self, socket: SocketId) -> u64
-        ensures { result ≡ waiting_at self.now.journal socket.0 }
+        ensures { result ≡ items_waiting_at self.now.journal socket.0 }
     {
         match self.bus.socket_stats(socket) {
             None => 0,
@@ -345,7 +352,8 @@ impl<N: BusName, F: FaultSource + Drop, B: Journaled> StationState<N, F, B> {
         }
     }
 
-    /// Why a wait for an item of this socket ends; where it does not, the thread is noted as one who waits.
+    /// Returns why a wait for an item of this socket ends. If it does not end, the thread is noted
+    /// as waiting.
     pub(crate) fn frame_wake_or_sleep(&mut self, socket: SocketId) -> Option<WakeReason>
         ensures wake { result ≡ frame_wake self.old socket.0 }
         ensures same { self.new ≡ self.old }
@@ -357,7 +365,8 @@ impl<N: BusName, F: FaultSource + Drop, B: Journaled> StationState<N, F, B> {
         wake
     }
 
-    /// The queues in which a wait for an item may be over. Nobody counts as waiting there any more.
+    /// The queues in which a wait for an item may be over. From now on no thread counts as waiting
+    /// there.
     pub(crate) fn take_woken(&mut self) -> QueueSet
         ensures { self.new ≡ self.old }
     {
@@ -381,7 +390,7 @@ impl<N: BusName, F: FaultSource + Drop, B: Journaled> StationState<N, F, B> {
         woken
     }
 
-    /// Why a wait for an item of this socket ends, if it does.
+    /// Returns why a wait for an item of this socket ends, if it does.
     pub(crate) fn frame_wake(&self, socket: SocketId) -> Option<WakeReason>
         ensures { result ≡ frame_wake self.now socket.0 }
     {
@@ -399,21 +408,22 @@ impl<N: BusName, F: FaultSource + Drop, B: Journaled> StationState<N, F, B> {
         self.bus.next_head()
     }
 
-    /// Whether a live interface has a frame to send, or an interface counts towards its restart.
+    /// Returns whether a live interface has a frame to send, or an interface counts towards its
+    /// restart.
     pub(crate) fn has_work(&self) -> bool
         ensures { result ≡ has_work self.now.journal }
     {
         self.bus.next_winner().is_some() || self.bus.is_counting()
     }
 
-    /// Whether nine tenths of the entries that the bus may have are there, or more.
+    /// Returns whether nine tenths of the entries that the bus may have are there, or more.
     pub(crate) fn is_nearly_full(&self) -> bool
         ensures { IsTrue result ↔ IsNearlyFull self.now.journal }
     {
         self.bus.len() >= u64::from(self.config.limit - self.config.limit / 10)
     }
 
-    /// Why a wait for work ends, if it does.
+    /// Returns why a wait for work ends, if it does.
     pub(crate) fn work_wake(&self) -> Option<WakeReason>
         ensures { result ≡ work_wake self.now }
     {
@@ -424,7 +434,7 @@ impl<N: BusName, F: FaultSource + Drop, B: Journaled> StationState<N, F, B> {
         }
     }
 
-    /// What a stop signals to those who wait.
+    /// Returns the signals of a stop to all that wait.
     fn stopped_wake(&self) -> Option<WakeReason>
         ensures { result ≡ stopped_wake self.now.stopped }
     {
@@ -435,7 +445,7 @@ impl<N: BusName, F: FaultSource + Drop, B: Journaled> StationState<N, F, B> {
         }
     }
 
-    /// Whether waits end.
+    /// Returns whether waits end.
     pub(crate) fn is_stopped(&self) -> bool
         ensures { result ≡ self.now.stopped }
     {
@@ -449,8 +459,8 @@ impl<N: BusName, F: FaultSource + Drop, B: Journaled> StationState<N, F, B> {
         self.stopped = true;
     }
 
-    /// What the bus leaves, with all these passes and gauges taken in. `WrongStation` exactly where some of them is
-    /// another station's.
+    /// Returns the rest of the bus, with all these passes and gauges taken in. `WrongStation`
+    /// exactly if some of them is another station's.
     pub fn settle(
         self,
         passes: Vec<Pass<N>>,
@@ -471,8 +481,9 @@ impl<N: BusName, F: FaultSource + Drop, B: Journaled> StationState<N, F, B> {
         settle_bus(bus, roll, keeper, passes, gauges)
     }
 
-    /// What the bus leaves, as by `settle`, with the scroll taken in as well: it has what the bus handed out, which are the
-    /// first entries of its history. `WrongStation` also exactly where the scroll is another station's.
+    /// Returns the rest of the bus, as `settle` does, with the scroll taken in as well. The scroll
+    /// has what the bus handed out: the first entries of its history. `WrongStation` also exactly
+    /// if the scroll is another station's.
     pub fn settle_scroll(
         self,
         scroll: Scroll<N>,
@@ -501,8 +512,8 @@ impl<N: BusName, F: FaultSource + Drop, B: Journaled> StationState<N, F, B> {
     }
 }
 
-/// What a bus leaves, with all these passes and gauges taken in. `WrongStation` exactly where some of them is another
-/// station's than the roll's.
+/// Returns the rest of a bus, with all these passes and gauges taken in. `WrongStation` exactly if
+/// some of them is of another station than the roll.
 fn settle_bus<N: BusName, B: Journaled>(
     bus: B,
     mut roll: Roll<N>,
@@ -533,10 +544,11 @@ fn settle_bus<N: BusName, B: Journaled>(
     })
 }
 
-/// The verdict of a bus's next attempt, which has this number and for which the source has this verdict. The plan counts it.
+/// The verdict of the bus's next attempt, which has this number. The source has this verdict for
+/// it, and the plan counts it.
 fn next_verdict<B: Journaled>(plan: &mut Plan, bus: &B, attempt: u64, source: Verdict) -> Verdict
-    ensures verdict { result ≡ given source plan.old attempt (head_on (B.journal bus.now)) }
-    ensures after { plan.new ≡ plan_after source plan.old attempt (head_on (B.journal bus.now)) }
+    ensures verdict { result ≡ given source plan.old attempt (next_try (B.journal bus.now)) }
+    ensures after { plan.new ≡ plan_after source plan.old attempt (next_try (B.journal bus.now)) }
 {
     match plan.verdict_without_rules(source, attempt) {
         Some(verdict) => verdict,
@@ -544,8 +556,8 @@ fn next_verdict<B: Journaled>(plan: &mut Plan, bus: &B, attempt: u64, source: Ve
     }
 }
 
-/// Carries out an event for the pass of a slip, on a bus that has a place for it: it is noted in the roll, and what it
-/// changed of the error counters is published.
+/// Carries out an event for the pass of a slip, on a bus that has a place for it. The event is
+/// noted in the roll, and changes of the error counters are published.
 fn answer_and_book<N: BusName, B: Journaled>(
     alloc: Global,
     bus: &mut B,
@@ -577,7 +589,7 @@ fn answer_and_book<N: BusName, B: Journaled>(
     reply
 }
 
-/// Notes a call of a slip's pass, where it left an entry.
+/// Notes a call of a slip's pass, if it left an entry.
 #[inline(always)]
 fn book<N: RollName>(roll: &mut Roll<N>, slip: &mut Slip<N>, event: &Event, reply: &Reply)
     requires { slip.old.number ≡ roll.old.number }

@@ -1,4 +1,4 @@
-//! How blocks of the record are taken of the state of a station.
+//! How blocks of the record are taken from the state of a station.
 
 ghost use Rattle.std.specs.Prelude.{◌≡◌, [], false, is_none};
 ghost use Rattle.can_bus.specs.Long.{HasTail};
@@ -14,22 +14,22 @@ use can_bus::Journaled;
 use can_fault::FaultSource;
 use can_roll::Scroll;
 
-/// How many places a call waits for: a hold of a server makes fewer entries.
+/// The number of places that a call waits for. A hold of a server makes fewer entries.
 const HOLD_PLACES: usize = 512;
 
-/// What a station knows of those who take its entries.
+/// A station's knowledge of the threads that take its entries.
 #[derive(Drop)]
 pub(crate) struct Taking {
-    /// How many entries were taken.
+    /// The number of entries that were taken.
     taken: u64,
-    /// How many entries the thread wants that waits for the fewest, if one waits.
+    /// The smallest number of entries for which a thread waits, if one waits.
     wanted: Option<u64>,
-    /// Whether nobody takes entries any more.
+    /// Whether entries are no longer taken.
     is_over: bool,
 }
 
 impl Taking {
-    /// Nothing was taken, and nobody waits.
+    /// Nothing was taken, and no thread waits.
     pub(crate) fn none() -> Taking {
         Taking {
             taken: 0,
@@ -47,20 +47,22 @@ impl Taking {
     }
 }
 
-// Places for entries, and those who take entries. None of this is seen by contracts.
+// Places for entries, and the threads that take entries. Contracts see none of this.
 impl<N: BusName, F: FaultSource + Drop, B: Journaled> StationState<N, F, B> {
-    /// How many entries were not taken yet.
+    /// Returns how many entries were not taken yet.
     fn held_back(&self) -> u64 {
         self.bus.len().saturating_sub(self.taking.taken)
     }
 
-    /// Whether calls wait for a place: there are fewer than 512, and fewer than entries that can be taken.
+    /// Returns whether calls wait for a place: there are fewer than 512, and fewer than entries
+    /// that can be taken.
     pub(crate) fn is_short(&self) -> bool {
         let places = self.bus.places();
         places < HOLD_PLACES && (places as u64) < self.held_back() && !self.taking.is_over
     }
 
-    /// Whether a driver goes on waiting: there is no work, or there are too few places for it.
+    /// Returns whether a driver goes on waiting: there is no work, or there are too few places for
+    /// it.
     pub(crate) fn is_idle_or_short(&self) -> bool
         ensures { result ≡ false → is_none (work_wake self.now) ≡ false }
     {
@@ -71,7 +73,7 @@ impl<N: BusName, F: FaultSource + Drop, B: Journaled> StationState<N, F, B> {
         }
     }
 
-    /// Whether a thread goes on waiting for this many entries; then it is noted as one who does.
+    /// Returns whether a thread goes on waiting for this many entries; then it is noted as waiting.
     pub(crate) fn waits_for(&mut self, many: u64) -> bool
         ensures { self.new ≡ self.old }
     {
@@ -82,7 +84,8 @@ impl<N: BusName, F: FaultSource + Drop, B: Journaled> StationState<N, F, B> {
         waits
     }
 
-    /// Whether to wake those who wait for entries. Nobody counts as waiting any more then.
+    /// Returns whether to wake the threads that wait for entries. From now on none counts as
+    /// waiting.
     pub(crate) fn take_awaited(&mut self) -> bool
         ensures { self.new ≡ self.old }
     {
@@ -96,20 +99,21 @@ impl<N: BusName, F: FaultSource + Drop, B: Journaled> StationState<N, F, B> {
         is_over
     }
 
-    /// Whether nobody takes entries any more.
+    /// Returns whether entries are no longer taken.
     pub(crate) fn are_entries_over(&self) -> bool {
         self.taking.is_over
     }
 
-    /// Nobody takes entries any more.
+    /// Entries are no longer taken from now on.
     pub(crate) fn end_entries(&mut self)
         ensures { self.new ≡ self.old }
     {
         self.taking.is_over = true;
     }
 
-    /// Hands out the entries that were not handed out yet, in order, for a block without entries, to who has the scroll, and
-    /// the lines of what became of the rules, unless memory is refused.
+    /// Hands out the entries that were not handed out yet, in order, to the holder of the scroll:
+    /// they go into a block without entries. The block also gets the lines about the rules, unless
+    /// memory is refused.
     pub(crate) fn take_entries(&mut self, scroll: &mut Scroll<N>, block: &mut Block)
         requires own { scroll.old.number ≡ self.old.number }
         requires empty { block.old.entries.entries ≡ [] }

@@ -4,11 +4,11 @@ use can_bus::SocketId;
 use std::array;
 use std::sync::Condvar;
 
-/// How many queues there are: as many as sockets can be open at once.
+/// The number of queues: as many as sockets can be open at once.
 pub(crate) const QUEUES: usize = 64;
 
-/// Where receivers wait for items, so that a call wakes only those whose sockets got one. Each socket has a queue, which
-/// it shares with those opened 64 before or after it.
+/// The queues in which receivers wait for items, so that a call wakes only those whose sockets got
+/// one. Each socket has a queue, which it shares with those opened 64 before or after it.
 #[derive(Drop)]
 pub(crate) struct WaitQueues {
     queues: [Condvar; QUEUES],
@@ -38,7 +38,7 @@ impl WaitQueues {
         }
     }
 
-    /// Wakes everybody.
+    /// Wakes all threads.
     pub(crate) fn wake_all(&self) {
         for queue in &self.queues {
             queue.notify_all();
@@ -53,7 +53,7 @@ fn place_of(socket: SocketId) -> usize
     socket.0 as usize % QUEUES
 }
 
-/// Some of the queues: bit 0 is the first.
+/// A set of queues: bit 0 is the first.
 #[derive(Debug, Clone, Copy, PartialEq, Eq)]
 pub(crate) struct QueueSet(u64);
 
@@ -75,7 +75,7 @@ impl QueueSet {
     }
 }
 
-/// Who waits in a queue.
+/// The threads that wait in a queue.
 #[derive(Debug, Clone, Copy, PartialEq, Eq)]
 pub(crate) enum Waiter {
     Nobody,
@@ -85,7 +85,7 @@ pub(crate) enum Waiter {
     Several,
 }
 
-/// Who waits in each queue.
+/// The threads that wait in each queue.
 #[derive(Debug, Drop)]
 pub(crate) struct Waiters {
     queues: [Waiter; QUEUES],
@@ -98,7 +98,7 @@ impl Waiters {
         }
     }
 
-    /// Who waits in a queue.
+    /// The threads that wait in a queue.
     pub(crate) fn waiter(&self, place: usize) -> Waiter
         requires { place < 64 }
     {
@@ -117,7 +117,7 @@ impl Waiters {
         };
     }
 
-    /// Notes that nobody waits in these queues.
+    /// Notes that no thread waits in these queues.
     pub(crate) fn leave(&mut self, which: QueueSet) {
         for place in 0..QUEUES {
             if which.contains(place) {

@@ -35,7 +35,7 @@ pub enum WakeReason {
     Stopped,
 }
 
-/// What calls have changed for those who wait.
+/// Changes by calls that can matter to waiting threads.
 #[derive(Debug, Clone, Copy, PartialEq, Eq)]
 pub(crate) struct Wakeups {
     /// There may be a frame to send.
@@ -56,9 +56,10 @@ impl Wakeups {
         }
     }
 
-    /// Adds what a call can have changed. A frame to send comes only of `send`; items come of attempts and restarts,
-    /// and a socket closes by `close`. An interface begins to count towards its restart where a frame was tried, whose
-    /// `send` has woken who waits for work. One that goes down only leaves less to do.
+    /// Adds the changes that a call can have made. Only `send` makes a frame to send. Attempts and
+    /// restarts make items, and `close` closes a socket. An interface begins to count towards its
+    /// restart when a frame is tried, and the `send` of that frame has woken the driver. An
+    /// interface that goes down only leaves less to do.
     pub(crate) fn add(&mut self, event: &Event, reply: &Reply) {
         match (event, reply) {
             (_, Reply::Refused(why)) => self.add_refusal(*why),
@@ -95,10 +96,10 @@ impl Wakeups {
     }
 }
 
-// What a station signals without an event. All of these may wait for the lock.
+// The signals of a station that are no events. All of these may wait for the lock.
 impl<N: BusName, F: FaultSource + Drop, G: Gate + Drop, B: Journaled> Station<N, F, G, B> {
-    /// The counts of a socket and of an interface, both of one moment: `None` exactly where the socket is not
-    /// open, and where there is no such interface.
+    /// The counts of a socket and of an interface, both of one moment: `None` exactly if the socket
+    /// is not open, and if there is no such interface.
     pub fn stats<R: Wait>(
         &self,
         rt: &R,
@@ -110,16 +111,17 @@ impl<N: BusName, F: FaultSource + Drop, G: Gate + Drop, B: Journaled> Station<N,
         self.hold(rt).stats(socket, iface)
     }
 
-    /// Waits until an item is queued to the socket. `Closed` where it is not open, else `Ready` where an item is
-    /// queued, else `Stopped` after `stop`; else it sleeps until a call changes that.
+    /// Waits until an item is queued to the socket. `Closed` if it is not open, else `Ready` if an
+    /// item is queued, else `Stopped` after `stop`; else it sleeps until a call changes that.
     pub fn wait_frame<R: Wait>(&self, rt: &R, socket: SocketId) -> WakeReason
         ensures { InSome F self.now (λ held. frame_wake held socket.0 ≡ Some result) }
     {
         self.wait_items(rt, socket).0
     }
 
-    /// Waits as `wait_frame` does, and counts the items that are queued to the socket when it wakes, both of one
-    /// moment: at least one where it is `Ready`, none where it is `Closed` or `Stopped`.
+    /// Waits as `wait_frame` does, and counts the items that are queued to the socket when it
+    /// wakes, both of one moment. There is at least one if it is `Ready`, and none if it is
+    /// `Closed` or `Stopped`.
     pub fn wait_items<R: Wait>(&self, rt: &R, socket: SocketId) -> (WakeReason, u64)
         ensures { InSome F self.now (λ held. EndsItemWait held socket.0 result) }
     {
@@ -137,8 +139,9 @@ impl<N: BusName, F: FaultSource + Drop, G: Gate + Drop, B: Journaled> Station<N,
         (wake, state.waiting(socket))
     }
 
-    /// Waits until a live interface has a frame to send, or an interface counts towards its restart. `Ready` where one
-    /// does, else `Stopped` after `stop`; else it sleeps until a call changes that.
+    /// Waits until a live interface has a frame to send, or an interface counts towards its
+    /// restart. `Ready` if one does, else `Stopped` after `stop`; else it sleeps until a call
+    /// changes that.
     pub fn wait_work<R: Wait>(&self, rt: &R) -> WakeReason
         ensures { InSome F self.now (λ held. work_wake held ≡ Some result) }
     {
@@ -156,8 +159,9 @@ impl<N: BusName, F: FaultSource + Drop, G: Gate + Drop, B: Journaled> Station<N,
         wake
     }
 
-    /// Waits as `wait_work` does, and keeps the lock for the driver's steps: `None` after `stop`, where there is no work.
-    /// Where there is, it waits for places in the bus's tail as well, as `lock` does.
+    /// Waits as `wait_work` does, and keeps the lock for the driver's steps. `None` after `stop` if
+    /// there is no work. If there is work, it waits for places in the bus's tail as well, as `lock`
+    /// does.
     pub fn hold_work<R: Wait>(&self, rt: &R) -> Option<Hold<'_, N, F, G, B>>
         ensures state { IfSome result (λ h. IsStateOf self.now h) }
         ensures work { IfSome result (λ h. has_work h.journal ≡ true) }
@@ -182,8 +186,8 @@ impl<N: BusName, F: FaultSource + Drop, G: Gate + Drop, B: Journaled> Station<N,
         })
     }
 
-    /// Waits so long, or until `stop`. Where the duration is 0 it returns at once, without the lock; no call of a
-    /// pass ends it.
+    /// Waits this long, or until `stop`. If the duration is 0 it returns at once, without the lock.
+    /// No call of a pass ends it.
     pub fn rest<R: Wait + Clock>(&self, rt: &R, duration: Duration) {
         if !duration.is_zero() {
             self.ends
@@ -193,15 +197,15 @@ impl<N: BusName, F: FaultSource + Drop, G: Gate + Drop, B: Journaled> Station<N,
         }
     }
 
-    /// Whether a call was refused since the record is full. It is true once, for the first who asks, and waits for
-    /// nobody.
+    /// Returns whether a call was refused because the record is full. It is true only once, for the
+    /// first thread that asks, and waits for none.
     pub fn became_full(&self) -> bool {
         self.fullness
             .compare_exchange(FULL, REPORTED, SeqCst, SeqCst)
             .is_ok()
     }
 
-    /// Whether a call was refused since the record is full. It waits for nobody.
+    /// Returns whether a call was refused because the record is full. It waits for no thread.
     pub fn is_full(&self) -> bool {
         self.fullness.load(SeqCst) != ROOM
     }
@@ -214,8 +218,8 @@ impl<N: BusName, F: FaultSource + Drop, G: Gate + Drop, B: Journaled> Station<N,
         self.ends.notify_all();
     }
 
-    /// Wakes those to whom calls gave something to do: who waits for work, and who waits for items in these queues. The
-    /// lock has to be free.
+    /// Wakes the threads that calls gave something to do: those that wait for work, and those that
+    /// wait for items in these queues. The lock has to be free.
     pub(crate) fn wake(&self, wakeups: Wakeups, woken: QueueSet) {
         if wakeups.is_full {
             let _ = self.fullness.compare_exchange(ROOM, FULL, SeqCst, SeqCst);

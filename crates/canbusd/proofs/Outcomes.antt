@@ -1,22 +1,37 @@
 use Rattle.std.proofs.Common.{Bool, true, false, List, ℕ, Option, inl, inr}
 use Rattle.std.specs.Io.KnownBytes.{Keeps}
 use Rattle.std.proofs.KnownBytes.{Appends-kept, Keeps-trans}
-use Rattle.can_events.specs.declared.wanted.Wanted.{Wanted}
+use Rattle.can_replay.specs.declared.wanted.Wanted.{Wanted}
 use Rattle.canbusd_options.specs.declared.command_line.Job.{Job}
 use Rattle.canbusd_options.specs.declared.command_line.Job.TheVariants as job
-use Rattle.canbusd_audit.specs.Audited.{IsAudited, IsAuditedBy}
+use Rattle.canbusd_audit.specs.Audited.{IsAudited, IsAuditedBy, ifaces_named}
 use Rattle.canbusd.specs.Outcomes.{IsDone}
 
 -- A job that was done, and what is written after it.
 
 -- an audit whose text was written stays so
-whole-kept : (asked : Option Wanted) (text : List ℕ) (old mid new : Option (List ℕ)) → IsAudited asked text old mid → Keeps mid new → IsAudited asked text old new
-whole-kept asked text old mid new done kept = record { config = done.config; entries = done.entries; whole = done.whole; legal = done.legal; wrote = Appends-kept old mid new _ done.wrote kept }
+whole-kept : (asked : Option Wanted) (ifaces : Option ℕ) (text : List ℕ) (old mid new : Option (List ℕ)) → IsAudited asked ifaces text old mid → Keeps mid new → IsAudited asked ifaces text old new
+whole-kept asked ifaces text old mid new done kept = record {
+  config = done.config;
+  entries = done.entries;
+  whole = done.whole;
+  legal = done.legal;
+  named = done.named;
+  wrote = Appends-kept old mid new _ done.wrote kept;
+}
 
-audited-kept : (is_cut : Bool) (asked : Option Wanted) (text : List ℕ) (old mid new : Option (List ℕ)) → IsAuditedBy is_cut asked text old mid → Keeps mid new → IsAuditedBy is_cut asked text old new
-audited-kept false asked text old mid new done kept = whole-kept asked text old mid new done kept
-audited-kept true asked text old mid new (inl done) kept = inl (whole-kept asked text old mid new done kept)
-audited-kept true asked text old mid new (inr done) kept = inr (record { config = done.config; entries = done.entries; front = done.front; legal = done.legal; wrote = Appends-kept old mid new _ done.wrote kept })
+audited-kept : (is_cut : Bool) (asked : Option Wanted) (ifaces : Option ℕ) (text : List ℕ) (old mid new : Option (List ℕ)) →
+    IsAuditedBy is_cut asked ifaces text old mid → Keeps mid new → IsAuditedBy is_cut asked ifaces text old new
+audited-kept false asked ifaces text old mid new done kept = whole-kept asked ifaces text old mid new done kept
+audited-kept true asked ifaces text old mid new (inl done) kept = inl (whole-kept asked ifaces text old mid new done kept)
+audited-kept true asked ifaces text old mid new (inr done) kept = inr (record {
+  config = done.config;
+  entries = done.entries;
+  front = done.front;
+  legal = done.legal;
+  named = done.named;
+  wrote = Appends-kept old mid new _ done.wrote kept;
+})
 
 -- it stays done where what was put out stays
 pub done-kept : {W : Type 0} (contents : W → Option (List ℕ)) (j : Job) (input : Option (List ℕ)) (old mid new : W) → IsDone contents j input old mid → Keeps (contents mid) (contents new) → IsDone contents j input old new
@@ -30,7 +45,7 @@ done-kept contents (job.Bench o) input old mid new done kept = record {
 }
 done-kept contents (job.Audit o) input old mid new done kept =
     let (asked, by, audited) = done in
-    (asked, by, (audited.0, audited-kept o.is_cut asked audited.0 (contents old) (contents mid) (contents new) audited.1 kept))
+    (asked, by, (audited.0, audited-kept o.is_cut asked (ifaces_named o.output) audited.0 (contents old) (contents mid) (contents new) audited.1 kept))
 done-kept contents (job.Serve o) input old mid new done kept = record {
   named = done.named;
   ends = done.ends;
@@ -41,3 +56,4 @@ done-kept contents (job.Serve o) input old mid new done kept = record {
   address = done.address;
   wrote = Appends-kept (contents old) (contents mid) (contents new) _ done.wrote kept;
 }
+done-kept contents (job.Bits o) input old mid new (text, is, wrote) kept = (text, is, Appends-kept (contents old) (contents mid) (contents new) _ wrote kept)

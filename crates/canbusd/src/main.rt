@@ -2,14 +2,16 @@
 //!
 //! `canbusd bench BUS` reads lines that open sessions, feed them commands and put frames on one bus, and
 //! writes the texts of the sessions; `canbusd serve BUS..` serves clients over sockets; `canbusd audit FILE..` checks the
-//! record of such a run. `program` carries out a command line and returns its status; its words are canbusd_options', its
-//! jobs canbusd_bench's, canbusd_serve's and canbusd_audit's.
+//! record of such a run; `canbusd bits FRAME` writes the bits of a frame. `program` carries out a command line and
+//! returns its status; its words are canbusd_options', its jobs canbusd_bench's, canbusd_serve's and canbusd_audit's, but
+//! for that of bits, which is here.
 //!
 //! What is proved here: no command line, file or input makes a function fail, none but `serve` waits for others; and of
 //! `run_words`, that status 0 means that the job of the words was done and its output written, and status 2 that they ask
 //! for no job.
 #![tactic(auto)]
 
+mod bits_job;
 mod program;
 
 use canbusd_io::{ProgramError, Report};

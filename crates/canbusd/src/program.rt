@@ -5,6 +5,7 @@ ghost use Rattle.canbusd.specs.Outcomes.{IsDone, Succeeds};
 ghost use Rattle.canbusd_options.specs.Help.{IsNoMemory, ShowsHelp};
 ghost use Rattle.canbusd_options.specs.Program.{AskJob};
 
+use crate::bits_job::write_bits;
 use can_session::IgnoredInput;
 use canbusd_audit::audit_files;
 use canbusd_bench::{run_bench, tell_ignored};
@@ -96,6 +97,7 @@ fn do_job<'a, H: ServerRuntime, R: Read + Drop + Send + 'static, W: Write + Drop
     match job {
         Job::Bench(options) => run_bench(rt, alloc, &options, input, output, ignored)?,
         Job::Audit(options) => audit_files(rt, alloc, &options, output, errors)?,
+        Job::Bits(options) => write_bits(alloc, &options, output)?,
         Job::Serve(options) => return run_serve(rt, alloc, &options, input, output, errors),
     }
     Ok(true)

@@ -1,21 +1,22 @@
 -- What was written of a text's events before a fault.
-use Rattle.std.proofs.Common.{◌≡◌, ◌≢◌, ◌+◌, ◌⊎◌, ℕ, inl, inr, Bool, List, [], ◌∷◌, ◌++◌, Option, Some, None, Result, Ok, Err, arith, append-nil, length, refl, sym, ap, subst, ◌∙◌}
+use Rattle.std.proofs.Common.{◌≡◌, ◌≢◌, ◌+◌, ◌⊎◌, ℕ, inl, inr, Bool, true, false, List, [], ◌∷◌, ◌++◌, Option, Some, None, Result, Ok, Err, arith, append-nil, length, refl, sym, ap, subst, ◌∙◌}
 use Rattle.std.specs.Prelude.{reverse}
+use Rattle.std.proofs.lemmas.List.Elements.{All-nil}
 use Rattle.std.proofs.lemmas.Option.{none-some, same_Some}
 use Rattle.std.specs.Io.KnownBytes.{Appends, Consumes}
 use Rattle.can_event.specs.declared.bus_config.BusConfig.{BusConfig}
 use Rattle.can_event.specs.declared.entry.Entry.{Entry}
 use Rattle.can_bus.specs.Legal.{IsLegal}
-use Rattle.can_events.specs.EventsText.{events_front}
-use Rattle.can_events.specs.declared.wanted.Wanted.{Wanted}
 use Rattle.can_record_text.specs.declared.fault.ReadFault.{ReadFault}
 use Rattle.can_record_text.specs.declared.fault.ReadFault.TheVariants as read
 use Rattle.can_record_text.specs.RecordFaults.{LacksEntry, Reads}
 use Rattle.can_record_text.specs.RecordFaults.{IsFirstWrong as IsWrongLine}
 use Rattle.can_record_text.specs.declared.version.Version.{Version}
-use Rattle.can_record_text.specs.Spelling.{end_words, entry_lines, first_line, spell}
+use Rattle.can_record_text.specs.Spelling.{bus_words, end_words, entry_lines, first_line, spell}
 use Rattle.can_record_text.proofs.Whole.{text-then}
-use Rattle.can_replay.specs.Audits.{IsFirstWrong}
+use Rattle.can_replay.specs.EventsText.{events_front}
+use Rattle.can_replay.specs.declared.wanted.Wanted.{Wanted}
+use Rattle.can_replay.specs.Audits.{IsFirstWrongEntry}
 use Rattle.can_replay.specs.Histories.{before}
 use Rattle.can_replay.specs.declared.entry_audit.EntryAudit.{EntryAudit}
 use Rattle.can_replay.specs.declared.events_text.EventsText.{EventsText}
@@ -26,15 +27,16 @@ use Rattle.can_replay.specs.declared.text_fault.TextFault.{TextFault}
 use Rattle.can_replay.specs.declared.text_fault.TextFault.TheVariants as found
 use Rattle.can_replay.specs.declared.text_fault.WrongLine.{WrongLine}
 use Rattle.can_replay.specs.EventTexts.{AreWritten, HasWritten, has_events, held_events, legal_part, wrong_so_far}
-use Rattle.can_replay.specs.TextAudits.{AreTaken, EndsLine, FailsNext, HasCome, IsLine, LacksFront}
+use Rattle.can_replay.specs.TextAudits.{AreTaken, EndsLine, FailsNext, HasCome, IsLine, LacksFront, bus_taken}
 use Rattle.can_replay.specs.inner.EntryAudits.{IsGoing, IsSettled}
-use Rattle.can_replay.proofs.Before.{before_all}
+use Rattle.can_replay.proofs.EntriesBefore.{before_all}
 use Rattle.can_replay.proofs.GoingOn.{last_of, read_rest}
-use Rattle.can_replay.proofs.Lacking.{LacksNext, line_lacks, next_wrong}
+use Rattle.can_replay.proofs.LineEnds.{torn_first}
+use Rattle.can_replay.proofs.Lacking.{LacksNext, has_bus, line_lacks, next_wrong, same_bus}
 use Rattle.canbusd_io.specs.declared.program_error.ProgramError.{ProgramError}
 use Rattle.canbusd_io.specs.declared.program_error.ProgramError.TheVariants as fault
 use Rattle.canbusd_io.specs.Files.{IsOfReading}
-use Rattle.canbusd_audit.specs.Audited.{BeginsWrong, HasNoEvents, IsAfter, IsFrontWritten, IsLeft, IsOfLine, IsPut, IsRead, IsTextIn, IsToldFault, IsUnderway, IsUnread, LeavesFront, Puts, StopsAfter, output_of}
+use Rattle.canbusd_audit.specs.Audited.{BeginsWrong, FaultsLine, FitsBus, HasNoEvents, IsFaultAfter, IsFrontWritten, IsLeft, IsOfLine, IsOfOtherBus, IsOtherBus, IsPut, IsRead, IsTextIn, IsToldFault, IsUnderway, IsUnread, Leaves, LeavesFront, Puts, AuditStopsAfter, StopsEvents, output_of}
 use Rattle.canbusd_audit.proofs.Underway.{follows, puts_more, same_output}
 
 -- ---- which fault it is
@@ -94,6 +96,7 @@ pub unread_none : (text : List ℕ) (why : ProgramError) → IsUnread why → Ha
 unread_none text (fault.Record read.NoMemory) h = tt
 unread_none text (fault.Record read.BadVersion) h = absurd h
 unread_none text (fault.Record (read.BadLine n)) h = absurd h
+unread_none text fault.OtherBus h = absurd h
 unread_none text why h = h
 
 second : (text : List ℕ) (n : ℕ) → LacksFront text → IsWrongLine text n → n ≡ 2
@@ -128,7 +131,7 @@ part_count es (Some w) = w.place
 -- what is known of them
 record Part (c : BusConfig) (es : List Entry) (o : Option WrongLine) (count : ℕ) : Type 0 where
   legal : IsLegal c (before es count)
-  last : (count ≡ length es) ⊎ IsFirstWrong c es count
+  last : (count ≡ length es) ⊎ IsFirstWrongEntry c es count
   part : reverse (legal_part es o) ≡ before es count
 
 part_of : (c : BusConfig) (es : List Entry) (o : Option WrongLine) → IsSettled c es o → Part c es o (part_count es o)
@@ -152,7 +155,7 @@ unfolding After
 all_there text rest b g why (inl h) = inl h
 all_there text rest b g why (inr h) = inr h.0
 
-counted : (text rest : List ℕ) (why : ProgramError) (b : EntryAudit) (g : IsGoing text b) (o : Option WrongLine) → b.wrong ≡ o → Names why (phase.Entries b) → After text rest b g why → IsAfter why (length g.read.entries) (part_count g.read.entries o)
+counted : (text rest : List ℕ) (why : ProgramError) (b : EntryAudit) (g : IsGoing text b) (o : Option WrongLine) → b.wrong ≡ o → Names why (phase.Entries b) → After text rest b g why → IsFaultAfter why (length g.read.entries) (part_count g.read.entries o)
 unfolding part_count After
 counted text rest (fault.WrongEntry k) b g None is names after = absurd (none-some names.0 (sym is ∙ names.1))
 counted text rest (fault.WrongEntry k) b g (Some w) is names after = ap (λ (x : WrongLine). x.place) (same_Some w names.0 (sym is ∙ names.1)) ∙ names.2
@@ -161,6 +164,7 @@ counted text rest (fault.Record (read.BadLine n)) b g o is names (inr h) =
     next_wrong (text ++ rest) (last_of b.is_ended g.read.entries ++ rest) n b.version b.config g.read.entries g.read.good (read_rest text rest b g) h.0 h.1
 counted text rest (fault.Record read.BadVersion) b g o is names after = tt
 counted text rest (fault.Record read.NoMemory) b g o is names after = tt
+counted text rest fault.OtherBus b g o is names after = absurd names
 counted text rest why b g o is names after = tt
 
 -- ---- what was written
@@ -256,15 +260,95 @@ left_stops text left audit what why taken w of =
 
 -- the events of the lines before a fault were put out too
 pub leaves_stopped : {W : Type 0} (v : Wanted) (first old new : Option (List ℕ)) (begun : Option EventsText) (before after : TextAudit) (what : ReadFault) (why : ProgramError) (contents : W → Option (List ℕ)) (start out end : W) → has_events before.events ≡ has_events begun
-    → has_events after.events ≡ has_events before.events → IsPut v first old before contents start out → StopsAfter old new before what after → Puts (has_events after.events) contents out end (held_events after.events) → IsOfLine what why
+    → has_events after.events ≡ has_events before.events → IsPut v first old before contents start out → AuditStopsAfter old new before what after → Puts (has_events after.events) contents out end (held_events after.events) → IsOfLine what why
     → LeavesFront (output_of v begun) first why contents start end
 leaves_stopped v first old new begun before after what why contents start out end kind same p stops put of =
     let last = stops.0 in
     let left = stops.4.0 in
-    let u = stops.1 v first p.events p.underway in
+    let u = (stops.1 v first p.events p.underway).0 in
     let so_far : Puts (has_events last.events) contents start out p.events = subst (λ (b : Bool). Puts b contents start out p.events) (sym stops.2) p.put in
     let more : Puts (has_events last.events) contents out end (held_events last.events) =
     subst (Puts (has_events last.events) contents out end) stops.3 (subst (λ (b : Bool). Puts b contents out end (held_events after.events)) (same ∙ sym stops.2) put) in
     subst (λ (asked : Option Wanted). LeavesFront asked first why contents start end) (same_output v last.events begun (stops.2 ∙ kind))
     (leaves_front v first u.text left p.events last why contents start end u.written (names_line what why last.phase of) (text_left first old new p.underway.text u.text left p.underway.consumed u.consumed stops.4.1)
     (left_stops u.text left last what why u.written.taken stops.4.2 of) (puts_more (has_events last.events) contents start out end p.events (held_events last.events) so_far more))
+
+-- ---- a record of another bus
+
+no_front_of : (xs ys : List ℕ) → xs ++ ys ≡ [] → xs ≡ []
+no_front_of [] ys e = refl
+no_front_of (x ∷ xs) ys e = absurd cc
+
+-- before its bus was known nothing was written
+pub nothing_put : (v : Wanted) (ifaces : Option ℕ) (text more events : List ℕ) (p q : Phase) (held : Option EventsText) (why : ProgramError) → AreWritten v text events p held → held_events held ≡ [] → HasCome (text ++ more) q
+    → FitsBus ifaces (bus_taken p) → IsOtherBus ifaces (bus_taken q) why → events ≡ []
+nothing_put v ifaces text more events p q None why w none then fits other = w.complete
+nothing_put v ifaces text more events phase.Start q (Some e) why w none then fits other = no_front_of events e.text.items w.complete
+nothing_put v ifaces text more events (phase.Front version) q (Some e) why w none then fits other = no_front_of events e.text.items w.complete
+nothing_put v None text more events (phase.Entries b) q (Some e) why w none then fits other = absurd other
+nothing_put v (Some n) text more events (phase.Entries b) phase.Start (Some e) why w none then fits other = absurd other
+nothing_put v (Some n) text more events (phase.Entries b) (phase.Front version) (Some e) why w none then fits other = absurd other
+nothing_put v (Some n) text more events (phase.Entries b) (phase.Entries d) (Some e) why w none then fits other =
+    let same = same_bus text more (phase.Entries b) (phase.Entries d) b.config d.config w.taken then refl refl in
+    absurd (other.1 (ap (λ (c : BusConfig). c.ifaces) (sym same) ∙ fits))
+nothing_put v (Some n) text more events (phase.Entries b) (phase.Failed what) (Some e) why w none then fits other = absurd other
+nothing_put v ifaces text more events (phase.Failed what) q (Some e) why w none then fits other = absurd w.taken
+
+pub none_left : {W : Type 0} (v : Wanted) (first : Option (List ℕ)) (text rest events : List ℕ) (held : Option EventsText) (why : ProgramError) (contents : W → Option (List ℕ)) (start out : W) → why ≡ fault.OtherBus → events ≡ [] → IsTextIn first (text ++ rest)
+    → Puts (has_events held) contents start out events → LeavesFront (output_of v held) first why contents start out
+none_left v first text rest events None why contents start out other none is put = put
+none_left v first text rest events (Some e) why contents start out other none is put =
+    (text ++ rest, is, inl (subst (HasNoEvents (text ++ rest)) (sym other) tt, subst (Appends (contents start) (contents out)) none put))
+
+pub is_other : (ifaces : Option ℕ) (o : Option BusConfig) (why : ProgramError) → IsOtherBus ifaces o why → why ≡ fault.OtherBus
+is_other None o why h = absurd h
+is_other (Some n) None why h = absurd h
+is_other (Some n) (Some c) why h = h.0
+
+-- nothing is left of it
+leaves_other : {W : Type 0} (v : Wanted) (ifaces : Option ℕ) (first now after : Option (List ℕ)) (begun : Option EventsText) (audit next : TextAudit) (why : ProgramError) (contents : W → Option (List ℕ)) (start out : W) → has_events begun ≡ has_events audit.events
+    → held_events audit.events ≡ [] → (p : IsPut v first now audit contents start out) → (on : IsUnderway v first after next p.events) (more : List ℕ) → on.text ≡ p.underway.text ++ more → FitsBus ifaces (bus_taken audit.phase) → IsOtherBus ifaces (bus_taken next.phase) why
+    → LeavesFront (output_of v begun) first why contents start out
+leaves_other v ifaces first now after begun audit next why contents start out kind none p on more is fits other =
+    let u = p.underway in
+    let t = text_with first now u.text u.consumed in
+    let nothing = nothing_put v ifaces u.text more p.events audit.phase next.phase audit.events why u.written none (subst (λ (x : List ℕ). HasCome x next.phase) is on.written.taken) fits other in
+    subst (λ (asked : Option Wanted). LeavesFront asked first why contents start out) (sym (same_output v begun audit.events kind))
+    (none_left v first u.text t.0 p.events audit.events why contents start out (is_other ifaces (bus_taken next.phase) why other) nothing t.1 p.put)
+
+-- and it is another one
+pub of_other : (ifaces : Option ℕ) (first : Option (List ℕ)) (text rest : List ℕ) (p : Phase) (why : ProgramError) → IsTextIn first (text ++ rest) → HasCome text p → IsOtherBus ifaces (bus_taken p) why → IsOfOtherBus ifaces first why
+of_other None first text rest p why is come other = absurd other
+of_other (Some n) first text rest phase.Start why is come other = absurd other
+of_other (Some n) first text rest (phase.Front version) why is come other = absurd other
+of_other (Some n) first text rest (phase.Entries b) why is come other =
+    subst (IsOfOtherBus (Some n) first) (sym other.0) (text ++ rest, is, b.config, has_bus text rest (phase.Entries b) b.config come refl, other.1)
+of_other (Some n) first text rest (phase.Failed what) why is come other = absurd other
+
+-- where it is looked at while lines are read
+pub known_told : {W : Type 0} (v : Wanted) (has asks : Bool) (ifaces : Option ℕ) (first now : Option (List ℕ)) (audit : TextAudit) (events : List ℕ) (why : ProgramError) (out new : W) → has ≡ asks → IsUnderway v first now audit events
+    → StopsEvents has why ⊎ (IsOtherBus ifaces (bus_taken audit.phase) why × (new ≡ out)) → StopsEvents asks why ⊎ (IsOfOtherBus ifaces first why ⊎ FaultsLine first why)
+known_told v has asks ifaces first now audit events why out new same u (inl h) = inl (subst (λ (b : Bool). StopsEvents b why) same h)
+known_told v has asks ifaces first now audit events why out new same u (inr h) =
+    let t = text_with first now u.text u.consumed in
+    inr (inl (of_other ifaces first u.text t.0 audit.phase why t.1 u.written.taken h.0))
+
+pub stops_writing : (has : Bool) (why : ProgramError) → StopsEvents has why → why ≡ fault.Write
+stops_writing false why h = absurd h
+stops_writing true why h = h
+
+pub known_left : {W : Type 0} (v : Wanted) (ifaces : Option ℕ) (first now after : Option (List ℕ)) (begun : Option EventsText) (audit next : TextAudit) (why : ProgramError) (contents : W → Option (List ℕ)) (start out new : W) → has_events begun ≡ has_events audit.events
+    → held_events audit.events ≡ [] → (p : IsPut v first now audit contents start out) → (on : IsUnderway v first after next p.events) (more : List ℕ) → on.text ≡ p.underway.text ++ more → FitsBus ifaces (bus_taken audit.phase)
+    → StopsEvents (has_events next.events) why ⊎ (IsOtherBus ifaces (bus_taken next.phase) why × (new ≡ out)) → Leaves (output_of v begun) first why contents start new
+known_left v ifaces first now after begun audit next why contents start out new kind none p on more is fits (inl h) = inl (stops_writing (has_events next.events) why h)
+known_left v ifaces first now after begun audit next why contents start out new kind none p on more is fits (inr h) =
+    inr (subst (LeavesFront (output_of v begun) first why contents start) (sym h.1) (leaves_other v ifaces first now after begun audit next why contents start out kind none p on more is fits h.0))
+
+-- before any line it is not known
+pub fits_at_start : (ifaces : Option ℕ) (p : Phase) → HasCome [] p → FitsBus ifaces (bus_taken p)
+fits_at_start ifaces phase.Start come = tt
+fits_at_start ifaces (phase.Front version) come = tt
+fits_at_start ifaces (phase.Entries b) come =
+    let h = has_bus [] [] (phase.Entries b) b.config come refl in
+    absurd (torn_first [] (All-nil (λ x. x ≢ 10)) h.0 (spell (bus_words h.0 b.config) h.1) h.3)
+fits_at_start ifaces (phase.Failed what) come = tt

@@ -1,22 +1,25 @@
 -- The lines that a reader holds.
-use Rattle.std.proofs.Common.{◌≡◌, ◌≢◌, ◌+◌, ◌-◌, ◌<◌, ℕ, List, [], ◌∷◌, ◌++◌, All, length, take, drop, Option, Some, None, Err, append_assoc, arith, eqb-true, eq-eqb, get_or, get_or-take, length-take-le, refl, sym, ap, subst, ◌∙◌}
+use Rattle.std.proofs.Common.{◌≡◌, ◌≢◌, ◌+◌, ◌-◌, ◌<◌, ℕ, List, [], ◌∷◌, ◌++◌, All, length, take, drop, Option, Some, None, Result, Ok, Err, IfOk, append-nil, append_assoc, arith, eqb-true, eq-eqb, get_or, get_or-take, length-take-le, refl, sym, ap, subst, ◌∙◌}
 use Rattle.std.proofs.Math.Seq.{take-add}
 use Rattle.std.proofs.Transfers.{StopsAt-take}
 use Rattle.std.proofs.BufReadLemmas.{through_part}
 use Rattle.std.proofs.lemmas.List.{append_cancel_left, take-append-drop, take_more}
 use Rattle.std.proofs.lemmas.List.Elements.{All-from_get_or}
 use Rattle.std.specs.Io.{IsEmptyOrEndsWith, StartsWith, StopsAt}
-use Rattle.std.specs.Io.KnownBytes.{Consumes}
+use Rattle.std.proofs.KnownBytes.{Consumes-kept}
+use Rattle.std.specs.Io.KnownBytes.{Consumes, Keeps}
 use Rattle.std.specs.Prelude.{IfSome}
 use Rattle.memchr.specs.Find.{IsFirstByte, is_byte}
-use Rattle.can_events.specs.declared.wanted.Wanted.{Wanted}
 use Rattle.can_record_text.specs.declared.fault.ReadFault.{ReadFault}
 use Rattle.can_record_text.specs.RecordFaults.{Reads}
+use Rattle.can_replay.specs.declared.wanted.Wanted.{Wanted}
 use Rattle.can_replay.specs.declared.text_audit.TextAudit.{TextAudit}
 use Rattle.can_replay.specs.EventTexts.{HasWritten}
 use Rattle.can_replay.specs.TextAudits.{AreTaken, EndsLine, FaultsUncut, IsLine, MayFollow}
 use Rattle.can_replay.proofs.Uncut.{line_uncut}
-use Rattle.canbusd_audit.specs.Audited.{BeginsWrong, GoesOn, HoldsBefore, IsAtFault, IsLeft, IsWrongNext, StopsAfter, TakesMore}
+use Rattle.canbusd_audit.specs.Audited.{BecomesOf, BeginsWrong, AuditGoesOn, HoldsBefore, IsAtFault, IsLeft, IsWrongNext, AuditStopsAfter, TakesMore}
+use Rattle.canbusd_audit.specs.declared.buffered.Buffered.{Buffered}
+use Rattle.canbusd_audit.specs.declared.buffered.Buffered.TheVariants as held
 use Rattle.canbusd_audit.proofs.Underway.{more_read}
 
 -- ---- a line that is cut behind its LF, which is the first one
@@ -99,9 +102,15 @@ begins_wrong held len place now why found step =
 
 -- ---- what a reader shows
 
-pub goes_on_by : (old new : Option (List ℕ)) (before after : TextAudit) (bytes : List ℕ) → Consumes old new bytes → TakesMore before bytes after → GoesOn old new before after
+pub goes_on_by : (old new : Option (List ℕ)) (before after : TextAudit) (bytes : List ℕ) → Consumes old new bytes → TakesMore before bytes after → AuditGoesOn old new before after
 goes_on_by old new before after bytes consumed taken = λ w first events u.
-    record { text = u.text ++ bytes; consumed = more_read first old new u.text bytes u.consumed consumed; written = taken w u.text events u.written }
+    (record { text = u.text ++ bytes; consumed = more_read first old new u.text bytes u.consumed consumed; written = taken w u.text events u.written }, bytes, refl)
+
+-- an interrupted read leaves all as it was
+pub still_there : {E : Type 0} (old new : Option (List ℕ)) (audit : TextAudit) (r : Result Buffered E) → Keeps old new → IfOk r (λ h. h ≡ held.Lines) → IfOk r (λ h. BecomesOf h old new audit audit)
+still_there old new audit (Err e) kept is = tt
+still_there old new audit (Ok b) kept is = subst (λ (h : Buffered). BecomesOf h old new audit audit) (sym is) (λ w first events u.
+    (record { text = u.text; consumed = Consumes-kept first old new u.text u.consumed kept; written = u.written }, [], sym (append-nil u.text)))
 
 -- it begins with lines that are at fault
 held_fault : (v : Wanted) (text events held after : List ℕ) (audit : TextAudit) (why : ReadFault) → HasWritten v text events audit → IsWrongNext audit held why → FaultsUncut (text ++ (held ++ after)) why
@@ -150,7 +159,7 @@ begins_more audit next more why w = record {
 
 -- the lines before a fault were taken
 pub stops_after : (old new : Option (List ℕ)) (before after : TextAudit) (held : List ℕ) (len : ℕ) (found : Option ReadFault) (why : ReadFault) → found ≡ Some why → Consumes old new (take len held) → IfSome old (λ xs. StartsWith xs held)
-    → IfSome found (λ why. HoldsBefore before (take len held) (drop len held) why after) → StopsAfter old new before why after
+    → IfSome found (λ why. HoldsBefore before (take len held) (drop len held) why after) → AuditStopsAfter old new before why after
 stops_after old new before after held len None why is consumed shows holds = absurd cc
 stops_after old new before after held len (Some w) why is consumed shows holds =
     let same : w ≡ why = cc in

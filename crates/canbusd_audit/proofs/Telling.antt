@@ -16,21 +16,22 @@ use Rattle.can_bus.specs.Legal.{legal_reply}
 use Rattle.can_bus.proofs.Fitting.{legal_is_spelled}
 use Rattle.can_record_text.specs.declared.fault.ReadFault.{ReadFault}
 use Rattle.can_record_text.specs.declared.fault.ReadFault.TheVariants as read
-use Rattle.can_record_text.specs.RecordFaults.{Reads}
+use Rattle.can_record_text.specs.RecordFaults.{IsTextOf, Reads}
 use Rattle.can_record_text.specs.declared.version.Version.{Version}
-use Rattle.can_record_text.specs.Spelling.{version_of}
+use Rattle.can_record_text.specs.Spelling.{end_words, entry_lines, spell, version_of}
+use Rattle.can_replay.specs.declared.wanted.Wanted.{Wanted}
+use Rattle.can_replay.specs.declared.text_audit.Phase.{Phase}
 use Rattle.can_record_text.specs.Values.{HasLine, HasLines}
-use Rattle.can_events.specs.declared.wanted.Wanted.{Wanted}
 use Rattle.can_replay.specs.Histories.{before}
 use Rattle.can_replay.specs.declared.text_fault.Cut.{Cut}
 use Rattle.can_replay.specs.declared.text_fault.Cut.TheVariants as cut
 use Rattle.can_replay.specs.declared.text_fault.TextFault.{TextFault}
 use Rattle.can_replay.specs.declared.text_fault.TextFault.TheVariants as found
 use Rattle.can_replay.specs.declared.text_fault.WrongLine.{WrongLine}
-use Rattle.can_replay.specs.EventTexts.{EndsCutEvents, EndsEvents, HasWritten, end_line, has_events, held_events, wrong_so_far}
+use Rattle.can_replay.specs.EventTexts.{AreWritten, EndsCutEvents, EndsEvents, HasWritten, end_line, has_events, held_events, rules_last, wrong_so_far}
 use Rattle.can_replay.specs.EventTexts.{cut_line as cut_end_line}
-use Rattle.can_replay.specs.TextAudits.{AreTaken, EndsNoLine, FaultsUncut, IsCutText, IsLegalText, Reports, ReportsCut}
-use Rattle.can_replay.proofs.Lacking.{torn_lacks}
+use Rattle.can_replay.specs.TextAudits.{AreTaken, EndsNoLine, FaultsUncut, HasBus, HasCome, IsCutText, IsFrontOf, IsLegalText, Reports, ReportsCut, bus_taken}
+use Rattle.can_replay.proofs.Lacking.{bus_is, torn_lacks}
 use Rattle.can_replay.specs.inner.EntryAudits.{IsWrongIn}
 use Rattle.can_replay.specs.declared.events_text.EventsText.{EventsText}
 use Rattle.can_replay.specs.declared.text_audit.TextAudit.{TextAudit}
@@ -40,8 +41,8 @@ use Rattle.canbusd_io.specs.declared.program_error.ProgramError.TheVariants as f
 use Rattle.canbusd_io.specs.Files.{IsOfFile}
 use Rattle.canbusd_options.specs.declared.audit_options.AuditOutput.{AuditOutput}
 use Rattle.canbusd_options.specs.declared.audit_options.AuditOutput.TheVariants as writes
-use Rattle.canbusd_audit.specs.Audited.{Audits, AuditsBy, AuditsCut, AuditsFiles, AuditsSome, Faults, FaultsBy, FaultsCut, FaultsFiles, FaultsInput, FaultsLast, FaultsLine, FaultsWhole, FitsLines, HasNote, IsAskedBy, IsAudited, IsAuditedBy, IsAuditedCut, IsBlamedCut, IsCutWritten, IsInputTaken, IsOfAsked, IsOfFiles, IsOfSomeLine, IsQuiet, IsTextIn, IsTold, IsToldFault, IsUnread, IsWritten, Leaves, LeavesFiles, LeavesFront, Puts, StopsEvents, TakesLast, are_events, asks_events, cut_line, entries_line, last_cut_line, last_line, wanted_of}
-use Rattle.canbusd_audit.proofs.Fronts.{Names, Says, leaves_front, names_line, names_told, none_more, unread_none}
+use Rattle.canbusd_audit.specs.Audited.{Audits, AuditsBy, AuditsCut, AuditsFiles, AuditsSome, Faults, FaultsBy, FaultsCut, FaultsFiles, FaultsInput, FaultsLast, FaultsLine, FaultsWhole, FitsBus, FitsLines, HasIfaces, HasNote, IsAskedBy, IsAudited, IsAuditedBy, IsAuditedCut, IsBlamedCut, IsCutWritten, IsInputTaken, IsOfAsked, IsOfFiles, IsOfOtherBus, IsOfSomeLine, IsOtherBus, IsQuiet, IsTextIn, IsTold, IsToldFault, IsUnread, IsWritten, Leaves, LeavesFiles, LeavesFront, Puts, StopsEvents, TakesLast, are_events, asks_events, cut_record_line, entries_line, ifaces_named, last_cut_line, last_line, wanted_of}
+use Rattle.canbusd_audit.proofs.Fronts.{Names, Says, is_other, leaves_front, names_line, names_told, none_left, none_more, nothing_put, of_other, stops_writing, unread_none}
 use Rattle.canbusd_audit.proofs.Underway.{asked_so, puts_more}
 
 -- a reply that is told is the legal one
@@ -73,47 +74,72 @@ noted_cut text (Err (found.Read why)) h = tt
 noted_cut text (Err (found.Wrong w)) (inl h) = fits (version_of h.config h.entries) h.config h.entries w h.whole.0 h.wrong
 noted_cut text (Err (found.Wrong w)) (inr h) = fits h.front.version h.config h.entries w h.front.good h.wrong
 
--- the last line of a legal record's audit was written, after its events where there are any
-whole_written : {W : Type 0} (asked : Option Wanted) (held : Option EventsText) (contents : W → Option (List ℕ)) (start out new : W) (text events : List ℕ) (count : ℕ) → has_events held ≡ asks_events asked → held_events held ≡ []
-    → Puts (asks_events asked) contents start out events → EndsEvents (wanted_of asked) held text events count → IsLegalText text count → Appends (contents out) (contents new) (last_line (asks_events asked) count) → IsAudited asked text (contents start) (contents new)
-whole_written {W = W} None held contents start out new text events count kind none put ends h wrote = record {
-  config = h.config;
-  entries = h.entries;
-  whole = h.whole;
-  legal = h.legal;
-  wrote = subst (λ (w : W). Appends (contents w) (contents new) (entries_line (length h.entries))) put (subst (λ (n : ℕ). Appends (contents out) (contents new) (entries_line n)) h.counted wrote);
-}
-whole_written (Some w) None contents start out new text events count kind none put ends h wrote = absurd cc
-whole_written (Some w) (Some e) contents start out new text events count kind none put ends h wrote =
-    let all : events ++ end_line count ≡ (events ++ e.text.items) ++ end_line count = ap (λ (x : List ℕ). x ++ end_line count) (sym (ap (λ (x : List ℕ). events ++ x) none ∙ append-nil events)) in
+bus_of_record : (text : List ℕ) (c : BusConfig) (es : List Entry) → IsTextOf text c es → HasBus text c
+bus_of_record text c es whole = (version_of c es, entry_lines es (spell (end_words (length es)) []), whole.0.bus, whole.1)
+
+bus_of_front : (text : List ℕ) (c : BusConfig) (es : List Entry) → IsFrontOf text c es → HasBus text c
+bus_of_front text c es front = (front.version, entry_lines es front.torn, front.good.bus, front.begins)
+
+-- an audit without events has no rules at its end
+no_rules : (held : Option EventsText) (ws : List ℕ) → has_events held ≡ false → ws ≡ rules_last held → ws ≡ []
+no_rules None ws kind is = is
+no_rules (Some e) ws kind is = absurd cc
+
+-- what was held, which is nothing, is left out of what was written
+none_between : (events held last : List ℕ) → held ≡ [] → events ++ last ≡ (events ++ held) ++ last
+none_between events held last none = ap (λ (x : List ℕ). x ++ last) (sym (ap (λ (x : List ℕ). events ++ x) none ∙ append-nil events))
+
+-- the last line of a legal record's audit was written, after its events where there are any, and the last rules
+whole_written : {W : Type 0} (asked : Option Wanted) (ifaces : Option ℕ) (held : Option EventsText) (ws : List ℕ) (contents : W → Option (List ℕ)) (start out new : W) (text events : List ℕ) (count : ℕ) → has_events held ≡ asks_events asked → held_events held ≡ [] → ws ≡ rules_last held
+    → Puts (asks_events asked) contents start out events → EndsEvents (wanted_of asked) held text events count → IsLegalText text count → ((c : BusConfig) → HasBus text c → HasIfaces ifaces c) → Appends (contents out) (contents new) (ws ++ last_line (asks_events asked) count) → IsAudited asked ifaces text (contents start) (contents new)
+whole_written {W = W} None ifaces held ws contents start out new text events count kind none rules put ends h named wrote =
+    let plain = subst (λ (x : List ℕ). Appends (contents out) (contents new) (x ++ entries_line count)) (no_rules held ws kind rules) wrote in
+    record {
+      config = h.config;
+      entries = h.entries;
+      whole = h.whole;
+      legal = h.legal;
+      named = named h.config (bus_of_record text h.config h.entries h.whole);
+      wrote = subst (λ (w : W). Appends (contents w) (contents new) (entries_line (length h.entries))) put (subst (λ (n : ℕ). Appends (contents out) (contents new) (entries_line n)) h.counted plain);
+    }
+whole_written (Some w) ifaces None ws contents start out new text events count kind none rules put ends h named wrote = absurd cc
+whole_written (Some w) ifaces (Some e) ws contents start out new text events count kind none rules put ends h named wrote =
+    let last : List ℕ = rules_last (Some e) ++ end_line count in
+    let wrote_last = subst (λ (x : List ℕ). Appends (contents out) (contents new) (x ++ end_line count)) rules wrote in
     record {
       config = ends.config;
       entries = ends.entries;
       whole = ends.whole;
       legal = ends.legal;
-      wrote = subst (Appends (contents start) (contents new)) (all ∙ ends.are) (Appends-trans (contents start) (contents out) (contents new) events (end_line count) put wrote);
+      named = named ends.config (bus_of_record text ends.config ends.entries ends.whole);
+      wrote = subst (Appends (contents start) (contents new)) (none_between events e.text.items last none ∙ ends.are) (Appends-trans (contents start) (contents out) (contents new) events last put wrote_last);
     }
 
 -- the same of a record that is cut off
-off_written : {W : Type 0} (asked : Option Wanted) (held : Option EventsText) (contents : W → Option (List ℕ)) (start out new : W) (text events : List ℕ) (count : ℕ) → has_events held ≡ asks_events asked → held_events held ≡ []
-    → Puts (asks_events asked) contents start out events → EndsCutEvents (wanted_of asked) held text events (cut.Off count) → IsCutText text count → Appends (contents out) (contents new) (last_cut_line (asks_events asked) count)
-    → IsAuditedCut asked text (contents start) (contents new)
-off_written {W = W} None held contents start out new text events count kind none put ends h wrote = record {
-  config = h.config;
-  entries = h.entries;
-  front = h.front;
-  legal = h.legal;
-  wrote = subst (λ (w : W). Appends (contents w) (contents new) (cut_line (length h.entries))) put (subst (λ (n : ℕ). Appends (contents out) (contents new) (cut_line n)) h.counted wrote);
-}
-off_written (Some w) None contents start out new text events count kind none put ends h wrote = absurd cc
-off_written (Some w) (Some e) contents start out new text events count kind none put ends h wrote =
-    let all : events ++ cut_end_line count ≡ (events ++ e.text.items) ++ cut_end_line count = ap (λ (x : List ℕ). x ++ cut_end_line count) (sym (ap (λ (x : List ℕ). events ++ x) none ∙ append-nil events)) in
+off_written : {W : Type 0} (asked : Option Wanted) (ifaces : Option ℕ) (held : Option EventsText) (ws : List ℕ) (contents : W → Option (List ℕ)) (start out new : W) (text events : List ℕ) (count : ℕ) → has_events held ≡ asks_events asked → held_events held ≡ [] → ws ≡ rules_last held
+    → Puts (asks_events asked) contents start out events → EndsCutEvents (wanted_of asked) held text events (cut.Off count) → IsCutText text count → ((c : BusConfig) → HasBus text c → HasIfaces ifaces c) → Appends (contents out) (contents new) (ws ++ last_cut_line (asks_events asked) count)
+    → IsAuditedCut asked ifaces text (contents start) (contents new)
+off_written {W = W} None ifaces held ws contents start out new text events count kind none rules put ends h named wrote =
+    let plain = subst (λ (x : List ℕ). Appends (contents out) (contents new) (x ++ cut_record_line count)) (no_rules held ws kind rules) wrote in
+    record {
+      config = h.config;
+      entries = h.entries;
+      front = h.front;
+      legal = h.legal;
+      named = named h.config (bus_of_front text h.config h.entries h.front);
+      wrote = subst (λ (w : W). Appends (contents w) (contents new) (cut_record_line (length h.entries))) put (subst (λ (n : ℕ). Appends (contents out) (contents new) (cut_record_line n)) h.counted plain);
+    }
+off_written (Some w) ifaces None ws contents start out new text events count kind none rules put ends h named wrote = absurd cc
+off_written (Some w) ifaces (Some e) ws contents start out new text events count kind none rules put ends h named wrote =
+    let last : List ℕ = rules_last (Some e) ++ cut_end_line count in
+    let wrote_last = subst (λ (x : List ℕ). Appends (contents out) (contents new) (x ++ cut_end_line count)) rules wrote in
     record {
       config = ends.config;
       entries = ends.entries;
       front = ends.front;
       legal = ends.legal;
-      wrote = subst (Appends (contents start) (contents new)) (all ∙ ends.are) (Appends-trans (contents start) (contents out) (contents new) events (cut_end_line count) put wrote);
+      named = named ends.config (bus_of_front text ends.config ends.entries ends.front);
+      wrote = subst (Appends (contents start) (contents new)) (none_between events e.text.items last none ∙ ends.are) (Appends-trans (contents start) (contents out) (contents new) events last put wrote_last);
     }
 
 told : (text : List ℕ) (r : Result ℕ TextFault) (why : ProgramError) → Reports text r → IsTold r why → Faults text why
@@ -168,17 +194,21 @@ ready_last w first before after last torn contents start out new t takes kind ki
       (puts_more (has_events after.events) contents start out new t.events (held_events after.events) (subst (λ (b : Bool). Puts b contents start out t.events) (sym kind) t.put) put);
 }
 
-pub all_written : {W : Type 0} (asked : Option Wanted) (has : Bool) (first : Option (List ℕ)) (audit : TextAudit) (contents : W → Option (List ℕ)) (start out new : W) (found : Result ℕ TextFault) (r : Result (Unit {0}) Report) → has ≡ asks_events asked
-    → has_events audit.events ≡ asks_events asked → IsReady (wanted_of asked) first audit [] contents start out → ((text : List ℕ) → AreTaken text audit → Reports text found)
-    → ((w : Wanted) (text events : List ℕ) → HasWritten w text events audit → IfOk found (EndsEvents w audit.events text events)) → OnOk r (IsWritten has found (contents out) (contents new)) → OnOk r (Audits asked first contents start new)
-all_written asked has first audit contents start out new (Ok count) (Ok u) same kind t tells ends h = (
+-- the bus of a text is the one that was looked at
+fitting : (ifaces : Option ℕ) (text torn : List ℕ) (p : Phase) (c : BusConfig) → HasCome text p → EndsNoLine torn → HasBus (text ++ torn) c → FitsBus ifaces (bus_taken p) → HasIfaces ifaces c
+fitting ifaces text torn p c come unended bus fits = subst (FitsBus ifaces) (bus_is text torn p c come unended bus) fits
+
+pub all_written : {W : Type 0} (asked : Option Wanted) (ifaces : Option ℕ) (has : Bool) (first : Option (List ℕ)) (audit : TextAudit) (ws : List ℕ) (contents : W → Option (List ℕ)) (start out new : W) (found : Result ℕ TextFault) (r : Result (Unit {0}) Report) → has ≡ asks_events asked
+    → has_events audit.events ≡ asks_events asked → IsReady (wanted_of asked) first audit [] contents start out → ws ≡ rules_last audit.events → ((text : List ℕ) → AreTaken text audit → Reports text found)
+    → ((w : Wanted) (text events : List ℕ) (held : Option EventsText) → AreWritten w text events audit.phase held → IfOk found (EndsEvents w held text events)) → FitsBus ifaces (bus_taken audit.phase) → OnOk r (IsWritten has ws found (contents out) (contents new)) → OnOk r (Audits asked ifaces first contents start new)
+all_written asked ifaces has first audit ws contents start out new (Ok count) (Ok u) same kind t rules tells ends fits h = (
   t.text,
   subst (IsTextIn first) (append-nil t.text) t.is_text,
-  whole_written asked audit.events contents start out new t.text t.events count kind t.none_held (subst (λ (b : Bool). Puts b contents start out t.events) kind t.put)
-      (ends (wanted_of asked) t.text t.events t.written) (tells t.text t.written.taken) (subst (λ (b : Bool). Appends (contents out) (contents new) (last_line b count)) same h),
+  whole_written asked ifaces audit.events ws contents start out new t.text t.events count kind t.none_held rules (subst (λ (b : Bool). Puts b contents start out t.events) kind t.put)
+      (ends (wanted_of asked) t.text t.events audit.events t.written) (tells t.text t.written.taken) (λ c bus. fitting ifaces t.text [] audit.phase c t.written.taken (All-nil (λ b. b ≢ 10)) (subst (λ (x : List ℕ). HasBus x c) (sym (append-nil t.text)) bus) fits) (subst (λ (b : Bool). Appends (contents out) (contents new) (ws ++ last_line b count)) same h),
 )
-all_written asked has first audit contents start out new (Err what) (Ok u) same kind t tells ends h = absurd h
-all_written asked has first audit contents start out new found (Err why) same kind t tells ends h = tt
+all_written asked ifaces has first audit ws contents start out new (Err what) (Ok u) same kind t rules tells ends fits h = absurd h
+all_written asked ifaces has first audit ws contents start out new found (Err why) same kind t rules tells ends fits h = tt
 
 pub all_told : {W : Type 0} (w : Wanted) (first : Option (List ℕ)) (audit : TextAudit) (contents : W → Option (List ℕ)) (start out : W) (found : Result ℕ TextFault) (r : Result (Unit {0}) Report) → IsReady w first audit [] contents start out
     → ((text : List ℕ) → AreTaken text audit → Reports text found) → IfErr r (λ failure. IsTold found failure.error) → IfErr r (λ failure. FaultsInput first failure.error)
@@ -243,6 +273,12 @@ left asked first audit torn contents start out new (Ok count) (Err failure) kind
 left asked first audit torn contents start out new (Err what) (Err failure) kind unended t says wrong tells quiet =
     all_left asked first audit torn contents start out new failure.error kind unended t (names_told what failure.error audit.phase (λ w is. wrong w (ap Err is)) tells) (says_so (t.text ++ torn) what failure.error (says what refl) tells) quiet
 
+-- a call whose fault names no place in the text and wrote nothing
+pub memory_left : {W : Type 0} (asked : Option Wanted) (first : Option (List ℕ)) (audit : TextAudit) (torn : List ℕ) (contents : W → Option (List ℕ)) (start out : W) (why : ProgramError) → has_events audit.events ≡ asks_events asked → EndsNoLine torn
+    → IsReady (wanted_of asked) first audit torn contents start out → why ≡ fault.NoMemory → Leaves asked first why contents start out
+memory_left asked first audit torn contents start out why kind unended t is =
+    subst (λ (e : ProgramError). Leaves asked first e contents start out) (sym is) (all_left asked first audit torn contents start out out fault.NoMemory kind unended t tt tt (inr refl))
+
 pub left_whole : {W : Type 0} (asked : Option Wanted) (first : Option (List ℕ)) (audit : TextAudit) (contents : W → Option (List ℕ)) (start out new : W) (what : Result ℕ TextFault) (r : Result (Unit {0}) Report) → has_events audit.events ≡ asks_events asked
     → IsReady (wanted_of asked) first audit [] contents start out → ((text : List ℕ) → AreTaken text audit → Reports text what) → ((w : WrongLine) → what ≡ Err (found.Wrong w) → wrong_so_far audit.phase ≡ Some w)
     → IfErr r (λ failure. IsTold what failure.error) → IfErr r (λ failure. IsQuiet failure.error out new) → IfErr r (λ failure. Leaves asked first failure.error contents start new)
@@ -262,24 +298,24 @@ pub last_told : {W : Type 0} (w : Wanted) (first : Option (List ℕ)) (torn : Li
 last_told w first torn audit contents start out why t h = (t.lines ++ torn, t.is_text, h t.lines t.written.taken)
 
 -- the same of a text that may be cut off
-pub cut_written : {W : Type 0} (asked : Option Wanted) (has : Bool) (first : Option (List ℕ)) (audit : TextAudit) (torn : List ℕ) (contents : W → Option (List ℕ)) (start out new : W) (found : Result Cut TextFault) (r : Result (Unit {0}) Report)
-    → has ≡ asks_events asked → has_events audit.events ≡ asks_events asked → IsReady (wanted_of asked) first audit torn contents start out → EndsNoLine torn → ((text : List ℕ) → AreTaken text audit → EndsNoLine torn → ReportsCut (text ++ torn) found)
-    → ((w : Wanted) (text events : List ℕ) → HasWritten w text events audit → EndsNoLine torn → IfOk found (EndsCutEvents w audit.events (text ++ torn) events))
-    → OnOk r (IsCutWritten has found (contents out) (contents new)) → OnOk r (AuditsCut asked first contents start new)
-cut_written asked has first audit torn contents start out new (Ok (cut.Whole count)) (Ok u) same kind t unended tells ends h = (
+pub cut_written : {W : Type 0} (asked : Option Wanted) (ifaces : Option ℕ) (has : Bool) (first : Option (List ℕ)) (audit : TextAudit) (torn ws : List ℕ) (contents : W → Option (List ℕ)) (start out new : W) (found : Result Cut TextFault) (r : Result (Unit {0}) Report)
+    → has ≡ asks_events asked → has_events audit.events ≡ asks_events asked → IsReady (wanted_of asked) first audit torn contents start out → ws ≡ rules_last audit.events → EndsNoLine torn → ((text : List ℕ) → AreTaken text audit → EndsNoLine torn → ReportsCut (text ++ torn) found)
+    → ((w : Wanted) (text events : List ℕ) (held : Option EventsText) → AreWritten w text events audit.phase held → EndsNoLine torn → IfOk found (EndsCutEvents w held (text ++ torn) events))
+    → FitsBus ifaces (bus_taken audit.phase) → OnOk r (IsCutWritten has ws found (contents out) (contents new)) → OnOk r (AuditsCut asked ifaces first contents start new)
+cut_written asked ifaces has first audit torn ws contents start out new (Ok (cut.Whole count)) (Ok u) same kind t rules unended tells ends fits h = (
   t.text ++ torn,
   t.is_text,
-  inl (whole_written asked audit.events contents start out new (t.text ++ torn) t.events count kind t.none_held (subst (λ (b : Bool). Puts b contents start out t.events) kind t.put)
-      (ends (wanted_of asked) t.text t.events t.written unended) (tells t.text t.written.taken unended) (subst (λ (b : Bool). Appends (contents out) (contents new) (last_line b count)) same h)),
+  inl (whole_written asked ifaces audit.events ws contents start out new (t.text ++ torn) t.events count kind t.none_held rules (subst (λ (b : Bool). Puts b contents start out t.events) kind t.put)
+      (ends (wanted_of asked) t.text t.events audit.events t.written unended) (tells t.text t.written.taken unended) (λ c bus. fitting ifaces t.text torn audit.phase c t.written.taken unended bus fits) (subst (λ (b : Bool). Appends (contents out) (contents new) (ws ++ last_line b count)) same h)),
 )
-cut_written asked has first audit torn contents start out new (Ok (cut.Off count)) (Ok u) same kind t unended tells ends h = (
+cut_written asked ifaces has first audit torn ws contents start out new (Ok (cut.Off count)) (Ok u) same kind t rules unended tells ends fits h = (
   t.text ++ torn,
   t.is_text,
-  inr (off_written asked audit.events contents start out new (t.text ++ torn) t.events count kind t.none_held (subst (λ (b : Bool). Puts b contents start out t.events) kind t.put)
-      (ends (wanted_of asked) t.text t.events t.written unended) (tells t.text t.written.taken unended) (subst (λ (b : Bool). Appends (contents out) (contents new) (last_cut_line b count)) same h)),
+  inr (off_written asked ifaces audit.events ws contents start out new (t.text ++ torn) t.events count kind t.none_held rules (subst (λ (b : Bool). Puts b contents start out t.events) kind t.put)
+      (ends (wanted_of asked) t.text t.events audit.events t.written unended) (tells t.text t.written.taken unended) (λ c bus. fitting ifaces t.text torn audit.phase c t.written.taken unended bus fits) (subst (λ (b : Bool). Appends (contents out) (contents new) (ws ++ last_cut_line b count)) same h)),
 )
-cut_written asked has first audit torn contents start out new (Err what) (Ok u) same kind t unended tells ends h = absurd h
-cut_written asked has first audit torn contents start out new found (Err why) same kind t unended tells ends h = tt
+cut_written asked ifaces has first audit torn ws contents start out new (Err what) (Ok u) same kind t rules unended tells ends fits h = absurd h
+cut_written asked ifaces has first audit torn ws contents start out new found (Err why) same kind t rules unended tells ends fits h = tt
 
 pub all_told_cut : {W : Type 0} (w : Wanted) (first : Option (List ℕ)) (audit : TextAudit) (torn : List ℕ) (contents : W → Option (List ℕ)) (start out : W) (found : Result Cut TextFault) (r : Result (Unit {0}) Report) → IsReady w first audit torn contents start out
     → EndsNoLine torn → ((text : List ℕ) → AreTaken text audit → EndsNoLine torn → ReportsCut (text ++ torn) found) → IfErr r (λ failure. IsTold found failure.error) → IfErr r (λ failure. FaultsCut first failure.error)
@@ -288,10 +324,10 @@ all_told_cut w first audit torn contents start out found (Err failure) t unended
 
 -- ---- the same of files
 
-pub files_written : {W : Type 0} (is_cut : Bool) (asked : Option Wanted) {by : Bool} (first : Option (List ℕ)) (contents : W → Option (List ℕ)) (old new : W) (r : Result (Unit {0}) Report) → is_cut ≡ by → OnOk r (AuditsBy by asked first contents old new)
-    → OnOk r (AuditsSome is_cut asked contents old new)
-files_written is_cut asked {by} first contents old new (Ok u) is h = (h.0, subst (λ (b : Bool). IsAuditedBy b asked h.0 (contents old) (contents new)) (sym is) h.2)
-files_written is_cut asked {by} first contents old new (Err why) is h = tt
+pub files_written : {W : Type 0} (is_cut : Bool) (asked : Option Wanted) (ifaces : Option ℕ) {by : Bool} (first : Option (List ℕ)) (contents : W → Option (List ℕ)) (old new : W) (r : Result (Unit {0}) Report) → is_cut ≡ by → OnOk r (AuditsBy by asked ifaces first contents old new)
+    → OnOk r (AuditsSome is_cut asked ifaces contents old new)
+files_written is_cut asked ifaces {by} first contents old new (Ok u) is h = (h.0, subst (λ (b : Bool). IsAuditedBy b asked ifaces h.0 (contents old) (contents new)) (sym is) h.2)
+files_written is_cut asked ifaces {by} first contents old new (Err why) is h = tt
 
 -- of the text that they hold nothing is known
 front_of_some : {W : Type 0} (asked : Option Wanted) (first : Option (List ℕ)) (why : ProgramError) (contents : W → Option (List ℕ)) (old new : W) → LeavesFront asked first why contents old new → LeavesFront asked None why contents old new
@@ -347,25 +383,37 @@ of_memory (path ∷ more) i why low is = (path.now, (0, omega arith, refl), subs
 abbrev pub Either : Bool → (ProgramError → Type 0) → Report → Type 0
 Either has says failure = StopsEvents has failure.error ⊎ says failure.error
 
-pub or_text : {A : Type 0} (has : Bool) (says : ProgramError → Type 0) (r : Result A Report) → IfErr r (λ failure. says failure.error) → IfErr r (Either has says)
-or_text has says (Ok a) h = tt
-or_text has says (Err failure) h = inr h
+-- a bus that is another one than is wanted, or what a fault says of a text
+abbrev pub Or : Option ℕ → Option (List ℕ) → (ProgramError → Type 0) → ProgramError → Type 0
+Or ifaces first says why = IsOfOtherBus ifaces first why ⊎ says why
 
-pub or_more : {A : Type 0} (has : Bool) (says other : ProgramError → Type 0) (r : Result A Report) → ((why : ProgramError) → says why → other why) → IfErr r (Either has says) → IfErr r (Either has other)
+pub or_text : {A : Type 0} (has : Bool) (ifaces : Option ℕ) (first : Option (List ℕ)) (says : ProgramError → Type 0) (r : Result A Report) → IfErr r (λ failure. says failure.error) → IfErr r (Either has (Or ifaces first says))
+or_text has ifaces first says (Ok a) h = tt
+or_text has ifaces first says (Err failure) h = inr (inr h)
+
+or_more : {A : Type 0} (has : Bool) (says other : ProgramError → Type 0) (r : Result A Report) → ((why : ProgramError) → says why → other why) → IfErr r (Either has says) → IfErr r (Either has other)
 or_more has says other (Ok a) turn h = tt
 or_more has says other (Err failure) turn (inl is) = inl is
 or_more has says other (Err failure) turn (inr h) = inr (turn failure.error h)
 
-pub line_or : (has : Bool) (first : Option (List ℕ)) (failure : Report) → Either has (FaultsLine first) failure → Either has (FaultsInput first) failure
-line_or has first failure (inl is) = inl is
-line_or has first failure (inr h) = inr (line_told first failure.error h)
+pub line_or : (has : Bool) (ifaces : Option ℕ) (first : Option (List ℕ)) (failure : Report) → Either has (Or ifaces first (FaultsLine first)) failure → Either has (Or ifaces first (FaultsInput first)) failure
+line_or has ifaces first failure (inl is) = inl is
+line_or has ifaces first failure (inr (inl other)) = inr (inl other)
+line_or has ifaces first failure (inr (inr h)) = inr (inr (line_told first failure.error h))
 
 cut_line_told : (first : Option (List ℕ)) (why : ProgramError) → FaultsLine first why → FaultsCut first why
 cut_line_told first why h = (h.0, h.1, inl h.2)
 
-pub line_or_cut : (has : Bool) (first : Option (List ℕ)) (failure : Report) → Either has (FaultsLine first) failure → Either has (FaultsCut first) failure
-line_or_cut has first failure (inl is) = inl is
-line_or_cut has first failure (inr h) = inr (cut_line_told first failure.error h)
+pub line_or_cut : (has : Bool) (ifaces : Option ℕ) (first : Option (List ℕ)) (failure : Report) → Either has (Or ifaces first (FaultsLine first)) failure → Either has (Or ifaces first (FaultsCut first)) failure
+line_or_cut has ifaces first failure (inl is) = inl is
+line_or_cut has ifaces first failure (inr (inl other)) = inr (inl other)
+line_or_cut has ifaces first failure (inr (inr h)) = inr (inr (cut_line_told first failure.error h))
+
+-- events more were put out, unless the writer failed or the bus is another one
+pub known_or : {W : Type 0} (has asks : Bool) (ifaces : Option ℕ) (first : Option (List ℕ)) (text torn : List ℕ) (p : Phase) (failure : Report) (out new : W) (says : ProgramError → Type 0) → has ≡ asks → IsTextIn first (text ++ torn) → HasCome text p
+    → StopsEvents has failure.error ⊎ (IsOtherBus ifaces (bus_taken p) failure.error × (new ≡ out)) → Either asks (Or ifaces first says) failure
+known_or has asks ifaces first text torn p failure out new says same is come (inl h) = inl (subst (λ (b : Bool). StopsEvents b failure.error) same h)
+known_or has asks ifaces first text torn p failure out new says same is come (inr h) = inr (inl (of_other ifaces first text torn p failure.error is come h.0))
 
 -- no memory for an audit
 pub memory_told : (first : Option (List ℕ)) (why : ProgramError) → why ≡ fault.NoMemory → FaultsInput first why
@@ -376,10 +424,16 @@ pub memory_told_cut : (first : Option (List ℕ)) (why : ProgramError) → why �
 memory_told_cut None why is = ([], tt, inl (subst (FaultsWhole []) (sym is) tt))
 memory_told_cut (Some all) why is = (all, refl, inl (subst (FaultsWhole all) (sym is) tt))
 
--- the writer
-pub writer_left : {W : Type 0} (asked : Option Wanted) (first : Option (List ℕ)) (why : ProgramError) (contents : W → Option (List ℕ)) (start out : W) → StopsEvents (asks_events asked) why → Leaves asked first why contents start out
-writer_left None first why contents start out stops = absurd stops
-writer_left (Some w) first why contents start out stops = inl stops
+-- the writer, or the bus of the record, of which the last line was taken
+pub known_left_last : {W : Type 0} (asked : Option Wanted) (ifaces : Option ℕ) (first : Option (List ℕ)) (before after : TextAudit) (torn : List ℕ) (contents : W → Option (List ℕ)) (start out new : W) (why : ProgramError) → has_events before.events ≡ asks_events asked
+    → IsInputTaken (wanted_of asked) first before torn contents start out → TakesLast before torn after → FitsBus ifaces (bus_taken before.phase) → StopsEvents (has_events after.events) why ⊎ (IsOtherBus ifaces (bus_taken after.phase) why × (new ≡ out))
+    → Leaves asked first why contents start new
+known_left_last asked ifaces first before after torn contents start out new why kind t takes fits (inl h) = inl (stops_writing (has_events after.events) why h)
+known_left_last asked ifaces first before after torn contents start out new why kind t takes fits (inr h) =
+    let w = wanted_of asked in
+    let nothing = nothing_put w ifaces t.lines torn t.events before.phase after.phase before.events why t.written t.none_held (takes w t.lines t.events t.written).taken fits h.0 in
+    inr (subst (LeavesFront asked first why contents start) (sym h.1) (subst (λ (o : Option Wanted). LeavesFront o first why contents start out) (sym (asked_so asked before.events kind))
+    (none_left w first t.lines torn t.events before.events why contents start out (is_other ifaces (bus_taken after.phase) why h.0) nothing t.is_text t.put)))
 
 -- the last line is at fault, whose events are none
 pub last_left : {W : Type 0} (asked : Option Wanted) (first : Option (List ℕ)) (audit : TextAudit) (torn : List ℕ) (contents : W → Option (List ℕ)) (start out : W) (why : ProgramError) → has_events audit.events ≡ asks_events asked
@@ -390,13 +444,25 @@ last_left asked first audit torn contents start out why kind t faults line =
 
 -- ---- the same of files
 
-pub files_told : (is_cut has : Bool) (paths : List (List ℕ)) (first : Option (List ℕ)) (r : Result (Unit {0}) Report) → is_cut ≡ false → IfErr r (Either has (FaultsInput first)) → IfErr r (Either has (FaultsFiles is_cut paths))
-files_told true has paths first r is h = absurd cc
-files_told false has paths first r is h = or_more has (FaultsInput first) (FaultsFiles false paths) r (λ why k. inr (k.0, k.2)) h
+other_of_some : (ifaces : Option ℕ) (first : Option (List ℕ)) (why : ProgramError) → IsOfOtherBus ifaces first why → IsOfOtherBus ifaces None why
+other_of_some (Some n) first fault.OtherBus h = (h.0, tt, h.2, h.3, h.4)
+other_of_some (Some n) first why h = absurd h
+other_of_some None first why h = absurd h
 
-pub cut_files_told : (is_cut has : Bool) (paths : List (List ℕ)) (first : Option (List ℕ)) (r : Result (Unit {0}) Report) → is_cut ≡ true → IfErr r (Either has (FaultsCut first)) → IfErr r (Either has (FaultsFiles is_cut paths))
-cut_files_told false has paths first r is h = absurd cc
-cut_files_told true has paths first r is h = or_more has (FaultsCut first) (FaultsFiles true paths) r (λ why k. inr (k.0, k.2)) h
+of_files : (ifaces : Option ℕ) (is_cut : Bool) (paths : List (List ℕ)) (first : Option (List ℕ)) (says : ProgramError → Type 0) → ((why : ProgramError) → says why → FaultsFiles is_cut paths why) → (why : ProgramError) → Or ifaces first says why
+    → Or ifaces None (FaultsFiles is_cut paths) why
+of_files ifaces is_cut paths first says turn why (inl other) = inl (other_of_some ifaces first why other)
+of_files ifaces is_cut paths first says turn why (inr h) = inr (turn why h)
+
+pub files_told : (is_cut has : Bool) (ifaces : Option ℕ) (paths : List (List ℕ)) (first : Option (List ℕ)) (r : Result (Unit {0}) Report) → is_cut ≡ false → IfErr r (Either has (Or ifaces first (FaultsInput first))) → IfErr r (Either has (Or ifaces None (FaultsFiles is_cut paths)))
+files_told true has ifaces paths first r is h = absurd cc
+files_told false has ifaces paths first r is h =
+    or_more has (Or ifaces first (FaultsInput first)) (Or ifaces None (FaultsFiles false paths)) r (of_files ifaces false paths first (FaultsInput first) (λ why k. inr (k.0, k.2))) h
+
+pub cut_files_told : (is_cut has : Bool) (ifaces : Option ℕ) (paths : List (List ℕ)) (first : Option (List ℕ)) (r : Result (Unit {0}) Report) → is_cut ≡ true → IfErr r (Either has (Or ifaces first (FaultsCut first))) → IfErr r (Either has (Or ifaces None (FaultsFiles is_cut paths)))
+cut_files_told false has ifaces paths first r is h = absurd cc
+cut_files_told true has ifaces paths first r is h =
+    or_more has (Or ifaces first (FaultsCut first)) (Or ifaces None (FaultsFiles true paths)) r (of_files ifaces true paths first (FaultsCut first) (λ why k. inr (k.0, k.2))) h
 
 -- ---- the same as options say
 
@@ -406,15 +472,17 @@ kinds writes.Count (Some w) by = absurd by
 kinds (writes.Events e) None by = absurd by
 kinds (writes.Events e) (Some w) by = refl
 
-pub asked_written : {W : Type 0} (is_cut : Bool) (output : AuditOutput) (asked : Option Wanted) (contents : W → Option (List ℕ)) (old new : W) (r : Result (Unit {0}) Report) → IsAskedBy output asked → OnOk r (AuditsSome is_cut asked contents old new)
-    → OnOk r (AuditsFiles is_cut output contents old new)
-asked_written is_cut output asked contents old new (Ok u) by h = (asked, by, h)
-asked_written is_cut output asked contents old new (Err why) by h = tt
+pub asked_written : {W : Type 0} (is_cut : Bool) (output : AuditOutput) (asked : Option Wanted) (ifaces : Option ℕ) (contents : W → Option (List ℕ)) (old new : W) (r : Result (Unit {0}) Report) → IsAskedBy output asked → ifaces ≡ ifaces_named output
+    → OnOk r (AuditsSome is_cut asked ifaces contents old new) → OnOk r (AuditsFiles is_cut output contents old new)
+asked_written is_cut output asked ifaces contents old new (Ok u) by is h = (asked, by, subst (λ (n : Option ℕ). AuditsSome is_cut asked n contents old new) is h)
+asked_written is_cut output asked ifaces contents old new (Err why) by is h = tt
 
-pub asked_told : (is_cut : Bool) (output : AuditOutput) (paths : List (List ℕ)) (asked : Option Wanted) (r : Result (Unit {0}) Report) → IsAskedBy output asked → IfErr r (Either (asks_events asked) (FaultsFiles is_cut paths))
-    → IfErr r (λ failure. IsOfAsked output failure.error ⊎ (StopsEvents (are_events output) failure.error ⊎ FaultsFiles is_cut paths failure.error))
-asked_told is_cut output paths asked (Ok u) by h = tt
-asked_told is_cut output paths asked (Err failure) by h = inr (subst (λ (b : Bool). Either b (FaultsFiles is_cut paths) failure) (kinds output asked by) h)
+pub asked_told : (is_cut : Bool) (output : AuditOutput) (paths : List (List ℕ)) (asked : Option Wanted) (ifaces : Option ℕ) (r : Result (Unit {0}) Report) → IsAskedBy output asked → ifaces ≡ ifaces_named output
+    → IfErr r (Either (asks_events asked) (Or ifaces None (FaultsFiles is_cut paths)))
+    → IfErr r (λ failure. IsOfAsked output failure.error ⊎ (StopsEvents (are_events output) failure.error ⊎ (IsOfOtherBus (ifaces_named output) None failure.error ⊎ FaultsFiles is_cut paths failure.error)))
+asked_told is_cut output paths asked ifaces (Ok u) by is h = tt
+asked_told is_cut output paths asked ifaces (Err failure) by is h =
+    inr (subst (λ (n : Option ℕ). Either (are_events output) (Or n None (FaultsFiles is_cut paths)) failure) is (subst (λ (b : Bool). Either b (Or ifaces None (FaultsFiles is_cut paths)) failure) (kinds output asked by) h))
 
 pub asked_left : {W : Type 0} (output : AuditOutput) (asked : Option Wanted) (contents : W → Option (List ℕ)) (old new : W) (r : Result (Unit {0}) Report) → IsAskedBy output asked → IfErr r (λ failure. Leaves asked None failure.error contents old new)
     → IfErr r (λ failure. LeavesFiles output failure.error contents old new)

@@ -10,7 +10,7 @@ use Rattle.std.proofs.lemmas.List.{append-nil}
 use Rattle.std.proofs.lemmas.List.Elements.{All-cons, All-head, All-nil, All-tail, All-take}
 use Rattle.can_record_text.specs.declared.fault.ReadFault.{ReadFault}
 use Rattle.can_record_text.specs.RecordFaults.{Reads}
-use Rattle.can_events.specs.declared.wanted.Wanted.{Wanted}
+use Rattle.can_replay.specs.declared.wanted.Wanted.{Wanted}
 use Rattle.can_replay.specs.declared.events_text.EventsText.{EventsText}
 use Rattle.can_replay.specs.declared.text_audit.TextAudit.{TextAudit}
 use Rattle.can_replay.specs.EventTexts.{HasWritten, has_events, held_events}
@@ -49,6 +49,11 @@ goes_on w first now after line events old new u read step = record {
   consumed = more_read first now after u.text line u.consumed read.consumed;
   written = step events u.text u.written read.is_line;
 }
+
+pub goes_text : (w : Wanted) (first now after : Option (List ℕ)) (line events : List ℕ) (old new : TextAudit) (u : IsUnderway w first now old events) (read : IsRead now after line)
+    (step : (cleared text : List ℕ) → HasWritten w text cleared old → IsLine line → HasWritten w (text ++ line) cleared new) → (goes_on w first now after line events old new u read step).text ≡ u.text ++ line
+unfolding goes_on
+goes_text w first now after line events old new u read step = refl
 
 -- events more were put out
 pub puts_more : {W : Type 0} (has : Bool) (contents : W → Option (List ℕ)) (a b c : W) (xs ys : List ℕ) → Puts has contents a b xs → Puts has contents b c ys → Puts has contents a c (xs ++ ys)

@@ -1,22 +1,24 @@
-use Rattle.std.specs.Prelude.{◌≡◌, ◌⊎◌, ℕ, ◌+◌, Bool, true, false, List, [], ◌∷◌, ◌++◌, length}
+use Rattle.std.specs.Prelude.{◌≡◌, ◌≢◌, ◌⊎◌, ℕ, ◌+◌, Bool, true, false, List, [], ◌∷◌, ◌++◌, length}
 use Rattle.std.specs.Prelude.{reverse, codes, decimal, unwrap_or, Option, Some, None, Result, Ok, Err}
 use Rattle.std.specs.List.{Contains}
+use Rattle.std.specs.Option.{option_map}
 use Rattle.std.specs.Io.KnownBytes.{Appends, Consumes, IsAtEnd}
 use Rattle.can_event.specs.declared.bus_config.BusConfig.{BusConfig}
 use Rattle.can_event.specs.declared.entry.Entry.{Entry}
 use Rattle.can_event.specs.declared.reply.Reply.{Reply}
 use Rattle.can_event.specs.Spelled.{FitsReply}
 use Rattle.can_bus.specs.Legal.{IsLegal}
+use Rattle.can_frame.specs.Names.{names_in}
 use Rattle.can_rules.specs.RunFaults.{RunSeen}
-use Rattle.can_events.specs.EventsText.{cut_events_text, events_front, events_text, nothing_wanted}
-use Rattle.can_events.specs.declared.wanted.Wanted.{Wanted}
 use Rattle.can_record_text.specs.declared.fault.ReadFault.{ReadFault}
 use Rattle.can_record_text.specs.declared.fault.ReadFault.TheVariants as read
 use Rattle.can_record_text.specs.declared.version.Version.{Version}
 use Rattle.can_record_text.specs.RecordFaults.{IsTextOf, LacksEntry, Reads}
 use Rattle.can_record_text.specs.Spelling.{entry_lines, front_lines, version_of}
 use Rattle.can_record_text.specs.Values.{HasLines}
-use Rattle.can_replay.specs.Audits.{IsFirstWrong}
+use Rattle.can_replay.specs.EventsText.{cut_events_text, events_front, events_text, nothing_wanted}
+use Rattle.can_replay.specs.declared.wanted.Wanted.{Wanted}
+use Rattle.can_replay.specs.Audits.{IsFirstWrongEntry}
 use Rattle.can_replay.specs.declared.text_fault.Cut.{Cut}
 use Rattle.can_replay.specs.declared.text_fault.Cut.TheVariants as cut
 use Rattle.can_replay.specs.declared.text_fault.TextFault.{TextFault}
@@ -28,7 +30,7 @@ use Rattle.can_replay.specs.EventTexts.{HasWritten, end_line, has_events, held_e
 use Rattle.can_replay.specs.EventTexts.{cut_line as cut_end_line}
 use Rattle.can_replay.specs.Histories.{before}
 use Rattle.can_replay.specs.TextAudits.{AreTaken, EndsLine, EndsNoLine, FailsNext, FaultsUncut, IsFrontOf, IsLine}
-use Rattle.can_replay.specs.TextAudits.{LacksFront, MayFollow}
+use Rattle.can_replay.specs.TextAudits.{HasBus, LacksFront, MayFollow}
 use Rattle.canbusd_options.specs.declared.audit_options.AuditOutput.{AuditOutput}
 use Rattle.canbusd_options.specs.declared.audit_options.AuditOutput.TheVariants as writes
 use Rattle.canbusd_options.specs.declared.bus_word.FaultsWord.{FaultsWord}
@@ -52,40 +54,52 @@ abbrev pub audit_text : Option Wanted → BusConfig → List Entry → List ℕ
 audit_text None c entries = entries_line (length entries)
 audit_text (Some w) c entries = events_text w (version_of c entries) c (reverse entries)
 
--- the text is that of a legal history, and what is asked for of its audit was written
-pub record IsAudited (asked : Option Wanted) (text : List ℕ) (old new : Option (List ℕ)) : Type 0 where
+-- a bus has this many interfaces, where it is said how many it is to have
+abbrev pub HasIfaces : Option ℕ → BusConfig → Type 0
+HasIfaces None c = Unit {0}
+HasIfaces (Some n) c = c.ifaces ≡ n
+
+-- the text is that of a legal history, of a bus with so many interfaces, and what is asked for of its audit was written
+pub record IsAudited (asked : Option Wanted) (ifaces : Option ℕ) (text : List ℕ)
+    (old new : Option (List ℕ)) : Type 0 where
   pub config : BusConfig
   pub entries : List Entry
   pub whole : IsTextOf text config entries
   pub legal : IsLegal config (reverse entries)
+  pub named : HasIfaces ifaces config
   pub wrote : Appends old new (audit_text asked config entries)
 
 -- the line that says how many entries a record has that is cut off
-abbrev pub cut_line : ℕ → List ℕ
-cut_line n = codes "ok " ++ decimal n ++ codes " entries, then cut off" ++ 10 ∷ []
+abbrev pub cut_record_line : ℕ → List ℕ
+cut_record_line n = codes "ok " ++ decimal n ++ codes " entries, then cut off" ++ 10 ∷ []
 
 -- what an audit writes of a legal record in this version that is cut off
 abbrev pub cut_audit_text : Option Wanted → Version → BusConfig → List Entry → List ℕ
-cut_audit_text None v c entries = cut_line (length entries)
+cut_audit_text None v c entries = cut_record_line (length entries)
 cut_audit_text (Some w) v c entries = cut_events_text w v c (reverse entries)
 
 -- the text is cut off, and as far as it reaches that of a legal history; that of its audit was written
-pub record IsAuditedCut (asked : Option Wanted) (text : List ℕ) (old new : Option (List ℕ)) : Type 0 where
+pub record IsAuditedCut (asked : Option Wanted) (ifaces : Option ℕ) (text : List ℕ)
+    (old new : Option (List ℕ)) : Type 0 where
   pub config : BusConfig
   pub entries : List Entry
   pub front : IsFrontOf text config entries
   pub legal : IsLegal config (reverse entries)
+  pub named : HasIfaces ifaces config
   pub wrote : Appends old new (cut_audit_text asked front.version config entries)
 
 -- the text was audited: as a whole one, or where it may be cut off as either
-abbrev pub IsAuditedBy : (is_cut : Bool) (asked : Option Wanted) → List ℕ → Option (List ℕ) → Option (List ℕ) → Type 0
-IsAuditedBy false asked text old new = IsAudited asked text old new
-IsAuditedBy true asked text old new = IsAudited asked text old new ⊎ IsAuditedCut asked text old new
+abbrev pub IsAuditedBy : (is_cut : Bool) (asked : Option Wanted) (ifaces : Option ℕ) → List ℕ
+    → Option (List ℕ) → Option (List ℕ) → Type 0
+IsAuditedBy false asked ifaces text old new = IsAudited asked ifaces text old new
+IsAuditedBy true asked ifaces text old new =
+    IsAudited asked ifaces text old new ⊎ IsAuditedCut asked ifaces text old new
 
 -- a text that files may hold was audited, one that may be cut off or not
-abbrev pub AuditsSome : {W : Type 0} → (is_cut : Bool) (asked : Option Wanted) → (W → Option (List ℕ)) → W → W → Type 0
-AuditsSome is_cut asked contents old new =
-    (text : List ℕ) × IsAuditedBy is_cut asked text (contents old) (contents new)
+abbrev pub AuditsSome : {W : Type 0} → (is_cut : Bool) (asked : Option Wanted) (ifaces : Option ℕ)
+    → (W → Option (List ℕ)) → W → W → Type 0
+AuditsSome is_cut asked ifaces contents old new =
+    (text : List ℕ) × IsAuditedBy is_cut asked ifaces text (contents old) (contents new)
 
 -- the faults of a run are those that some text spells for the names of a word, where there is one
 abbrev pub AreFaultsOf : Option FaultsWord → Option RunSeen → Type 0
@@ -99,10 +113,16 @@ IsAskedBy writes.Count None = Unit {0}
 IsAskedBy (writes.Events asked) (Some w) = (w.timing ≡ asked.timing) × AreFaultsOf asked.faults w.faults
 IsAskedBy _ _ = ⊥
 
+-- how many interfaces have names in the faults that options name, where they name some
+abbrev pub ifaces_named : AuditOutput → Option ℕ
+ifaces_named writes.Count = None
+ifaces_named (writes.Events asked) =
+    option_map (λ (word : FaultsWord). length (names_in word.names.now)) asked.faults
+
 -- a text that files may hold was audited as options say
 abbrev pub AuditsFiles : {W : Type 0} → Bool → AuditOutput → (W → Option (List ℕ)) → W → W → Type 0
 AuditsFiles is_cut output contents old new =
-    (asked : Option Wanted) × IsAskedBy output asked × AuditsSome is_cut asked contents old new
+    (asked : Option Wanted) × IsAskedBy output asked × AuditsSome is_cut asked (ifaces_named output) contents old new
 
 -- a fault came before anything was written, but for one of the writer
 abbrev pub IsQuiet : {W : Type 0} → ProgramError → W → W → Type 0
@@ -110,7 +130,7 @@ IsQuiet why old new = (why ≡ fault.Write) ⊎ (new ≡ old)
 
 -- what a fault says of a record's entries: the first wrong one is told; of the writer and of memory it says nothing
 abbrev pub SaysOf : BusConfig → List Entry → ProgramError → Type 0
-SaysOf c entries (fault.WrongEntry k) = IsFirstWrong c entries k
+SaysOf c entries (fault.WrongEntry k) = IsFirstWrongEntry c entries k
 SaysOf c entries fault.Write = Unit {0}
 SaysOf c entries fault.NoMemory = Unit {0}
 SaysOf c entries _ = ⊥
@@ -152,18 +172,19 @@ IsTextIn None text = Unit {0}
 IsTextIn (Some all) text = text ≡ all
 
 -- the text that a reader had was audited
-abbrev pub AuditsBy : {W : Type 0} → Bool → Option Wanted → Option (List ℕ) → (W → Option (List ℕ)) → W → W
+abbrev pub AuditsBy : {W : Type 0} → Bool → Option Wanted → Option ℕ → Option (List ℕ) → (W → Option (List ℕ)) → W → W
     → Type 0
-AuditsBy is_cut asked input contents old new =
-    (text : List ℕ) × IsTextIn input text × IsAuditedBy is_cut asked text (contents old) (contents new)
+AuditsBy is_cut asked ifaces input contents old new =
+    (text : List ℕ) × IsTextIn input text × IsAuditedBy is_cut asked ifaces text (contents old) (contents new)
 
 -- the same of a whole text
-abbrev pub Audits : {W : Type 0} → Option Wanted → Option (List ℕ) → (W → Option (List ℕ)) → W → W → Type 0
-Audits asked input contents old new = AuditsBy false asked input contents old new
+abbrev pub Audits : {W : Type 0} → Option Wanted → Option ℕ → Option (List ℕ) → (W → Option (List ℕ)) → W → W → Type 0
+Audits asked ifaces input contents old new = AuditsBy false asked ifaces input contents old new
 
 -- the same of one that may be cut off
-abbrev pub AuditsCut : {W : Type 0} → Option Wanted → Option (List ℕ) → (W → Option (List ℕ)) → W → W → Type 0
-AuditsCut asked input contents old new = AuditsBy true asked input contents old new
+abbrev pub AuditsCut : {W : Type 0} → Option Wanted → Option ℕ → Option (List ℕ) → (W → Option (List ℕ)) → W → W
+    → Type 0
+AuditsCut asked ifaces input contents old new = AuditsBy true asked ifaces input contents old new
 
 -- what a fault says of the text that a reader had
 abbrev pub FaultsInput : Option (List ℕ) → ProgramError → Type 0
@@ -176,6 +197,12 @@ FaultsLine input why = (text : List ℕ) × IsTextIn input text × FaultsWhole t
 -- what a fault says of the text that a reader had, which may be cut off
 abbrev pub FaultsCut : Option (List ℕ) → ProgramError → Type 0
 FaultsCut input why = (text : List ℕ) × IsTextIn input text × FaultsBy true text why
+
+-- the bus of the text that a reader had has another number of interfaces than it is to have
+abbrev pub IsOfOtherBus : Option ℕ → Option (List ℕ) → ProgramError → Type 0
+IsOfOtherBus (Some n) input fault.OtherBus =
+    (text : List ℕ) × IsTextIn input text × (c : BusConfig) × HasBus text c × (c.ifaces ≢ n)
+IsOfOtherBus ifaces input why = ⊥
 
 -- with events the writer may fail before the text was read, which says nothing of the text
 abbrev pub StopsEvents : Bool → ProgramError → Type 0
@@ -232,18 +259,21 @@ IsUnread fault.NoMemory = Unit {0}
 IsUnread (fault.Record read.NoMemory) = Unit {0}
 IsUnread why = ⊥
 
--- the fault of a text that has no events: its first line or its second is at fault, or it was not read so far
+-- the fault of a text that has no events: its first line or its second is at fault, or its bus another one than is
+-- wanted, or it was not read so far
 abbrev pub HasNoEvents : List ℕ → ProgramError → Type 0
 HasNoEvents text (fault.Record read.BadVersion) = LacksFront text
 HasNoEvents text (fault.Record (read.BadLine n)) = (n ≡ 2) × LacksFront text
+HasNoEvents text fault.OtherBus = Unit {0}
 HasNoEvents text why = IsUnread why
 
 -- where a fault names a wrong entry, it is the one after those with events; a wrong line is that after all entries, or
--- after these and the end
-abbrev pub IsAfter : ProgramError → (all count : ℕ) → Type 0
-IsAfter (fault.WrongEntry k) all count = count ≡ k
-IsAfter (fault.Record (read.BadLine n)) all count = (n ≡ all + 3) ⊎ (n ≡ all + 4)
-IsAfter why all count = Unit {0}
+-- after these and the end; a bus that is another one than is wanted has no events
+abbrev pub IsFaultAfter : ProgramError → (all count : ℕ) → Type 0
+IsFaultAfter (fault.WrongEntry k) all count = count ≡ k
+IsFaultAfter (fault.Record (read.BadLine n)) all count = (n ≡ all + 3) ⊎ (n ≡ all + 4)
+IsFaultAfter fault.OtherBus all count = ⊥
+IsFaultAfter why all count = Unit {0}
 
 -- all entries that a text begins with were read, or those up to a fault of a file or of memory; and the events were
 -- written, with what else is wanted, of those before the first wrong one, or of all
@@ -257,12 +287,12 @@ pub record IsFrontWritten (w : Wanted) (text : List ℕ) (why : ProgramError) (o
   pub begins : text ≡ front_lines version config (entry_lines entries rest)
   pub all : IsUnread why ⊎ LacksEntry version config rest
   pub legal : IsLegal config (before entries count)
-  pub last : (count ≡ length entries) ⊎ IsFirstWrong config entries count
-  pub names : IsAfter why (length entries) count
+  pub last : (count ≡ length entries) ⊎ IsFirstWrongEntry config entries count
+  pub names : IsFaultAfter why (length entries) count
   pub wrote : Appends old new (events_front w version config (before entries count))
 
 -- what a fault of the text that a reader had leaves: an audit without events has written nothing, one with events those
--- of the legal entries before it, and none only where a text does not begin as that of a record, or was not read
+-- of the legal entries before it, and none only where a text does not begin as that of such a record, or was not read
 abbrev pub LeavesFront : {W : Type 0} → Option Wanted → Option (List ℕ) → ProgramError → (W → Option (List ℕ)) → W → W
     → Type 0
 LeavesFront None input why contents old new = new ≡ old
@@ -370,11 +400,11 @@ pub record IsPut {W : Type 0} (w : Wanted) (first now : Option (List ℕ)) (audi
   pub underway : IsUnderway w first now audit events
   pub put : Puts (has_events audit.events) contents old new events
 
--- from lines that were taken before, a reader and an audit went on to these
-abbrev pub GoesOn : Option (List ℕ) → Option (List ℕ) → TextAudit → TextAudit → Type 0
-GoesOn old new before after =
-    (w : Wanted) (first : Option (List ℕ)) (events : List ℕ)
-    → IsUnderway w first old before events → IsUnderway w first new after events
+-- from lines that were taken before, a reader and an audit went on to these, which follow them
+abbrev pub AuditGoesOn : Option (List ℕ) → Option (List ℕ) → TextAudit → TextAudit → Type 0
+AuditGoesOn old new before after =
+    (w : Wanted) (first : Option (List ℕ)) (events : List ℕ) (u : IsUnderway w first old before events)
+    → (on : IsUnderway w first new after events) × (more : List ℕ) × (on.text ≡ u.text ++ more)
 
 -- after the lines that were taken, what a reader has left is at fault so
 abbrev pub IsAtFault : Option (List ℕ) → TextAudit → ReadFault → Type 0
@@ -388,17 +418,17 @@ IsLeft (Some all) (Some rest) left = rest ≡ left
 IsLeft _ _ left = Unit {0}
 
 -- a reader and an audit went on to lines before a fault, whose events the audit holds
-abbrev pub StopsAfter : Option (List ℕ) → Option (List ℕ) → TextAudit → ReadFault → TextAudit → Type 0
-StopsAfter old new before why after =
-    (last : TextAudit) × GoesOn old new before last × (has_events last.events ≡ has_events before.events)
+abbrev pub AuditStopsAfter : Option (List ℕ) → Option (List ℕ) → TextAudit → ReadFault → TextAudit → Type 0
+AuditStopsAfter old new before why after =
+    (last : TextAudit) × AuditGoesOn old new before last × (has_events last.events ≡ has_events before.events)
     × (held_events after.events ≡ held_events last.events)
     × ((left : List ℕ) × IsLeft old new left × BeginsWrong last left why)
 
 -- what a reader held was taken by an audit
 abbrev pub BecomesOf : Buffered → Option (List ℕ) → Option (List ℕ) → TextAudit → TextAudit → Type 0
 BecomesOf held.End old new before after = IsAtEnd old × (after ≡ before)
-BecomesOf held.Lines old new before after = GoesOn old new before after
-BecomesOf (held.Wrong why) old new before after = IsAtFault old before why × StopsAfter old new before why after
+BecomesOf held.Lines old new before after = AuditGoesOn old new before after
+BecomesOf (held.Wrong why) old new before after = IsAtFault old before why × AuditStopsAfter old new before why after
 
 -- a wrong entry has a line, and so has its event with the legal reply
 pub record FitsLines (w : WrongLine) : Type 0 where
@@ -417,19 +447,19 @@ last_line true count = end_line count
 
 -- the same of a record that is cut off
 abbrev pub last_cut_line : Bool → ℕ → List ℕ
-last_cut_line false count = cut_line count
+last_cut_line false count = cut_record_line count
 last_cut_line true count = cut_end_line count
 
--- the last line of a legal record's audit was written
-abbrev pub IsWritten : Bool → Result ℕ TextFault → Option (List ℕ) → Option (List ℕ) → Type 0
-IsWritten events (Ok count) old new = Appends old new (last_line events count)
-IsWritten events (Err why) old new = ⊥
+-- the last rules and the last line of a legal record's audit were written
+abbrev pub IsWritten : Bool → List ℕ → Result ℕ TextFault → Option (List ℕ) → Option (List ℕ) → Type 0
+IsWritten events rules (Ok count) old new = Appends old new (rules ++ last_line events count)
+IsWritten events rules (Err why) old new = ⊥
 
 -- the same of a record that may be cut off
-abbrev pub IsCutWritten : Bool → Result Cut TextFault → Option (List ℕ) → Option (List ℕ) → Type 0
-IsCutWritten events (Ok (cut.Whole count)) old new = Appends old new (last_line events count)
-IsCutWritten events (Ok (cut.Off count)) old new = Appends old new (last_cut_line events count)
-IsCutWritten events (Err why) old new = ⊥
+abbrev pub IsCutWritten : Bool → List ℕ → Result Cut TextFault → Option (List ℕ) → Option (List ℕ) → Type 0
+IsCutWritten events rules (Ok (cut.Whole count)) old new = Appends old new (rules ++ last_line events count)
+IsCutWritten events rules (Ok (cut.Off count)) old new = Appends old new (rules ++ last_cut_line events count)
+IsCutWritten events rules (Err why) old new = ⊥
 
 -- a fault is that of the text
 abbrev pub IsToldFault : TextFault → ProgramError → Type 0
@@ -440,3 +470,13 @@ IsToldFault (found.Wrong w) why = why ≡ fault.WrongEntry w.place
 abbrev pub IsTold : {A : Type 0} → Result A TextFault → ProgramError → Type 0
 IsTold (Ok count) why = why ≡ fault.Write
 IsTold (Err what) why = IsToldFault what why
+
+-- the bus of a text has so many interfaces, as far as it is known
+abbrev pub FitsBus : Option ℕ → Option BusConfig → Type 0
+FitsBus ifaces None = Unit {0}
+FitsBus ifaces (Some c) = HasIfaces ifaces c
+
+-- it has another number of them
+abbrev pub IsOtherBus : Option ℕ → Option BusConfig → ProgramError → Type 0
+IsOtherBus (Some n) (Some c) why = (why ≡ fault.OtherBus) × (c.ifaces ≢ n)
+IsOtherBus _ _ why = ⊥

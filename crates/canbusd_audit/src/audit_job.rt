@@ -1,14 +1,13 @@
 ghost use Rattle.std.specs.Prelude.{◌≡◌, ◌⊎◌, [], IfErr, IfOk, None, OnOk, map};
-ghost use Rattle.can_replay.specs.EventTexts.{HasWritten, has_events, held_events};
+ghost use Rattle.can_replay.specs.EventTexts.{HasWritten, has_events, held_events, rules_last};
 ghost use Rattle.canbusd_io.specs.declared.program_error.ProgramError.TheVariants as told;
-ghost use Rattle.canbusd_audit.specs.Audited.{Audits, AuditsCut, AuditsFiles, AuditsSome, FaultsCut, FaultsFiles, FaultsInput, IsAskedBy, IsOfAsked, IsOfFiles, Leaves, LeavesFiles, StopsEvents, are_events, asks_events, wanted_of};
+ghost use Rattle.canbusd_audit.specs.Audited.{Audits, AuditsCut, AuditsFiles, AuditsSome, FaultsCut, FaultsFiles, FaultsInput, IsAskedBy, IsOfAsked, IsOfFiles, IsOfOtherBus, Leaves, LeavesFiles, StopsEvents, are_events, asks_events, ifaces_named, wanted_of};
 
 use crate::ends::{tell_cut, tell_end};
-use crate::events::put_events;
 use crate::joined::Joined;
+use crate::known_bus::put_known;
 use crate::line_taking::{take_last, take_lines};
-use can_events::Wanted;
-use can_replay::TextAudit;
+use can_replay::{TextAudit, Wanted};
 use canbusd_io::{LimitedReads, ProgramError, Report, open_file, read_faults};
 use canbusd_options::{AuditOptions, AuditOutput};
 use std::alloc::{AllocError, Global};
@@ -29,35 +28,37 @@ pub fn audit_files<'a, H: Files, W: Write, E: Write>(
         (AuditsFiles options.now.is_cut options.now.output W.contents output.old output.new) }
     ensures fault { IfErr result (λ failure. IsOfAsked options.now.output failure.error ⊎
         (StopsEvents (are_events options.now.output) failure.error ⊎
+        (IsOfOtherBus (ifaces_named options.now.output) None failure.error ⊎
         FaultsFiles options.now.is_cut (map (λ file. file.now) options.now.files.items)
-        failure.error)) }
+        failure.error))) }
     ensures written { IfErr result (λ failure.
         LeavesFiles options.now.output failure.error W.contents output.old output.new) }
 {
-    let asked = read_asked(rt, alloc, &options.output)?;
-    audit_asked(rt, alloc, options, asked, output, errors)
+    let (asked, ifaces) = read_asked(rt, alloc, &options.output)?;
+    audit_asked(rt, alloc, options, asked, ifaces, output, errors)
 }
 
-// What options ask for, with the faults of the run.
+// What options ask for, with the faults of the run, and how many interfaces these have names for.
 fn read_asked<'a, H: Files>(
     rt: &H,
     alloc: Global,
     output: &AuditOutput<'a>,
-) -> Result<Option<Wanted>, Report<'a>>
-    ensures asked { IfOk result (λ asked. IsAskedBy output.now asked) }
+) -> Result<(Option<Wanted>, Option<u8>), Report<'a>>
+    ensures asked { IfOk result (λ asked. IsAskedBy output.now asked.0) }
+    ensures ifaces { IfOk result (λ asked. asked.1 ≡ ifaces_named output.now) }
     ensures fault { IfErr result (λ failure. IsOfAsked output.now failure.error) }
 {
     let AuditOutput::Events(asked) = output else {
-        return Ok(None);
+        return Ok((None, None));
     };
-    let faults = match &asked.faults {
-        Some(word) => Some(read_faults(rt, alloc, *word)?),
-        None => None,
+    let timing = asked.timing;
+    let Some(word) = &asked.faults else {
+        let faults = None;
+        return Ok((Some(Wanted { timing, faults }), None));
     };
-    Ok(Some(Wanted {
-        timing: asked.timing,
-        faults,
-    }))
+    let known = read_faults(rt, alloc, *word)?;
+    let faults = Some(known.faults);
+    Ok((Some(Wanted { timing, faults }), Some(known.ifaces)))
 }
 
 // The same as `audit_files`, with what is asked for.
@@ -66,15 +67,17 @@ fn audit_asked<'a, H: Files, W: Write, E: Write>(
     alloc: Global,
     options: &AuditOptions<'a>,
     asked: Option<Wanted>,
+    ifaces: Option<u8>,
     output: &mut W,
     errors: &mut E,
 ) -> Result<(), Report<'a>>
     ensures legal { OnOk result
-        (AuditsSome options.now.is_cut asked W.contents output.old output.new) }
+        (AuditsSome options.now.is_cut asked ifaces W.contents output.old output.new) }
     ensures fault { IfErr result (λ failure.
         StopsEvents (asks_events asked) failure.error ⊎
+        (IsOfOtherBus ifaces None failure.error ⊎
         FaultsFiles options.now.is_cut (map (λ file. file.now) options.now.files.items)
-        failure.error) }
+        failure.error)) }
     ensures written { IfErr result (λ failure.
         Leaves asked None failure.error W.contents output.old output.new) }
 {
@@ -86,9 +89,9 @@ fn audit_asked<'a, H: Files, W: Write, E: Write>(
         return Err(Report::new(alloc, ProgramError::NoMemory));
     };
     if options.is_cut {
-        audit_cut_lines(alloc, &name, &mut input, asked, output, errors)
+        audit_cut_lines(alloc, &name, &mut input, asked, ifaces, output, errors)
     } else {
-        audit_lines(alloc, &name, &mut input, asked, output)
+        audit_lines(alloc, &name, &mut input, asked, ifaces, output)
     }
 }
 
@@ -104,6 +107,18 @@ fn new_audit<'a>(alloc: Global, asked: Option<Wanted>) -> Result<TextAudit, Repo
     };
     match TextAudit::with_events(alloc, wanted) {
         Ok(audit) => Ok(audit),
+        Err(_) => Err(Report::new(alloc, ProgramError::NoMemory)),
+    }
+}
+
+// The lines of the rules that the bus takes after the last entry, and of where all end.
+fn last_rules<'a>(alloc: Global, audit: &mut TextAudit) -> Result<Vec<u8>, Report<'a>>
+    ensures lines { IfOk result (λ lines. lines.items ≡ rules_last audit.old.events) }
+    ensures phase { audit.new.phase ≡ audit.old.phase }
+    ensures fault { IfErr result (λ failure. failure.error ≡ told.NoMemory) }
+{
+    match audit.last_rules(alloc) {
+        Ok(lines) => Ok(lines),
         Err(_) => Err(Report::new(alloc, ProgramError::NoMemory)),
     }
 }
@@ -146,7 +161,8 @@ fn joined_name(alloc: Global, paths: &[&str]) -> Result<String, AllocError> {
 }
 
 /// Audits the record of a text, which the file with this path has, and writes how many entries it has where it is a
-/// legal history, or with events what they brought about, as far as they are legal.
+/// legal history, or with events what they brought about, as far as they are legal. Its bus has to have so many interfaces,
+/// where it is said how many.
 ///
 /// The text is read line by line and once, so it may come through a pipe. Neither it nor its record is held, nor more of
 /// the events than those of the lines that one read gave.
@@ -155,24 +171,35 @@ pub fn audit_lines<'a, R: BufRead, W: Write>(
     path: &str,
     input: &mut R,
     asked: Option<Wanted>,
+    ifaces: Option<u8>,
     output: &mut W,
 ) -> Result<(), Report<'a>>
     ensures legal { OnOk result
-        (Audits asked (R.remaining input.old) W.contents output.old output.new) }
+        (Audits asked ifaces (R.remaining input.old) W.contents output.old output.new) }
     ensures fault { IfErr result (λ failure.
         StopsEvents (asks_events asked) failure.error ⊎
-        FaultsInput (R.remaining input.old) failure.error) }
+        (IsOfOtherBus ifaces (R.remaining input.old) failure.error ⊎
+        FaultsInput (R.remaining input.old) failure.error)) }
     ensures written { IfErr result (λ failure.
         Leaves asked (R.remaining input.old) failure.error W.contents output.old output.new) }
 {
     let has_events = is_with_events(&asked);
     let mut audit = new_audit(alloc, asked)?;
     let mut torn = Vec::new(alloc);
-    let lines = take_lines(alloc, path, input, &mut audit, &mut torn, output)?;
+    let lines = take_lines(alloc, path, ifaces, input, &mut audit, &mut torn, output)?;
     take_last(alloc, path, lines, &mut audit, &torn)?;
-    put_events(alloc, &mut audit, output)?;
+    put_known(alloc, path, ifaces, &mut audit, output)?;
     let first = audit.first_line();
-    tell_end(alloc, path, first, audit.finish(), has_events, output)
+    let rules = last_rules(alloc, &mut audit)?;
+    tell_end(
+        alloc,
+        path,
+        first,
+        audit.finish(),
+        &rules,
+        has_events,
+        output,
+    )
 }
 
 /// The same of a text that may be cut off, as a run that was killed leaves it: writes how many entries it has, and
@@ -182,22 +209,27 @@ pub fn audit_cut_lines<'a, R: BufRead, W: Write, E: Write>(
     path: &str,
     input: &mut R,
     asked: Option<Wanted>,
+    ifaces: Option<u8>,
     output: &mut W,
     errors: &mut E,
 ) -> Result<(), Report<'a>>
     ensures legal { OnOk result
-        (AuditsCut asked (R.remaining input.old) W.contents output.old output.new) }
+        (AuditsCut asked ifaces (R.remaining input.old) W.contents output.old output.new) }
     ensures fault { IfErr result (λ failure.
         StopsEvents (asks_events asked) failure.error ⊎
-        FaultsCut (R.remaining input.old) failure.error) }
+        (IsOfOtherBus ifaces (R.remaining input.old) failure.error ⊎
+        FaultsCut (R.remaining input.old) failure.error)) }
     ensures written { IfErr result (λ failure.
         Leaves asked (R.remaining input.old) failure.error W.contents output.old output.new) }
 {
     let has_events = is_with_events(&asked);
     let mut audit = new_audit(alloc, asked)?;
     let mut torn = Vec::new(alloc);
-    take_lines(alloc, path, input, &mut audit, &mut torn, output)?;
+    take_lines(alloc, path, ifaces, input, &mut audit, &mut torn, output)?;
     let first = audit.first_line();
+    let rules = last_rules(alloc, &mut audit)?;
     let found = audit.finish_cut(&torn);
-    tell_cut(alloc, path, first, found, &torn, has_events, output, errors)
+    tell_cut(
+        alloc, path, first, found, &torn, &rules, has_events, output, errors,
+    )
 }

@@ -2,6 +2,7 @@ ghost use Rattle.std.specs.Prelude.{◌≡◌, ◌≤◌, IfOk, IfSome, IsNone, 
 ghost use Rattle.can_replay.specs.EventTexts.{has_events};
 ghost use Rattle.canbusd_audit.specs.Audited.{BecomesOf, HoldsBefore, IsWrongNext, TakesMore};
 
+use crate::notes::HEAD;
 use can_record_text::ReadFault;
 use can_replay::TextAudit;
 use memchr::memchr;
@@ -20,7 +21,8 @@ pub enum Buffered {
     Wrong(ReadFault),
 }
 
-/// Takes the whole lines that an input holds, and counts them. It reads once where the input holds nothing.
+/// Takes the whole lines that an input holds, up to those before a record's entries or from there on, and counts them. It reads
+/// once where the input holds nothing.
 pub fn take_held<R: BufRead>(
     alloc: Global,
     input: &mut R,
@@ -58,8 +60,8 @@ fn unfilled(error: Error) -> io::Result<Buffered>
     }
 }
 
-// Takes the whole lines that these bytes begin with, and counts them: how many bytes they have, and the fault of the line that
-// follows them, if it is at fault.
+// Takes the whole lines that these bytes begin with, up to those before a record's entries or from there on, and counts them: how
+// many bytes they have, and the fault of the line that follows them, if it is at fault.
 fn carry_held(
     alloc: Global,
     held: &[u8],
@@ -82,6 +84,9 @@ fn carry_held(
         }
         *lines = lines.saturating_add(1);
         len = end;
+        if *lines == HEAD {
+            return (len, None);
+        }
     }
     (len, None)
 }

@@ -1,4 +1,4 @@
-ghost use Rattle.std.specs.Prelude.{◌≡◌, IfErr, OnOk};
+ghost use Rattle.std.specs.Prelude.{◌≡◌, ◌++◌, IfErr, OnOk};
 ghost use Rattle.std.specs.Io.KnownBytes.{Appends};
 ghost use Rattle.canbusd_io.specs.declared.program_error.ProgramError.TheVariants as told;
 ghost use Rattle.canbusd_audit.specs.Audited.{FitsLines, HasNote, IsCutWritten, IsQuiet, IsTold, IsWritten, last_cut_line, last_line};
@@ -9,26 +9,28 @@ use can_record_text::ReadFault;
 use can_replay::{Cut, TextFault, WrongLine};
 use canbusd_io::{OUTPUT, ProgramError, Report, write_failure};
 use std::alloc::Global;
+use std::io;
 use std::io::Write;
 
 /// Reports what was found of a text that has ended and begins with this line: writes how many entries a legal record
-/// has, or with events their last line.
+/// has, or with events the last rules, which are these lines, and their last line.
 pub fn tell_end<'a, W: Write>(
     alloc: Global,
     path: &str,
     first: &[u8],
     found: Result<usize, TextFault>,
+    rules: &[u8],
     has_events: bool,
     output: &mut W,
 ) -> Result<(), Report<'a>>
     requires { IfErr found HasNote }
     ensures legal { OnOk result
-        (IsWritten has_events found (W.contents output.old) (W.contents output.new)) }
+        (IsWritten has_events rules.now found (W.contents output.old) (W.contents output.new)) }
     ensures fault { IfErr result (λ failure. IsTold found failure.error) }
     ensures quiet { IfErr result (λ failure. IsQuiet failure.error output.old output.new) }
 {
     match found {
-        Ok(count) => write_count(alloc, count, has_events, output),
+        Ok(count) => write_count(alloc, count, rules, has_events, output),
         Err(TextFault::Read(fault)) => {
             let failure = text_failure(alloc, path, first, b"", fault);
             Err(with_cut_note(alloc, failure, fault))
@@ -41,18 +43,16 @@ pub fn tell_end<'a, W: Write>(
 fn write_count<'a, W: Write>(
     alloc: Global,
     count: usize,
+    rules: &[u8],
     has_events: bool,
     output: &mut W,
 ) -> Result<(), Report<'a>>
     ensures legal { OnOk result
-        (Appends (W.contents output.old) (W.contents output.new) (last_line has_events count)) }
+        (Appends (W.contents output.old) (W.contents output.new)
+        (rules.now ++ last_line has_events count)) }
     ensures fault { IfErr result (λ failure. failure.error ≡ told.Write) }
 {
-    let written = if has_events {
-        writeln!(output, "end {count}")
-    } else {
-        writeln!(output, "ok {count} entries")
-    };
+    let written = write_end(output, count, rules, has_events);
     written.map_err(|error| write_failure(alloc, OUTPUT, &error))
 }
 
@@ -63,19 +63,20 @@ pub fn tell_cut<'a, W: Write, E: Write>(
     first: &[u8],
     found: Result<Cut, TextFault>,
     torn: &[u8],
+    rules: &[u8],
     has_events: bool,
     output: &mut W,
     errors: &mut E,
 ) -> Result<(), Report<'a>>
     requires { IfErr found HasNote }
     ensures legal { OnOk result
-        (IsCutWritten has_events found (W.contents output.old) (W.contents output.new)) }
+        (IsCutWritten has_events rules.now found (W.contents output.old) (W.contents output.new)) }
     ensures fault { IfErr result (λ failure. IsTold found failure.error) }
     ensures quiet { IfErr result (λ failure. IsQuiet failure.error output.old output.new) }
 {
     match found {
-        Ok(Cut::Whole(count)) => write_count(alloc, count, has_events, output),
-        Ok(Cut::Off(count)) => tell_off(alloc, count, torn, has_events, output, errors),
+        Ok(Cut::Whole(count)) => write_count(alloc, count, rules, has_events, output),
+        Ok(Cut::Off(count)) => tell_off(alloc, count, torn, rules, has_events, output, errors),
         Err(TextFault::Read(fault)) => Err(text_failure(alloc, path, first, torn, fault)),
         Err(TextFault::Wrong(wrong)) => Err(wrong_failure(alloc, path, &wrong)),
     }
@@ -86,12 +87,14 @@ fn tell_off<'a, W: Write, E: Write>(
     alloc: Global,
     count: usize,
     torn: &[u8],
+    rules: &[u8],
     has_events: bool,
     output: &mut W,
     errors: &mut E,
 ) -> Result<(), Report<'a>>
     ensures legal { OnOk result
-        (Appends (W.contents output.old) (W.contents output.new) (last_cut_line has_events count)) }
+        (Appends (W.contents output.old) (W.contents output.new)
+        (rules.now ++ last_cut_line has_events count)) }
     ensures fault { IfErr result (λ failure. failure.error ≡ told.Write) }
 {
     if !torn.is_empty() {
@@ -101,12 +104,44 @@ fn tell_off<'a, W: Write, E: Write>(
             "note: {bytes} bytes of a line without its end were not looked at"
         );
     }
-    let written = if has_events {
+    let written = write_cut(output, count, rules, has_events);
+    written.map_err(|error| write_failure(alloc, OUTPUT, &error))
+}
+
+// Writes the last rules of a whole record, and its last line.
+fn write_end<W: Write>(
+    output: &mut W,
+    count: usize,
+    rules: &[u8],
+    has_events: bool,
+) -> io::Result<()>
+    ensures { OnOk result (Appends (W.contents output.old) (W.contents output.new)
+        (rules.now ++ last_line has_events count)) }
+{
+    output.write_all(rules)?;
+    if has_events {
+        writeln!(output, "end {count}")
+    } else {
+        writeln!(output, "ok {count} entries")
+    }
+}
+
+// The same of a record that is cut off.
+fn write_cut<W: Write>(
+    output: &mut W,
+    count: usize,
+    rules: &[u8],
+    has_events: bool,
+) -> io::Result<()>
+    ensures { OnOk result (Appends (W.contents output.old) (W.contents output.new)
+        (rules.now ++ last_cut_line has_events count)) }
+{
+    output.write_all(rules)?;
+    if has_events {
         writeln!(output, "cut {count}")
     } else {
         writeln!(output, "ok {count} entries, then cut off")
-    };
-    written.map_err(|error| write_failure(alloc, OUTPUT, &error))
+    }
 }
 
 // What is reported of a text that is no record's, and ends in these bytes without LF.

@@ -1,7 +1,7 @@
 //! What the entries of a record brought about, as it is written.
 ghost use Rattle.std.specs.Prelude.{◌≡◌, ◌++◌, [], IfErr, List, OnOk, ℕ};
 ghost use Rattle.std.specs.Io.KnownBytes.{Appends};
-ghost use Rattle.can_events.specs.declared.wanted.Wanted.{Wanted as AWanted};
+ghost use Rattle.can_replay.specs.declared.wanted.Wanted.{Wanted as AWanted};
 ghost use Rattle.can_replay.specs.EventTexts.{HasWritten, has_events, held_events};
 ghost use Rattle.canbusd_audit.specs.Audited.{Puts, StopsEvents};
 

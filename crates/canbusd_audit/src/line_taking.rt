@@ -1,12 +1,13 @@
 ghost use Rattle.std.specs.Prelude.{◌≡◌, ◌≢◌, ◌-◌, ◌⊎◌, [], IfErr, IfOk, IsTrue, OnOk, Some, false, length, slice_get};
-ghost use Rattle.can_events.specs.declared.wanted.Wanted.{Wanted as AWanted};
+ghost use Rattle.can_replay.specs.declared.wanted.Wanted.{Wanted as AWanted};
 ghost use Rattle.can_replay.specs.EventTexts.{HasWritten, has_events, held_events};
-ghost use Rattle.can_replay.specs.TextAudits.{EndsNoLine};
-ghost use Rattle.canbusd_audit.specs.Audited.{FaultsLast, FaultsLine, IsInputTaken, IsNextLine, IsOfLine, IsOfSomeLine, Leaves, StopsEvents, TakesLast, output_of};
+ghost use Rattle.can_replay.specs.TextAudits.{EndsNoLine, bus_taken};
+ghost use Rattle.canbusd_audit.specs.Audited.{FaultsLast, FaultsLine, FitsBus, IsInputTaken, IsNextLine, IsOfLine, IsOfOtherBus, IsOfSomeLine, Leaves, StopsEvents, TakesLast, output_of};
 ghost use Rattle.canbusd_io.specs.Files.{IsOfReading};
 
 use crate::buffered::{Buffered, take_held};
 use crate::events::put_events;
+use crate::known_bus::put_known;
 use crate::notes::{record_note, with_cut_note};
 use can_record_text::ReadFault;
 use can_replay::TextAudit;
@@ -16,13 +17,15 @@ use std::io::{BufRead, Write};
 use std::str;
 
 /// Takes the lines of an input to its end: how many there were. The bytes after the last LF are left. After each read the
-/// events of an audit that has them are written.
+/// events of an audit that has them are written. The bus of the record has to have so many interfaces, where it is said how
+/// many: if it has others nothing is written.
 ///
 /// Where a line is at fault, what follows is read all the same: an input that is no UTF-8 text is reported as such,
 /// wherever it is not.
 pub fn take_lines<'a, R: BufRead, W: Write>(
     alloc: Global,
     path: &str,
+    ifaces: Option<u8>,
     input: &mut R,
     audit: &mut TextAudit,
     torn: &mut Vec<u8>,
@@ -33,9 +36,11 @@ pub fn take_lines<'a, R: BufRead, W: Write>(
     ensures taken { OnOk result ((w : AWanted) → HasWritten w [] [] audit.old →
         IsInputTaken w (R.remaining input.old) audit.new torn.new.items
         W.contents output.old output.new) }
+    ensures fits { OnOk result (FitsBus ifaces (bus_taken audit.new.phase)) }
     ensures fault { IfErr result (λ failure.
         StopsEvents (has_events audit.old.events) failure.error ⊎
-        FaultsLine (R.remaining input.old) failure.error) }
+        (IsOfOtherBus ifaces (R.remaining input.old) failure.error ⊎
+        FaultsLine (R.remaining input.old) failure.error)) }
     ensures written { IfErr result (λ failure. (w : AWanted) → HasWritten w [] [] audit.old →
         Leaves (output_of w audit.old.events) (R.remaining input.old) failure.error
         W.contents output.old output.new) }
@@ -44,7 +49,7 @@ pub fn take_lines<'a, R: BufRead, W: Write>(
     let mut lines = 0;
     for _ in 0..u64::MAX {
         match take_held(alloc, input, audit, &mut lines) {
-            Ok(Buffered::Lines) => put_events(alloc, audit, output)?,
+            Ok(Buffered::Lines) => put_known(alloc, path, ifaces, audit, output)?,
             Ok(Buffered::End) => {
                 torn.clear();
                 return Ok(lines);
@@ -62,7 +67,7 @@ pub fn take_lines<'a, R: BufRead, W: Write>(
         }
         lines = lines.saturating_add(1);
         match audit.carry(alloc, torn) {
-            Ok(()) => put_events(alloc, audit, output)?,
+            Ok(()) => put_known(alloc, path, ifaces, audit, output)?,
             Err(fault) => {
                 return Err(line_failure(alloc, path, lines, input, torn, fault));
             }

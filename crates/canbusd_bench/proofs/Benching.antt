@@ -18,14 +18,14 @@ use Rattle.canbusd_options.specs.declared.bench_options.BenchOptions.{BenchOptio
 use Rattle.canbusd_io.specs.declared.program_error.ProgramError.{ProgramError}
 use Rattle.canbusd_io.specs.declared.program_error.ProgramError.TheVariants as fault
 use Rattle.canbusd_io.specs.Buses.{IsPlan, config_of}
-use Rattle.canbusd_bench.specs.Benched.{FailsBy, IsBenched, IsRun, IsStopped, MeetsRefusal, StopsBy, begun}
+use Rattle.canbusd_bench.specs.Benched.{FailsBy, IsBenched, IsRunAsAsked, IsStopped, MeetsRefusal, StopsBy, begun}
 use Rattle.canbusd_bench.specs.Refusals.{GrowsByRefusal, GrowsQuietly}
 use Rattle.canbusd_bench.specs.inner.Watched.{told}
 use Rattle.canbusd_bench.proofs.Watching.{Watching, loudly, nothing, quiet_if, seen_whole, unknown_refusal, wrote}
 
 -- A run of the bench over the configuration that options describe.
 
--- what a bench of this configuration replied
+-- the reply of a bench of this configuration
 pub record Answered {W : Type 0} (contents : W → Option (List ℕ)) (shows : Bool) (timing : Option BusTiming) (c : BusConfig) (capacity : ℕ) (names : List (List ℕ)) (plan : PlanSeen) (input : Option (List ℕ)) (out : W) (r : Result Kept BenchFault) (new : W) : Type 0 where
   pub bad : (r ≡ Err BadConfig) ↔ (IsBench names c capacity → ⊥)
   pub untouched : r ≡ Err BadConfig → new ≡ out
@@ -59,11 +59,11 @@ stopped contents c o names plan input out new why f is told a =
 pub ran : {W : Type 0} (E : Type 0) (contents : W → Option (List ℕ)) (o : BenchOptions) (names : List (List ℕ)) (plan : PlanSeen) (input : Option (List ℕ)) (out new : W) (r : Result Kept E)
     → IsPlan o.bus.script names plan → IfOk r (λ k. EndsOver contents no_verdicts input (begun plan o names) out (Ok k) new)
     → IfOk r (λ k. k.config ≡ config_of o.settings (length names)) → IfOk r (λ k. IsConfig k.config) → IfOk r (λ k. IsLegal k.config k.history)
-    → IfOk r (λ k. IsRun contents o names input out k new)
+    → IfOk r (λ k. IsRunAsAsked contents o names input out k new)
 ran E contents o names plan input out new (Ok k) scripted ends config proper legal = record { plan = plan; scripted = scripted; ends = ends; config = config; proper = proper; legal = legal }
 ran E contents o names plan input out new (Err why) scripted ends config proper legal = tt
 
--- the writer that took what a watcher was given, where its bytes are known: the one that was flushed
+-- the writer that took a watcher's bytes, if these are known: the one that was flushed
 pub record Taken {W : Type 0} (contents : W → Option (List ℕ)) (old behind new : W) (text : List ℕ) : Type 0 where
   pub written : W
   pub took : Appends (contents old) (contents written) text
@@ -83,7 +83,7 @@ taken contents before after strict old behind flushed new seen text a =
       }
     ]
 
--- what a run that came to its end has put out
+-- the output of a run that came to its end
 abbrev text_in : {V : Type 0} (outer : V → Option (List ℕ)) (verdicts : VerdictMap) (input : Option (List ℕ)) (b : BenchState) (v w : V) (r : Kept)
     → EndsOver outer verdicts input b v (Ok r) w → (text : List ℕ) × Appends (outer v) (outer w) text
 text_in outer verdicts input b v w r (now, (lines, after, all, over, none, out, leaves)) = (out.text, out.wrote)
@@ -95,7 +95,7 @@ moved outer contents verdicts input b v w old new r (now, (lines, after, all, ov
     (now, (lines, after, all, over, none, record { text = out.text; short = out.short; carried = out.carried; wrote = a }, leaves))
 
 run_over : {V W : Type 0} (outer : V → Option (List ℕ)) (contents : W → Option (List ℕ)) (o : BenchOptions) (names : List (List ℕ)) (input : Option (List ℕ)) (v w : V) (old new : W) (r : Kept)
-    (run : IsRun outer o names input v r w) → Appends (contents old) (contents new) (text_in outer no_verdicts input (begun run.plan o names) v w r run.ends).0 → IsRun contents o names input old r new
+    (run : IsRunAsAsked outer o names input v r w) → Appends (contents old) (contents new) (text_in outer no_verdicts input (begun run.plan o names) v w r run.ends).0 → IsRunAsAsked contents o names input old r new
 run_over outer contents o names input v w old new r run a =
     record { plan = run.plan; scripted = run.scripted; ends = moved outer contents no_verdicts input (begun run.plan o names) v w old new r run.ends a; config = run.config; proper = run.proper; legal = run.legal }
 
@@ -108,7 +108,7 @@ unless_known contents P old behind written (inr is) first second = subst (λ w. 
 -- a run whose output went through a watcher that saw no refusal
 pub benched : {V W : Type 0} (outer : V → Option (List ℕ)) (contents : W → Option (List ℕ)) (o : BenchOptions) (input : Option (List ℕ)) (v w : V) (old behind flushed new : W) (r : Kept)
     → AreNames (names_in o.bus.names.now) → (seen : Watching contents (outer v) (outer w) o.is_strict old behind flushed new) → (seen.on ≡ false) ⊎ (seen.seen ≢ 9)
-    → IsRun outer o (names_in o.bus.names.now) input v r w → IsBenched contents o input old new
+    → IsRunAsAsked outer o (names_in o.bus.names.now) input v r w → IsBenched contents o input old new
 benched outer contents o input v w old behind flushed new r named seen none run =
     let names = names_in o.bus.names.now in
     let text = text_in outer no_verdicts input (begun run.plan o names) v w r run.ends in
@@ -127,7 +127,7 @@ benched outer contents o input v w old behind flushed new r named seen none run 
 -- and through one that saw a refusal
 pub refused : {V W : Type 0} (outer : V → Option (List ℕ)) (contents : W → Option (List ℕ)) (o : BenchOptions) (input : Option (List ℕ)) (v w : V) (old behind flushed new : W) (r : Kept)
     → AreNames (names_in o.bus.names.now) → (seen : Watching contents (outer v) (outer w) o.is_strict old behind flushed new) → (seen.on ≡ true) × (seen.seen ≡ 9)
-    → IsRun outer o (names_in o.bus.names.now) input v r w → MeetsRefusal contents o input old new
+    → IsRunAsAsked outer o (names_in o.bus.names.now) input v r w → MeetsRefusal contents o input old new
 refused outer contents o input v w old behind flushed new r named seen some run =
     let names = names_in o.bus.names.now in
     let text = text_in outer no_verdicts input (begun run.plan o names) v w r run.ends in
@@ -214,7 +214,7 @@ pub if_err : {A E : Type 0} (r : Result A E) (P Q : E → Type 0) → IfErr r P 
 if_err (Ok a) P Q p f = tt
 if_err (Err e) P Q p f = f e p
 
--- what holds of an error holds of the one that is passed on
+-- a property of an error is one of the error passed on
 pub passed_on : {T F : Type 0} (P : F → Type 0) (e : F) (r : Result T F) → IsErrAnd r (λ x. x ≡ e) → P e → IfErr r P
 passed_on P e (Ok t) same holds = tt
 passed_on P e (Err x) same holds = subst P (sym same) holds

@@ -3,12 +3,12 @@ use Rattle.std.proofs.lemmas.List.{take_more}
 use Rattle.canbusd_bench.specs.Refusals.{HasRefusal}
 use Rattle.canbusd_bench.specs.inner.Watched.{seen_after, seen_in}
 
--- What a watcher saw is there.
+-- The text that a watcher saw is there.
 
 abbrev front : List ℕ
 front = codes "< error "
 
--- 9 is counted after a refusal, and else how many bytes of its front come last
+-- the count is 9 after a refusal, and else the number of last bytes that begin one
 abbrev Saw : ℕ → List ℕ → Type 0
 Saw seen text = ((seen ≡ 9) × HasRefusal text) ⊎ ((seen ≤ 8) × (before : List ℕ) × (text ≡ before ++ take seen front))
 

@@ -7,14 +7,14 @@ use Rattle.canbusd_bench.specs.Refusals.{GrowsByRefusal, GrowsQuietly, HasRefusa
 use Rattle.canbusd_bench.specs.inner.Watched.{saw, seen_after, seen_in, told}
 use Rattle.canbusd_bench.proofs.Refused.{is_refusal}
 
--- What a watcher knows of its writer's bytes.
+-- A watcher's knowledge of its writer's bytes.
 
 -- both tests hold
 both : (a b : Bool) → (a && b) ≡ true → (a ≡ true) × (b ≡ true)
 both true b e = (refl, e)
 both false b e = absurd (true≢false (sym e))
 
--- it saw a piece more
+-- it saw one piece more
 saw_more : (written seen : ℕ) (text piece : List ℕ) → saw written seen text ≡ true
     → (length (text ++ piece) - (written + length piece) ≡ length text - written) × (saw (written + length piece) (seen_in seen piece) (text ++ piece) ≡ true)
 saw_more written seen text piece was =
@@ -39,7 +39,7 @@ decide : (b : Bool) → (b ≡ true) ⊎ (b ≡ false)
 decide true = inl refl
 decide false = inr refl
 
--- what is known of a piece more
+-- the knowledge after one piece more
 grown : (name written seen : ℕ) (old new : Option (List ℕ)) (piece : List ℕ) → Appends old new piece
     → Appends (told name true written seen old) (told name true (written + length piece) (seen_in seen piece) new) piece
 grown name written seen None new piece a = tt
@@ -59,7 +59,7 @@ unlooked name written seen w s None new piece a = tt
 unlooked name written seen w s (Some text) None piece a = absurd a
 unlooked name written seen w s (Some text) (Some after) piece a = ap (λ l. name ∷ 0 ∷ l) a
 
--- the same where it looks only if it is on
+-- the same if it looks only while it is on
 pub looked : (name is : ℕ) (is_on on : Bool) (written seen w s : ℕ) (old new : Option (List ℕ)) (piece : List ℕ) → is ≡ name → on ≡ is_on
     → (is_on ≡ true → w ≡ written + length piece) → (is_on ≡ true → s ≡ seen_in seen piece) → Appends old new piece
     → Appends (told name is_on written seen old) (told is on w s new) piece
@@ -87,7 +87,7 @@ at_start name true text = told_on name 0 0 text (started text)
 parts : (a b c d : ℕ) (x y : List ℕ) → a ∷ b ∷ x ≡ c ∷ d ∷ y → (a ≡ c) × (b ≡ d) × (x ≡ y)
 parts a b c d x y e = (search (rules, e), search (rules, e), search (rules, e))
 
--- what is known, and what is there
+-- the knowledge and the bytes
 told_as : (name is : ℕ) (is_on : Bool) (written seen mark : ℕ) (text after : List ℕ) (piece : List ℕ) → Appends (Some (name ∷ mark ∷ text)) (told is is_on written seen (Some after)) piece
     → (is ≡ name) × (mark_of is_on (length after - written) ≡ mark) × (after ≡ text ++ piece) × ((is_on ≡ true) → saw written seen after ≡ true)
 told_as name is false written seen mark text after piece a = let t = parts _ _ _ _ _ _ a in (t.0, t.1, t.2, λ e. absurd (true≢false (sym e)))
@@ -96,7 +96,7 @@ told_as name is true written seen mark text after piece a = elim (decide (saw wr
   | inr not ↦ absurd (subst (λ o. Appends (Some (name ∷ mark ∷ text)) o piece) (told_off is written seen after not) a)
 ]
 
--- its writer's bytes grew by what it knows from its start on, and it is the same writer, where its bytes are known
+-- its writer's bytes grew by those that it knows from its start on, and it is the same writer, if its bytes are known
 pub wrote : (name is : ℕ) (is_on on : Bool) (w s : ℕ) (old new : Option (List ℕ)) (text : List ℕ) → Appends (told name is_on 0 0 old) (told is on w s new) text → (old ≡ None) ⊎ ((is ≡ name) × Appends old new text)
 wrote name is is_on on w s None new text a = inl refl
 wrote name is is_on on w s (Some bytes) None text a = absurd (subst (λ o. Appends o None text) (at_start name is_on bytes) a)
@@ -136,7 +136,7 @@ saw_all name is w s bytes after text a =
     ap (drop (length bytes)) t.2 ∙ drop-append-le (length bytes) bytes text (omega arith) ∙ ap (λ l. l ++ text) (drop_of_length-le bytes {i = length bytes} (omega arith)) in
     (t.2, sym (ap (seen_in 0) rest) ∙ here)
 
--- where it is on and saw no refusal, none was written
+-- If it is on and saw no refusal, none was written
 pub quietly : (name is : ℕ) (on : Bool) (w s : ℕ) (old new : Option (List ℕ)) (text : List ℕ) → Appends (told name true 0 0 old) (told is on w s new) text → (on ≡ false) ⊎ (s ≢ 9) → GrowsQuietly old new
 quietly name is on w s None new text a none = tt
 quietly name is on w s (Some bytes) None text a none = subst (λ o. Appends o None text) (at_start name true bytes) a
@@ -146,18 +146,18 @@ quietly name is true w s (Some bytes) (Some after) text a (inl off) = absurd (tr
 quietly name is true w s (Some bytes) (Some after) text a (inr none) =
     let t = saw_all name is w s bytes after text a in (text, t.0, λ r. none (sym t.1 ∙ found text r))
 
--- where it is on and saw a refusal, it was to be on, and one was written
+-- If it is on and saw a refusal, it was to be on, and one was written
 pub loudly : (name is : ℕ) (strict : Bool) (w s : ℕ) (old new : Option (List ℕ)) (text : List ℕ) → Appends (told name strict 0 0 old) (told is true w s new) text → s ≡ 9 → GrowsByRefusal strict old new
 loudly name is strict w s None new text a e = tt
 loudly name is strict w s (Some bytes) None text a e = subst (λ o. Appends o None text) (at_start name strict bytes) a
 loudly name is true w s (Some bytes) (Some after) text a e = let t = saw_all name is w s bytes after text a in (refl, text, t.0, is_refusal text (t.1 ∙ e))
 loudly name is false w s (Some bytes) (Some after) text a e = let t = told_as name is true w s 0 bytes after text a in absurd (search (rules, t.1))
 
--- what a watcher knows at its start
+-- the knowledge of a watcher at its start
 pub first_told : (name w s : ℕ) (on strict : Bool) (now old : Option (List ℕ)) → on ≡ strict → w ≡ 0 → s ≡ 0 → now ≡ old → told name on w s now ≡ told name strict 0 0 old
 first_told name w s on strict now old a b c d = rw (a, b, c, d) refl
 
--- the watcher before and after a run, and the writer before it, after it, flushed, and where its borrower gives it back
+-- the watcher before and after a run, and the writer before it, after it, flushed, and given back by its borrower
 pub record Watching {W : Type 0} (contents : W → Option (List ℕ)) (before after : Option (List ℕ)) (strict : Bool) (old behind flushed new : W) : Type 0 where
   pub name : ℕ
   pub is : ℕ

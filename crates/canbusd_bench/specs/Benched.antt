@@ -17,14 +17,14 @@ use Rattle.canbusd_bench.specs.Refusals.{GrowsByRefusal, GrowsQuietly}
 use Rattle.canbusd_io.specs.declared.program_error.ProgramError.{ProgramError}
 use Rattle.canbusd_io.specs.declared.program_error.ProgramError.TheVariants as fault
 
--- What the options of a bench ask for (own choice).
+-- The run that the options of a bench ask for (own choice).
 
 -- the bench that options describe, with these faults and names, before its first line
 abbrev pub begun : PlanSeen → BenchOptions → List (List ℕ) → BenchState
 begun plan o names =
     at_start_with o.shows_faults plan o.timing names (config_of o.settings (length names)) o.settings.rx_capacity
 
--- how a run that options describe ends in a fault: nothing was read or written where a number is outside its limits
+-- how a run that options describe ends in a fault: nothing was read or written if a number is outside its limits
 abbrev pub StopsBy : {W : Type 0} → (W → Option (List ℕ)) → BenchOptions → List (List ℕ) → PlanSeen
     → Option (List ℕ) → W → ProgramError → W → Type 0
 StopsBy contents o names plan input out (fault.Bench BadConfig) new =
@@ -33,8 +33,8 @@ StopsBy contents o names plan input out (fault.Bench why) new =
     EndsOver contents no_verdicts input (begun plan o names) out (Err why) new
 StopsBy contents o names plan input out _ new = ⊥
 
--- how a run that options describe ends in a fault of its script, before anything was written, or under the faults
--- of one
+-- how a run that options describe ends in a fault of its script, before anything was written, or under the faults of
+-- one
 abbrev pub FailsBy : {W : Type 0} → (W → Option (List ℕ)) → BenchOptions → List (List ℕ) → Option (List ℕ) → W
     → ProgramError → W → Type 0
 FailsBy contents o names input out why new =
@@ -43,7 +43,7 @@ FailsBy contents o names input out why new =
 
 -- a run that options describe came to its end, with these names and this record of the bus that they describe, which is
 -- within the limits
-pub record IsRun {W : Type 0} (contents : W → Option (List ℕ)) (o : BenchOptions) (names : List (List ℕ))
+pub record IsRunAsAsked {W : Type 0} (contents : W → Option (List ℕ)) (o : BenchOptions) (names : List (List ℕ))
     (input : Option (List ℕ)) (old : W) (r : Kept) (new : W) : Type 0 where
   pub plan : PlanSeen
   pub scripted : IsPlan o.bus.script names plan
@@ -52,25 +52,24 @@ pub record IsRun {W : Type 0} (contents : W → Option (List ℕ)) (o : BenchOpt
   pub proper : IsConfig r.config
   pub legal : IsLegal r.config r.history
 
--- a run that options describe came to its end, all that it put out was written, and where they are strict it has
--- no refusal
+-- a run that options describe came to its end, all its output was written, and if they are strict it has no refusal
 pub record IsBenched {W : Type 0} (contents : W → Option (List ℕ)) (o : BenchOptions) (input : Option (List ℕ))
     (old new : W) : Type 0 where
   pub named : AreNames (names_in o.bus.names.now)
   pub kept : Kept
   pub written : W
-  pub run : IsRun contents o (names_in o.bus.names.now) input old kept written
+  pub run : IsRunAsAsked contents o (names_in o.bus.names.now) input old kept written
   pub flushed : Keeps (contents written) (contents new)
   pub strict : o.is_strict ≡ true → GrowsQuietly (contents old) (contents written)
 
--- a run that options describe came to its end, all that it put out was written, and where that is known they are
--- strict and it has a refusal
+-- a run that options describe came to its end, all its output was written, and if that is known they are strict and it
+-- has a refusal
 pub record MeetsRefusal {W : Type 0} (contents : W → Option (List ℕ)) (o : BenchOptions) (input : Option (List ℕ))
     (old new : W) : Type 0 where
   pub named : AreNames (names_in o.bus.names.now)
   pub kept : Kept
   pub written : W
-  pub run : IsRun contents o (names_in o.bus.names.now) input old kept written
+  pub run : IsRunAsAsked contents o (names_in o.bus.names.now) input old kept written
   pub flushed : Keeps (contents written) (contents new)
   pub refused : GrowsByRefusal o.is_strict (contents old) (contents written)
 
@@ -80,8 +79,8 @@ HasRun contents o input old ran new =
     MatchOption ran.refusal (IsBenched contents o input old new) (λ failure.
     (failure.error ≡ fault.Refused) × MeetsRefusal contents o input old new)
 
--- how the bench that options describe ends before the end of its run: with a fault of its names, before anything
--- was written, of the writer, or of the run, whose output was written
+-- how the bench that options describe ends early: with a fault of its names, before anything was written, of the
+-- writer, or of the run, whose output was written
 abbrev pub IsStopped :
     {W : Type 0} → (W → Option (List ℕ)) → BenchOptions → Option (List ℕ) → W → ProgramError → W → Type 0
 IsStopped {W} contents o input old why new =
@@ -92,17 +91,16 @@ IsStopped {W} contents o input old why new =
     × FailsBy contents o (names_in o.bus.names.now) input old why written
     × Keeps (contents written) (contents new)))
 
--- a fault of the record's file or of the log's, where options ask for one
-abbrev pub IsOfFiles : BenchOptions → ProgramError → Type 0
-IsOfFiles o why =
+-- a fault of the record's file or of the log's, if options ask for one
+abbrev pub IsOfOutputFiles : BenchOptions → ProgramError → Type 0
+IsOfOutputFiles o why =
     IsSomeAnd o.record (λ path. IsOfRecordFile path.now why)
     ⊎ IsSomeAnd o.log (λ path. IsOfLogFile o.bus path.now why)
 
--- how the bench that options describe ends in a fault: before the end of its run, or at a file or a refused
--- message after it
+-- how the bench that options describe ends in a fault: early, or after the run at a file or a refused message
 abbrev pub FailsAs :
     {W : Type 0} → (W → Option (List ℕ)) → BenchOptions → Option (List ℕ) → W → ProgramError → W → Type 0
 FailsAs contents o input old why new =
     IsStopped contents o input old why new
-    ⊎ ((IsOfFiles o why × (IsBenched contents o input old new ⊎ MeetsRefusal contents o input old new))
+    ⊎ ((IsOfOutputFiles o why × (IsBenched contents o input old new ⊎ MeetsRefusal contents o input old new))
     ⊎ ((why ≡ fault.Refused) × MeetsRefusal contents o input old new))

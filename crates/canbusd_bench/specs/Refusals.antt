@@ -12,7 +12,7 @@ pub record HasRefusal (text : List ℕ) : Type 0 where
   pub least : 97 ≤ letter
   pub most : letter ≤ 122
 
--- known bytes grow by a text with a refusal, where the options are strict
+-- known bytes grow by a text with a refusal, if the options are strict
 abbrev pub GrowsByRefusal : Bool → Option (List ℕ) → Option (List ℕ) → Type 0
 GrowsByRefusal strict (Some old) (Some new) = (strict ≡ true) × (text : List ℕ) × (new ≡ old ++ text) × HasRefusal text
 GrowsByRefusal strict (Some old) None = ⊥

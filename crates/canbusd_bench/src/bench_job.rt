@@ -4,7 +4,7 @@ ghost use Rattle.can_event.specs.Events.{IsConfig};
 ghost use Rattle.can_bus.specs.Legal.{IsLegal};
 ghost use Rattle.can_session.specs.Runs.{EndsOver};
 ghost use Rattle.canbusd_io.specs.Buses.{config_of};
-ghost use Rattle.canbusd_bench.specs.Benched.{FailsAs, FailsBy, HasRun, IsBenched, IsOfFiles, IsRun, IsStopped, StopsBy, begun};
+ghost use Rattle.canbusd_bench.specs.Benched.{FailsAs, FailsBy, HasRun, IsBenched, IsOfOutputFiles, IsRunAsAsked, IsStopped, StopsBy, begun};
 
 use crate::input_notes::input_note;
 use crate::recent::Recent;
@@ -30,14 +30,15 @@ use std::rt::Files;
 #[derive(Drop)]
 struct Ran<'a> {
     record: Record,
-    /// The fault of a message that was refused, where the options are strict.
+    /// The fault of a message that was refused, if the options are strict.
     refusal: Option<Report<'a>>,
 }
 
-/// Runs the bench that the options describe, over the lines of an input. The names are looked at first, then the
-/// script, and then the limits of the bus. The record and the log are written after a run that came to its end, once all
-/// its output was written: each also where the other fails, and a fault of the record comes first. What sessions were fed
-/// that is in no message is noted there. A message that was refused is a fault where the options are strict, the last of all.
+/// Runs the bench that the options describe, over the lines of an input. It looks at the names
+/// first, then at the script, and then at the limits of the bus. The record and the log are written
+/// after a run that came to its end, once all its output was written. Each is written even if the
+/// other fails; a fault of the record comes first. Input of sessions outside messages is noted
+/// there. If the options are strict, a refused message is a fault, the last of all.
 pub fn run_bench<'a, H: Files, R: Read + Drop, W: Write>(
     rt: &H,
     alloc: Global,
@@ -93,14 +94,15 @@ fn run_out<'a, H: Files, R: Read + Drop, W: Write>(
     Ok(Ran { record, refusal })
 }
 
-// Writes the record and the log of a run, where they are asked for. The log never goes where the record is.
+// Writes the record and the log of a run, if they are asked for. The log never goes to the record's
+// place.
 fn save_run<'a, H: Files>(
     rt: &H,
     alloc: Global,
     options: &BenchOptions<'a>,
     record: &Record,
 ) -> Result<(), Report<'a>>
-    ensures { IfErr result (λ failure. IsOfFiles options.now failure.error) }
+    ensures { IfErr result (λ failure. IsOfOutputFiles options.now failure.error) }
 {
     let recorded = match options.record {
         Some(path) => save_record(rt, alloc, path, record),
@@ -118,7 +120,8 @@ fn save_run<'a, H: Files>(
     logged
 }
 
-// Whether two paths lead to one file, by links or in other words. Of files that have no numbers nothing is known.
+// Returns whether two paths lead to one file, by links or in other words. Of files that have no
+// numbers nothing is known.
 fn is_one_file<H: Files>(rt: &H, record: Option<&str>, log: &str) -> bool {
     let Some(record) = record else {
         return false;
@@ -142,7 +145,7 @@ fn run_scripted<'a, H: Files, R: Read + Drop, W: Write>(
     ignored: &mut IgnoredInput,
 ) -> Result<Record, Report<'a>>
     ensures run { IfOk result (λ r.
-        IsRun W.contents options.now names (R.remaining input) output.old r output.new) }
+        IsRunAsAsked W.contents options.now names (R.remaining input) output.old r output.new) }
     ensures fault { IfErr result (λ failure.
         FailsBy W.contents options.now names (R.remaining input) output.old failure.error
         output.new) }
@@ -189,7 +192,7 @@ fn run_on<'a, R: Read + Drop, W: Write>(
     }
 }
 
-// What is reported of a fault of the bench.
+// Returns the report of a fault of the bench.
 fn bench_note<R: Read + Drop>(
     alloc: Global,
     fault: BenchFault,

@@ -1,4 +1,4 @@
-//! What is reported after a complete run.
+//! The report after a complete run.
 use can_session::{IgnoredInput, SessionNumber};
 use std::io::Write;
 

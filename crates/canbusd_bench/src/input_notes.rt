@@ -1,7 +1,8 @@
-//! What is reported of a wrong line of the bench's input.
+//! The report of a wrong line of the bench's input.
 use can_session::lines::LONGEST_LINE;
 use can_session::{Order, SessionNumber, read_order};
-use canbusd_io::{Shown, SourceLine, WITH_CR, fixed_note, has_name, rule_note};
+use canbusd_io::{Shown, SourceLine, WITH_CR, fixed_note, rule_note};
+use canbusd_options::has_name;
 use std::alloc::{AllocError, Global};
 use std::str;
 
@@ -47,7 +48,8 @@ fn missing_note(alloc: Global, session: SessionNumber) -> Result<String, AllocEr
     format!(in alloc; "  no line before it starts session {number}\n")
 }
 
-// Why an interface is not taken down or brought up: there is none of this name, or it is up.
+// Returns why an interface is not taken down or brought up: there is none of this name, or it is
+// up.
 fn iface_note(alloc: Global, name: &[u8], bus: &str) -> Result<String, AllocError> {
     if let [.., b'\r'] = name {
         return fixed_note(alloc, WITH_CR);
@@ -62,7 +64,7 @@ fn iface_note(alloc: Global, name: &[u8], bus: &str) -> Result<String, AllocErro
     }
 }
 
-// Why a bench does not run to a moment.
+// Returns why a bench does not run to a moment.
 fn run_note(is_timed: bool) -> &'static str {
     if is_timed {
         "the moment set is a later one"
@@ -71,7 +73,7 @@ fn run_note(is_timed: bool) -> &'static str {
     }
 }
 
-// What a line that spells nothing should look like.
+// Returns the expected form of a line that spells nothing.
 fn form_of(line: &[u8], is_timed: bool) -> &'static str {
     if line.len() > LONGEST_LINE {
         return "a line has at most 4096 bytes";

@@ -1,8 +1,8 @@
 //! `canbusd bench`: a bench on the bus of its options, from the lines of an input.
 //!
-//! The bench itself is `can_session::bench_noting`. What is proved here: a run that ends well is a run of that bench with the names
-//! before the first `@`, the configuration of the options and the faults of some script where one is named; with `--strict` no
-//! refusal is among what it wrote.
+//! The bench itself is `can_session::bench_noting`. It is proved that a run that ends well is a run
+//! of that bench. It has the names before the first `@`, the configuration of the options and the
+//! faults of some script if one is named. With `--strict` its output has no refusal.
 #![tactic(auto)]
 
 mod bench_job;

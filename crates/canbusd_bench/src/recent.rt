@@ -5,7 +5,7 @@ use std::alloc::Global;
 use std::io;
 use std::io::{Error, Read};
 
-/// How many of the last bytes are kept at least. The bench has no more of its input at any time.
+/// The least number of last bytes that are kept. The bench has no more of its input at any time.
 const KEPT: usize = 8192;
 
 /// A reader that keeps the last bytes that it gave, to show a line among them, and its last error.
@@ -13,9 +13,9 @@ const KEPT: usize = 8192;
 pub struct Recent<R: Read + Drop> {
     input: R,
     bytes: Vec<u8>,
-    // How many lines ended before the bytes that are kept.
+    // The number of lines that ended before the bytes that are kept.
     lines_gone: u64,
-    // Whether there was no memory for some bytes.
+    // Whether memory was refused for some bytes.
     is_lost: bool,
     error: Option<Error>,
 }
@@ -44,7 +44,7 @@ impl<R: Read + Drop> Recent<R> {
         self.bytes.split(|byte| *byte == b'\n').nth(place as usize)
     }
 
-    /// Why the last read failed.
+    /// Returns why the last read failed.
     pub fn error(&self) -> Option<Error> {
         self.error
     }

@@ -8,13 +8,13 @@ use std::alloc::{AllocError, Global};
 use std::io;
 use std::io::{Error, ErrorKind, Write};
 
-/// What a refusal begins with, before a text that begins with a small letter.
+/// The beginning of a refusal, before a text that begins with a small letter.
 const FRONT: [u8; 8] = *b"< error ";
 
-/// What a front that has its small letter counts as.
+/// The count of a beginning that has its small letter.
 const FOUND: u8 = 9;
 
-/// How many bytes of a piece are kept at most.
+/// The most bytes of a piece that are kept.
 const KEPT: usize = 80;
 
 /// A writer that looks for the first refusal among what goes through it, if it is on.
@@ -22,9 +22,9 @@ const KEPT: usize = 80;
 pub struct Watch<'w, W> {
     writer: &'w mut W,
     is_on: bool,
-    // How many bytes it has seen.
+    // The number of bytes that it has seen.
     written: u64,
-    // How many bytes of the front come last among them.
+    // The number of last bytes among them that begin a refusal.
     seen: u8,
     // The first bytes of the piece with the first refusal, and how many bytes come before the piece.
     piece: Vec<u8>,
@@ -67,7 +67,7 @@ impl<'w, W> Watch<'w, W> {
         }
     }
 
-    // Where the first refusal was written.
+    // Returns the place of the first refusal.
     fn note(&self, alloc: Global) -> Result<String, AllocError> {
         let piece = self.piece.strip_suffix(b"\n").unwrap_or(&self.piece);
         let (place, piece) = (self.place, Shown::cut(piece));
@@ -116,7 +116,7 @@ impl<W: Write> Write for Watch<'_, W> {
     }
 }
 
-// How many bytes of the front come last after these.
+// Returns how many bytes of the front come last after these.
 #[tactic(auto, using(std::proofs::lemmas::List::Sums::fold_more))]
 fn seen_in(seen: u8, piece: &[u8]) -> u8
     ensures { result ≡ seen_in seen piece.now }

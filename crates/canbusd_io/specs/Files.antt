@@ -61,13 +61,13 @@ IsOfLogFile bus path (fault.Log name lines) = name.now ≡ first_name_of bus.nam
 IsOfLogFile bus path why = IsOfNames bus.names.now why
 
 -- how a fault of a script is reported
-abbrev pub fault_of : PlanError → ProgramError
-fault_of (plan.Script script.NoMemory) = fault.NoMemory
-fault_of why = fault.Script why
+abbrev pub script_fault_of : PlanError → ProgramError
+script_fault_of (plan.Script script.NoMemory) = fault.NoMemory
+script_fault_of why = fault.Script why
 
 -- the fault of a text that spells no faults for a bus with these names
 abbrev pub IsOfScript : List (List ℕ) → List ℕ → ProgramError → Type 0
-IsOfScript names text why = (error : PlanError) × (why ≡ fault_of error) × ReadsPlan names text (Err error)
+IsOfScript names text why = (error : PlanError) × (why ≡ script_fault_of error) × ReadsPlan names text (Err error)
 
 -- a fault of a script: of the file with this path, or of a text that it may hold
 abbrev pub IsOfScriptFile : List ℕ → List (List ℕ) → ProgramError → Type 0
@@ -81,7 +81,7 @@ IsOfPlan (Some path) names why = IsOfScriptFile path.now names why
 -- the fault of a text that spells no faults of a run for a bus with these names
 abbrev pub IsOfRunText : List (List ℕ) → List ℕ → ProgramError → Type 0
 IsOfRunText names text why =
-    (error : PlanError) × (why ≡ fault_of error) × ReadsRunFaults names text (Err error)
+    (error : PlanError) × (why ≡ script_fault_of error) × ReadsRunFaults names text (Err error)
 
 -- a fault of the file with this path, which has the faults of a run, or of a text that it may hold
 abbrev pub IsOfRunFile : List ℕ → List (List ℕ) → ProgramError → Type 0

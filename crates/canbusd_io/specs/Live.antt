@@ -29,9 +29,9 @@ Gets contents (Some old) None text = ⊥
 Gets contents (Some old) (Some new) text = Appends (contents old) (contents new) text
 
 -- a file gets a text, or there is a fault and it is over
-abbrev pub Takes : {W A E : Type 0} → (W → Option (List ℕ)) → Option W → Option W → List ℕ → Result A E → Type 0
-Takes contents old new text (Ok u) = Gets contents old new text
-Takes contents old new text (Err why) = new ≡ None
+abbrev pub TakesText : {W A E : Type 0} → (W → Option (List ℕ)) → Option W → Option W → List ℕ → Result A E → Type 0
+TakesText contents old new text (Ok u) = Gets contents old new text
+TakesText contents old new text (Err why) = new ≡ None
 
 -- a file that is over gets nothing, and one that is not has this text after what it had
 abbrev pub MayGet : {W : Type 0} → (W → Option (List ℕ)) → Option W → Option W → List ℕ → Type 0

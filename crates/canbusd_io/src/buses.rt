@@ -1,5 +1,6 @@
 //! A bus as the words of a command line describe it: its faults and its configuration.
 ghost use Rattle.std.specs.Prelude.{◌≡◌, ◌≤◌, length, IfErr, IfOk, Ok};
+ghost use Rattle.can_frame.specs.Names.{names_in};
 ghost use Rattle.can_rules.specs.Plans.{ReadsPlan};
 ghost use Rattle.canbusd_io.specs.Buses.{HadFaults, IsPlan, config_of};
 ghost use Rattle.canbusd_io.specs.Files.{IsOfFaults, IsOfPlan};
@@ -34,17 +35,30 @@ pub fn read_plan<'a, H: Files>(
     }
 }
 
+/// The faults that a bus had in a run.
+#[derive(Drop)]
+pub struct KnownFaults {
+    /// How many interfaces of the bus they have names for: all of them.
+    pub ifaces: u8,
+    /// The faults.
+    pub faults: RunFaults,
+}
+
 /// The faults that a bus had in a run, as a word names them. Its names are looked at first, and then its file.
 pub fn read_faults<'a, H: Files>(
     rt: &H,
     alloc: Global,
     word: FaultsWord<'a>,
-) -> Result<RunFaults, Report<'a>>
-    ensures faults { IfOk result (λ faults. HadFaults word.entry faults) }
+) -> Result<KnownFaults, Report<'a>>
+    ensures faults { IfOk result (λ known. HadFaults word.entry known.faults) }
+    ensures ifaces { IfOk result (λ known.
+        known.ifaces ≡ length (names_in word.entry.names.now)) }
     ensures fault { IfErr result (λ failure. IsOfFaults word.entry failure.error) }
 {
     let names = read_names(alloc, word.names)?;
-    read_run_faults(rt, alloc, word.path, word.names, &names)
+    let ifaces = names.count();
+    let faults = read_run_faults(rt, alloc, word.path, word.names, names)?;
+    Ok(KnownFaults { ifaces, faults })
 }
 
 /// The bus that settings describe, for these names.

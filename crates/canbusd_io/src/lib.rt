@@ -27,13 +27,13 @@ mod scripts;
 mod shown;
 mod whole_lines;
 
-pub use buses::{bus_config, limits_note, read_faults, read_plan};
+pub use buses::{KnownFaults, bus_config, limits_note, read_faults, read_plan};
 pub use draft::Draft;
 pub use files::{INPUT, OUTPUT, open_file, read_failure, read_text, utf8_note, write_failure};
 pub use limited_reads::LimitedReads;
-pub use live::{LiveLog, LiveRecord};
+pub use live::{LiveLog, LiveRecord, LiveText};
 pub use live_faults::LiveFaults;
-pub use names::{has_name, read_names};
+pub use names::read_names;
 pub use notes::{WITH_CR, fixed_note, reason_note};
 pub use program_error::ProgramError;
 pub use report::{Report, Reporter};

@@ -4,7 +4,7 @@ ghost use Rattle.can_logfile.specs.Log.{joined, log_lines};
 ghost use Rattle.can_record_text.specs.Spelling.{end_words, entry_lines, front_lines, spell};
 ghost use Rattle.can_record_text.specs.declared.version.Version.TheVariants as version;
 ghost use Rattle.can_record_text.specs.inner.StoredLines.{HasFittingReply};
-ghost use Rattle.canbusd_io.specs.Live.{Begins, Gets, MayGet, Stays, Takes, whole_contents};
+ghost use Rattle.canbusd_io.specs.Live.{Begins, Gets, MayGet, Stays, TakesText, whole_contents};
 ghost use Rattle.canbusd_io.specs.LiveLines.{LogHas, RecordHas};
 
 use crate::draft::Draft;
@@ -26,19 +26,81 @@ use std::io::{Error, ErrorKind, Write};
 use std::rt::Files;
 use std::snapshot::Snapshot;
 
-/// The record of a bus, which gets the lines of its entries while a server runs. It is written as a draft, and gets its
-/// name once it is whole.
+/// A text of a bus that gets lines while a server runs: its record or its log. It is made as a draft.
 #[derive(Drop)]
-pub struct LiveRecord<F: Write + OpenFile + Drop> {
+pub struct LiveText<F: Write + OpenFile + Drop, B: Drop> {
     draft: Draft,
-    /// What its bus was made with.
-    pub config: BusConfig,
+    /// What its lines are written with: the configuration of the bus, or its names.
+    pub bus: B,
     pub file: LiveFile<F>,
     /// The file before its first line, which only contracts see: it takes no memory.
     pub start: Snapshot<LiveFile<F>>,
 }
 
-impl LiveRecord<File> {
+/// The record of a bus, which gets the lines of its entries, and its name once it is whole.
+pub type LiveRecord<F> = LiveText<F, BusConfig>;
+
+/// The log of a bus, which gets the lines of its tried frames.
+pub type LiveLog<F> = LiveText<F, Names>;
+
+impl<F: Write + OpenFile + Drop, B: Drop> LiveText<F, B> {
+    // A text in a file that gets nothing, which errors call by this path.
+    fn begin(
+        alloc: Global,
+        draft: Draft,
+        path: String,
+        file: F,
+        bus: B,
+        is_synced: bool,
+    ) -> io::Result<LiveText<F, B>>
+        ensures bus { IfOk result (λ live. live.bus ≡ bus) }
+        ensures start { IfOk result (λ live.
+            Begins (whole_contents F.contents) (F.contents file) live.start.value.out) }
+        ensures same { IfOk result (λ live. live.file.out ≡ live.start.value.out) }
+    {
+        let file = LiveFile::new(alloc, path, file, is_synced, Remains::WholeLines)?;
+        Ok(LiveText {
+            draft,
+            bus,
+            start: Snapshot::of(&file),
+            file,
+        })
+    }
+
+    /// The path that errors call it by.
+    pub fn path(&self) -> &str {
+        &self.file.path
+    }
+
+    /// Removes its file, unless it has its name.
+    pub fn remove<H: Files>(&self, rt: &H) {
+        self.draft.clear(rt);
+    }
+}
+
+impl<B: Drop> LiveText<File, B> {
+    // A text that has no line, whose file is made.
+    fn make<H: Files<File = File>>(
+        rt: &H,
+        alloc: Global,
+        draft: &Draft,
+        path: String,
+        bus: B,
+        is_synced: bool,
+    ) -> io::Result<LiveText<File, B>>
+        ensures bus { IfOk result (λ live. live.bus ≡ bus) }
+        ensures open { IfOk result (λ live. IsSome live.file.out) }
+        ensures same { IfOk result (λ live. live.file.out ≡ live.start.value.out) }
+    {
+        let own = draft.copy(alloc)?;
+        let file = draft.make(rt)?;
+        LiveText::begin(alloc, own, path, file, bus, is_synced).map_err(|error| removed(
+            rt, draft, error,
+        ))
+    }
+}
+
+impl LiveText<File, BusConfig> {
     /// The record of a bus with this configuration, whose first two lines are in its file.
     pub fn new<H: Files<File = File>>(
         rt: &H,
@@ -47,62 +109,60 @@ impl LiveRecord<File> {
         config: BusConfig,
         is_synced: bool,
     ) -> io::Result<LiveRecord<File>>
-        ensures config { IfOk result (λ live. live.config ≡ config) }
+        ensures config { IfOk result (λ live. live.bus ≡ config) }
         ensures front { IfOk result (λ live. RecordHas ⟦<File as Write>⟧.contents live []) }
         ensures open { IfOk result (λ live. IsSome live.file.out) }
     {
-        let own = draft.copy(alloc)?;
-        let file = draft.make(rt)?;
-        LiveRecord::begin(alloc, own, file, config, is_synced).map_err(|error| removed(
-            rt, draft, error,
-        ))
+        let path = String::from_str(alloc, draft.draft())?;
+        let live = LiveText::make(rt, alloc, draft, path, config, is_synced)?;
+        live.with_front(alloc)
+            .map_err(|error| removed(rt, draft, error))
     }
 }
 
-impl<F: Write + OpenFile + Drop> LiveRecord<F> {
-    /// Where it is written.
-    pub fn path(&self) -> &str {
-        &self.file.path
-    }
-
-    /// Removes its file, which has no name yet.
-    pub fn remove<H: Files>(&self, rt: &H) {
-        self.draft.clear(rt);
-    }
-
-    // The record of a bus with this configuration in a file that gets its first two lines, and nothing before them.
-    fn begin(
+impl LiveText<File, Names> {
+    /// The log of a bus with these names, which has no line.
+    pub fn new<H: Files<File = File>>(
+        rt: &H,
         alloc: Global,
-        draft: Draft,
-        file: F,
-        config: BusConfig,
+        draft: &Draft,
+        names: Names,
         is_synced: bool,
-    ) -> io::Result<LiveRecord<F>>
-        ensures config { IfOk result (λ live. live.config ≡ config) }
-        ensures start { IfOk result (λ live.
-            Begins (whole_contents F.contents) (F.contents file) live.start.value.out) }
-        ensures front { IfOk result (λ live. RecordHas F.contents live []) }
-        ensures open { IfOk result (λ live. IsSome live.file.out) }
+    ) -> io::Result<LiveLog<File>>
+        ensures names { IfOk result (λ log. log.bus ≡ names) }
+        ensures none { IfOk result (λ log. LogHas ⟦<File as Write>⟧.contents log []) }
+        ensures open { IfOk result (λ log. IsSome log.file.out) }
     {
-        let path = String::from_str(alloc, draft.draft())?;
-        let file = LiveFile::new(alloc, path, file, is_synced, Remains::WholeLines)?;
-        let start = Snapshot::of(&file);
-        let file = with_front(alloc, file, config)?;
-        Ok(LiveRecord {
-            draft,
-            config,
-            file,
-            start,
-        })
+        let path = String::from_str(alloc, draft.path())?;
+        LiveText::make(rt, alloc, draft, path, names, is_synced)
+    }
+}
+
+impl<F: Write + OpenFile + Drop> LiveText<F, BusConfig> {
+    // The same record with its first two lines in its file.
+    fn with_front(mut self, alloc: Global) -> io::Result<LiveText<F, BusConfig>>
+        ensures lines { IfOk result (λ live. Gets (whole_contents F.contents) self.file.out
+            live.file.out (front_lines version.Four self.bus [])) }
+        ensures config { IfOk result (λ live. live.bus ≡ self.bus) }
+        ensures start { IfOk result (λ live. live.start ≡ self.start) }
+    {
+        let Some(out) = &mut self.file.out else {
+            return Ok(self);
+        };
+        let put = write_front(alloc, self.bus, out);
+        match self.file.settle(put) {
+            Ok(()) => Ok(self),
+            Err(over) => Err(over.why),
+        }
     }
 
     /// Writes the lines of the entries that come next. A fault ends the file, and is reported once.
     pub fn keep(&mut self, alloc: Global, entries: &PackedRecord) -> Result<(), Report<'static>>
         requires { All HasFittingReply entries.now.entries }
-        ensures lines { Takes (whole_contents F.contents) self.old.file.out self.new.file.out
+        ensures lines { TakesText (whole_contents F.contents) self.old.file.out self.new.file.out
             (entry_lines entries.now.entries []) result }
         ensures once { self.old.file.out ≡ None → IsOk result }
-        ensures config { self.new.config ≡ self.old.config }
+        ensures config { self.new.bus ≡ self.old.bus }
         ensures start { self.new.start ≡ self.old.start }
     {
         let Some(out) = &mut self.file.out else {
@@ -129,14 +189,14 @@ impl<F: Write + OpenFile + Drop> LiveRecord<F> {
             (Gets (whole_contents F.contents) self.old.file.out self.new.file.out
             (entry_lines entries.now.entries [] ++ spell (end_words count) [])) }
         ensures once { self.old.file.out ≡ None → IsOk result }
-        ensures config { self.new.config ≡ self.old.config }
+        ensures config { self.new.bus ≡ self.old.bus }
         ensures start { self.new.start ≡ self.old.start }
     {
         self.end(alloc, entries, count)?;
         if self.file.out.is_none() {
             return Ok(());
         }
-        self.take_name(rt, alloc, faults)
+        self.name_both(rt, alloc, faults)
     }
 
     // Writes the lines of the last entries and the line of the end.
@@ -147,10 +207,10 @@ impl<F: Write + OpenFile + Drop> LiveRecord<F> {
         count: u64,
     ) -> Result<(), Report<'static>>
         requires { All HasFittingReply entries.now.entries }
-        ensures lines { Takes (whole_contents F.contents) self.old.file.out self.new.file.out
+        ensures lines { TakesText (whole_contents F.contents) self.old.file.out self.new.file.out
             (entry_lines entries.now.entries [] ++ spell (end_words count) []) result }
         ensures once { self.old.file.out ≡ None → IsOk result }
-        ensures config { self.new.config ≡ self.old.config }
+        ensures config { self.new.bus ≡ self.old.bus }
         ensures start { self.new.start ≡ self.old.start }
     {
         self.keep(alloc, entries)?;
@@ -162,7 +222,7 @@ impl<F: Write + OpenFile + Drop> LiveRecord<F> {
     }
 
     // Gives the file its name, which no file has that is over, and the faults of the run theirs.
-    fn take_name<H: Files>(
+    fn name_both<H: Files>(
         &self,
         rt: &H,
         alloc: Global,
@@ -187,32 +247,13 @@ impl<F: Write + OpenFile + Drop> LiveRecord<F> {
         ensures stays { OnOk result
             (Stays (whole_contents F.contents) self.old.file.out self.new.file.out) }
         ensures over { OnErr result (self.new.file.out ≡ None) }
-        ensures config { self.new.config ≡ self.old.config }
+        ensures config { self.new.bus ≡ self.old.bus }
         ensures start { self.new.start ≡ self.old.start }
     {
         match self.file.settle(put) {
             Ok(()) => Ok(()),
             Err(over) => Err(record_failure(alloc, &self.file.path, &over)),
         }
-    }
-}
-
-// The file with the first two lines of a record of this configuration.
-fn with_front<F: Write + OpenFile + Drop>(
-    alloc: Global,
-    mut file: LiveFile<F>,
-    config: BusConfig,
-) -> io::Result<LiveFile<F>>
-    ensures { IfOk result (λ live. Gets (whole_contents F.contents) file.out live.out
-        (front_lines version.Four config [])) }
-{
-    let Some(out) = &mut file.out else {
-        return Ok(file);
-    };
-    let put = write_front(alloc, config, out);
-    match file.settle(put) {
-        Ok(()) => Ok(file),
-        Err(over) => Err(over.why),
     }
 }
 
@@ -236,75 +277,10 @@ fn removed<H: Files>(rt: &H, draft: &Draft, error: Error) -> Error
     error
 }
 
-/// The log of a bus, which gets the lines of its tried frames while a server runs. It is made as a draft.
-#[derive(Drop)]
-pub struct LiveLog<F: Write + OpenFile + Drop> {
-    draft: Draft,
-    pub names: Names,
-    pub file: LiveFile<F>,
-    /// The file before its first line, which only contracts see: it takes no memory.
-    pub start: Snapshot<LiveFile<F>>,
-}
-
-impl LiveLog<File> {
-    /// The log of a bus with these names, which has no line.
-    pub fn new<H: Files<File = File>>(
-        rt: &H,
-        alloc: Global,
-        draft: &Draft,
-        names: Names,
-        is_synced: bool,
-    ) -> io::Result<LiveLog<File>>
-        ensures names { IfOk result (λ log. log.names ≡ names) }
-        ensures none { IfOk result (λ log. LogHas ⟦<File as Write>⟧.contents log []) }
-        ensures open { IfOk result (λ log. IsSome log.file.out) }
-    {
-        let own = draft.copy(alloc)?;
-        let file = draft.make(rt)?;
-        LiveLog::begin(alloc, own, file, names, is_synced).map_err(|error| removed(
-            rt, draft, error,
-        ))
-    }
-}
-
-impl<F: Write + OpenFile + Drop> LiveLog<F> {
-    // The log of a bus with these names in a file, which gets nothing.
-    fn begin(
-        alloc: Global,
-        draft: Draft,
-        file: F,
-        names: Names,
-        is_synced: bool,
-    ) -> io::Result<LiveLog<F>>
-        ensures names { IfOk result (λ log. log.names ≡ names) }
-        ensures start { IfOk result (λ log.
-            Begins (whole_contents F.contents) (F.contents file) log.start.value.out) }
-        ensures none { IfOk result (λ log. LogHas F.contents log []) }
-        ensures open { IfOk result (λ log. IsSome log.file.out) }
-    {
-        let path = String::from_str(alloc, draft.path())?;
-        let file = LiveFile::new(alloc, path, file, is_synced, Remains::WholeLines)?;
-        Ok(LiveLog {
-            draft,
-            names,
-            start: Snapshot::of(&file),
-            file,
-        })
-    }
-
-    /// Where it is written once it has its name.
-    pub fn path(&self) -> &str {
-        &self.file.path
-    }
-
+impl<F: Write + OpenFile + Drop> LiveText<F, Names> {
     /// Gives the file its name, in the place of the log of an earlier run.
     pub fn take_name<H: Files>(&self, rt: &H) -> io::Result<()> {
         self.draft.take_name(rt)
-    }
-
-    /// Removes its file, unless it has its name.
-    pub fn remove<H: Files>(&self, rt: &H) {
-        self.draft.clear(rt);
     }
 
     /// Writes the lines of the entries that come next. A fault ends the file, and is reported once; the log is called by
@@ -315,16 +291,16 @@ impl<F: Write + OpenFile + Drop> LiveLog<F> {
         name: &'a str,
         entries: &PackedRecord,
     ) -> Result<(), Report<'a>>
-        ensures lines { Takes (whole_contents F.contents) self.old.file.out self.new.file.out
-            (joined (log_lines self.old.names (reverse entries.now.entries))) result }
+        ensures lines { TakesText (whole_contents F.contents) self.old.file.out self.new.file.out
+            (joined (log_lines self.old.bus (reverse entries.now.entries))) result }
         ensures once { self.old.file.out ≡ None → IsOk result }
-        ensures names { self.new.names ≡ self.old.names }
+        ensures names { self.new.bus ≡ self.old.bus }
         ensures start { self.new.start ≡ self.old.start }
     {
         let Some(out) = &mut self.file.out else {
             return Ok(());
         };
-        let put = match write_entries(&self.names, entries, out) {
+        let put = match write_entries(&self.bus, entries, out) {
             Ok(_) => Ok(()),
             Err(_) => Err(ErrorKind::WriteZero.into()),
         };

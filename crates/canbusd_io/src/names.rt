@@ -59,8 +59,3 @@ fn name_note(alloc: Global, name: &str) -> Result<String, AllocError> {
 fn is_repeated(names: &str, name: &str) -> bool {
     names.split(',').filter(|other| *other == name).count() > 1
 }
-
-/// Whether a name is among names joined by commas.
-pub fn has_name(names: &str, name: &str) -> bool {
-    names.split(',').any(|other| other == name)
-}

@@ -1,8 +1,9 @@
 //! What is reported of a rule of faults that is wrong, in a script or in a line of the bench.
-use crate::names::{has_name, read_names};
+use crate::names::read_names;
 use crate::notes::{WITH_CR, fixed_note};
 use crate::shown::Shown;
 use can_rules::{WrongWord, read_later, read_rule};
+use canbusd_options::has_name;
 use std::alloc::{AllocError, Global};
 
 /// Why a rule was not taken, for a bus whose names are given as a word of the command line has them.

@@ -2,7 +2,7 @@
 ghost use Rattle.std.specs.Prelude.{◌≡◌, List, ℕ, IfErr, IfOk, Ok};
 ghost use Rattle.can_rules.specs.Plans.{ReadsPlan};
 ghost use Rattle.can_rules.specs.RunFaults.{ReadsRunFaults};
-ghost use Rattle.canbusd_io.specs.Files.{IsOfFile, IsOfRunFile, IsOfRunText, IsOfScript, IsOfScriptFile, fault_of};
+ghost use Rattle.canbusd_io.specs.Files.{IsOfFile, IsOfRunFile, IsOfRunText, IsOfScript, IsOfScriptFile, script_fault_of};
 
 use crate::files::read_file;
 use crate::notes::{WITH_CR, fixed_note, line_of};
@@ -39,11 +39,11 @@ pub fn read_run_faults<'a, H: Files>(
     alloc: Global,
     path: &'a str,
     bus: &str,
-    names: &Names,
+    names: Names,
 ) -> Result<RunFaults, Report<'a>>
     ensures faults { IfOk result (λ faults.
-        (text : List ℕ) × ReadsRunFaults names.now text (Ok faults)) }
-    ensures fault { IfErr result (λ failure. IsOfRunFile path.now names.now failure.error) }
+        (text : List ℕ) × ReadsRunFaults names text (Ok faults)) }
+    ensures fault { IfErr result (λ failure. IsOfRunFile path.now names failure.error) }
 {
     let text = read_script_file(rt, alloc, path)?;
     run_faults_in(alloc, path, &text, bus, names)
@@ -97,10 +97,10 @@ fn run_faults_in<'a>(
     path: &str,
     text: &str,
     bus: &str,
-    names: &Names,
+    names: Names,
 ) -> Result<RunFaults, Report<'a>>
-    ensures faults { IfOk result (λ faults. ReadsRunFaults names.now text.now (Ok faults)) }
-    ensures fault { IfErr result (λ failure. IsOfRunText names.now text.now failure.error) }
+    ensures faults { IfOk result (λ faults. ReadsRunFaults names text.now (Ok faults)) }
+    ensures fault { IfErr result (λ failure. IsOfRunText names text.now failure.error) }
 {
     match RunFaults::read(alloc, text, names) {
         Ok(faults) => Ok(faults),
@@ -117,7 +117,7 @@ fn script_failure<'a>(
     fault: PlanError,
     notes: Result<String, AllocError>,
 ) -> Report<'a>
-    ensures { result.error ≡ fault_of fault }
+    ensures { result.error ≡ script_fault_of fault }
 {
     match fault {
         PlanError::Script(ScriptError::NoMemory) => Report::new(alloc, ProgramError::NoMemory),

@@ -6,6 +6,7 @@ use Rattle.clap.specs.Words.{App, HasMatchesOf, Row, Text, app_of, fault_of, is_
 use Rattle.clap.proofs.OnLiterals.{clap_on_literals}
 use Rattle.canbusd_options.specs.declared.command_line.Job.{Job}
 use Rattle.canbusd_options.specs.declared.command_line.Job.TheVariants as job
+use Rattle.canbusd_options.specs.BitsOptions.{GiveBitsOptions}
 use Rattle.canbusd_options.specs.Options.{GiveAuditOptions, GiveBenchOptions, GiveServeOptions}
 use Rattle.canbusd_options.specs.Program.{AskJob, Asks, IsAsked, program}
 
@@ -49,16 +50,25 @@ bench_given : (j : Job) (rows : List Row) → Asks (Some (codes "bench", rows)) 
 bench_given (job.Bench o) rows asks = (o, asks.1)
 bench_given (job.Serve o) rows asks = absurd (search (rules, asks.0))
 bench_given (job.Audit o) rows asks = absurd (search (rules, asks.0))
+bench_given (job.Bits o) rows asks = absurd (search (rules, asks.0))
 
 serve_given : (j : Job) (rows : List Row) → Asks (Some (codes "serve", rows)) j → GiveServeOptions rows
 serve_given (job.Bench o) rows asks = absurd (search (rules, asks.0))
 serve_given (job.Serve o) rows asks = (o, asks.1)
 serve_given (job.Audit o) rows asks = absurd (search (rules, asks.0))
+serve_given (job.Bits o) rows asks = absurd (search (rules, asks.0))
 
 audit_given : (j : Job) (rows : List Row) → Asks (Some (codes "audit", rows)) j → GiveAuditOptions rows
 audit_given (job.Bench o) rows asks = absurd (search (rules, asks.0))
 audit_given (job.Serve o) rows asks = absurd (search (rules, asks.0))
 audit_given (job.Audit o) rows asks = (o, asks.1)
+audit_given (job.Bits o) rows asks = absurd (search (rules, asks.0))
+
+bits_given : (j : Job) (rows : List Row) → Asks (Some (codes "bits", rows)) j → GiveBitsOptions rows
+bits_given (job.Bench o) rows asks = absurd (search (rules, asks.0))
+bits_given (job.Serve o) rows asks = absurd (search (rules, asks.0))
+bits_given (job.Audit o) rows asks = absurd (search (rules, asks.0))
+bits_given (job.Bits o) rows asks = (o, asks.1)
 
 pub gives_bench : (words : List Text) (rows : List Row) → subcommand_of program words ≡ Some (codes "bench", rows) → AskJob words → GiveBenchOptions rows
 gives_bench words rows met (j, (none, asks)) = bench_given j rows (subst (λ o. Asks o j) met asks)
@@ -69,20 +79,28 @@ gives_serve words rows met (j, (none, asks)) = serve_given j rows (subst (λ o. 
 pub gives_audit : (words : List Text) (rows : List Row) → subcommand_of program words ≡ Some (codes "audit", rows) → AskJob words → GiveAuditOptions rows
 gives_audit words rows met (j, (none, asks)) = audit_given j rows (subst (λ o. Asks o j) met asks)
 
+pub gives_bits : (words : List Text) (rows : List Row) → subcommand_of program words ≡ Some (codes "bits", rows) → AskJob words → GiveBitsOptions rows
+gives_bits words rows met (j, (none, asks)) = bits_given j rows (subst (λ o. Asks o j) met asks)
+
 -- words that name no command ask for no job
 names_one : (o : Option (Text × List Row)) (j : Job) → Asks o j
-    → (option_map (λ (p : Text × List Row). p.0) o ≡ Some (codes "bench")) ⊎ ((option_map (λ (p : Text × List Row). p.0) o ≡ Some (codes "serve")) ⊎ (option_map (λ (p : Text × List Row). p.0) o ≡ Some (codes "audit")))
+    → (option_map (λ (p : Text × List Row). p.0) o ≡ Some (codes "bench")) ⊎ ((option_map (λ (p : Text × List Row). p.0) o ≡ Some (codes "serve"))
+    ⊎ ((option_map (λ (p : Text × List Row). p.0) o ≡ Some (codes "audit")) ⊎ (option_map (λ (p : Text × List Row). p.0) o ≡ Some (codes "bits"))))
 names_one None j asks = absurd asks
 names_one (Some p) (job.Bench o) asks = inl (ap Some asks.0)
 names_one (Some p) (job.Serve o) asks = inr (inl (ap Some asks.0))
-names_one (Some p) (job.Audit o) asks = inr (inr (ap Some asks.0))
+names_one (Some p) (job.Audit o) asks = inr (inr (inl (ap Some asks.0)))
+names_one (Some p) (job.Bits o) asks = inr (inr (inr (ap Some asks.0)))
 
 pub asks_nothing : (words : List Text) (m : ArgMatches) → subcommand_rows_of m ≡ subcommand_of program words
-    → (subcommand_name_of m ≡ Some (codes "bench") → ⊥) → (subcommand_name_of m ≡ Some (codes "serve") → ⊥) → (subcommand_name_of m ≡ Some (codes "audit") → ⊥) → AskJob words → ⊥
-asks_nothing words m is bench serve audit (j, (none, asks)) = elim (names_one (subcommand_rows_of m) j (subst (λ o. Asks o j) (sym is) asks)) [
+    → (subcommand_name_of m ≡ Some (codes "bench") → ⊥) → (subcommand_name_of m ≡ Some (codes "serve") → ⊥) → (subcommand_name_of m ≡ Some (codes "audit") → ⊥) → (subcommand_name_of m ≡ Some (codes "bits") → ⊥) → AskJob words → ⊥
+asks_nothing words m is bench serve audit bits (j, (none, asks)) = elim (names_one (subcommand_rows_of m) j (subst (λ o. Asks o j) (sym is) asks)) [
   | inl name ↦ bench (sym (named m) ∙ name)
   | inr other ↦ elim other [
     | inl name ↦ serve (sym (named m) ∙ name)
-    | inr name ↦ audit (sym (named m) ∙ name)
+    | inr last ↦ elim last [
+      | inl name ↦ audit (sym (named m) ∙ name)
+      | inr name ↦ bits (sym (named m) ∙ name)
+    ]
   ]
 ]

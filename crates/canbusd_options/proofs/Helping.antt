@@ -4,7 +4,7 @@ use Rattle.clap.specs.declared.error.Error.{Error}
 use Rattle.clap.specs.declared.error.kind.ErrorKind.TheVariants.{DisplayHelp, DisplayVersion, OutOfMemory}
 use Rattle.clap.specs.Words.{App, HasKind, IsAmong, Kinds, Text, fault_of, is_simple_and_free, kind_of}
 use Rattle.clap.proofs.OnLiterals.{clap_on_literals}
-use Rattle.canbusd_options.specs.Help.{AskHelp, IsOfFaults, RefusesValue, ShowsHelp}
+use Rattle.canbusd_options.specs.Help.{AskHelp, IsOfKinds, RefusesValue, ShowsHelp}
 use Rattle.canbusd_options.specs.Program.{AskJob, program}
 
 -- An error that shows help, and the words that ask for it.
@@ -15,7 +15,7 @@ unfolding clap_on_literals
 free = refl
 
 -- an error of words with these faults shows help or the version only where they ask for it
-shown : (kinds : Kinds) (e : Error) → IsOfFaults kinds e → ShowsHelp e → IsAmong DisplayHelp kinds ⊎ IsAmong DisplayVersion kinds
+shown : (kinds : Kinds) (e : Error) → IsOfKinds kinds e → ShowsHelp e → IsAmong DisplayHelp kinds ⊎ IsAmong DisplayVersion kinds
 shown [] e (inl memory) (inl help) = absurd (search (rules, sym memory ∙ help))
 shown [] e (inl memory) (inr version) = absurd (search (rules, sym memory ∙ version))
 shown [] e (inr value) (inl help) = absurd (search (rules, sym value ∙ help))
@@ -25,24 +25,24 @@ shown (k ∷ ks) e (inl memory) (inr version) = absurd (search (rules, sym memor
 shown (k ∷ ks) e (inr among) (inl help) = inl (subst (λ x. IsAmong x (k ∷ ks)) help among)
 shown (k ∷ ks) e (inr among) (inr version) = inr (subst (λ x. IsAmong x (k ∷ ks)) version among)
 
-pub help_is_asked : (words : List Text) (e : Error) → IsOfFaults (fault_of program words) e → ShowsHelp e → AskHelp words
+pub help_is_asked : (words : List Text) (e : Error) → IsOfKinds (fault_of program words) e → ShowsHelp e → AskHelp words
 help_is_asked words e of shows = shown (fault_of program words) e of shows
 
-of_memory : (kinds : Kinds) (e : Error) → kind_of e ≡ OutOfMemory → IsOfFaults kinds e
+of_memory : (kinds : Kinds) (e : Error) → kind_of e ≡ OutOfMemory → IsOfKinds kinds e
 of_memory [] e memory = inl memory
 of_memory (k ∷ ks) e memory = inl memory
 
-of_kind : (kinds : Kinds) (e : Error) → HasKind kinds e → IsOfFaults kinds e
+of_kind : (kinds : Kinds) (e : Error) → HasKind kinds e → IsOfKinds kinds e
 of_kind [] e (inl memory) = inl memory
 of_kind [] e (inr among) = absurd among
 of_kind (k ∷ ks) e has = has
 
 -- want of memory is no fault of the words
-pub is_of_memory : (words : List Text) (e : Error) → kind_of e ≡ OutOfMemory → IsOfFaults (fault_of program words) e
+pub is_of_memory : (words : List Text) (e : Error) → kind_of e ≡ OutOfMemory → IsOfKinds (fault_of program words) e
 is_of_memory words e memory = of_memory (fault_of program words) e memory
 
 -- the error of the parse of the program's words has the kind of a fault
-pub is_of_parse : (a : App) (words : List Text) (e : Error) → a ≡ program → (is_simple_and_free a ≡ true → HasKind (fault_of a words) e) → IsOfFaults (fault_of program words) e
+pub is_of_parse : (a : App) (words : List Text) (e : Error) → a ≡ program → (is_simple_and_free a ≡ true → HasKind (fault_of a words) e) → IsOfKinds (fault_of program words) e
 is_of_parse a words e is kinds = of_kind (fault_of program words) e (subst (λ p. is_simple_and_free p ≡ true → HasKind (fault_of p words) e) is kinds free)
 
 -- a parse of the program's words finds no fault in them
@@ -50,8 +50,8 @@ pub no_fault : (a : App) (words : List Text) → a ≡ program → (is_simple_an
 no_fault a words is none = subst (λ p. is_simple_and_free p ≡ true → fault_of p words ≡ []) is none free
 
 -- and then a value is refused
-pub is_of_value : (words : List Text) (e : Error) → fault_of program words ≡ [] → RefusesValue e → IsOfFaults (fault_of program words) e
-is_of_value words e none refused = subst (λ kinds. IsOfFaults kinds e) (sym none) refused
+pub is_of_value : (words : List Text) (e : Error) → fault_of program words ≡ [] → RefusesValue e → IsOfKinds (fault_of program words) e
+is_of_value words e none refused = subst (λ kinds. IsOfKinds kinds e) (sym none) refused
 
 -- what holds of an error holds of the one that is passed on
 pub passed_on : {T : Type 0} (P : Error → Type 0) (e : Error) (r : Result T Error) → IsErrAnd r (λ x. x ≡ e) → P e → IfErr r P

@@ -1,4 +1,6 @@
 pub mod Asking
+pub mod GivenWords
 pub mod Helping
 pub mod Rules
 pub mod Steps
+pub mod Timings

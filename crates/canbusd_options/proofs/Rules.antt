@@ -1,5 +1,5 @@
-use Rattle.std.proofs.Common.{◌≡◌, ◌&&◌, not, ℕ, Bool, true, false, List, [], Option, Some, None, unwrap_or, refl, rules, sym, ap, ap₂, ◌∙◌}
-use Rattle.std.specs.Option.{option_map}
+use Rattle.std.proofs.Common.{◌≡◌, ◌&&◌, not, ℕ, Bool, true, false, List, [], Option, Some, None, unwrap_or, refl, rules, ap, ap₂, ◌∙◌}
+use Rattle.std.specs.Option.{UnwrapsOrElse, option_map}
 use Rattle.clap.specs.declared.builder.arg.Arg.{Arg}
 use Rattle.clap.specs.declared.builder.command.Command.{Command}
 use Rattle.clap.specs.declared.parser.matches.ArgMatches.{ArgMatches}
@@ -34,10 +34,7 @@ pub below : (old sub new : Command) (app s : App) → AddsSubcommand old sub new
 below old sub new app s adds built plain is =
     adds.shape (third _ _ _ _ (ap (λ (a : App). a.top.is_plain) built ∙ plain)) ∙ ap₂ with_subcommand is (ap (λ (a : App). a.top) built)
 
--- what is in an option is what is there
-pub within : {A : Type 0} (f : A → List (List ℕ)) (r : Option A) (o : Option (List (List ℕ))) (x : A) → r ≡ Some x → option_map f r ≡ o → f x ≡ unwrap_or o []
-within f r o x is same = ap (λ q. unwrap_or (option_map f q) []) (sym is) ∙ ap (λ q. unwrap_or q []) same
-
--- and nothing where it is empty
-pub without : {A : Type 0} (f : A → List (List ℕ)) (r : Option A) (o : Option (List (List ℕ))) → r ≡ None → option_map f r ≡ o → [] ≡ unwrap_or o []
-without f r o is same = ap (λ q. unwrap_or (option_map f q) []) (sym is) ∙ ap (λ q. unwrap_or q []) same
+-- what is there, or else nothing
+pub unwrapped : {A : Type 0} (f : A → List (List ℕ)) (o : Option A) (r : A) (P : A → Type 0) (rows : Option (List (List ℕ))) → UnwrapsOrElse o P r → (P r → f r ≡ []) → option_map f o ≡ rows → f r ≡ unwrap_or rows []
+unwrapped f None r P rows is empty same = empty is ∙ ap (λ q. unwrap_or q []) same
+unwrapped f (Some x) r P rows is empty same = ap f is ∙ ap (λ q. unwrap_or q []) same

@@ -3,7 +3,7 @@ use Rattle.std.specs.Result.{result_unwrap_or}
 use Rattle.std.specs.declared.path.Path.{Path}
 use Rattle.std.specs.Path.{PathStartsWith, StripsPrefix, cur_dir, first_piece, is_dot_at, is_name, later_pieces, leading_components, path_bytes, path_components, path_names, root_dir, slash}
 use Rattle.std.proofs.lemmas.List.{nil_from_length}
-use Rattle.canbusd_options.specs.Options.{steps_of}
+use Rattle.canbusd_options.specs.Options.{path_steps}
 
 -- The steps of a path.
 
@@ -48,18 +48,18 @@ without_dot false true names never = absurd (never names refl)
 without_dot false false names never = refl
 
 -- what comes after the `.` that a path begins with has its steps
-pub after_dot : (path rest : List ℕ) → StripsPrefix path cur_dir rest → path_components rest ≡ steps_of path
+pub after_dot : (path rest : List ℕ) → StripsPrefix path cur_dir rest → path_components rest ≡ path_steps path
 after_dot path rest strips = with_dot (slice_index path 0 == slash) (is_dot_at path 0) (path_names path) (path_components rest) (no_dot_name path _) (sym (whole path) ∙ strips ∙ ap (λ l. l ++ path_components rest) dot_steps)
 
 -- a path that does not begin with `.` has its components as steps
-pub no_dot : (path : List ℕ) → (PathStartsWith path cur_dir → ⊥) → path_components path ≡ steps_of path
+pub no_dot : (path : List ℕ) → (PathStartsWith path cur_dir → ⊥) → path_components path ≡ path_steps path
 no_dot path never = whole path ∙ without_dot (slice_index path 0 == slash) (is_dot_at path 0) (path_names path) (λ rest e. never (rest, whole path ∙ e ∙ sym (ap (λ l. l ++ rest) dot_steps)))
 
 -- what is left of a path once the `.` that it may begin with is taken off
 pub off_dot : {E : Type 0} (path : List ℕ) (p : Path) (r : Result Path E) → path_bytes p ≡ path → (IsOk r ↔ PathStartsWith (path_bytes p) cur_dir)
-    → IfOk r (λ rest. StripsPrefix (path_bytes p) cur_dir (path_bytes rest)) → path_components (path_bytes (result_unwrap_or r p)) ≡ steps_of path
-off_dot path p (Ok rest) is begins strips = after_dot (path_bytes p) (path_bytes rest) strips ∙ ap steps_of is
-off_dot path p (Err e) is begins strips = no_dot (path_bytes p) (λ starts. absurd (search (rules, begins.1 starts))) ∙ ap steps_of is
+    → IfOk r (λ rest. StripsPrefix (path_bytes p) cur_dir (path_bytes rest)) → path_components (path_bytes (result_unwrap_or r p)) ≡ path_steps path
+off_dot path p (Ok rest) is begins strips = after_dot (path_bytes p) (path_bytes rest) strips ∙ ap path_steps is
+off_dot path p (Err e) is begins strips = no_dot (path_bytes p) (λ starts. absurd (search (rules, begins.1 starts))) ∙ ap path_steps is
 
 -- two lists are one where each begins with the other
 one_list : {A : Type 0} (xs ys more others : List A) → xs ≡ ys ++ more → ys ≡ xs ++ others → xs ≡ ys

@@ -24,6 +24,6 @@ abbrev pub RefusesValue : Error → Type 0
 RefusesValue e = IsNoMemory e ⊎ (kind_of e ≡ ValueValidation)
 
 -- an error of words in which clap finds these faults: it has the kind of one, and refuses a value where there is none
-abbrev pub IsOfFaults : Kinds → Error → Type 0
-IsOfFaults [] e = RefusesValue e
-IsOfFaults (k ∷ ks) e = HasKind (k ∷ ks) e
+abbrev pub IsOfKinds : Kinds → Error → Type 0
+IsOfKinds [] e = RefusesValue e
+IsOfKinds (k ∷ ks) e = HasKind (k ∷ ks) e

@@ -1,7 +1,8 @@
 use Rattle.std.specs.Prelude.{◌≡◌, ◌↔◌, ℕ, ◌≤◌, map, true, false, List, [], ◌∷◌, ◌++◌, ◌<◌, ◌^◌, ◌==◌}
-use Rattle.std.specs.Prelude.{codes, unwrap_or, IsTrue, Option, Some, None, slice_index, if◌then◌else◌}
+use Rattle.std.specs.Prelude.{codes, unwrap_or, All, IsTrue, Option, Some, None, slice_get, slice_index, if◌then◌else◌}
 use denote.Ref.{Bor}
-use Rattle.std.specs.Option.{option_map}
+use Rattle.std.specs.List.{AllZip}
+use Rattle.std.specs.Option.{option_flatten, option_map, option_to_list}
 use Rattle.std.specs.Path.{path_bytes, path_components, path_names, root_dir, slash}
 use Rattle.std.specs.declared.path.Path.{Path}
 use Rattle.std.specs.Str.Parse.{IsNumeral, digits_value}
@@ -11,6 +12,7 @@ use Rattle.can_wire.specs.Times.{AreBitRates}
 use Rattle.can_wire.specs.Timings.{BusTiming, timing_of}
 use Rattle.clap.specs.declared.parser.matches.ArgMatches.{ArgMatches}
 use Rattle.clap.specs.Words.{Row, all_of, first_of, found_of, one_of, rows_of}
+use Rattle.canbusd_options.specs.declared.bit_rates.GivenRates.{GivenRates}
 use Rattle.canbusd_options.specs.declared.bus_options.BusSettings.{BusSettings}
 use Rattle.canbusd_options.specs.declared.bus_word.BusWord.{BusWord}
 use Rattle.canbusd_options.specs.declared.bus_word.FaultsWord.{FaultsWord}
@@ -22,6 +24,7 @@ use Rattle.canbusd_options.specs.declared.recording.Recording.{Recording}
 use Rattle.canbusd_options.specs.declared.recording.Recording.TheVariants as recording
 use Rattle.canbusd_options.specs.declared.serve_options.ServeOptions.{ServeOptions}
 use Rattle.canbusd_options.specs.BusWords.{names_part, path_of, script_part}
+use Rattle.canbusd_options.specs.RateWords.{GoWithBuses, number_for, number_in_word}
 
 -- The options that the values of a command line's arguments mean. A row has the values of one argument: those that
 -- the words give it, or its default (own choice).
@@ -31,8 +34,8 @@ abbrev pub rows_in : ArgMatches → List Row
 rows_in m = rows_of (found_of m)
 
 -- what the option of this name was given, or its default
-abbrev pub given : List Row → List ℕ → List ℕ
-given rows id = unwrap_or (first_of id rows) []
+abbrev pub value_of : List Row → List ℕ → List ℕ
+value_of rows id = unwrap_or (first_of id rows) []
 
 -- what it was given, or else this text
 abbrev pub given_or : List ℕ → List Row → List ℕ → List ℕ
@@ -40,19 +43,19 @@ given_or text rows id = unwrap_or (first_of id rows) text
 
 -- what the option of this name was given, or its default, in a parse
 abbrev pub given_in : ArgMatches → List ℕ → List ℕ
-given_in m id = given (rows_in m) id
+given_in m id = value_of (rows_in m) id
 
 -- a number of 32 bits is the one that a text of only decimal digits writes
-abbrev pub IsNumberOf : ℕ → List ℕ → Type 0
-IsNumberOf n text = IsNumeral 10 text × (n ≡ digits_value 10 text) × (n < 2 ^ 32)
+abbrev pub IsNumberOfText : ℕ → List ℕ → Type 0
+IsNumberOfText n text = IsNumeral 10 text × (n ≡ digits_value 10 text) × (n < 2 ^ 32)
 
 -- a text of only decimal digits writes a number of 32 bits
 abbrev pub IsNumber : List ℕ → Type 0
-IsNumber text = (n : ℕ) × IsNumberOf n text
+IsNumber text = (n : ℕ) × IsNumberOfText n text
 
 -- the number is within limits
 abbrev pub IsNumberWithin : ℕ → ℕ → List ℕ → Type 0
-IsNumberWithin least most text = (n : ℕ) × IsNumberOf n text × (least ≤ n) × (n ≤ most)
+IsNumberWithin least most text = (n : ℕ) × IsNumberOfText n text × (least ≤ n) × (n ≤ most)
 
 -- the text of a mode of acknowledging
 abbrev pub mode_text : AckMode → List ℕ
@@ -65,13 +68,13 @@ IsMode text = (mode : AckMode) × (text ≡ mode_text mode)
 
 -- what is said of a bus is what the words give, with this limit where they give none
 pub record AreSettings (rows : List Row) (limit_else : List ℕ) (s : BusSettings) : Type 0 where
-  pub ack : given rows (codes "ack") ≡ mode_text s.ack
+  pub ack : value_of rows (codes "ack") ≡ mode_text s.ack
   pub reporting : one_of (codes "report") rows ≡ Some (codes "true") → s.is_reporting ≡ true
   pub silent : one_of (codes "report") rows ≡ Some (codes "false") → s.is_reporting ≡ false
-  pub tx_capacity : IsNumberOf s.tx_capacity (given rows (codes "txqueue"))
-  pub rx_capacity : IsNumberOf s.rx_capacity (given rows (codes "rxqueue"))
-  pub limit : IsNumberOf s.limit (given_or limit_else rows (codes "limit"))
-  pub auto_restart : IsNumberOf s.auto_restart (given rows (codes "auto-restart"))
+  pub tx_capacity : IsNumberOfText s.tx_capacity (value_of rows (codes "txqueue"))
+  pub rx_capacity : IsNumberOfText s.rx_capacity (value_of rows (codes "rxqueue"))
+  pub limit : IsNumberOfText s.limit (given_or limit_else rows (codes "limit"))
+  pub auto_restart : IsNumberOfText s.auto_restart (value_of rows (codes "auto-restart"))
 
 -- rows give settings, with this limit where they give none
 abbrev pub GiveSettings : List Row → List ℕ → Type 0
@@ -86,12 +89,12 @@ abbrev pub components_of : Path → List (List ℕ)
 components_of path = path_components (path_bytes path)
 
 -- the steps of a path: the root where it begins with a slash, and the names between its slashes, but for `.`
-abbrev pub steps_of : List ℕ → List (List ℕ)
-steps_of path = (if slice_index path 0 == slash then root_dir ∷ [] else []) ++ path_names path
+abbrev pub path_steps : List ℕ → List (List ℕ)
+path_steps path = (if slice_index path 0 == slash then root_dir ∷ [] else []) ++ path_names path
 
 -- two paths are given, and they have the same steps
 abbrev pub AreOneFile : Option (List ℕ) → Option (List ℕ) → Type 0
-AreOneFile (Some path) (Some other) = steps_of path ≡ steps_of other
+AreOneFile (Some path) (Some other) = path_steps path ≡ path_steps other
 AreOneFile _ _ = ⊥
 
 -- the parts of a bus are those of its word
@@ -105,20 +108,20 @@ AreBusWords buses words =
     × (map (λ bus. path_of bus.script) buses ≡ map script_part words)
 
 -- what an option was given, if it was
-abbrev pub text_of : Option (Bor (List ℕ)) → Option (List ℕ)
-text_of text = option_map (λ t. t.now) text
+abbrev pub word_in : Option (Bor (List ℕ)) → Option (List ℕ)
+word_in text = option_map (λ t. t.now) text
 
 -- a number is the one that a text writes, where there is one
 abbrev pub IsNumberIf : Option ℕ → Option (List ℕ) → Type 0
 IsNumberIf None None = Unit {0}
-IsNumberIf (Some n) (Some text) = IsNumberOf n text
+IsNumberIf (Some n) (Some text) = IsNumberOfText n text
 IsNumberIf _ _ = ⊥
 
 -- the bit rates of a bus are those that a text writes, and another one where FD frames switch
 pub record IsTimingOf (bitrate : List ℕ) (dbitrate : Option (List ℕ)) (t : BusTiming) : Type 0 where
   pub nominal : ℕ
   pub fast : Option ℕ
-  pub number : IsNumberOf nominal bitrate
+  pub number : IsNumberOfText nominal bitrate
   pub data_number : IsNumberIf fast dbitrate
   pub allowed : AreBitRates (timing_of nominal fast).rates
   pub timing : t ≡ timing_of nominal fast
@@ -133,19 +136,77 @@ HasTimingOf None None None = Unit {0}
 HasTimingOf (Some bitrate) dbitrate (Some t) = IsTimingOf bitrate dbitrate t
 HasTimingOf _ _ _ = ⊥
 
--- the bit rates of a bus are those that the words give, if they give any
-abbrev pub IsTimed : List Row → Option BusTiming → Type 0
-IsTimed rows timing = HasTimingOf (first_of (codes "bitrate") rows) (first_of (codes "dbitrate") rows) timing
+-- what an option was given that may be there several times
+abbrev pub words_given : List Row → List ℕ → List (List ℕ)
+words_given rows id = unwrap_or (all_of id rows) []
 
--- rows give bit rates, or none
-abbrev pub GiveTiming : List Row → Type 0
-GiveTiming rows = (timing : Option BusTiming) × IsTimed rows timing
+-- the options for bit rates have the words that rows give them
+pub record AreRateWords (rows : List Row) (rates : GivenRates) : Type 0 where
+  pub bitrates : map (λ word. word.now) rates.bitrate.words.now ≡ words_given rows (codes "bitrate")
+  pub dbitrates : map (λ word. word.now) rates.dbitrate.words.now ≡ words_given rows (codes "dbitrate")
+
+-- the words for bit rates go with the buses of these words BUS
+pub record GoTogether (rows : List Row) (buses : List (List ℕ)) : Type 0 where
+  pub bitrates : GoWithBuses buses (words_given rows (codes "bitrate"))
+  pub dbitrates : GoWithBuses buses (words_given rows (codes "dbitrate"))
+
+-- words for bit rates write numbers from 5,000 to this
+abbrev pub AreRatesWithin : ℕ → List (List ℕ) → Type 0
+AreRatesWithin most words = All (λ word. IsNumberWithin 5000 most (number_in_word word)) words
+
+-- all words for bit rates write numbers within limits, also those that no bus takes
+pub record AreNumbers (bitrates dbitrates : List (List ℕ)) : Type 0 where
+  pub nominal : AreRatesWithin 1000000 bitrates
+  pub fast : AreRatesWithin 20000000 dbitrates
+
+-- so do those of the options
+abbrev pub AreNumbersOf : GivenRates → Type 0
+AreNumbersOf rates =
+    AreNumbers (map (λ word. word.now) rates.bitrate.words.now) (map (λ word. word.now) rates.dbitrate.words.now)
+
+-- the bit rates of a bus are those that words give it, if they give any
+abbrev pub HasRates : (bitrates dbitrates : List (List ℕ)) → (bus : Option (List ℕ)) → Option BusTiming → Type 0
+HasRates bitrates dbitrates bus timing = HasTimingOf (number_for bus bitrates) (number_for bus dbitrates) timing
+
+-- they are those that the options give it
+abbrev pub HasRatesOf : GivenRates → (bus : Option (List ℕ)) → Option BusTiming → Type 0
+HasRatesOf rates bus timing =
+    HasRates
+    (map (λ word. word.now) rates.bitrate.words.now)
+    (map (λ word. word.now) rates.dbitrate.words.now)
+    bus timing
+
+-- so are those of the bus of a word BUS
+abbrev pub HasRatesFor : GivenRates → (bus : List ℕ) → Option BusTiming → Type 0
+HasRatesFor rates bus timing = HasRatesOf rates (Some (names_part bus)) timing
+
+-- the options give a bus bit rates, or none
+abbrev pub GiveRatesOf : GivenRates → (bus : Option (List ℕ)) → Type 0
+GiveRatesOf rates bus = (timing : Option BusTiming) × HasRatesOf rates bus timing
+
+-- words for bit rates can be taken for the buses of these words BUS
+pub record AreForBuses (rows : List Row) (buses : List (List ℕ)) : Type 0 where
+  pub together : GoTogether rows buses
+  pub numbers : AreNumbers (words_given rows (codes "bitrate")) (words_given rows (codes "dbitrate"))
+
+-- the bit rates of a bus are those that rows give it, if they give any
+abbrev pub IsBusTimed : List Row → (bus : Option (List ℕ)) → Option BusTiming → Type 0
+IsBusTimed rows bus timing =
+    HasRates (words_given rows (codes "bitrate")) (words_given rows (codes "dbitrate")) bus timing
+
+-- so are those of a bus, where the words can be taken for the buses of these words BUS
+abbrev pub IsTimed : List Row → (buses : List (List ℕ)) → (bus : Option (List ℕ)) → Option BusTiming → Type 0
+IsTimed rows buses bus timing = AreForBuses rows buses × IsBusTimed rows bus timing
+
+-- rows give such a bus bit rates, or none
+abbrev pub GiveTiming : List Row → (buses : List (List ℕ)) → (bus : Option (List ℕ)) → Type 0
+GiveTiming rows buses bus = (timing : Option BusTiming) × IsTimed rows buses bus timing
 
 -- the options of a bench are those that its words give
 pub record AreBenchOptions (rows : List Row) (o : BenchOptions) : Type 0 where
   pub settings : AreSettings rows usual_limit o.settings
-  pub bus : IsBusWord o.bus (given rows (codes "BUS"))
-  pub timed : IsTimed rows o.timing
+  pub bus : IsBusWord o.bus (value_of rows (codes "BUS"))
+  pub timed : IsTimed rows (value_of rows (codes "BUS") ∷ []) (Some o.bus.names.now) o.timing
   pub kept : path_of o.record ≡ first_of (codes "record") rows
   pub logged : path_of o.log ≡ first_of (codes "log") rows
   pub apart : ¬ (AreOneFile (first_of (codes "record") rows) (first_of (codes "log") rows))
@@ -160,7 +221,20 @@ GiveBenchOptions rows = (o : BenchOptions) × AreBenchOptions rows o
 
 -- the buses that a server was given
 abbrev pub buses_given : List Row → List (List ℕ)
-buses_given rows = unwrap_or (all_of (codes "BUS") rows) []
+buses_given rows = words_given rows (codes "BUS")
+
+-- the bit rates of each bus of these words BUS are those that rows give it, if they give any
+pub record AreTimed (rows : List Row) (buses : List (List ℕ)) (timings : List (Option BusTiming)) : Type 0 where
+  pub taken : AreForBuses rows buses
+  pub each : AllZip (λ bus timing. IsBusTimed rows (Some (names_part bus)) timing) buses timings
+
+-- rows give such buses bit rates, or none
+abbrev pub GiveTimings : List Row → (buses : List (List ℕ)) → Type 0
+GiveTimings rows buses = (timings : List (Option BusTiming)) × AreTimed rows buses timings
+
+-- the bit rates of the bus at a place, if there is one
+abbrev pub timing_at : List (Option BusTiming) → ℕ → Option BusTiming
+timing_at timings place = option_flatten (slice_get timings place)
 
 -- the word for when records are written
 abbrev pub recording_text : Recording → List ℕ
@@ -193,31 +267,31 @@ usual_sessions recording.Never = codes "4294967295"
 -- options go with when records are written: --flush and --sync are for files that are written live, a long run
 -- has no --limit, and live records need a folder
 abbrev pub GoWith : Recording → List Row → Type 0
-GoWith recording.AtEnd rows = (first_of (codes "flush") rows ≡ None) × ¬ (given rows (codes "sync") ≡ codes "true")
+GoWith recording.AtEnd rows = (first_of (codes "flush") rows ≡ None) × ¬ (value_of rows (codes "sync") ≡ codes "true")
 GoWith recording.Live rows = (first_of (codes "limit") rows ≡ None) × ¬ (first_of (codes "out") rows ≡ None)
 GoWith recording.Never rows = first_of (codes "limit") rows ≡ None
 
 -- rows say when records are written, and their options go with that
 abbrev pub CanRecord : List Row → Type 0
-CanRecord rows = (r : Recording) × (given rows (codes "record") ≡ recording_text r) × GoWith r rows
+CanRecord rows = (r : Recording) × (value_of rows (codes "record") ≡ recording_text r) × GoWith r rows
 
 -- the options of a server are those that its words give
 pub record AreServeOptions (rows : List Row) (o : ServeOptions) : Type 0 where
-  pub recording : given rows (codes "record") ≡ recording_text o.recording
+  pub recording : value_of rows (codes "record") ≡ recording_text o.recording
   pub together : GoWith o.recording rows
   pub settings : AreSettings rows (server_limit o.recording) o.settings
-  pub timed : IsTimed rows o.timing
-  pub flush : IsNumberOf o.flush_ms (given_or (codes "100") rows (codes "flush"))
+  pub timed : AreTimed rows (buses_given rows) o.timings.items
+  pub flush : IsNumberOfText o.flush_ms (given_or (codes "100") rows (codes "flush"))
   pub soon : o.flush_ms ≤ 60000
-  pub synced : IsTrue o.is_synced ↔ (given rows (codes "sync") ≡ codes "true")
+  pub synced : IsTrue o.is_synced ↔ (value_of rows (codes "sync") ≡ codes "true")
   pub buses : AreBusWords o.buses.items (buses_given rows)
-  pub address : o.address.now ≡ given rows (codes "listen")
-  pub sessions : IsNumberOf o.sessions (given_or (usual_sessions o.recording) rows (codes "sessions"))
+  pub address : o.address.now ≡ value_of rows (codes "listen")
+  pub sessions : IsNumberOfText o.sessions (given_or (usual_sessions o.recording) rows (codes "sessions"))
   pub some : 1 ≤ o.sessions
   pub few : o.sessions ≤ most_sessions o.recording
-  pub pace : IsNumberOf o.pace_ms (given rows (codes "pace"))
+  pub pace : IsNumberOfText o.pace_ms (value_of rows (codes "pace"))
   pub short : o.pace_ms ≤ 60000
-  pub write : IsNumberOf o.write_bytes (given rows (codes "write"))
+  pub write : IsNumberOfText o.write_bytes (value_of rows (codes "write"))
   pub one_frame : 256 ≤ o.write_bytes
   pub many_frames : o.write_bytes ≤ 65536
   pub folder : path_of o.folder ≡ first_of (codes "out") rows
@@ -232,7 +306,7 @@ GiveServeOptions rows = (o : ServeOptions) × AreServeOptions rows o
 
 -- the files that an audit was given
 abbrev pub files_given : List Row → List (List ℕ)
-files_given rows = unwrap_or (all_of (codes "FILE") rows) []
+files_given rows = words_given rows (codes "FILE")
 
 -- the names and the file of a run's faults are those of a word, which has both
 abbrev pub IsFaultsWord : FaultsWord → List ℕ → Type 0
@@ -252,13 +326,26 @@ AreFaults rows faults = HasFaultsOf (first_of (codes "faults") rows) faults
 abbrev pub GiveFaults : List Row → Type 0
 GiveFaults rows = (faults : Option FaultsWord) × AreFaults rows faults
 
+-- the bit rates of the bus of an audit are those that words give it, if they give any: its names are those of --faults,
+-- if they are given
+abbrev pub IsAuditTimed : List Row → Option BusTiming → Type 0
+IsAuditTimed rows timing =
+    IsTimed rows
+    (option_to_list (first_of (codes "faults") rows))
+    (option_map names_part (first_of (codes "faults") rows))
+    timing
+
+-- rows give the bus of an audit bit rates, or none
+abbrev pub GiveAuditTiming : List Row → Type 0
+GiveAuditTiming rows = (timing : Option BusTiming) × IsAuditTimed rows timing
+
 -- an audit writes what the words ask for: with --events what entries brought about, by the bit rates and the faults
 -- that they give, if they give any, and without it a count, for which they give neither
 abbrev pub IsOutput : List Row → AuditOutput → Type 0
 IsOutput rows output.Count =
-    ¬ (given rows (codes "events") ≡ codes "true") × IsTimed rows None × AreFaults rows None
+    ¬ (value_of rows (codes "events") ≡ codes "true") × IsAuditTimed rows None × AreFaults rows None
 IsOutput rows (output.Events asked) =
-    (given rows (codes "events") ≡ codes "true") × IsTimed rows asked.timing × AreFaults rows asked.faults
+    (value_of rows (codes "events") ≡ codes "true") × IsAuditTimed rows asked.timing × AreFaults rows asked.faults
 
 -- rows say what an audit writes
 abbrev pub GiveOutput : List Row → Type 0

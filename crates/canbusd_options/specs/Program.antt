@@ -2,9 +2,10 @@ use Rattle.std.specs.Prelude.{◌≡◌, List, [], ◌∷◌, codes, Option, Som
 use Rattle.clap.specs.Lexer.{usize_max}
 use Rattle.clap.specs.Words.{App, Row, Rule, Text, fault_of, new_app, new_rule}
 use Rattle.clap.specs.Words.{subcommand_of, with_rule, with_subcommand}
-use Rattle.clap.specs.declared.builder.ArgAction.TheVariants.{SetTrue}
+use Rattle.clap.specs.declared.builder.ArgAction.TheVariants.{Append, SetTrue}
 use Rattle.canbusd_options.specs.declared.command_line.Job.{Job}
 use Rattle.canbusd_options.specs.declared.command_line.Job.TheVariants as job
+use Rattle.canbusd_options.specs.BitsOptions.{AreBitsOptions}
 use Rattle.canbusd_options.specs.Options.{AreAuditOptions, AreBenchOptions, AreServeOptions}
 
 -- The command line of canbusd: its commands, and the arguments and defaults of each (own choice). How words are read by
@@ -13,6 +14,10 @@ use Rattle.canbusd_options.specs.Options.{AreAuditOptions, AreBenchOptions, AreS
 -- an option --NAME VALUE without a default
 abbrev pub option_rule : Text → Rule
 option_rule name = record (new_rule name) { long = Some name; value_names = 1 }
+
+-- the same, where it may be there several times
+abbrev pub several_rule : Text → Rule
+several_rule name = record (option_rule name) { action = Some Append }
 
 -- an option --NAME VALUE with its default
 abbrev pub default_rule : Text → Text → Rule
@@ -30,9 +35,14 @@ word_rule name = record (new_rule name) { required = true }
 abbrev pub words_rule : Text → Rule
 words_rule name = record (word_rule name) { range = Some (record { start_inclusive = 1; end_inclusive = usize_max }) }
 
+-- words that may be there: OTHER.. of bits
+abbrev pub some_words_rule : Text → Rule
+some_words_rule name =
+    record (new_rule name) { range = Some (record { start_inclusive = 0; end_inclusive = usize_max }) }
+
 -- a command with the options for bit rates
 abbrev pub with_rate_rules : App → App
-with_rate_rules a = with_rule (with_rule a (option_rule (codes "bitrate"))) (option_rule (codes "dbitrate"))
+with_rate_rules a = with_rule (with_rule a (several_rule (codes "bitrate"))) (several_rule (codes "dbitrate"))
 
 -- a command with the options that say what a bus is like
 abbrev pub with_bus_rules : App → App
@@ -82,15 +92,24 @@ audit_app =
     (option_rule (codes "faults")))
     (words_rule (codes "FILE"))
 
+-- `bits FRAME OTHER..`, with its options
+abbrev pub bits_app : App
+bits_app =
+    with_rule (with_rule (with_rule (with_rule (new_app (codes "bits"))
+    (option_rule (codes "bitrate")))
+    (option_rule (codes "dbitrate")))
+    (word_rule (codes "FRAME")))
+    (some_words_rule (codes "OTHER"))
+
 -- a command that has a version, and needs a command below it
 abbrev pub with_commands : App → App
 with_commands a = record a { top = record a.top { has_version = true; subcommand_required = true } }
 
--- the program with its three commands
+-- the program with its four commands
 abbrev pub program : App
 program =
-    with_subcommand (with_subcommand (with_subcommand (with_commands (new_app (codes "canbusd")))
-    bench_app.top) serve_app.top) audit_app.top
+    with_subcommand (with_subcommand (with_subcommand (with_subcommand (with_commands (new_app (codes "canbusd")))
+    bench_app.top) serve_app.top) audit_app.top) bits_app.top
 
 -- a job is what a command asks for, whose name and rows the words give
 abbrev pub Asks : Option (Text × List Row) → Job → Type 0
@@ -98,6 +117,7 @@ Asks None j = ⊥
 Asks (Some p) (job.Bench o) = (p.0 ≡ codes "bench") × AreBenchOptions p.1 o
 Asks (Some p) (job.Serve o) = (p.0 ≡ codes "serve") × AreServeOptions p.1 o
 Asks (Some p) (job.Audit o) = (p.0 ≡ codes "audit") × AreAuditOptions p.1 o
+Asks (Some p) (job.Bits o) = (p.0 ≡ codes "bits") × AreBitsOptions p.1 o
 
 -- a job is what words ask for in which clap finds no fault
 abbrev pub IsAsked : List Text → Job → Type 0

@@ -3,12 +3,12 @@ ghost use Rattle.std.specs.Prelude.{◌≡◌, codes, false, map, IfErr, IfOk};
 ghost use Rattle.clap.specs.Words.{app_of, kind_of, rule_of};
 ghost use Rattle.clap.specs.declared.error.kind.ErrorKind.TheVariants.{ValueValidation};
 ghost use Rattle.canbusd_options.specs.Help.{IsNoMemory, RefusesValue};
-ghost use Rattle.canbusd_options.specs.Options.{AreAuditOptions, AreFaults, GiveAuditOptions, GiveFaults, GiveOutput, IsOutput, files_given as files_of, rows_in};
+ghost use Rattle.canbusd_options.specs.Options.{AreAuditOptions, AreFaults, GiveAuditOptions, GiveAuditTiming, GiveFaults, GiveOutput, IsAuditTimed, IsOutput, files_given as files_of, rows_in};
 ghost use Rattle.canbusd_options.specs.Program.{audit_app, flag_rule, words_rule};
 
 use crate::bit_rates::{timing_given, with_bit_rates};
-use crate::bus_options::{Subcommand, free_option, is_on};
-use crate::bus_word::FaultsWord;
+use crate::bus_options::{Subcommand, free_option, is_on, words_given};
+use crate::bus_word::{BusWord, FaultsWord};
 use crate::help::AUDIT_HELP;
 use can_wire::Timing;
 use clap::{Arg, ArgAction, ArgMatches, Command, Error};
@@ -70,7 +70,7 @@ fn output_given<'a>(alloc: Global, audit: &ArgMatches<'a>) -> Result<AuditOutput
     ensures taken { IfErr result (λ e. GiveOutput (rows_in audit.now) → IsNoMemory e) }
     ensures refused { IfErr result RefusesValue }
 {
-    let timing = timing_given(alloc, Subcommand::Audit, audit)?;
+    let timing = audit_timing(alloc, audit)?;
     let faults = faults_given(alloc, audit)?;
     if is_on(audit, EVENTS) {
         return Ok(AuditOutput::Events(EventsAsked { timing, faults }));
@@ -82,6 +82,22 @@ fn output_given<'a>(alloc: Global, audit: &ArgMatches<'a>) -> Result<AuditOutput
         return Err(Subcommand::Audit.error(alloc, "'--faults' needs '--events'")?);
     }
     Ok(AuditOutput::Count)
+}
+
+// The bit rates of the bus, if they are given: a record has no names, so its names are those of the faults.
+#[tactic(auto, using(crate::proofs::Rules::text_in_rows))]
+fn audit_timing(alloc: Global, audit: &ArgMatches<'_>) -> Result<Option<Timing>, Error>
+    ensures given { IfOk result (λ timing. IsAuditTimed (rows_in audit.now) timing) }
+    ensures taken { IfErr result (λ e. GiveAuditTiming (rows_in audit.now) → IsNoMemory e) }
+    ensures refused { IfErr result RefusesValue }
+{
+    match audit.get_str(FAULTS) {
+        Some(word) => {
+            let names = BusWord::read(word).names;
+            timing_given(alloc, Subcommand::Audit, audit, &[word], Some(names))
+        }
+        None => timing_given(alloc, Subcommand::Audit, audit, &[], None),
+    }
 }
 
 // The faults that the bus had, if they are given.
@@ -114,10 +130,7 @@ fn files_given<'a>(alloc: Global, audit: &ArgMatches<'a>) -> Result<Vec<&'a str>
     ensures { IfOk result (λ files.
         map (λ file. file.now) files.items ≡ files_of (rows_in audit.now)) }
 {
-    match audit.get_strs(FILE) {
-        Some(words) => Vec::from_slice(alloc, words),
-        None => Ok(Vec::new(alloc)),
-    }
+    Vec::from_slice(alloc, words_given(audit, FILE))
 }
 
 pub fn audit_command<'a>(alloc: Global) -> Result<Command<'a>, AllocError>

@@ -3,7 +3,7 @@ ghost use Rattle.std.specs.Prelude.{◌≡◌, ◌↔◌, codes, false, IfErr, I
 ghost use Rattle.clap.specs.Words.{app_of, rule_of};
 ghost use Rattle.canbusd_options.specs.BusWords.{path_of};
 ghost use Rattle.canbusd_options.specs.Help.{IsNoMemory, RefusesValue};
-ghost use Rattle.canbusd_options.specs.Options.{AreBenchOptions, AreOneFile, GiveBenchOptions, components_of, rows_in, steps_of};
+ghost use Rattle.canbusd_options.specs.Options.{AreBenchOptions, AreOneFile, GiveBenchOptions, components_of, rows_in, path_steps};
 ghost use Rattle.canbusd_options.specs.Program.{bench_app, flag_rule, option_rule};
 
 use crate::bit_rates::timing_given;
@@ -49,7 +49,9 @@ pub fn bench_options<'a>(alloc: Global, bench: &ArgMatches<'a>) -> Result<BenchO
     ensures refused { IfErr result RefusesValue }
 {
     let settings = settings_given(alloc, Subcommand::Bench, bench, USUAL_LIMIT)?;
-    let timing = timing_given(alloc, Subcommand::Bench, bench)?;
+    let word = bench.get_str(BUS).unwrap_or("");
+    let bus = BusWord::read(word);
+    let timing = timing_given(alloc, Subcommand::Bench, bench, &[word], Some(bus.names))?;
     let record = bench.get_str(RECORD);
     let log = bench.get_str(LOG);
     if are_one_file(record, log) {
@@ -61,7 +63,7 @@ pub fn bench_options<'a>(alloc: Global, bench: &ArgMatches<'a>) -> Result<BenchO
     }
     Ok(BenchOptions {
         settings,
-        bus: BusWord::read(bench.get_str(BUS).unwrap_or("")),
+        bus,
         timing,
         record,
         log,
@@ -90,7 +92,7 @@ fn have_same_steps(path: Path<'_>, other: Path<'_>) -> bool
 
 // A path without the `.` that it may begin with.
 fn without_dot(path: &str) -> Path<'_>
-    ensures { components_of result ≡ steps_of path.now }
+    ensures { components_of result ≡ path_steps path.now }
 {
     let path = Path::new(path);
     path.strip_prefix(".").unwrap_or(path)

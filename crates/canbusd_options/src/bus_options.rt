@@ -1,15 +1,16 @@
 //! The words that say what a bus is like, which bench and serve share, and how an option's text, number or flag is taken.
-ghost use Rattle.std.specs.Prelude.{◌≡◌, ◌↔◌, ◌≤◌, ◌^◌, codes, false, IfErr, IfNone, IfOk, IfSome, IsTrue};
+ghost use Rattle.std.specs.Prelude.{◌≡◌, ◌↔◌, ◌≤◌, ◌^◌, codes, false, map, IfErr, IfNone, IfOk, IfSome, IsTrue};
 ghost use Rattle.std.specs.Str.Parse.{IsNumeral, digits_value};
 ghost use Rattle.clap.specs.Words.{app_of, kind_of, rule_of};
 ghost use Rattle.clap.specs.declared.error.kind.ErrorKind.TheVariants.{ValueValidation};
 ghost use Rattle.canbusd_options.specs.Help.{IsNoMemory, RefusesValue};
-ghost use Rattle.canbusd_options.specs.Options.{AreSettings, GiveSettings, IsMode, IsNumber, IsNumberOf, IsNumberWithin, given, given_in, given_or, mode_text, rows_in};
+ghost use Rattle.canbusd_options.specs.Options.{AreSettings, GiveSettings, IsMode, IsNumber, IsNumberOfText, IsNumberWithin, value_of, given_in, given_or, mode_text, rows_in, words_given as words_of};
 ghost use Rattle.canbusd_options.specs.Program.{default_rule, flag_rule, option_rule, with_bus_rules, word_rule};
 
 use crate::audit_options::audit_command;
 use crate::bench_options::bench_command;
 use crate::bit_rates::with_bit_rates;
+use crate::bits_options::bits_command;
 use crate::serve_options::serve_command;
 use can_attempt::AckMode;
 use clap::error::ErrorKind;
@@ -60,6 +61,7 @@ pub enum Subcommand {
     Bench,
     Serve,
     Audit,
+    Bits,
 }
 
 impl Subcommand {
@@ -71,6 +73,7 @@ impl Subcommand {
             Subcommand::Bench => bench_command(alloc)?.bin_name("canbusd bench")?,
             Subcommand::Serve => serve_command(alloc)?.bin_name("canbusd serve")?,
             Subcommand::Audit => audit_command(alloc)?.bin_name("canbusd audit")?,
+            Subcommand::Bits => bits_command(alloc)?.bin_name("canbusd bits")?,
         };
         command.error(ErrorKind::ValueValidation, message)
     }
@@ -123,7 +126,7 @@ fn number_given(
     option: &str,
     limits: &str,
 ) -> Result<u32, Error>
-    ensures given { IfOk result (λ n. IsNumberOf n (given_in matches.now option.now)) }
+    ensures given { IfOk result (λ n. IsNumberOfText n (given_in matches.now option.now)) }
     ensures taken { IfErr result (λ e. IsNumber (given_in matches.now option.now) → IsNoMemory e) }
     ensures refused { IfErr result RefusesValue }
 {
@@ -145,7 +148,7 @@ fn limit_given(
     default: &str,
 ) -> Result<u32, Error>
     ensures given { IfOk result (λ n.
-        IsNumberOf n (given_or default.now (rows_in matches.now) (codes "limit"))) }
+        IsNumberOfText n (given_or default.now (rows_in matches.now) (codes "limit"))) }
     ensures taken { IfErr result (λ e.
         IsNumber (given_or default.now (rows_in matches.now) (codes "limit")) → IsNoMemory e) }
     ensures refused { IfErr result RefusesValue }
@@ -162,7 +165,7 @@ fn number_of(
     text: &str,
     limits: &str,
 ) -> Result<u32, Error>
-    ensures given { IfOk result (λ n. IsNumberOf n text.now) }
+    ensures given { IfOk result (λ n. IsNumberOfText n text.now) }
     ensures taken { IfErr result (λ e. IsNumber text.now → IsNoMemory e) }
     ensures refused { IfErr result RefusesValue }
 {
@@ -182,7 +185,7 @@ pub fn number_within(
     least: u32,
     most: u32,
 ) -> Result<u32, Error>
-    ensures number { IfOk result (λ n. IsNumberOf n (given_in matches.now option.now)) }
+    ensures number { IfOk result (λ n. IsNumberOfText n (given_in matches.now option.now)) }
     ensures least { IfOk result (λ n. least ≤ n) }
     ensures most { IfOk result (λ n. n ≤ most) }
     ensures taken { IfErr result (λ e.
@@ -202,7 +205,7 @@ pub fn text_within(
     least: u32,
     most: u32,
 ) -> Result<u32, Error>
-    ensures number { IfOk result (λ n. IsNumberOf n text.now) }
+    ensures number { IfOk result (λ n. IsNumberOfText n text.now) }
     ensures least { IfOk result (λ n. least ≤ n) }
     ensures most { IfOk result (λ n. n ≤ most) }
     ensures taken { IfErr result (λ e. IsNumberWithin least most text.now → IsNoMemory e) }
@@ -235,7 +238,7 @@ fn number_error(
 
 // The number that a text of only decimal digits writes.
 fn number_in(text: &str) -> Option<u32>
-    ensures some { IfSome result (λ n. IsNumberOf n text.now) }
+    ensures some { IfSome result (λ n. IsNumberOfText n text.now) }
     ensures none { IfNone result (IsNumeral 10 text.now → 2 ^ 32 ≤ digits_value 10 text.now) }
 {
     if text.starts_with('+') {
@@ -247,9 +250,16 @@ fn number_in(text: &str) -> Option<u32>
 /// Whether the flag of this name is among the words.
 #[tactic(auto, using(crate::proofs::Rules::text_in_rows))]
 pub fn is_on(matches: &ArgMatches<'_>, flag: &str) -> bool
-    ensures { IsTrue result ↔ (given (rows_in matches.now) flag.now ≡ codes "true") }
+    ensures { IsTrue result ↔ (value_of (rows_in matches.now) flag.now ≡ codes "true") }
 {
     matches.get_str(flag).unwrap_or("") == "true"
+}
+
+/// What an option was given that may be there several times.
+pub fn words_given<'m, 'a>(matches: &'m ArgMatches<'a>, option: &str) -> &'m [&'a str]
+    ensures { map (λ word. word.now) result.now ≡ words_of (rows_in matches.now) option.now }
+{
+    matches.get_strs(option).unwrap_or_default()
 }
 
 /// Adds the options that say what a bus is like.
@@ -263,7 +273,7 @@ pub fn with_bus_options<'a>(alloc: Global, command: Command<'a>) -> Result<Comma
     let restart_help =
         "Restart an interface in the Nth attempt after it went bus off, 1 to 1000000, or never (0)";
     let bitrate_help =
-        "Bits a second, 5000 to 1000000: attempts take the time of their bits [default: no time]";
+        "Bits a second, 5000 to 1000000: attempts take the time of their bits; with NAME= only of that interface's bus [default: no time]";
     let command = command
         .arg(ack_option(alloc))?
         .arg(report_option(alloc))?

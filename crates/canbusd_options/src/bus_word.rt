@@ -1,6 +1,7 @@
 ghost use Rattle.std.specs.Prelude.{◌≡◌, IfNone, IfSome, None};
 ghost use Rattle.canbusd_options.specs.BusWords.{first_name_of, names_part, path_of, script_part};
 ghost use Rattle.canbusd_options.specs.Options.{IsFaultsWord};
+ghost use Rattle.canbusd_options.specs.RateWords.{has_name as is_among};
 
 /// A word BUS: `names`, or `names@FILE`.
 #[derive(Debug, Clone, Copy)]
@@ -38,6 +39,13 @@ impl<'a> BusWord<'a> {
             None => self.names,
         }
     }
+}
+
+/// Whether a name is among names joined by commas.
+pub fn has_name(names: &str, name: &str) -> bool
+    ensures { result ≡ is_among names.now name.now }
+{
+    names.split(',').any(|other| other == name)
 }
 
 /// A word `NAMES@FILE`: a bus, and the faults that it had in a run.

@@ -1,11 +1,12 @@
 //! What a command line asks for.
 ghost use Rattle.std.specs.Prelude.{◌≡◌, map, string_bytes, IfErr, IfOk};
 ghost use Rattle.clap.specs.Words.{app_of, fault_of};
-ghost use Rattle.canbusd_options.specs.Help.{AskHelp, IsOfFaults, IsNoMemory, ShowsHelp};
+ghost use Rattle.canbusd_options.specs.Help.{AskHelp, IsOfKinds, IsNoMemory, ShowsHelp};
 ghost use Rattle.canbusd_options.specs.Program.{AskJob, IsAsked, program};
 
 use crate::audit_options::{AuditOptions, audit_command, audit_options};
 use crate::bench_options::{BenchOptions, bench_command, bench_options};
+use crate::bits_options::{BitsOptions, bits_command, bits_options};
 use crate::bus_options::Subcommand;
 use crate::help::PROGRAM_HELP;
 use crate::serve_options::{ServeOptions, serve_command, serve_options};
@@ -21,6 +22,8 @@ pub enum Job<'a> {
     Serve(ServeOptions<'a>),
     /// To audit a record.
     Audit(AuditOptions<'a>),
+    /// To write the bits of a frame.
+    Bits(BitsOptions),
 }
 
 /// What the words of a command line ask for, the program's name among them. An error is a fault of the
@@ -28,7 +31,7 @@ pub enum Job<'a> {
 pub fn read_options<'a>(alloc: Global, words: &'a [String]) -> Result<Job<'a>, Error>
     ensures asked { IfOk result (λ job. IsAsked (map string_bytes words.now) job) }
     ensures taken { IfErr result (λ e. AskJob (map string_bytes words.now) → IsNoMemory e) }
-    ensures refused { IfErr result (IsOfFaults (fault_of program (map string_bytes words.now))) }
+    ensures refused { IfErr result (IsOfKinds (fault_of program (map string_bytes words.now))) }
     ensures help { IfErr result (λ e. ShowsHelp e → AskHelp (map string_bytes words.now)) }
 {
     let matches = program_command(alloc)?.try_get_matches_from(words)?;
@@ -38,8 +41,11 @@ pub fn read_options<'a>(alloc: Global, words: &'a [String]) -> Result<Job<'a>, E
     if let Some(serve) = matches.subcommand_matches("serve") {
         return Ok(Job::Serve(serve_options(alloc, serve)?));
     }
-    match matches.subcommand_matches("audit") {
-        Some(audit) => Ok(Job::Audit(audit_options(alloc, audit)?)),
+    if let Some(audit) = matches.subcommand_matches("audit") {
+        return Ok(Job::Audit(audit_options(alloc, audit)?));
+    }
+    match matches.subcommand_matches("bits") {
+        Some(bits) => Ok(Job::Bits(bits_options(alloc, bits)?)),
         None => Err(Subcommand::Bench.error(alloc, "no command was given")?),
     }
 }
@@ -54,5 +60,6 @@ fn program_command<'a>(alloc: Global) -> Result<Command<'a>, AllocError>
         .subcommand_required(true)
         .subcommand(bench_command(alloc)?)?
         .subcommand(serve_command(alloc)?)?
-        .subcommand(audit_command(alloc)?)
+        .subcommand(audit_command(alloc)?)?
+        .subcommand(bits_command(alloc)?)
 }

@@ -87,7 +87,8 @@ pub const SERVE_HELP: &str =
     "Clients connect to ADDR and speak socketcand's raw mode: `canbusd help bench` has its messages. Each opens
 an interface by its name. On each bus the frame that wins arbitration goes out at once where one waits, and MS
 milliseconds later the next attempt may follow. Moments are microseconds since 1970. With --bitrate an attempt takes
-the time of its bits, the moment of a frame is its end, and no client gets it before.
+the time of its bits, the moment of a frame is its end, and no client gets it before. --bitrate and --dbitrate are of all
+buses, or with NAME= of the bus that has this interface, each once: --bitrate 500000 --bitrate body0=125000 can0 body0,body1.
 
 It prints `listening ADDR`, with the port that it got where the port given is 0. Once N sessions have come and ended,
 or with --until-eof standard input has ended, it prints for each bus, by its first name, `bus NAME entries N`, and
@@ -128,7 +129,7 @@ off. Before a fault it prints the entries before it. docs/RECORD.md has the gram
 
 With --bitrate the line of each attempt that tried a frame ends in `; wire FRAME BUSY NOMINAL FAST`: the nanoseconds from
 its start to the frame's end and until the next attempt may begin, and how many bits of the frame go at --bitrate and
-at --dbitrate.
+at --dbitrate. A record has no names of interfaces: NAME=N is taken where NAME is one of those of --faults.
 
 With --faults NAMES@FILE, the word that the run had for its bus, the line of each attempt whose verdict is that of a rule
 ends in `; rule N`: which rule of FILE it was, from 1. For what came while the run went on FILE may also have lines
@@ -149,3 +150,29 @@ Example, with what it writes:
   send 0 123#ABCD = number 0
   attempt 0.000000 good = tried 0 0 123#ABCD done 0000 0000; wire 124000 130000 62 0
   end 3";
+
+pub const BITS_HELP: &str =
+    "Prints the bits of a frame as they are on a bus that acknowledges it: a line for each field, with stuff bits in parentheses, and
+then how many bits there are to the end of intermission, and how many of them go at the bit rate for data. 0 is dominant.
+With --bitrate it prints the nanoseconds from the frame's start to end of frame; with --dbitrate an FD frame with BRS switches.
+
+For each OTHER that loses arbitration to the frame it prints `silent FIELD bit N, OTHER`: its sender falls silent in bit N
+of the frame, counted from 0 with stuff bits. For one that does not lose it prints `not silent OTHER`.
+
+Example, with what it writes:
+  $ canbusd bits 123#11 124#
+  SOF            0
+  identifier     00100100011
+  RTR            0
+  IDE            0
+  reserved       0
+  DLC            00(1)01
+  data           00010001
+  CRC            000100001101001
+  CRC delimiter  1
+  ACK slot       0
+  ACK delimiter  1
+  EOF            1111111
+  intermission   111
+  total          56 bits, 1 of them stuff bits, 0 at the data bit rate
+  silent         identifier     bit 9, 124#";

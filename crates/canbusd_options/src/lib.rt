@@ -8,6 +8,7 @@
 mod audit_options;
 mod bench_options;
 mod bit_rates;
+mod bits_options;
 mod bus_options;
 mod bus_word;
 mod command_line;
@@ -17,8 +18,9 @@ mod serve_options;
 
 pub use audit_options::{AuditOptions, AuditOutput, EventsAsked};
 pub use bench_options::BenchOptions;
+pub use bits_options::BitsOptions;
 pub use bus_options::BusSettings;
-pub use bus_word::{BusWord, FaultsWord};
+pub use bus_word::{BusWord, FaultsWord, has_name};
 pub use command_line::{Job, read_options};
 pub use recording::Recording;
 pub use serve_options::ServeOptions;

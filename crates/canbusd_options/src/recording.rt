@@ -1,7 +1,7 @@
 //! When a server writes its records, and the options that go with it.
 ghost use Rattle.std.specs.Prelude.{◌≡◌, ◌↔◌, codes, IfErr, IfNone, IfOk, IfSome, IsNone};
 ghost use Rattle.canbusd_options.specs.Help.{IsNoMemory, RefusesValue};
-ghost use Rattle.canbusd_options.specs.Options.{CanRecord, GoWith, IsRecording, given, most_sessions, recording_text, rows_in, server_limit, usual_sessions};
+ghost use Rattle.canbusd_options.specs.Options.{CanRecord, GoWith, IsRecording, value_of, most_sessions, recording_text, rows_in, server_limit, usual_sessions};
 
 use crate::bus_options::{LIMIT, Subcommand, USUAL_LIMIT, is_on};
 use crate::serve_options::{FLUSH, OUT, SYNC};
@@ -94,7 +94,7 @@ impl Recording {
 #[tactic(auto, using(crate::proofs::Rules::text_in_rows))]
 pub fn recording_given(alloc: Global, serve: &ArgMatches<'_>) -> Result<Recording, Error>
     ensures given { IfOk result (λ r.
-        given (rows_in serve.now) (codes "record") ≡ recording_text r) }
+        value_of (rows_in serve.now) (codes "record") ≡ recording_text r) }
     ensures together { IfOk result (λ r. GoWith r (rows_in serve.now)) }
     ensures taken { IfErr result (λ e. CanRecord (rows_in serve.now) → IsNoMemory e) }
     ensures refused { IfErr result RefusesValue }

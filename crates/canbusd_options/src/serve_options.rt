@@ -1,14 +1,16 @@
 //! The words of serve.
-ghost use Rattle.std.specs.Prelude.{◌≡◌, ◌≤◌, codes, false, map, IfErr, IfOk};
+ghost use Rattle.std.specs.Prelude.{◌≡◌, ◌≤◌, codes, false, map, All, IfErr, IfOk, Some};
+ghost use Rattle.std.specs.List.{AllZip};
 ghost use Rattle.clap.specs.Words.{app_of, rule_of};
+ghost use Rattle.canbusd_options.specs.BusWords.{names_part};
 ghost use Rattle.canbusd_options.specs.Help.{IsNoMemory, RefusesValue};
-ghost use Rattle.canbusd_options.specs.Options.{AreBusWords, AreServeOptions, GiveServeOptions, IsNumberOf, IsNumberWithin, buses_given as buses_of, given_or, rows_in};
+ghost use Rattle.canbusd_options.specs.Options.{AreBusWords, AreServeOptions, AreTimed, GiveRatesOf, GiveServeOptions, GiveTimings, HasRatesFor, IsNumberOfText, IsNumberWithin, given_or, rows_in, timing_at};
 ghost use Rattle.canbusd_options.specs.Program.{default_rule, flag_rule, option_rule, serve_app, words_rule};
 
-use crate::bit_rates::timing_given;
+use crate::bit_rates::GivenRates;
 use crate::bus_options::{
     BUS, BusSettings, Subcommand, bus_argument, free_option, is_on, number_option, number_within,
-    settings_given, text_within, with_bus_options,
+    settings_given, text_within, with_bus_options, words_given,
 };
 use crate::bus_word::BusWord;
 use crate::help::SERVE_HELP;
@@ -50,12 +52,12 @@ const MOST_WRITE: u32 = 65_536;
 pub struct ServeOptions<'a> {
     pub settings: BusSettings,
     pub buses: Vec<BusWord<'a>>,
+    /// The bit rates of each bus, in their order, if it has any.
+    pub timings: Vec<Option<Timing>>,
     /// Where it listens: a Unix path where it begins with `/` or `.`, else host and port.
     pub address: &'a str,
     /// How many sessions it serves: 1 to 4,000, in long runs to 4,294,967,295, and the most where that is not given.
     pub sessions: u32,
-    /// The bit rates of the buses, if they have any.
-    pub timing: Option<Timing>,
     /// How many milliseconds pass after each attempt of a bus without bit rates, at most 60,000.
     pub pace_ms: u32,
     /// The most bytes of frames that a client gets in one write, 256 to 65,536.
@@ -74,6 +76,20 @@ pub struct ServeOptions<'a> {
     pub is_verbose: bool,
 }
 
+impl ServeOptions<'_> {
+    /// The bit rates of the bus at a place, if it has any.
+    pub fn timing_at(&self, place: usize) -> Option<Timing>
+        ensures { result ≡ timing_at self.now.timings.items place }
+    {
+        *self.timings.get(place)?
+    }
+
+    /// Whether a bus has bit rates.
+    pub fn has_timings(&self) -> bool {
+        self.timings.iter().any(|timing| timing.is_some())
+    }
+}
+
 pub fn serve_options<'a>(alloc: Global, serve: &ArgMatches<'a>) -> Result<ServeOptions<'a>, Error>
     ensures given { IfOk result (λ options. AreServeOptions (rows_in serve.now) options) }
     ensures taken { IfErr result (λ e. GiveServeOptions (rows_in serve.now) → IsNoMemory e) }
@@ -81,10 +97,11 @@ pub fn serve_options<'a>(alloc: Global, serve: &ArgMatches<'a>) -> Result<ServeO
 {
     let recording = recording_given(alloc, serve)?;
     let (usual, most) = (recording.usual_sessions(), recording.most_sessions());
+    let words = words_given(serve, BUS);
     Ok(ServeOptions {
         settings: settings_given(alloc, Subcommand::Serve, serve, recording.limit())?,
-        timing: timing_given(alloc, Subcommand::Serve, serve)?,
-        buses: buses_given(alloc, serve)?,
+        timings: timings_given(alloc, serve, words)?,
+        buses: read_buses(alloc, words)?,
         address: serve.get_str(LISTEN).unwrap_or(""),
         sessions: sessions_given(alloc, serve, usual, most)?,
         pace_ms: number_within(alloc, Subcommand::Serve, serve, PACE, 0, MOST_PACE)?,
@@ -114,7 +131,7 @@ fn sessions_given(
     most: u32,
 ) -> Result<u32, Error>
     ensures number { IfOk result (λ n.
-        IsNumberOf n (given_or usual.now (rows_in serve.now) (codes "sessions"))) }
+        IsNumberOfText n (given_or usual.now (rows_in serve.now) (codes "sessions"))) }
     ensures some { IfOk result (λ n. 1 ≤ n) }
     ensures few { IfOk result (λ n. n ≤ most) }
     ensures taken { IfErr result (λ e.
@@ -130,7 +147,7 @@ fn sessions_given(
 #[tactic(auto, using(crate::proofs::Rules::text_in_rows))]
 fn flush_given(alloc: Global, serve: &ArgMatches<'_>) -> Result<u32, Error>
     ensures number { IfOk result (λ n.
-        IsNumberOf n (given_or (codes "100") (rows_in serve.now) (codes "flush"))) }
+        IsNumberOfText n (given_or (codes "100") (rows_in serve.now) (codes "flush"))) }
     ensures most { IfOk result (λ n. n ≤ 60000) }
     ensures taken { IfErr result (λ e.
         IsNumberWithin 0 60000 (given_or (codes "100") (rows_in serve.now) (codes "flush"))
@@ -141,13 +158,41 @@ fn flush_given(alloc: Global, serve: &ArgMatches<'_>) -> Result<u32, Error>
     text_within(alloc, Subcommand::Serve, FLUSH, text, 0, MOST_FLUSH)
 }
 
-fn buses_given<'a>(alloc: Global, serve: &ArgMatches<'a>) -> Result<Vec<BusWord<'a>>, AllocError>
-    ensures { IfOk result (λ buses. AreBusWords buses.items (buses_of (rows_in serve.now))) }
+// The bit rates of the buses of these words.
+fn timings_given(
+    alloc: Global,
+    serve: &ArgMatches<'_>,
+    words: &[&str],
+) -> Result<Vec<Option<Timing>>, Error>
+    ensures given { IfOk result (λ timings.
+        AreTimed (rows_in serve.now) (map (λ word. word.now) words.now) timings.items) }
+    ensures taken { IfErr result (λ e.
+        GiveTimings (rows_in serve.now) (map (λ word. word.now) words.now) → IsNoMemory e) }
+    ensures refused { IfErr result RefusesValue }
 {
-    match serve.get_strs(BUS) {
-        Some(words) => read_buses(alloc, words),
-        None => Ok(Vec::new(alloc)),
+    let rates = GivenRates::read(alloc, Subcommand::Serve, serve, words)?;
+    let timings = read_timings(alloc, &rates, words)?;
+    rates.check_numbers(alloc)?;
+    Ok(timings)
+}
+
+fn read_timings(
+    alloc: Global,
+    rates: &GivenRates<'_, '_>,
+    words: &[&str],
+) -> Result<Vec<Option<Timing>>, Error>
+    ensures given { IfOk result (λ timings.
+        AllZip (HasRatesFor rates.now) (map (λ word. word.now) words.now) timings.items) }
+    ensures taken { IfErr result (λ e. All (λ word. GiveRatesOf rates.now (Some (names_part word)))
+        (map (λ word. word.now) words.now) → IsNoMemory e) }
+    ensures refused { IfErr result RefusesValue }
+{
+    let mut timings = Vec::new(alloc);
+    for word in words {
+        let timing = rates.timing(alloc, Some(BusWord::read(word).names))?;
+        timings.push(timing)?;
     }
+    Ok(timings)
 }
 
 fn read_buses<'a>(alloc: Global, words: &[&'a str]) -> Result<Vec<BusWord<'a>>, AllocError>

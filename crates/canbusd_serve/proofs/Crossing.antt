@@ -1,20 +1,23 @@
--- What goes to a thread of its own. What only contracts see of a keeper and its files is no part of the rules of the language.
+-- Values that go to a thread of their own. The parts of a keeper and its files that only contracts see are not covered
+-- by the rules of the language.
 use denote.RattleType.{RattleType}
 use denote.Ref.{NamedLft}
 use denote.Param.Send.{IsSend, IsSync, sendable, view_send}
 use denote.Param.SendFields.{as_row_send, declared_send}
+use denote.Struct.Field.{row_field}
 use Rattle.std.proofs.Crossing.{crosses}
 use Rattle.std.specs.declared.io.traits.Write as write
 use Rattle.can_frame.proofs.names.Names.TheSendSync as names
+use Rattle.can_frame.specs.contracts.names.Names as names_of
 use Rattle.can_event.proofs.bus_config.BusConfig.TheSendSync as config
+use Rattle.can_event.specs.contracts.bus_config.BusConfig as config_of
 use Rattle.can_hub.proofs.Crossing.{lent}
 use Rattle.can_server.proofs.Crossing.{given_send}
 use Rattle.canbusd_io.proofs.draft.Draft.TheSendSync as draft
 use Rattle.canbusd_io.proofs.live_file.LiveFile.TheSendSync as file
 use Rattle.canbusd_io.proofs.live_faults.LiveFaults.TheSendSync as faults
 use Rattle.canbusd_io.specs.contracts.live_faults.LiveFaults as faults_of
-use Rattle.canbusd_io.specs.contracts.live.LiveRecord as record_of
-use Rattle.canbusd_io.specs.contracts.live.LiveLog as log_of
+use Rattle.canbusd_io.specs.contracts.live.LiveText as text_of
 use Rattle.canbusd_serve.specs.contracts.live_files.LiveFiles as live
 use Rattle.canbusd_serve.specs.contracts.host.Host as host
 use Rattle.canbusd_serve.proofs.host.Host.TheSendSync as host_sync
@@ -22,18 +25,15 @@ use Rattle.canbusd_serve.specs.contracts.file_keeper.FileKeeper as keeper
 use Rattle.canbusd_serve.specs.contracts.file_keeper.KeptFiles as kept
 use Rattle.canbusd_serve.specs.contracts.file_keeper.KeptFiles.TheInside as kept_inside
 
--- a record, and a log
-record_send : (F : RattleType) → IsSend F → IsSend (record_of.the_row F)
-record_send F s = declared_send (record_of.the_type F) (draft.the_send, (config.the_send, (file.the_send F s, (search (sendable, as_row_send) depth 20, tt))))
-
-log_send : (F : RattleType) → IsSend F → IsSend (log_of.the_row F)
-log_send F s = declared_send (log_of.the_type F) (draft.the_send, (names.the_send, (file.the_send F s, (search (sendable, as_row_send) depth 20, tt))))
+-- a text of a bus, with what its lines are written with
+text_send : (F B : RattleType) → IsSend F → IsSend B → IsSend (text_of.the_row F B)
+text_send F B s b = declared_send (text_of.the_type F B) (draft.the_send, (as_row_send (row_field B) b, (file.the_send F s, (search (sendable, as_row_send) depth 20, tt))))
 
 -- the files of a bus
 live_send : (F : RattleType) → IsSend F → IsSend (live.the_row F)
 live_send F s =
-    let one : IsSend (record_of.the_row F) = record_send F s in
-    let log : IsSend (log_of.the_row F) = log_send F s in
+    let one : IsSend (text_of.the_row F config_of.the_row) = text_send F config_of.the_row s config.the_send in
+    let log : IsSend (text_of.the_row F names_of.the_row) = text_send F names_of.the_row s names.the_send in
     declared_send (live.the_type F) (search (sendable, as_row_send, one) depth 20, (search (sendable, as_row_send, log) depth 20, (search (sendable, as_row_send) depth 20, tt)))
 
 -- the files of a bus, with what they were given

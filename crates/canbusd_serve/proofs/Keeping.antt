@@ -14,15 +14,14 @@ use Rattle.can_record_text.proofs.Again.{spell-rest}
 use Rattle.can_record_text.proofs.LineLists.{lines-rest}
 use Rattle.canbusd_io.specs.Live.{MayGet, whole_contents}
 use Rattle.canbusd_io.specs.LiveLines.{LogHas, RecordHas}
-use Rattle.canbusd_io.specs.declared.live.LiveLog.{LiveLog}
-use Rattle.canbusd_io.specs.declared.live.LiveRecord.{LiveRecord}
+use Rattle.canbusd_io.specs.declared.live.LiveText.{LiveText}
 use Rattle.can_hub.specs.Settling.{AllHanded}
 use Rattle.can_roll.specs.Seen.{ScrollSeen}
 use Rattle.can_station.specs.declared.pass.Settled.{Settled}
-use Rattle.canbusd_serve.specs.LongRuns.{AllGiven, AllGivenFirst, AreWhole, HaveLines, IsLogOpen, IsRecordOpen, LogGets, LogStays, RecordGets, RecordStays}
+use Rattle.canbusd_serve.specs.LongRuns.{AllGiven, AllGivenFirst, AreWhole, HaveLines, IsTextOpen, LogGets, LogStays, RecordGets, RecordStays, TextGets}
 use Rattle.canbusd_serve.specs.declared.live_files.LiveFiles.{LiveFiles}
 
--- What the files of a bus have, one block after another.
+-- The lines in the files of a bus, one block after another.
 
 -- the lines of entries, and of more
 lines-then : (es more : List Entry) → entry_lines (es ++ more) [] ≡ entry_lines es (entry_lines more [])
@@ -57,35 +56,35 @@ gets_then contents a None (Some w) s t f g = absurd g
 gets_then contents None (Some v) (Some w) s t f g = absurd f
 gets_then contents (Some u) (Some v) (Some w) s t f g = Appends-trans (contents u) (contents v) (contents w) s t f g
 
-record_then : {F : Type 0} (contents : F → Option (List ℕ)) (a b : Option (LiveRecord F)) (text more : List ℕ) → IfSome a (λ r. RecordHas contents r text) → RecordGets contents a more b → IfSome b (λ r. RecordHas contents r (text ++ more))
-record_then {F} contents None b text more has gets = subst (λ (x : Option (LiveRecord F)). IfSome x (λ r. RecordHas contents r (text ++ more))) (sym gets) tt
-record_then contents (Some r) None text more has gets = absurd gets
-record_then contents (Some r) (Some s) text more has gets =
-    let both = gets_then (whole_contents contents) r.start.value.out r.file.out s.file.out (front_lines version.Four r.config text) more has gets.2 in
-    let lines = subst (MayGet (whole_contents contents) r.start.value.out s.file.out) (front-then r.config text more) both in
-    let bus = subst (λ (c : BusConfig). MayGet (whole_contents contents) r.start.value.out s.file.out (front_lines version.Four c (text ++ more))) (sym gets.1) lines in
-    subst (λ start. MayGet (whole_contents contents) start.value.out s.file.out (front_lines version.Four s.config (text ++ more))) (sym gets.0) bus
+text_then : {F B : Type 0} (contents : F → Option (List ℕ)) (has more all : B → List ℕ) (a b : Option (LiveText F B)) → ((bus : B) → has bus ++ more bus ≡ all bus)
+    → IfSome a (λ t. MayGet (whole_contents contents) t.start.value.out t.file.out (has t.bus)) → TextGets contents more a b → IfSome b (λ t. MayGet (whole_contents contents) t.start.value.out t.file.out (all t.bus))
+text_then {F} {B} contents has more all None b joins had gets = subst (λ (x : Option (LiveText F B)). IfSome x (λ t. MayGet (whole_contents contents) t.start.value.out t.file.out (all t.bus))) (sym gets) tt
+text_then contents has more all (Some s) None joins had gets = absurd gets
+text_then {F} {B} contents has more all (Some s) (Some t) joins had gets =
+    let both = gets_then (whole_contents contents) s.start.value.out s.file.out t.file.out (has s.bus) (more s.bus) had gets.2 in
+    let lines = subst (MayGet (whole_contents contents) s.start.value.out t.file.out) (joins s.bus) both in
+    let own = subst (λ (bus : B). MayGet (whole_contents contents) s.start.value.out t.file.out (all bus)) (sym gets.1) lines in
+    subst (λ start. MayGet (whole_contents contents) start.value.out t.file.out (all t.bus)) (sym gets.0) own
 
-log_then : {F : Type 0} (contents : F → Option (List ℕ)) (a b : Option (LiveLog F)) (es more : List Entry) → IfSome a (λ l. LogHas contents l es) → LogGets contents a more b → IfSome b (λ l. LogHas contents l (es ++ more))
-log_then {F} contents None b es more has gets = subst (λ (x : Option (LiveLog F)). IfSome x (λ l. LogHas contents l (es ++ more))) (sym gets) tt
-log_then contents (Some l) None es more has gets = absurd gets
-log_then contents (Some l) (Some m) es more has gets =
-    let both = gets_then (whole_contents contents) l.start.value.out l.file.out m.file.out _ _ has gets.2 in
-    let lines = subst (MayGet (whole_contents contents) l.start.value.out m.file.out) (sym (log-lines l.names es more)) both in
-    let bus = subst (λ (names : List (List ℕ)). MayGet (whole_contents contents) l.start.value.out m.file.out (joined (log_lines names (reverse (es ++ more))))) (sym gets.1) lines in
-    subst (λ start. MayGet (whole_contents contents) start.value.out m.file.out (joined (log_lines m.names (reverse (es ++ more))))) (sym gets.0) bus
+record_then : {F : Type 0} (contents : F → Option (List ℕ)) (a b : Option (LiveText F BusConfig)) (text more : List ℕ) → IfSome a (λ r. RecordHas contents r text) → RecordGets contents a more b → IfSome b (λ r. RecordHas contents r (text ++ more))
+record_then contents a b text more has gets = text_then contents (λ c. front_lines version.Four c text) (λ c. more) (λ c. front_lines version.Four c (text ++ more)) a b (λ c. front-then c text more) has gets
+
+log_then : {F : Type 0} (contents : F → Option (List ℕ)) (a b : Option (LiveText F (List (List ℕ)))) (es more : List Entry) → IfSome a (λ l. LogHas contents l es) → LogGets contents a more b → IfSome b (λ l. LogHas contents l (es ++ more))
+log_then contents a b es more has gets =
+    let text = λ (entries : List Entry) (names : List (List ℕ)). joined (log_lines names (reverse entries)) in
+    text_then contents (text es) (text more) (text (es ++ more)) a b (λ names. sym (log-lines names es more)) has gets
 
 -- files that are not over stay so, the record first and then the log, or a fault is noted
-going_on : {F : Type 0} (a m b : LiveFiles F) → (a.has_fault ≡ false → IsRecordOpen a.record × IsLogOpen a.log) → RecordStays a m → m.log ≡ a.log → LogStays m b → b.record ≡ m.record → b.has_fault ≡ false → IsRecordOpen b.record × IsLogOpen b.log
+going_on : {F : Type 0} (a m b : LiveFiles F) → (a.has_fault ≡ false → IsTextOpen a.record × IsTextOpen a.log) → RecordStays a m → m.log ≡ a.log → LogStays m b → b.record ≡ m.record → b.has_fault ≡ false → IsTextOpen b.record × IsTextOpen b.log
 going_on {F} a m b going record_stays same_log log_stays same_record none =
     let after = log_stays none in
     let before = record_stays after.0 in
     let was = going before.0 in
-    (subst (λ (r : Option (LiveRecord F)). IsRecordOpen r) (sym same_record) (before.1 was.0), after.1 (subst (λ (l : Option (LiveLog F)). IsLogOpen l) (sym same_log) was.1))
+    (subst (λ (r : Option (LiveText F BusConfig)). IsTextOpen r) (sym same_record) (before.1 was.0), after.1 (subst (λ (l : Option (LiveText F (List (List ℕ)))). IsTextOpen l) (sym same_log) was.1))
 
 -- files that have the lines of entries, and get those of more, have those of all of them
 have_then : {F : Type 0} (contents : F → Option (List ℕ)) (a b : LiveFiles F) (es more : List Entry) → HaveLines contents es a → RecordGets contents a.record (entry_lines more []) b.record → LogGets contents a.log more b.log
-    → (b.has_fault ≡ false → IsRecordOpen b.record × IsLogOpen b.log) → HaveLines contents (es ++ more) b
+    → (b.has_fault ≡ false → IsTextOpen b.record × IsTextOpen b.log) → HaveLines contents (es ++ more) b
 have_then contents a b es more have record_gets log_gets going = record {
   recorded = subst (λ (text : List ℕ). IfSome b.record (λ r. RecordHas contents r text)) (sym (record-lines es more)) (record_then contents a.record b.record (entry_lines es []) (entry_lines more []) have.recorded record_gets);
   logged = log_then contents a.log b.log es more have.logged log_gets;
@@ -97,12 +96,12 @@ pub have_after : {F : Type 0} (contents : F → Option (List ℕ)) (a m b : Live
     → LogGets contents m.log more b.log → LogStays m b → b.record ≡ m.record → given ≡ es ++ more → HaveLines contents given b
 have_after {F} contents a m b es more given have record_gets record_stays same_log log_gets log_stays same_record is =
     subst (λ (all : List Entry). HaveLines contents all b) (sym is)
-    (have_then contents a b es more have (subst (λ (r : Option (LiveRecord F)). RecordGets contents a.record (entry_lines more []) r) (sym same_record) record_gets)
-    (subst (λ (l : Option (LiveLog F)). LogGets contents l more b.log) same_log log_gets) (going_on a m b have.going record_stays same_log log_stays same_record))
+    (have_then contents a b es more have (subst (λ (r : Option (LiveText F BusConfig)). RecordGets contents a.record (entry_lines more []) r) (sym same_record) record_gets)
+    (subst (λ (l : Option (LiveText F (List (List ℕ)))). LogGets contents l more b.log) same_log log_gets) (going_on a m b have.going record_stays same_log log_stays same_record))
 
 -- ---- the end
 
--- what was handed out and what was held back are the whole history
+-- the entries handed out and those held back are the whole history
 whole_history : (j : LongJournal) → handed_entries j ++ held_back j ≡ reverse j.history
 whole_history j = take-append-drop j.handed (reverse j.history)
 
@@ -115,10 +114,11 @@ end-lines es more whole count is counted =
     ∙ lines-rest whole (spell (end_words count) [])
     ∙ ap (λ (n : ℕ). entry_lines whole (spell (end_words n) [])) counted
 
--- files that were given what a bus handed out, and get what it held back and the last line, are those of its whole history
+-- files that got the entries a bus handed out, and get those it held back and the last line, are those of its whole
+-- history
 whole_then : {F : Type 0} (contents : F → Option (List ℕ)) (j : LongJournal) (a b : LiveFiles F) (count : ℕ) → HaveLines contents (handed_entries j) a → count ≡ length j.history
     → RecordGets contents a.record (entry_lines (held_back j) [] ++ spell (end_words count) []) b.record → LogGets contents a.log (held_back j) b.log
-    → (b.has_fault ≡ false → IsRecordOpen b.record × IsLogOpen b.log) → AreWhole contents (reverse j.history) b
+    → (b.has_fault ≡ false → IsTextOpen b.record × IsTextOpen b.log) → AreWhole contents (reverse j.history) b
 whole_then contents j a b count have counted record_gets log_gets going = record {
   recorded = subst (λ (text : List ℕ). IfSome b.record (λ r. RecordHas contents r text))
       (end-lines (handed_entries j) (held_back j) (reverse j.history) count (whole_history j) (counted ∙ sym (length-reverse j.history)))
@@ -136,12 +136,12 @@ whole_after {F} contents j a m b rest count have is counted record_gets record_s
     let ended = subst (λ (es : List Entry). RecordGets contents a.record (text es) m.record) is record_gets in
     let logged = subst (λ (es : List Entry). LogGets contents m.log es b.log) is log_gets in
     whole_then contents j a b count have counted
-    (subst (λ (r : Option (LiveRecord F)). RecordGets contents a.record (text (held_back j)) r) (sym same_record) ended)
-    (subst (λ (l : Option (LiveLog F)). LogGets contents l (held_back j) b.log) same_log logged) (going_on a m b have.going record_stays same_log log_stays same_record)
+    (subst (λ (r : Option (LiveText F BusConfig)). RecordGets contents a.record (text (held_back j)) r) (sym same_record) ended)
+    (subst (λ (l : Option (LiveText F (List (List ℕ)))). LogGets contents l (held_back j) b.log) same_log logged) (going_on a m b have.going record_stays same_log log_stays same_record)
 
 -- ---- all buses
 
--- what was given to files is what was handed out to their scrolls, which is what was handed out of the histories
+-- the entries given to files are those handed out to their scrolls, which are those handed out of the histories
 pub given_first : {F L : Type 0} (contents : F → Option (List ℕ)) (handed : L → List Entry) (files : List (LiveFiles F)) (scrolls : List ScrollSeen) (settled : List (Settled L)) → AllGiven contents files scrolls → AllHanded handed scrolls settled
     → AllGivenFirst contents handed files settled
 given_first contents handed [] [] [] given same = tt

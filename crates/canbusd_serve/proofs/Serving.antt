@@ -1,5 +1,7 @@
-use Rattle.std.proofs.Common.{◌≡◌, ◌+◌, ◌<◌, ℕ, suc, take, get_or, slice_get, List, [], ◌∷◌, ◌++◌, length, All, Vec, Bool, false, IsTrue, Option, IsSomeAnd, OnOk, Result, Ok, Err, IfErr, IsErrAnd, inl, refl, ap, ◌∙◌, sym, subst, arith}
-use Rattle.std.proofs.lemmas.List.{take_more}
+use Rattle.std.proofs.Common.{◌≡◌, ◌+◌, ◌<◌, ℕ, suc, take, get_or, slice_get, List, [], ◌∷◌, ◌++◌, length, All, Vec, Bool, false, IsTrue, Option, IsSomeAnd, OnOk, Result, Ok, Err, IfErr, IsErrAnd, inl, refl, ap, ◌∙◌, sym, subst, arith, below_more}
+use Rattle.std.proofs.Math.ListN.{get_or-append}
+use Rattle.std.proofs.Math.Seq.{get_or-append_seam}
+use Rattle.std.proofs.lemmas.List.{length-append, length-take-le, take_more}
 use Rattle.std.proofs.lemmas.List.Elements.{All-cons}
 use Rattle.std.proofs.lemmas.Option.{slice_get-get_or}
 use Rattle.can_frame.specs.Names.{AreNames, names_in}
@@ -19,7 +21,8 @@ use Rattle.canbusd_io.specs.declared.program_error.ProgramError.{ProgramError}
 use Rattle.canbusd_options.specs.declared.bus_word.BusWord.{BusWord}
 use Rattle.can_fault.specs.declared.fault_source.Perfect.{Perfect}
 use Rattle.canbusd_options.specs.declared.serve_options.ServeOptions.{ServeOptions}
-use Rattle.canbusd_serve.specs.Served.{AreAllBenches, AreBenches, AreConfigured, AreEnds, IsBenchOf, IsLegalEnd, IsOfBus, IsOfBuses, IsOfServer, IsServed, MakeBenches, Serves, end_lines, journals}
+use Rattle.canbusd_options.specs.Options.{timing_at}
+use Rattle.canbusd_serve.specs.Served.{AreAllBenches, AreBenches, AreConfigured, AreEnds, AreBusesTimed, IsBenchOf, IsLegalEnd, IsOfBus, IsOfBuses, IsOfServer, IsServed, MakeBenches, Serves, end_lines, journals}
 
 -- The buses of a server, one after the other.
 
@@ -55,6 +58,21 @@ benches-length o (x ∷ xs) (y ∷ ys) are = ap suc (benches-length o xs ys are.
 benches-length o [] (y ∷ ys) are = absurd are
 benches-length o (x ∷ xs) [] are = absurd are
 
+-- one more has its bit rates
+timed-push : (o : ServeOptions) (bs : List (Bench Perfect Open)) (b : Bench Perfect Open) → AreBusesTimed o bs → b.timing ≡ timing_at o.timings.items (length bs) → AreBusesTimed o (bs ++ b ∷ [])
+timed-push o bs b are here k d low =
+    let longer : length (bs ++ b ∷ []) ≡ length bs + 1 = length-append bs (b ∷ []) in
+    below_more (λ n. (e : Bench Perfect Open) → (get_or (bs ++ b ∷ []) n e).timing ≡ timing_at o.timings.items n) (length bs)
+    (λ n below e. ap (λ (x : Bench Perfect Open). x.timing) (get_or-append bs (b ∷ []) e n below) ∙ are n e below)
+    (λ e. ap (λ (x : Bench Perfect Open). x.timing) (get_or-append_seam bs b [] e) ∙ here)
+    k (omega (arith, low, longer)) d
+
+-- so has the bus of the next word
+pub timed-more : (o : ServeOptions) (buses : List BusWord) (bs : List (Bench Perfect Open)) (i : ℕ) (b : Bench Perfect Open) → i < length buses → AreBenches o (take i buses) bs → AreBusesTimed o bs → b.timing ≡ timing_at o.timings.items i → AreBusesTimed o (bs ++ b ∷ [])
+timed-more o buses bs i b below are timed here =
+    let place : length bs ≡ i = benches-length o (take i buses) bs are ∙ length-take-le i buses (omega arith) in
+    timed-push o bs b timed (subst (λ n. b.timing ≡ timing_at o.timings.items n) (sym place) here)
+
 -- their names are good
 pub benches-named : (o : ServeOptions) (buses : List BusWord) (bs : List (Bench Perfect Open)) → AreBenches o buses bs → All (λ bus. AreNames (names_in bus.names.now)) buses
 benches-named o [] [] are = λ k d low. absurd (omega arith)
@@ -67,7 +85,7 @@ pub buses-length : {F G : Type 0} (n : ℕ) (bs : List (Bench F G)) → length (
 buses-length n [] = refl
 buses-length n (b ∷ more) = ap suc (buses-length (suc n) more)
 
--- what is settled is one for each list of passes
+-- one bus is settled for each list of passes
 settles-length : {A L : Type 0} (left : L → Journal) (passes : List (Vec PassSeen A)) (ends : List (Settled L)) → AllSettleIn left passes ends → length (journals left ends) ≡ length passes
 settles-length left [] [] all = refl
 settles-length left (p ∷ ps) (s ∷ ss) all = ap suc (settles-length left ps ss all.1)
@@ -96,7 +114,7 @@ settles-ends left benches hub passes ends made each settled configured = record 
   configured = settles-configured left 0 benches ends (subst (λ (buses : List BusSeen). AllConfigured left buses ends) made configured);
 }
 
--- what was put out of them, where no fault was reported
+-- their output, if no fault was reported
 pub put-lines : {W L T E : Type 0} (contents : W → Option (List ℕ)) (left : L → Journal) (old new : W) (r : Result T E) (a b : Bool) (lent buses : List BusWord) (own ends : List (Settled L)) → IfErr r (λ _. IsTrue a) → (IsTrue a → IsTrue b) → b ≡ false
     → lent ≡ buses → own ≡ ends → OnOk r (Took contents old new (end_lines lent (journals left own))) → Took contents old new (end_lines buses (journals left ends))
 put-lines {L = L} contents left old new (Ok t) a b lent buses own ends told kept quiet same_buses same_ends put =

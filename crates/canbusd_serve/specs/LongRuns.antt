@@ -1,6 +1,7 @@
 use Rattle.std.specs.Prelude.{◌≡◌, ℕ, false, List, [], length, reverse, All, IfSome, IsSome, Option, Some, None}
 use Rattle.std.specs.List.{AllZip}
 use Rattle.std.specs.declared.fs.File.{File}
+use Rattle.can_event.specs.declared.bus_config.BusConfig.{BusConfig}
 use Rattle.can_event.specs.declared.entry.Entry.{Entry}
 use Rattle.can_bus.specs.Long.{LongJournal, journal_of}
 use Rattle.can_fault.specs.declared.fault_source.Perfect.{Perfect}
@@ -15,8 +16,7 @@ use Rattle.can_record_text.specs.Spelling.{entry_lines, text_in}
 use Rattle.can_record_text.specs.declared.version.Version.TheVariants as version
 use Rattle.canbusd_io.specs.Live.{MayGet, whole_contents}
 use Rattle.canbusd_io.specs.LiveLines.{LogHas, RecordHas}
-use Rattle.canbusd_io.specs.declared.live.LiveLog.{LiveLog}
-use Rattle.canbusd_io.specs.declared.live.LiveRecord.{LiveRecord}
+use Rattle.canbusd_io.specs.declared.live.LiveText.{LiveText}
 use Rattle.canbusd_options.specs.declared.recording.Recording.TheVariants as recording
 use Rattle.canbusd_options.specs.declared.serve_options.ServeOptions.{ServeOptions}
 use Rattle.canbusd_serve.specs.Served.{Serves, journals}
@@ -29,50 +29,46 @@ use Rattle.canbusd_serve.specs.declared.serve_job.Run.{Run}
 abbrev pub HasNewScrolls : List BusSeen → List ScrollSeen → Type 0
 HasNewScrolls buses scrolls = AreNewScrolls 0 scrolls × (length scrolls ≡ length buses)
 
--- a record is not over, if it is wanted
-abbrev pub IsRecordOpen : {F : Type 0} → Option (LiveRecord F) → Type 0
-IsRecordOpen wanted = IfSome wanted (λ r. IsSome r.file.out)
+-- a text is not over, if it is wanted
+abbrev pub IsTextOpen : {F B : Type 0} → Option (LiveText F B) → Type 0
+IsTextOpen wanted = IfSome wanted (λ t. IsSome t.file.out)
 
--- a log is not over, if it is wanted
-abbrev pub IsLogOpen : {F : Type 0} → Option (LiveLog F) → Type 0
-IsLogOpen wanted = IfSome wanted (λ l. IsSome l.file.out)
-
--- the record is over only where it was before, or a fault of the files is noted, which is never forgotten
+-- the record is over only if it was before, or a fault of the files is noted, which is never forgotten
 abbrev pub RecordStays : {F : Type 0} → LiveFiles F → LiveFiles F → Type 0
 RecordStays old new =
-    new.has_fault ≡ false → (old.has_fault ≡ false) × (IsRecordOpen old.record → IsRecordOpen new.record)
+    new.has_fault ≡ false → (old.has_fault ≡ false) × (IsTextOpen old.record → IsTextOpen new.record)
 
 -- the same of the log
 abbrev pub LogStays : {F : Type 0} → LiveFiles F → LiveFiles F → Type 0
-LogStays old new = new.has_fault ≡ false → (old.has_fault ≡ false) × (IsLogOpen old.log → IsLogOpen new.log)
+LogStays old new = new.has_fault ≡ false → (old.has_fault ≡ false) × (IsTextOpen old.log → IsTextOpen new.log)
 
--- a record, if it is wanted, gets a text, and is that of the same bus
-abbrev pub RecordGets :
-    {F : Type 0} → (F → Option (List ℕ)) → Option (LiveRecord F) → List ℕ → Option (LiveRecord F) → Type 0
-RecordGets contents None text new = new ≡ None
-RecordGets contents (Some old) text None = ⊥
-RecordGets contents (Some old) text (Some new) =
+-- a text, if it is wanted, gets these lines of its bus, and is that of the same bus
+abbrev pub TextGets : {F B : Type 0} → (F → Option (List ℕ)) → (B → List ℕ) → Option (LiveText F B)
+    → Option (LiveText F B) → Type 0
+TextGets contents lines None new = new ≡ None
+TextGets contents lines (Some old) None = ⊥
+TextGets contents lines (Some old) (Some new) =
     (new.start ≡ old.start)
-    × (new.config ≡ old.config)
-    × MayGet (whole_contents contents) old.file.out new.file.out text
+    × (new.bus ≡ old.bus)
+    × MayGet (whole_contents contents) old.file.out new.file.out (lines old.bus)
 
--- a log, if it is wanted, gets the lines of the frames that were tried in entries, and is that of the same bus
-abbrev pub LogGets :
-    {F : Type 0} → (F → Option (List ℕ)) → Option (LiveLog F) → List Entry → Option (LiveLog F) → Type 0
-LogGets contents None entries new = new ≡ None
-LogGets contents (Some old) entries None = ⊥
-LogGets contents (Some old) entries (Some new) =
-    (new.start ≡ old.start)
-    × (new.names ≡ old.names)
-    × MayGet (whole_contents contents) old.file.out new.file.out (joined (log_lines old.names (reverse entries)))
+-- a record, if it is wanted, gets a text
+abbrev pub RecordGets : {F : Type 0} → (F → Option (List ℕ)) → Option (LiveText F BusConfig) → List ℕ
+    → Option (LiveText F BusConfig) → Type 0
+RecordGets contents old text new = TextGets contents (λ config. text) old new
 
--- the files of a bus have the lines of these entries, and no others, as far as they are wanted and not over, which
--- they are only where a fault is noted
+-- a log, if it is wanted, gets the lines of the frames that were tried in entries
+abbrev pub LogGets : {F : Type 0} → (F → Option (List ℕ)) → Option (LiveText F (List (List ℕ))) → List Entry
+    → Option (LiveText F (List (List ℕ))) → Type 0
+LogGets contents old entries new = TextGets contents (λ names. joined (log_lines names (reverse entries))) old new
+
+-- the files of a bus have the lines of these entries, and no others, as far as they are wanted and not over; they are
+-- over only if a fault is noted
 pub record HaveLines {F : Type 0} (contents : F → Option (List ℕ)) (entries : List Entry)
     (files : LiveFiles F) : Type 0 where
   pub recorded : IfSome files.record (λ r. RecordHas contents r (entry_lines entries []))
   pub logged : IfSome files.log (λ l. LogHas contents l entries)
-  pub going : files.has_fault ≡ false → IsRecordOpen files.record × IsLogOpen files.log
+  pub going : files.has_fault ≡ false → IsTextOpen files.record × IsTextOpen files.log
 
 -- the files of each bus were given what was handed out to its scroll
 abbrev pub AllGiven : {F : Type 0} → (F → Option (List ℕ)) → List (LiveFiles F) → List ScrollSeen → Type 0
@@ -98,14 +94,14 @@ AreBegun contents all = All (λ files. HaveLines contents [] files) all
 abbrev pub HasFiles : {F : Type 0} → (F → Option (List ℕ)) → List BusSeen → List (LiveFiles F) → Type 0
 HasFiles contents buses files = AreBegun contents files × (length files ≡ length buses)
 
--- the record of a bus is the text of this history, and its log has the lines of all frames that were tried in it,
--- as far as they are wanted and not over, which they are only where a fault is noted
+-- the record of a bus is the text of this history, and its log has the lines of all frames that were tried in it, as
+-- far as they are wanted and not over; they are over only if a fault is noted
 pub record AreWhole {F : Type 0} (contents : F → Option (List ℕ)) (history : List Entry)
     (files : LiveFiles F) : Type 0 where
   pub recorded : IfSome files.record (λ r.
-      MayGet (whole_contents contents) r.start.value.out r.file.out (text_in version.Four r.config history))
+      MayGet (whole_contents contents) r.start.value.out r.file.out (text_in version.Four r.bus history))
   pub logged : IfSome files.log (λ l. LogHas contents l history)
-  pub going : files.has_fault ≡ false → IsRecordOpen files.record × IsLogOpen files.log
+  pub going : files.has_fault ≡ false → IsTextOpen files.record × IsTextOpen files.log
 
 -- the files of each bus are whole, of the history that it leaves
 abbrev pub AreAllWhole :

@@ -1,6 +1,6 @@
-use Rattle.std.specs.Prelude.{◌≡◌, ◌⊎◌, ℕ, List, [], ◌∷◌, ◌++◌, length, map, All}
+use Rattle.std.specs.Prelude.{◌≡◌, ◌⊎◌, ◌<◌, ℕ, List, [], ◌∷◌, ◌++◌, length, map, All}
 use Rattle.std.specs.Prelude.{Option, IsSomeAnd, codes, decimal, slice_get, take}
-use Rattle.std.specs.List.{AllZip}
+use Rattle.std.specs.List.{AllZip, slice_index_or}
 use Rattle.std.specs.Io.KnownBytes.{Appends}
 use Rattle.can_frame.specs.Names.{AreNames, names_in}
 use Rattle.can_bus.specs.Legal.{IsLegal}
@@ -23,6 +23,7 @@ use Rattle.canbusd_io.specs.Files.{IsOfNames, IsOfPlan}
 use Rattle.canbusd_io.specs.declared.program_error.ProgramError.{ProgramError}
 use Rattle.canbusd_io.specs.declared.program_error.ProgramError.TheVariants as fault
 use Rattle.canbusd_options.specs.BusWords.{first_name_of}
+use Rattle.canbusd_options.specs.Options.{timing_at}
 
 -- A server's buses, and what it puts out at its end (own choice).
 
@@ -33,7 +34,6 @@ pub record IsBenchOf (o : ServeOptions) (bus : BusWord) (b : Bench Perfect Open)
   pub config : b.config ≡ config_of o.settings (length b.names)
   pub words : b.blanks.meter.words ≡ length b.names
   pub plan : IsPlan bus.script b.names b.plan
-  pub timed : b.timing ≡ o.timing
   pub pace_ms : b.pace_ms ≡ o.pace_ms
   pub rx_capacity : b.rx_capacity ≡ o.settings.rx_capacity
 
@@ -44,6 +44,13 @@ AreBenches o buses benches = AllZip (λ bus b. IsBenchOf o bus b) buses benches
 -- each bus of a server is what its options describe
 abbrev pub AreAllBenches : ServeOptions → List (Bench Perfect Open) → Type 0
 AreAllBenches o benches = AreBenches o o.buses.items benches
+
+-- the bit rates of each are those that the options have at its place
+abbrev pub AreBusesTimed : ServeOptions → List (Bench Perfect Open) → Type 0
+AreBusesTimed o benches =
+    (k : ℕ) (d : Bench Perfect Open)
+    → k < length benches
+    → (slice_index_or benches k d).timing ≡ timing_at o.timings.items k
 
 -- there can be buses that are what these words describe
 abbrev pub MakeBenches : ServeOptions → List BusWord → Type 0
@@ -65,8 +72,8 @@ IsOfServing fault.Write = Unit {0}
 IsOfServing fault.NoMemory = Unit {0}
 IsOfServing why = ⊥
 
--- a fault of a server with these buses: no hub can be made of them whose configurations have these limits, or
--- memory for it was refused; or of serving
+-- a fault of a server with these buses: no hub can be made of them with configurations of these limits, or memory for
+-- it was refused; or a fault of serving
 abbrev pub IsOfHub : (BusConfig → Type 0) → List (Bench Perfect Open) → ProgramError → Type 0
 IsOfHub limits benches (fault.Buses BadConfig) = MakeHubWithin limits benches → ⊥
 IsOfHub limits benches (fault.Buses NoMemory) = Unit {0}
@@ -97,17 +104,17 @@ abbrev pub IsLegalEnd : Journal → Type 0
 IsLegalEnd j = IsLegal j.config j.history
 
 -- the line of a bus at the end: its first name, and how many entries it had
-abbrev pub end_line : BusWord → Journal → List ℕ
-end_line bus j =
+abbrev pub bus_end_line : BusWord → Journal → List ℕ
+bus_end_line bus j =
     codes "bus " ++ first_name_of bus.names.now ++ codes " entries " ++ decimal (length j.history) ++ 10 ∷ []
 
 -- the lines of all buses
 abbrev pub end_lines : List BusWord → List Journal → List ℕ
 end_lines [] ends = []
 end_lines (bus ∷ buses) [] = []
-end_lines (bus ∷ buses) (j ∷ ends) = end_line bus j ++ end_lines buses ends
+end_lines (bus ∷ buses) (j ∷ ends) = bus_end_line bus j ++ end_lines buses ends
 
--- the line that says where a server listens
+-- the line with the address of a server
 abbrev pub listening_line : List ℕ → List ℕ
 listening_line heard = codes "listening " ++ heard ++ 10 ∷ []
 
@@ -119,7 +126,7 @@ LeavesPort address = (host : List ℕ) × (address ≡ host ++ codes ":0")
 abbrev pub IsHeardAt : List ℕ → List ℕ → Type 0
 IsHeardAt address heard = LeavesPort address ⊎ (heard ≡ address)
 
--- it was reported where a server listens that was given this address
+-- the address of a server was reported, which was given as this
 abbrev pub IsListening : {W : Type 0} → (W → Option (List ℕ)) → List ℕ → W → W → Type 0
 IsListening contents address old new =
     (heard : List ℕ) × IsHeardAt address heard × Appends (contents old) (contents new) (listening_line heard)
@@ -129,7 +136,7 @@ abbrev pub AreConfigured : ServeOptions → List BusWord → List Journal → Ty
 AreConfigured o buses ends =
     AllZip (λ bus j. j.config ≡ config_of o.settings (length (names_in bus.names.now))) buses ends
 
--- what is left of buses is of these
+-- the rest of buses is of these
 abbrev pub journals : {L : Type 0} → (L → Journal) → List (Settled L) → List Journal
 journals journal settled = map (λ s. journal s.history) settled
 
@@ -139,7 +146,7 @@ pub record AreEnds (benches : List (Bench Perfect Open)) (ends : List Journal) :
   pub legal : All (λ j. IsLegalEnd j) ends
   pub configured : AllZip (λ b j. j.config ≡ b.config) benches ends
 
--- a server of these buses reported where it listens, and at its end how many entries each of them had
+-- a server of these buses reported its address, and at its end the number of entries of each
 pub record Serves {W : Type 0} (contents : W → Option (List ℕ)) (o : ServeOptions)
     (benches : List (Bench Perfect Open)) (old new : W) : Type 0 where
   pub ends : List Journal
@@ -148,8 +155,8 @@ pub record Serves {W : Type 0} (contents : W → Option (List ℕ)) (o : ServeOp
   pub address : IsHeardAt o.address.now heard
   pub wrote : Appends (contents old) (contents new) (listening_line heard ++ end_lines o.buses.items ends)
 
--- a server reported where it listens, and at its end how many entries each bus had, which are a legal history of
--- the bus's configuration
+-- a server reported its address, and at its end the number of entries of each bus, which are a legal history of the
+-- bus's configuration
 pub record IsServed {W : Type 0} (contents : W → Option (List ℕ)) (o : ServeOptions) (old new : W) : Type 0 where
   pub named : All (λ bus. AreNames (names_in bus.names.now)) o.buses.items
   pub ends : List Journal

@@ -1,9 +1,9 @@
 use can_event::{MAX_LIMIT, MAX_LONG_LIMIT};
-use canbusd_io::{has_name, limits_note};
-use canbusd_options::{BusWord, Recording, ServeOptions};
+use canbusd_io::limits_note;
+use canbusd_options::{BusWord, Recording, ServeOptions, has_name};
 use std::alloc::{AllocError, Global};
 
-/// Why no server can have these buses.
+/// Returns why no server can have these buses.
 pub fn buses_note(alloc: Global, options: &ServeOptions<'_>) -> Result<String, AllocError> {
     let buses = options.buses.as_slice();
     let count = buses.len();

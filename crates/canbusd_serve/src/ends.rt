@@ -1,7 +1,7 @@
-//! What the buses of a server leave at its end.
+//! The rest of a server's buses at its end.
 ghost use Rattle.std.specs.Prelude.{◌≡◌, OnOk};
 ghost use Rattle.canbusd_io.specs.Files.{Took};
-ghost use Rattle.canbusd_serve.specs.Served.{end_line, end_lines, journals};
+ghost use Rattle.canbusd_serve.specs.Served.{bus_end_line, end_lines, journals};
 
 use can_bus::{LongEnd, Record};
 use can_server::Leaves;
@@ -11,11 +11,11 @@ use canbusd_options::BusWord;
 use std::alloc::Global;
 use std::io::Write;
 
-/// What a bus leaves, which had a number of entries.
+/// The rest of a bus, which had a number of entries.
 pub trait Ended: Leaves {
     ghost use Rattle.std.specs.Prelude.{◌≡◌, length};
 
-    /// How many entries it had.
+    /// Returns how many entries it had.
     fn count(&self) -> u64
         ensures { result ≡ length (Self.journal self.now).history };
 }
@@ -74,7 +74,7 @@ fn put_end<'a, L: Ended, W: Write>(
     output: &mut W,
 ) -> Result<(), Report<'a>>
     ensures { OnOk result (Took W.contents output.old output.new
-        (end_line bus.now (L.journal end.now))) }
+        (bus_end_line bus.now (L.journal end.now))) }
 {
     let name = bus.first_name();
     let count = end.count();

@@ -1,4 +1,4 @@
-//! Where the entries of a long run go: into the files of its bus, while it is served.
+//! The destination of the entries of a long run: the files of its bus, while it is served.
 ghost use Rattle.std.specs.Prelude.{◌≡◌, ◌++◌, [], All};
 ghost use Rattle.can_server.specs.Keeping.{AreLegalLast};
 ghost use Rattle.can_record_text.specs.inner.StoredLines.{HasFittingReply};
@@ -18,10 +18,10 @@ use std::sync::Wait;
 use std::time::Instant;
 use std::{io, time};
 
-/// How many seconds a write may take before it is reported that the bus waits for the file.
+/// The most seconds that a write may take before a report that the bus waits for the file.
 const PATIENCE: u64 = 1;
 
-/// How many seconds pass at least before that is reported again.
+/// The least number of seconds before that is reported again.
 const PAUSE: u64 = 60;
 
 /// The files of a bus, which have the lines of the entries that they were given, as far as they are not over. Contracts see
@@ -71,7 +71,7 @@ pub struct FileKeeper<'o, 'h, 'a, 'l, F: Write + OpenFile + Drop, H, E: Write> {
     pub host: &'o Host<'h, 'a, 'l, H, E>,
     pub bus: usize,
     pub kept: KeptFiles<F>,
-    /// The faults of the bus, where its record is wanted.
+    /// The faults of the bus, if its record is wanted.
     pub faults: Option<LiveFaults>,
     /// When it was reported last that the bus waits for a file.
     pub reported: Option<Instant>,
@@ -113,7 +113,7 @@ fn keep_entries<F: Write + OpenFile + Drop, H: Wait + time::Clock, E: Write>(
     kept.given.note(entries);
 }
 
-// Writes the lines of what became of the rules of a bus, where they are wanted.
+// Writes the lines about the rules of a bus, if they are wanted.
 fn keep_faults<H: Wait + time::Clock, E: Write>(
     host: &Host<'_, '_, '_, H, E>,
     faults: &mut Option<LiveFaults>,
@@ -171,7 +171,8 @@ fn keep_log<F: Write + OpenFile + Drop, H: Wait + time::Clock, E: Write>(
     host.report(kept);
 }
 
-// Whether it is to be reported that a write which began then took long. If so, it counts as reported now.
+// Returns whether it is to be reported that a write which began then took long. If so, it counts as
+// reported now.
 fn is_late<R: time::Clock>(
     rt: &R,
     begun: io::Result<Instant>,

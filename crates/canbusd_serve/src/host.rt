@@ -1,4 +1,4 @@
-//! What a server asks and reports while it runs.
+//! The questions and reports of a server while it runs.
 ghost use Rattle.std.specs.Prelude.{◌≡◌, ◌-◌, ◌^◌, ◌/◌, min};
 ghost use Rattle.std.specs.Duration.{as_nanos};
 
@@ -17,11 +17,12 @@ use std::{io, time};
 /// The last moment, in microseconds.
 const LAST: u128 = 9_999_999_999_999_999;
 
-/// What is reported of a bus whose record is nearly full.
+/// The report of a bus whose record is nearly full.
 const NEARLY_FULL: &str =
     "the record is nine tenths full; serve --record live or --record none has no such end";
 
-/// When a server with bit rates started: its moments go on from there by a clock that nobody sets.
+/// The start of a server with bit rates: its moments go on from there by a clock that cannot be
+/// set.
 #[derive(Debug, Clone, Copy)]
 pub struct Start {
     since_1970: Duration,
@@ -29,7 +30,7 @@ pub struct Start {
 }
 
 impl Start {
-    /// Now, by both clocks: `None` where one can't be read.
+    /// Now, by both clocks: `None` if one can't be read.
     pub fn now<H: time::Clock>(rt: &H) -> Option<Start> {
         let since_1970 = rt.since_1970().ok()?;
         let monotonic = rt.monotonic().ok()?;
@@ -46,8 +47,8 @@ impl Start {
     }
 }
 
-/// The system's clock, and where it is reported that a bus came to its end before the server, and all else if that is
-/// asked for.
+/// The system's clock, and the output for reports: that a bus came to its end before the server,
+/// and all else if that is asked for.
 #[derive(Drop)]
 pub struct Host<'h, 'a, 'l, H, E: Write> {
     pub rt: &'h H,
@@ -56,7 +57,7 @@ pub struct Host<'h, 'a, 'l, H, E: Write> {
     pub errors: Mutex<&'h mut E>,
     /// Whether a bus has lost its driver.
     pub has_lost: &'l AtomicBool,
-    /// When it started, where its buses have bit rates.
+    /// The start, if its buses have bit rates.
     pub start: Option<Start>,
 }
 
@@ -99,8 +100,8 @@ impl<H: Wait + time::Clock, E: Write> Clock for Host<'_, '_, '_, H, E> {
 }
 
 impl<'a, H: Wait + time::Clock, E: Write> Host<'_, 'a, '_, H, E> {
-    /// The time since 1970: with bit rates that of the steady clock after the start, so that a bus is not disturbed
-    /// where the system's clock is set.
+    /// The time since 1970. With bit rates it is that of the steady clock after the start, so a
+    /// change of the system's clock does not disturb a bus.
     fn since_1970(&self) -> io::Result<Duration> {
         match &self.start {
             Some(start) => Ok(start.since_1970(self.rt.monotonic()?)),
@@ -108,7 +109,7 @@ impl<'a, H: Wait + time::Clock, E: Write> Host<'_, 'a, '_, H, E> {
         }
     }
 
-    /// Writes the line of a notice, where each has one.
+    /// Writes the line of a notice, if it has one.
     fn put_line(&self, notice: &Notice) {
         if !self.options.is_verbose {
             return;
@@ -136,12 +137,12 @@ impl<'a, H: Wait + time::Clock, E: Write> Host<'_, 'a, '_, H, E> {
         let _ = writeln!(errors, "note: bus {name}: waits for {path}");
     }
 
-    /// The name by which a bus is called, empty where there is none.
+    /// The name by which a bus is called, empty if there is none.
     pub fn name_of(&self, bus: usize) -> &'a str {
         first_name_at(&self.options.buses, bus)
     }
 
-    /// Writes what happened to a bus: a note, or a fault where the status will be 1.
+    /// Writes the report of a bus: a note, or a fault if the status will be 1.
     fn put(&self, kind: &str, bus: usize, what: &str) {
         let name = self.name_of(bus);
         let mut errors = self.errors.lock(self.rt);
@@ -149,7 +150,7 @@ impl<'a, H: Wait + time::Clock, E: Write> Host<'_, 'a, '_, H, E> {
     }
 }
 
-// The moment so long after 1970, or the last one.
+// The moment this long after 1970, or the last moment.
 fn moment_of(since: Duration) -> Moment
     ensures { result ≡ min (as_nanos since / 1000) (10 ^ 16 - 1) }
 {

@@ -1,4 +1,4 @@
-//! Where a server listens: a Unix path, or a host and a port.
+//! The address of a server: a Unix path, or a host and a port.
 ghost use Rattle.std.specs.Prelude.{◌≡◌, IfErr, IfOk, IsTrue, string_bytes};
 ghost use Rattle.canbusd_io.specs.declared.program_error.ProgramError.TheVariants as fault;
 ghost use Rattle.canbusd_serve.specs.Served.{IsHeardAt, IsOfServing, LeavesPort};
@@ -13,16 +13,16 @@ use std::io::{Error, ErrorKind};
 use std::net::{Net, TcpListener, TcpStream};
 use std::rt::Files;
 
-/// What is reported where somebody listens at the port.
+/// The report if another program listens at the port.
 const FREE_PORT: &str = "  with port 0, as in --listen 127.0.0.1:0, the system picks a free one\n";
 
-/// An acceptor where a server listens, and the text of its address.
+/// An acceptor at the address of a server, and the text of its address.
 #[derive(Drop)]
 pub struct Listening {
     pub acceptors: [Acceptor; 1],
-    /// The address as it was given; where its port is 0, the address that the listener got.
+    /// The address as it was given; if its port is 0, the address that the listener got.
     pub heard: String,
-    /// The socket's file, where the address is a Unix path.
+    /// The socket's file, if the address is a Unix path.
     pub file: Option<SocketFile>,
 }
 
@@ -72,7 +72,7 @@ fn open<'a>(
     }
 }
 
-/// Why nobody can connect.
+/// Returns why nobody can connect.
 pub fn listen_failure<'a>(alloc: Global, place: &str, error: &Error) -> Report<'a>
     ensures { result.error ≡ fault.CannotListen }
 {
@@ -124,7 +124,7 @@ fn is_path(address: &str) -> bool {
     address.starts_with('/') || address.starts_with('.')
 }
 
-// Whether the port is left to the system.
+// Returns whether the port is left to the system.
 fn is_port_open(address: &str) -> bool
     ensures { IsTrue result → LeavesPort address.now }
 {

@@ -25,7 +25,7 @@ use std::rt::Files;
 pub struct LiveFiles<F: Write + OpenFile + Drop> {
     pub record: Option<LiveRecord<F>>,
     pub log: Option<LiveLog<F>>,
-    /// Whether one of them had a fault, without which none is over.
+    /// Whether one of them had a fault; without one none is over.
     has_fault: bool,
 }
 
@@ -52,8 +52,8 @@ impl<F: Write + OpenFile + Drop> LiveFiles<F> {
         kept
     }
 
-    /// Writes the lines of the last entries and the line of the end to the record, if it is wanted, and gives it its name, and
-    /// its faults theirs. There are this many entries then.
+    /// Writes the lines of the last entries and the line of the end to the record, if it is wanted,
+    /// and gives it and its faults their names. There are this many entries then.
     fn finish_record<H: Files>(
         &mut self,
         rt: &H,
@@ -99,7 +99,7 @@ impl<F: Write + OpenFile + Drop> LiveFiles<F> {
         kept
     }
 
-    /// Whether those that the options want are there, and had no fault.
+    /// Returns whether those that the options want are there, and had no fault.
     fn are_there(&self, options: &ServeOptions<'_>) -> bool
         ensures { IsTrue result → AreThere options.now self.now }
     {
@@ -116,10 +116,11 @@ impl<F: Write + OpenFile + Drop> LiveFiles<F> {
     }
 }
 
-/// The files of each bus that are written while it is served, whose records have their first lines. Only once all are there
-/// the logs take the place of those of an earlier run; where one can't be made the others are removed again.
+/// The files of each bus that are written while it is served; their records have their first lines.
+/// The logs replace those of an earlier run only once all are there. If one can't be made the
+/// others are removed again.
 ///
-/// `CannotOpen`, with the folder, where it does not take one of the files.
+/// `CannotOpen`, with the folder, if it does not take one of the files.
 pub fn open_all<'a, H: Files<File = File>>(
     rt: &H,
     alloc: Global,
@@ -174,7 +175,7 @@ fn name_logs<'a, H: Files<File = File>>(
     Ok(())
 }
 
-// Removes the files of a start that failed, but for logs that have their names.
+// Removes the files of a start that failed, except logs that already have their names.
 fn remove_all<H: Files<File = File>>(rt: &H, all: &[LiveFiles<File>]) {
     for files in all {
         if let Some(record) = &files.record {
@@ -274,9 +275,9 @@ fn open_log<'a, H: Files<File = File>>(
     ))
 }
 
-/// Writes what is missing of the files of each bus, and gives its record its name, and the faults beside it theirs. Returns
-/// whether they are what the options want, without a fault, which ends only its file. The caller shows that they were given
-/// what was handed out of the history that the bus left.
+/// Writes the missing lines of the files of each bus, and gives its record and the faults of it
+/// their names. Returns whether they are as the options want, without a fault, which ends only its
+/// file. The caller shows that they got the entries handed out of the history that the bus left.
 pub fn finish_all<F: Write + OpenFile + Drop, H: Files, E: Write>(
     rt: &H,
     alloc: Global,
@@ -316,7 +317,7 @@ fn split_first(faults: &[LiveFaults]) -> (Option<&LiveFaults>, &[LiveFaults]) {
     }
 }
 
-// The record of the bus is the text of its whole history then.
+// Now the record of the bus is the text of its whole history.
 fn finish<F: Write + OpenFile + Drop, H: Files, E: Write>(
     rt: &H,
     alloc: Global,

@@ -1,7 +1,7 @@
-//! Files that a server locks while it runs, so that no other one takes what is beside them.
+//! Files that a server locks while it runs, so that no other server takes the files next to them.
 //!
-//! A lock file is of mode 0600, so that another user can't lock it, and is no link. A server removes it at its end; one that was
-//! killed leaves it, unlocked, for the next one.
+//! A lock file has mode 0600, so that another user can't lock it, and is no link. A server removes
+//! it at its end; a server that was killed leaves it, unlocked, for the next one.
 
 use std::alloc::Global;
 use std::fs::{File, Metadata, TryLockError};
@@ -21,8 +21,8 @@ pub struct LockFile {
 }
 
 impl LockFile {
-    /// Makes the file at a path, or takes the one that is there, and locks it. `AddrInUse` where another server has it,
-    /// `InvalidInput` where a link is there.
+    /// Makes the file at a path, or takes the one that is there, and locks it. `AddrInUse` if
+    /// another server has it, `InvalidInput` if a link is there.
     pub fn take<H: Files<File = File>>(rt: &H, alloc: Global, path: &str) -> io::Result<LockFile> {
         for _ in 0..TRIES {
             let Some(file) = open(rt, path)? else {
@@ -52,7 +52,8 @@ impl LockFile {
     }
 }
 
-// The file at a path, which is made where there is none. `None` where it is there at one moment and not at the next.
+// The file at a path, which is made if there is none. `None` if it is there at one moment and not
+// at the next.
 fn open<H: Files<File = File>>(rt: &H, path: &str) -> io::Result<Option<File>> {
     let made = File::options()
         .read(true)
@@ -66,7 +67,7 @@ fn open<H: Files<File = File>>(rt: &H, path: &str) -> io::Result<Option<File>> {
     }
 }
 
-// The file that is at a path, which is no link.
+// The file at a path, if it is no link.
 fn open_old<H: Files<File = File>>(rt: &H, path: &str) -> io::Result<Option<File>> {
     if matches!(fs::symlink_metadata(rt, path), Ok(found) if found.is_symlink()) {
         return Err(Error::new(ErrorKind::InvalidInput, "its lock file is a link"));
@@ -77,7 +78,7 @@ fn open_old<H: Files<File = File>>(rt: &H, path: &str) -> io::Result<Option<File
     }
 }
 
-// Whether this file is the one at a path.
+// Returns whether this file is the one at a path.
 fn is_at<H: Files>(rt: &H, path: &str, file: &Metadata) -> bool {
     match fs::symlink_metadata(rt, path) {
         Ok(found) => found.dev() == file.dev() && found.ino() == file.ino(),

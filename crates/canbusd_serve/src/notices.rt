@@ -75,7 +75,7 @@ fn bus_text(alloc: Global, name: &str, what: &str) -> Result<String, AllocError>
     format!(in alloc; "{name}: {what}")
 }
 
-/// What is reported of a bus whose driver was this many milliseconds late.
+/// Returns the report of a bus whose driver was this many milliseconds late.
 pub fn late_text(alloc: Global, millis: u64) -> Result<String, AllocError> {
     let (seconds, tenths) = (millis / 1000, millis / 100 % 10);
     format!(in alloc; "{seconds}.{tenths} s behind its bit rate")
@@ -88,7 +88,7 @@ fn from_text(alloc: Global, from: Option<SocketAddr>) -> Result<String, AllocErr
     }
 }
 
-// The name of an interface, empty where there is none.
+// The name of an interface, empty if there is none.
 fn name_at<'a>(buses: &[BusWord<'a>], bus: usize, iface: Iface) -> &'a str {
     match buses.get(bus) {
         Some(bus) => bus
@@ -100,7 +100,7 @@ fn name_at<'a>(buses: &[BusWord<'a>], bus: usize, iface: Iface) -> &'a str {
     }
 }
 
-/// The name by which a bus is called, empty where there is none.
+/// The name by which a bus is called, empty if there is none.
 pub fn first_name_at<'a>(buses: &[BusWord<'a>], bus: usize) -> &'a str
     ensures known { IfSome (slice_get buses.now bus)
         (λ word. result.now ≡ first_name_of word.names.now) }

@@ -19,8 +19,8 @@ use std::rt::Files;
 /// The most bytes of a record's text that has no entry and no end: its first two lines.
 const MOST_OF_FRONT: u64 = 61;
 
-/// Locks the folder for this server, by a file in it. `CannotOpen` where another one has it. `None` where it takes no file, or
-/// its file system has no locks.
+/// Locks the folder for this server, by a file in it. `CannotOpen` if another server has it. `None`
+/// if it takes no file, or its file system has no locks.
 pub fn lock_folder<'a, H: Files<File = File>>(
     rt: &H,
     alloc: Global,
@@ -44,8 +44,9 @@ pub fn lock_folder<'a, H: Files<File = File>>(
     }
 }
 
-/// Looks whether the folder takes the files that are written from the start on, the record of each bus with its faults and its
-/// log, as far as they are wanted, and leaves it as it is. `CannotOpen`, with the folder, where it does not.
+/// Checks that the folder takes the files that are written from the start on: the record of each
+/// bus with its faults and its log, as far as they are wanted. The folder stays as it is.
+/// `CannotOpen`, with the folder, if it does not take them.
 pub fn look_at_folder<'a, H: Files<File = File>>(
     rt: &H,
     alloc: Global,
@@ -91,8 +92,9 @@ fn look_at_record<'a, H: Files<File = File>>(
     }
 }
 
-/// Sets aside what runs that were cut off left of the records of these buses, with their faults, and reports it. What a start
-/// that failed left is removed: its first lines must not take the place of such a record.
+/// Sets aside the records of these buses that interrupted runs left, with their faults, and reports
+/// it. The files of a start that failed are removed: their first lines must not take the place of
+/// such a record.
 pub fn set_all_aside<'a, H: Files<File = File>, E: Write>(
     rt: &H,
     alloc: Global,
@@ -117,9 +119,9 @@ pub fn set_all_aside<'a, H: Files<File = File>, E: Write>(
     Ok(())
 }
 
-// Sets aside what is left of a record, and then its faults. Those that were set aside before make way first: a server that is
-// killed meanwhile leaves no record beside the faults of another run. Where the faults can't follow the record comes back, so
-// that the next start finds both.
+// Sets aside the rest of a record, and then its faults. Those that were set aside before make way
+// first, so a server that is killed meanwhile leaves no record next to the faults of another run.
+// If the faults can't follow, the record comes back, so that the next start finds both.
 fn set_aside<'a, H: Files<File = File>>(
     rt: &H,
     alloc: Global,
@@ -183,7 +185,7 @@ pub fn drafts_of<'a, H: Files>(
     }
 }
 
-/// How a folder is reported that does not take a file.
+/// The report of a folder that does not take a file.
 pub fn open_failure<'a>(alloc: Global, folder: &'a str, path: &str, error: &Error) -> Report<'a>
     ensures { IsOfServing result.error }
 {

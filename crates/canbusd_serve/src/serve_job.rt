@@ -4,9 +4,10 @@ ghost use Rattle.can_hub.specs.Benches.{NamedFrom};
 ghost use Rattle.can_hub.specs.HubBuses.{IsOfLongRuns};
 ghost use Rattle.canbusd_io.specs.declared.program_error.ProgramError.TheVariants as fault;
 ghost use Rattle.canbusd_io.specs.Files.{Took};
+ghost use Rattle.canbusd_options.specs.Options.{timing_at};
 ghost use Rattle.can_hub.specs.Settling.{AreNewScrolls};
 ghost use Rattle.canbusd_serve.specs.LongRuns.{AllGivenFirst, AreBegun, HasFiles, HasNewScrolls, IsRunOf, ServesFiles};
-ghost use Rattle.canbusd_serve.specs.Served.{AreAllBenches, AreEnds, IsBenchOf, IsHeardAt, IsListening, IsOfBus, IsOfHub, IsOfServer, IsOfServing, IsServed, Serves, journals, listening_line};
+ghost use Rattle.canbusd_serve.specs.Served.{AreAllBenches, AreEnds, AreBusesTimed, IsBenchOf, IsHeardAt, IsListening, IsOfBus, IsOfHub, IsOfServer, IsOfServing, IsServed, Serves, journals, listening_line};
 
 use crate::buses_notes::buses_note;
 use crate::ends::put_ends;
@@ -44,7 +45,7 @@ use std::thread::Threads;
 use std::time::{Clock, Duration};
 use std::{mem, thread};
 
-/// What a server takes of the system: files, the clock, threads and sockets.
+/// The parts of the system that a server uses: files, the clock, threads and sockets.
 pub trait ServerRuntime: Files<File = File>
     + Clock
     + Threads
@@ -61,13 +62,15 @@ impl<
         + Sync,
 > ServerRuntime for R {}
 
-/// Serves the buses that the options describe until their sessions have come and ended, or, where that is asked for,
-/// until the input has ended. It puts out where it listens, and at the end how many entries the record of each bus
-/// has; then it writes the records and logs. Returns whether all of that was written and each bus kept its driver: each
-/// fault is reported among the errors, as is a bus whose record is full.
+/// Serves the buses that the options describe until their sessions have come and ended, or, if that
+/// is asked for, until the input has ended. It puts out its address, and at the end the number of
+/// entries of each bus's record; then it writes the records and logs. Returns whether all of that
+/// was written and each bus kept its driver. Each fault is reported among the errors, and so is a
+/// bus whose record is full.
 ///
-/// Bus by bus the names are looked at first, then the script; then the limits of the buses, and then it listens. A
-/// folder that takes no files is a fault before anybody can connect. The input is read only where its end is asked for.
+/// It looks at the names of each bus first, and at its script; then at the limits of the buses, and
+/// then it listens. A folder that takes no files is a fault before anybody can connect. The input
+/// is read only if its end is asked for.
 pub fn run_serve<'a, H: ServerRuntime, R: Read + Drop + Send + 'static, W: Write, E: Write + Send>(
     rt: &H,
     alloc: Global,
@@ -93,7 +96,7 @@ pub fn run_serve<'a, H: ServerRuntime, R: Read + Drop + Send + 'static, W: Write
     outcome
 }
 
-// What is there after serving: the passes of each bus, and its files with the scroll of what they were given.
+// The results of serving: the passes of each bus, and its files with the scroll of their entries.
 #[derive(Drop)]
 struct Run<N: RollName> {
     passes: Vec<Vec<Pass<N>>>,
@@ -101,7 +104,7 @@ struct Run<N: RollName> {
     scrolls: Vec<Scroll<N>>,
 }
 
-// What a server runs with.
+// The parts that a server runs with.
 #[derive(Drop)]
 struct ServerRun<'r, 'a, H: ServerRuntime> {
     rt: &'r H,
@@ -111,7 +114,7 @@ struct ServerRun<'r, 'a, H: ServerRuntime> {
     has_lost: AtomicBool,
     // The folder, locked until the last file is written.
     lock: OnceLock<LockFile>,
-    // The faults of each bus, where its record is wanted; while it is served its keeper has them.
+    // The faults of each bus, if its record is wanted. While it is served its keeper has them.
     faults: Mutex<Vec<LiveFaults>>,
 }
 
@@ -145,14 +148,15 @@ impl<'r, 'a, H: ServerRuntime> ServerRun<'r, 'a, H> {
         }
     }
 
-    // What the buses of the options are made of.
+    // Returns the parts of the buses of the options.
     fn read_benches(&self) -> Result<Vec<Bench<Perfect, Open>>, Report<'a>>
         ensures made { IfOk result (λ benches. AreAllBenches self.now.options.now benches.items) }
+        ensures timed { IfOk result (λ benches. AreBusesTimed self.now.options.now benches.items) }
         ensures fault { IfErr result (λ failure. IsOfServer self.now.options.now failure.error) }
     {
         let mut benches = Vec::new(self.alloc);
-        for bus in &self.options.buses {
-            let bench = self.read_bench(*bus)?;
+        for (place, bus) in self.options.buses.iter().enumerate() {
+            let bench = self.read_bench(place, *bus)?;
             let Ok(()) = benches.push(bench) else {
                 return Err(Report::new(self.alloc, ProgramError::NoMemory));
             };
@@ -160,8 +164,11 @@ impl<'r, 'a, H: ServerRuntime> ServerRun<'r, 'a, H> {
         Ok(benches)
     }
 
-    fn read_bench(&self, bus: BusWord<'a>) -> Result<Bench<Perfect, Open>, Report<'a>>
+    // Returns the parts of the bus at a place, which has this word.
+    fn read_bench(&self, place: usize, bus: BusWord<'a>) -> Result<Bench<Perfect, Open>, Report<'a>>
         ensures made { IfOk result (λ bench. IsBenchOf self.now.options.now bus.entry bench) }
+        ensures timed { IfOk result (λ bench.
+            bench.timing ≡ timing_at self.now.options.now.timings.items place) }
         ensures fault { IfErr result (λ failure. IsOfBus bus.entry failure.error) }
     {
         let names = read_names(self.alloc, bus.names)?;
@@ -179,13 +186,13 @@ impl<'r, 'a, H: ServerRuntime> ServerRun<'r, 'a, H> {
             source: Perfect,
             plan,
             gate: Open,
-            timing: self.options.timing,
+            timing: self.options.timing_at(place),
             pace_ms: self.options.pace_ms,
             rx_capacity: self.options.settings.rx_capacity,
         })
     }
 
-    // Notes where the faults of a bus go, which begin with this script.
+    // Notes the destination of a bus's faults, which begin with this script.
     fn add_faults(&self, bus: &BusWord<'_>, script: String) -> Result<(), AllocError> {
         let folder = match self.options.recording {
             Recording::AtEnd | Recording::Live => self.options.folder,
@@ -319,8 +326,8 @@ impl<'r, 'a, H: ServerRuntime> ServerRun<'r, 'a, H> {
         mem::replace(&mut *self.faults.lock(self.rt), Vec::new(self.alloc))
     }
 
-    // Serves the buses that are made of these, and settles them: what they leave, and the files that were written
-    // meanwhile.
+    // Serves the buses that are made of these parts, and settles them. Returns the rest of each,
+    // and the files that were written meanwhile.
     fn settle<
         N: BusName + Send + Sync,
         L: Leaves,
@@ -412,7 +419,7 @@ impl<'r, 'a, H: ServerRuntime> ServerRun<'r, 'a, H> {
         served
     }
 
-    // Looks at what the server needs besides, puts out where it listens, and serves.
+    // Checks the other needs of the server, puts out its address, and serves.
     fn serve_acceptors<
         N: BusName + Send + Sync,
         L: Leaves,
@@ -495,11 +502,20 @@ impl<'r, 'a, H: ServerRuntime> ServerRun<'r, 'a, H> {
             options: self.options,
             errors: Mutex::new(errors),
             has_lost: &self.has_lost,
-            start: self.options.timing.and_then(|_| Start::now(self.rt)),
+            start: self.start(),
         };
         match self.serve_kept(hub, scrolls, files, acceptors, &host, until) {
             Ok(run) => Ok(run),
             Err(_) => Err(Report::new(self.alloc, ProgramError::NoMemory)),
+        }
+    }
+
+    // When the clock of the buses starts, if one of them has bit rates.
+    fn start(&self) -> Option<Start> {
+        if self.options.has_timings() {
+            Start::now(self.rt)
+        } else {
+            None
         }
     }
 
@@ -557,7 +573,8 @@ impl<'r, 'a, H: ServerRuntime> ServerRun<'r, 'a, H> {
         }
     }
 
-    // Writes what became of the rules of a bus and was not taken yet, now that nobody makes calls any more.
+    // Writes the lines about the rules of a bus that were not taken yet, now that no more calls are
+    // made.
     fn keep_rest<N: BusName + Send + Sync, L: Leaves, E: Write + Send>(
         &self,
         hub: &Hub<N, Perfect, Open, L>,
@@ -583,8 +600,8 @@ impl<'r, 'a, H: ServerRuntime> ServerRun<'r, 'a, H> {
         let _ = self.faults.lock(self.rt).push(faults);
     }
 
-    // A stream that ends where the input does. Its reader is a thread that nobody joins, since a read of the input
-    // may wait for longer than the run.
+    // A stream that ends with the input. Its reader is a thread that is never joined, since a read
+    // of the input may wait for longer than the run.
     fn end_of<R: Read + Drop + Send + 'static>(&self, input: R) -> Result<UnixStream, Report<'a>>
         ensures { IfErr result (λ failure. IsOfServing failure.error) }
     {
@@ -631,7 +648,7 @@ fn keepers_of<'o, 'h, 'a, 'l, N: BusName, F: Write + OpenFile + Drop, H: Wait + 
     Ok(kept)
 }
 
-// Whether no line of these was lost.
+// Returns whether no line of these was lost.
 fn are_whole(faults: &[LiveFaults]) -> bool {
     faults.iter().all(|own| own.is_whole())
 }
@@ -670,7 +687,7 @@ fn end_with<R: Read + Drop>(mut input: R, stream: &UnixStream) {
     let _ = stream.shutdown(Shutdown::Both);
 }
 
-// How much memory a bus takes.
+// Returns how much memory a bus takes.
 fn memory_note(recording: Recording) -> &'static str {
     match recording {
         Recording::AtEnd => "each bus reserves 108 bytes of memory for each event of --limit",
@@ -678,7 +695,7 @@ fn memory_note(recording: Recording) -> &'static str {
     }
 }
 
-// Puts out where the server listens, for others to read at once.
+// Puts out the server's address, for others to read at once.
 fn put_listening<'a, W: Write>(alloc: Global, heard: &str, output: &mut W) -> Result<(), Report<'a>>
     ensures put { OnOk result (Took W.contents output.old output.new (listening_line heard.now)) }
     ensures fault { IfErr result (λ failure. failure.error ≡ fault.Write) }

@@ -1,7 +1,8 @@
-//! The file of a Unix path where a server listens, which no other server can have at the same time.
+//! The file of a Unix path at which a server listens. No other server can have it at the same time.
 //!
-//! Beside the socket PATH a server locks the file PATH.lock, and removes both at its end. A server that was killed leaves
-//! them, unlocked, for the next one. Nobody connects to a server that holds the lock, to see whether it is alive.
+//! Next to the socket PATH a server locks the file PATH.lock, and removes both at its end. A server
+//! that was killed leaves them, unlocked, for the next one. A server never connects to another to
+//! see whether it is alive: the lock shows it.
 
 use crate::lock_file::LockFile;
 use std::alloc::Global;
@@ -24,8 +25,8 @@ pub struct SocketFile {
 }
 
 impl SocketFile {
-    /// Listens at a path. A socket that a server left there, or any other at which nobody listens, is removed. `AddrInUse`
-    /// where another server has the path, or another file is there.
+    /// Listens at a path. A socket at which no server listens any more is removed, whoever left it.
+    /// `AddrInUse` if another server has the path, or another file is there.
     pub fn listen<H: Files<File = File> + Net>(
         rt: &H,
         alloc: Global,
@@ -72,7 +73,8 @@ fn bind<H: Files + Net>(rt: &H, path: &str) -> io::Result<UnixListener> {
     }
 }
 
-// Whether the file is a socket at which nobody listens. No server has it, since none has the lock.
+// Returns whether the file is a socket at which no program listens. No server has it, since none
+// has the lock.
 fn is_left_behind<H: Files + Net>(rt: &H, path: &str) -> bool {
     let Ok(found) = fs::symlink_metadata(rt, path) else {
         return false;

@@ -22,12 +22,12 @@ pub record IsNext (c : BusConfig) (past : List Entry) (line : List ℕ) (needs :
   pub is_line : line ≡ entry_line entry rest
   pub after : IsAfter bus (entry ∷ past)
 
--- the entry is wrong after these, where this reply would be legal
+-- the entry is wrong after these, if this reply would be legal
 pub record IsWrongNext (c : BusConfig) (past : List Entry) (e : Entry) (legal : Option Reply) : Type 0 where
   pub wrong : (c.limit ≤ length past) ⊎ (e.reply ≢ legal_reply c past e.event)
   pub is_allowed : legal ≡ allowed_after c (length past) past e.event
 
--- where this is an entry's line, the entry is wrong
+-- if this is an entry's line, the entry is wrong
 abbrev pub IsOther : BusConfig → List Entry → List ℕ → Option Reply → Type 0
 IsOther c past line legal =
     (v : Version) (e : Entry) (rest : List ℕ) → HasLine v c e → line ≡ entry_line e rest

@@ -10,7 +10,7 @@ use Rattle.can_replay.specs.Audits.{IsToldWrong}
 use Rattle.can_replay.specs.declared.entry_audit.EntryAudit.{EntryAudit}
 use Rattle.can_replay.specs.declared.text_fault.WrongLine.{WrongLine}
 
--- What is known of the lines after the first.
+-- The facts about the lines after the first.
 
 -- the first wrong entry is this one, and the bus may have this many entries
 pub record IsWrongIn (c : BusConfig) (entries : List Entry) (w : WrongLine) : Type 0 where

@@ -23,7 +23,7 @@ Takes old new line (Err unread.Bad) =
     × ((text : List ℕ) → IsGoing text old → old.is_ended ≡ false → LacksEntry old.version old.config line)
 Takes old new line (Err unread.NoMemory) = Unit {0}
 
--- the same of one that is wrong there, where this reply would be legal
+-- the same of one that is wrong there, if this reply would be legal
 abbrev pub ReportsWrong : {A : Type 0} → EntryAudit → EntryAudit → List ℕ → Option Reply → Result A Unread → Type 0
 ReportsWrong old new line legal (Ok u) =
     (text : List ℕ) (read : IsRead text old) → old.is_ended ≡ false → old.bus.config ≡ old.config → IsLine line

@@ -1,7 +1,7 @@
 use Rattle.std.specs.Prelude.{◌≡◌, ℕ, List, ◌++◌, length, Option}
 use Rattle.std.specs.Io.KnownBytes.{Consumes}
 
--- What one read does to the bytes that a buffer holds (own choice).
+-- The effect of one read on the bytes that a buffer holds (own choice).
 
 -- this many bytes, of those that the reader had left, come after the bytes that were held
 pub record Gains (old new : List ℕ) (before after : Option (List ℕ)) (count : ℕ) : Type 0 where

@@ -2,9 +2,9 @@ use Rattle.std.specs.Prelude.{◌==◌, ℕ, suc, ◌+◌, ◌-◌, nat_le, Bool
 use Rattle.std.specs.Prelude.{length, drop, codes, get_or, Option, Some, None, if◌then◌else◌}
 use Rattle.std.specs.List.{fold}
 
--- What a watcher saw of the bytes that go through it.
+-- The bytes that went through a watcher, as it saw them.
 
--- how many bytes of `< error ` come last, after one byte more: 9 from the small letter after them on
+-- how many of the last bytes begin `< error `, after one byte more: 9 once a small letter has followed them
 abbrev pub seen_after : ℕ → ℕ → ℕ
 seen_after seen b =
     if seen == 9 then 9
@@ -21,8 +21,8 @@ seen_in seen text = fold seen_after seen text
 abbrev pub saw : ℕ → ℕ → List ℕ → Bool
 saw written seen text = nat_le written (length text) && (seen_in 0 (drop (length text - written) text) == seen)
 
--- what a watcher knows of its writer's bytes: they come after two numbers that stay. The first names the writer;
--- the second is 0 where the watcher is off, and else more than how many bytes there were when it was made
+-- a watcher's knowledge of its writer's bytes: they come after two numbers that stay. The first names the writer; the
+-- second is 0 if the watcher is off, and else one more than the number of bytes at its start
 abbrev pub told : ℕ → Bool → ℕ → ℕ → Option (List ℕ) → Option (List ℕ)
 told name is_on written seen None = None
 told name false written seen (Some text) = Some (name ∷ 0 ∷ text)

@@ -33,7 +33,7 @@ bound b r entry = by (hex_digit b) entry
     by None e = inl e
     by (Some v) e = inr (omega (arith, e))
 
--- three digits are there where the sum of their entries is below 64, and else not all of them
+-- there are three digits if the sum of their entries is below 64, else some are missing
 none : (a b c : ℕ) (n : Option ℕ) → (a ≡ 64) ⊎ (a < 16) → (b ≡ 64) ⊎ (b < 16) → (c ≡ 64) ⊎ (c < 16) → 64 ≤ a + b + c → (if nat_lt a 16 then if nat_lt b 16 then if nat_lt c 16 then n else None else None else None) ≡ None
 none a b c n (inl x) second third many = rw x refl
 none a b c n (inr x) (inl y) third many = rw (lt-ltb a 16 x, y) refl

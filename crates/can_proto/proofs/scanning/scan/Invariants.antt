@@ -1,12 +1,12 @@
 use Rattle.std.proofs.Common.{◌≡◌, ◌≤◌, ◌-◌, ◌++◌, length, take}
 use Rattle.can_proto.specs.Messages.{messages_of, kept_of}
-use Rattle.can_proto.specs.Scanning.{text_at, text_of, IsWithin}
+use Rattle.can_proto.specs.Scanning.{text_kept_at, text_kept, IsWithin}
 use Rattle.can_proto.proofs.scanning.scan.Given as goal
 
 abbrev pub invariant-loop-i : goal.invariant-loop-i
 invariant-loop-i l = record {
-  given : l.out.items ≡ messages_of (text_of l.is_open l.held ++ take l.i l.piece);
-  keeps : text_at l.held l.piece l.i l.place ≡ kept_of (text_of l.is_open l.held ++ take l.i l.piece);
+  given : l.out.items ≡ messages_of (text_kept l.is_open l.held ++ take l.i l.piece);
+  keeps : text_kept_at l.held l.piece l.i l.place ≡ kept_of (text_kept l.is_open l.held ++ take l.i l.piece);
   within : IsWithin l.place l.i;
   order : l.i ≤ length l.piece;
 }

@@ -22,7 +22,7 @@ short-length d low high = grind arith
 firm : (d : ℕ) → 48 ≤ d → is_blank d ≡ false
 firm d low = grind arith
 
--- what is sent, by its words
+-- the frame to send, by its words
 sends : (words rest : List (List ℕ)) (id_word len_word : List ℕ) (id : Identifier) (len : ℕ) (bytes : List ℕ) → words ≡ id_word ∷ len_word ∷ rest → id_of id_word ≡ Ok id → length_of len_word ≡ Ok len → length rest ≡ len → bytes_of rest ≡ Ok bytes
     → send_of words ≡ Ok (Send (record { id = id; payload = Data bytes }))
 unfolding send_of

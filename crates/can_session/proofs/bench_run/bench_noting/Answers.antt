@@ -1,7 +1,7 @@
 use Rattle.std.proofs.Common.{◌≡◌, ℕ, List, Option, Err, sym, ap, subst, ◌∙◌}
 use Rattle.can_session.specs.Benches.{BenchState}
 use Rattle.can_session.specs.Lines.{Input, unread}
-use Rattle.can_session.specs.Runs.{AreAll, Ran, IsRecordOf, at_start_with, Ends}
+use Rattle.can_session.specs.Runs.{AreAll, Ran, IsRecordOfBench, at_start_with, EndsRun}
 use Rattle.can_session.proofs.Configs.{carried_out}
 use Rattle.can_session.proofs.Running.{err_is, ends_before, ends_unmade, ends_err}
 use Rattle.can_session.proofs.bench_run.bench_noting.Goals as goal
@@ -14,15 +14,15 @@ returns-in_err-state-clause-runs g c =
     let now = unread (g.R.Read.remaining c.args.input) in
     λ good. (
       now,
-      subst (λ r. Ends IsRecordOf g.W.Write.contents (g.F.FaultSource.verdicts c.args.config.script) (g.R.Read.remaining c.args.input) start c.args.out.now r now c.args.out.now) (sym is)
-          (ends_unmade IsRecordOf g.W.Write.contents (g.F.FaultSource.verdicts c.args.config.script) (g.R.Read.remaining c.args.input) start c.args.out.now now fault c.in_err-state.ensures.faults (λ bad. good (is ∙ ap (λ e. Err e) bad))),
+      subst (λ r. EndsRun IsRecordOfBench g.W.Write.contents (g.F.FaultSource.verdicts c.args.config.script) (g.R.Read.remaining c.args.input) start c.args.out.now r now c.args.out.now) (sym is)
+          (ends_unmade IsRecordOfBench g.W.Write.contents (g.F.FaultSource.verdicts c.args.config.script) (g.R.Read.remaining c.args.input) start c.args.out.now now fault c.in_err-state.ensures.faults (λ bad. good (is ∙ ap (λ e. Err e) bad))),
     )
 
 pub returns-in_default-clause-runs : goal.returns-in_default-clause-runs
 returns-in_default-clause-runs g c =
     let start = at_start_with c.args.config.shows_faults c.args.plan c.args.config.timing c.args.config.names c.args.config.config c.args.config.rx_capacity in
     let now = unread (g.R.Read.remaining c.args.input) in
-    λ _. (now, ends_before IsRecordOf g.W.Write.contents (g.F.FaultSource.verdicts c.args.config.script) (g.R.Read.remaining c.args.input) start c.args.out.now now)
+    λ _. (now, ends_before IsRecordOfBench g.W.Write.contents (g.F.FaultSource.verdicts c.args.config.script) (g.R.Read.remaining c.args.input) start c.args.out.now now)
 
 pub returns-in_err-run-clause-runs : goal.returns-in_err-run-clause-runs
 returns-in_err-run-clause-runs g c =
@@ -34,12 +34,12 @@ returns-in_err-run-clause-runs g c =
     let start = at_start_with c.args.config.shows_faults c.args.plan c.args.config.timing c.args.config.names c.args.config.config c.args.config.rx_capacity in
     let now = c.run.new.lines in
     let leaves : Unit {0} → BenchState → Type 0 = λ _ after. after ≡ c.run.new.state in
-    let ended = ends_err leaves IsRecordOf contents v c.in-Ok.lines.coming c.in_ok-state.state c.args.out.now now c.run.new.out fault c.in_err-run.ensures in
+    let ended = ends_err leaves IsRecordOfBench contents v c.in-Ok.lines.coming c.in_ok-state.state c.args.out.now now c.run.new.out fault c.in_err-run.ensures in
     λ _. (
       now,
-      subst (λ r. Ends IsRecordOf contents v (g.R.Read.remaining c.args.input) start c.args.out.now r now c.run.new.out) (sym is)
-          (subst (λ (o : Option (List ℕ)). Ends IsRecordOf contents v o start c.args.out.now (Err fault) now c.run.new.out) coming
-          (subst (λ (b : BenchState). Ends IsRecordOf contents v c.in-Ok.lines.coming b c.args.out.now (Err fault) now c.run.new.out) c.in_ok-state.ensures.made ended)),
+      subst (λ r. EndsRun IsRecordOfBench contents v (g.R.Read.remaining c.args.input) start c.args.out.now r now c.run.new.out) (sym is)
+          (subst (λ (o : Option (List ℕ)). EndsRun IsRecordOfBench contents v o start c.args.out.now (Err fault) now c.run.new.out) coming
+          (subst (λ (b : BenchState). EndsRun IsRecordOfBench contents v c.in-Ok.lines.coming b c.args.out.now (Err fault) now c.run.new.out) c.in_ok-state.ensures.made ended)),
     )
 
 pub returns-clause-runs : goal.returns-clause-runs
@@ -55,7 +55,7 @@ returns-clause-runs g c =
         ran.3,
         ran.4,
         subst (λ (b : BenchState). Ran g.W.Write.contents (g.F.FaultSource.verdicts c.args.config.script) ran.0 b c.args.out.now ran.1 c.run.new.out) c.in_ok-state.ensures.made ran.5,
-        subst (λ (b : BenchState). IsRecordOf c.into_record.result b) (sym ran.6) c.into_record.ensures.record,
+        subst (λ (b : BenchState). IsRecordOfBench c.into_record.result b) (sym ran.6) c.into_record.ensures.record,
       ),
     )
 

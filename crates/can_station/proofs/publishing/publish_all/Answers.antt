@@ -4,7 +4,7 @@ use mathlib.Core.Logic.{dite}
 use native.Mathlib.Decide.{ℕ_discrete}
 use Rattle.can_confine.specs.Confinement.{at_start}
 use Rattle.can_meter.specs.Publications.{published}
-use Rattle.can_station.specs.Published.{published_after, counts_in}
+use Rattle.can_station.specs.Published.{published_after, counters_at}
 use Rattle.can_station.proofs.publishing.publish_all.Goals as goal
 
 pub loop-place-preserved : goal.loop-place-preserved
@@ -19,7 +19,7 @@ loop-place-preserved g c =
       told.number ∙ was.0,
       told.ifaces ∙ was.1,
       (λ i lt. dite (ℕ_discrete i at)
-          (λ (is : i ≡ at). subst (λ (j : ℕ). published c.publish_change.new.keeper.lists j ≡ published_after (counts_in c.args.before.now j) (counts_in c.args.after.now j) c.args.at (published c.args.keeper.now.lists j)) (sym is) here)
+          (λ (is : i ≡ at). subst (λ (j : ℕ). published c.publish_change.new.keeper.lists j ≡ published_after (counters_at c.args.before.now j) (counters_at c.args.after.now j) c.args.at (published c.args.keeper.now.lists j)) (sym is) here)
           (λ (isnt : i ≢ at). told.others i isnt ∙ was.2 i (omega (arith, lt, isnt)))),
       (λ i le. told.others i (λ is. omega (arith, le, is)) ∙ was.3 i (omega (arith, le))),
     )

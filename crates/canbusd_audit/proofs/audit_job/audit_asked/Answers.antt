@@ -8,21 +8,21 @@ use Rattle.canbusd_audit.proofs.audit_job.audit_asked.Goals as goal
 
 pub returns-then-options-clause-legal : goal.returns-then-options-clause-legal
 returns-then-options-clause-legal g c =
-    files_written c.args.options.now.is_cut c.args.asked _ g.W.Write.contents c.args.output.now c.audit_cut_lines.new.output c.audit_cut_lines.result c.if-options.true c.audit_cut_lines.ensures.legal
+    files_written c.args.options.now.is_cut c.args.asked c.args.ifaces _ g.W.Write.contents c.args.output.now c.audit_cut_lines.new.output c.audit_cut_lines.result c.if-options.true c.audit_cut_lines.ensures.legal
 
 pub returns-then-options-clause-fault : goal.returns-then-options-clause-fault
 returns-then-options-clause-fault g c =
-    cut_files_told c.args.options.now.is_cut (asks_events c.args.asked) (paths_of c.args.options.now.files.items) _ c.audit_cut_lines.result c.if-options.true c.audit_cut_lines.ensures.fault
+    cut_files_told c.args.options.now.is_cut (asks_events c.args.asked) c.args.ifaces (paths_of c.args.options.now.files.items) _ c.audit_cut_lines.result c.if-options.true c.audit_cut_lines.ensures.fault
 
 pub returns-then-options-clause-written : goal.returns-then-options-clause-written
 returns-then-options-clause-written g c = files_left c.args.asked _ g.W.Write.contents c.args.output.now c.audit_cut_lines.new.output c.audit_cut_lines.result c.audit_cut_lines.ensures.written
 
 pub returns-clause-legal : goal.returns-clause-legal
 returns-clause-legal g c =
-    files_written c.args.options.now.is_cut c.args.asked _ g.W.Write.contents c.args.output.now c.audit_lines.new.output c.audit_lines.result c.if-options.false c.audit_lines.ensures.legal
+    files_written c.args.options.now.is_cut c.args.asked c.args.ifaces _ g.W.Write.contents c.args.output.now c.audit_lines.new.output c.audit_lines.result c.if-options.false c.audit_lines.ensures.legal
 
 pub returns-clause-fault : goal.returns-clause-fault
-returns-clause-fault g c = files_told c.args.options.now.is_cut (asks_events c.args.asked) (paths_of c.args.options.now.files.items) _ c.audit_lines.result c.if-options.false c.audit_lines.ensures.fault
+returns-clause-fault g c = files_told c.args.options.now.is_cut (asks_events c.args.asked) c.args.ifaces (paths_of c.args.options.now.files.items) _ c.audit_lines.result c.if-options.false c.audit_lines.ensures.fault
 
 pub returns-clause-written : goal.returns-clause-written
 returns-clause-written g c = files_left c.args.asked _ g.W.Write.contents c.args.output.now c.audit_lines.new.output c.audit_lines.result c.audit_lines.ensures.written
@@ -46,4 +46,4 @@ memory_of_files true paths why is = inr ([], inl (subst (FaultsWhole []) (sym is
 
 pub returns-in_default-new-clause-fault : goal.returns-in_default-new-clause-fault
 returns-in_default-new-clause-fault g c =
-    inr (memory_of_files c.args.options.now.is_cut (paths_of c.args.options.now.files.items) c.new-in_default-new.result.error c.new-in_default-new.ensures)
+    inr (inr (memory_of_files c.args.options.now.is_cut (paths_of c.args.options.now.files.items) c.new-in_default-new.result.error c.new-in_default-new.ensures))

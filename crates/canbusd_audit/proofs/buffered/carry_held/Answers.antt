@@ -1,7 +1,7 @@
 use Rattle.std.proofs.Common.{◌≡◌, ◌+◌, ◌-◌, ◌++◌, ◌∙◌, ℕ, List, Some, Err, arith, append-nil, drop, length, length-drop, refl, subst, sym, take, take_all}
 use Rattle.memchr.specs.Find.{IsFirstByte, is_byte}
-use Rattle.can_events.specs.declared.wanted.Wanted.{Wanted}
 use Rattle.can_record_text.specs.RecordFaults.{Reads}
+use Rattle.can_replay.specs.declared.wanted.Wanted.{Wanted}
 use Rattle.can_replay.specs.EventTexts.{HasWritten}
 use Rattle.can_replay.specs.TextAudits.{AreTaken, IsLine, MayFollow}
 use Rattle.canbusd_audit.specs.Audited.{TakesMore}
@@ -42,6 +42,19 @@ returns-in-Err-clause-before c =
       begins_wrong held len place c.loop-place.audit c.in-Err.fault found
           (subst (λ (n : ℕ). (text after : List ℕ) → AreTaken text c.loop-place.audit → IsLine (take n (drop len held)) → MayFollow (take n (drop len held)) after → Reads (text ++ (take n (drop len held) ++ after)) (Err c.in-Err.fault)) size c.in-Err.ensures.fault),
     )
+
+-- the two first lines
+pub returns-then-lines-eq-HEAD-clause-taken : goal.returns-then-lines-eq-HEAD-clause-taken
+returns-then-lines-eq-HEAD-clause-taken c = λ none.
+    let held = c.args.held.now in
+    let len = c.loop-place.len in
+    let place = c.in-Some.place in
+    let found : IsFirstByte (is_byte 10) (drop len held) (Some place) = rw whole_rest at c.in-Some.ensures in
+    let size : len + place + 1 - len ≡ place + 1 = omega arith in
+    let end : len + (place + 1) ≡ len + place + 1 = omega arith in
+    subst (λ (n : ℕ). TakesMore c.args.audit.now (take n held) c.carry.new.self) end
+    (takes_more held len place c.args.audit.now c.loop-place.audit c.carry.new.self found c.loop-place.invariant.taken
+    (subst (λ (n : ℕ). (w : Wanted) (events text : List ℕ) → HasWritten w text events c.loop-place.audit → IsLine (take n (drop len held)) → HasWritten w (text ++ take n (drop len held)) events c.carry.new.self) size c.in-Ok.ensures.written))
 
 pub loop-place-preserved : goal.loop-place-preserved
 loop-place-preserved c =

@@ -2,8 +2,11 @@ use Rattle.std.proofs.Common.{refl, subst, sym}
 use Rattle.std.specs.Prelude.{IsNone}
 use Rattle.std.proofs.BufReadLemmas.{Consumes_shown}
 use Rattle.std.specs.Io.BufRead.{FillKeeps}
-use Rattle.canbusd_audit.proofs.HeldLines.{goes_on_by, may_be_at_fault, stops_after}
+use Rattle.canbusd_audit.proofs.HeldLines.{goes_on_by, may_be_at_fault, still_there, stops_after}
 use Rattle.canbusd_audit.proofs.buffered.take_held.Goals as goal
+
+pub returns-in-Err-clause-became : goal.returns-in-Err-clause-became
+returns-in-Err-clause-became g c = still_there _ _ c.args.audit.now c.unfilled.result c.fill_buf.follows.holds-at-none.0 c.unfilled.ensures
 
 pub returns-in-None-clause-became : goal.returns-in-None-clause-became
 returns-in-None-clause-became g c =

@@ -1,6 +1,6 @@
 use Rattle.std.proofs.Common.{ap, rules, refl, subst, ◌∙◌}
 use Rattle.std.specs.Io.KnownBytes.{Keeps}
-use Rattle.canbusd_bench.specs.Benched.{FailsBy, IsRun}
+use Rattle.canbusd_bench.specs.Benched.{FailsBy, IsRunAsAsked}
 use Rattle.canbusd_bench.specs.declared.watch.Watch.{Watch}
 use Rattle.canbusd_bench.specs.inner.Watched.{told}
 use Rattle.canbusd_bench.proofs.Benching.{benched, by_refusal, failed, passed_on, refused}
@@ -43,7 +43,7 @@ returns-clause-ran g c =
     let back = c.finish-output.ensures.writer in
     let names = ap (λ r. r.ghost_name) made.writer in
     let same = ap (λ r. r.ghost_name) back in
-    let run = subst (λ n. IsRun outer c.args.options.now n (g.R.Read.remaining c.args.input) before c.in_ok-record.record after) c.in_ok-names.ensures.names c.in_ok-record.ensures.run in
+    let run = subst (λ n. IsRunAsAsked outer c.args.options.now n (g.R.Read.remaining c.args.input) before c.in_ok-record.record after) c.in_ok-names.ensures.names c.in_ok-record.ensures.run in
     by_refusal c.finish-output.result.1 _ _ _ _ _ c.finish-output.ensures.none c.finish-output.ensures.some c.finish-output.ensures.seen
     (λ none. benched outer contents c.args.options.now (g.R.Read.remaining c.args.input) before after c.args.output.now after.writer.now c.flush.new.self _ c.in_ok-record.record c.in_ok-names.ensures.good (record {
       name = before.writer.ghost_name;

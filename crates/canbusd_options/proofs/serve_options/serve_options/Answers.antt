@@ -2,7 +2,7 @@ use Rattle.std.proofs.Common.{◌≡◌, ◌<◌, ◌≤◌, ℕ, lit<, [], List
 use Rattle.clap.specs.Words.{first_value, found_of, Row}
 use Rattle.clap.specs.declared.error.Error.{Error}
 use Rattle.canbusd_options.specs.Help.{IsNoMemory}
-use Rattle.canbusd_options.specs.Options.{AreSettings, GiveServeOptions, IsNumberOf, IsNumberWithin, given, given_or, most_sessions, recording_text, rows_in, usual_sessions}
+use Rattle.canbusd_options.specs.Options.{AreBusWords, AreSettings, AreTimed, GiveServeOptions, IsNumberOfText, IsNumberWithin, value_of, given_or, most_sessions, recording_text, rows_in, usual_sessions}
 use Rattle.canbusd_options.specs.declared.recording.Recording.{Recording}
 use Rattle.canbusd_options.specs.declared.recording.Recording.TheVariants.{AtEnd, Live, Never}
 use Rattle.canbusd_options.proofs.Rules.{flag_in_rows, text_in_rows}
@@ -16,13 +16,13 @@ returns-clause-given c =
       recording = c.in_ok-recording.ensures.given;
       together = c.in_ok-recording.ensures.together;
       settings = subst (λ text. AreSettings (rows_in m) text c.in_ok-settings_given.field-0) c.limit.ensures c.in_ok-settings_given.ensures.given;
-      timed = c.in_ok-timing_given.ensures.given;
+      timed = subst (λ words. AreTimed (rows_in m) words c.in_ok-timings_given.field-0.items) c.words_given-words.ensures c.in_ok-timings_given.ensures.given;
       flush = c.in_ok-flush_given.ensures.number;
       soon = c.in_ok-flush_given.ensures.most;
       synced = c.is_on.ensures;
-      buses = c.in_ok-buses_given.ensures;
+      buses = subst (AreBusWords c.in_ok-read_buses.field-0.items) c.words_given-words.ensures c.in_ok-read_buses.ensures;
       address = address ∙ ap (λ o. unwrap_or o []) (text_in_rows m (codes "listen"));
-      sessions = subst (λ usual. IsNumberOf c.in_ok-sessions_given.field-0 (given_or usual (rows_in m) (codes "sessions"))) c.usual_sessions-usual.ensures c.in_ok-sessions_given.ensures.number;
+      sessions = subst (λ usual. IsNumberOfText c.in_ok-sessions_given.field-0 (given_or usual (rows_in m) (codes "sessions"))) c.usual_sessions-usual.ensures c.in_ok-sessions_given.ensures.number;
       some = c.in_ok-sessions_given.ensures.some;
       few = subst (λ most. c.in_ok-sessions_given.field-0 ≤ most) c.most_sessions-most.ensures c.in_ok-sessions_given.ensures.few;
       pace = c.in_ok-number_within.ensures.number;
@@ -54,7 +54,7 @@ same_recording Never AtEnd same = cc
 same_recording Never Live same = absurd (differ (codes "live") (codes "none") (sym same) (lit< tt))
 
 -- the options of a server have a number of sessions within the limits of these records
-sessions_within : (rows : List Row) (r : Recording) → given rows (codes "record") ≡ recording_text r → GiveServeOptions rows → IsNumberWithin 1 (most_sessions r) (given_or (usual_sessions r) rows (codes "sessions"))
+sessions_within : (rows : List Row) (r : Recording) → value_of rows (codes "record") ≡ recording_text r → GiveServeOptions rows → IsNumberWithin 1 (most_sessions r) (given_or (usual_sessions r) rows (codes "sessions"))
 sessions_within rows r here (o, are) =
     subst (λ (x : Recording). IsNumberWithin 1 (most_sessions x) (given_or (usual_sessions x) rows (codes "sessions"))) (same_recording o.recording r (sym are.recording ∙ here))
     (o.sessions, are.sessions, are.some, are.few)

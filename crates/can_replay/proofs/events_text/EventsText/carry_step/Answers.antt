@@ -1,6 +1,6 @@
 use Rattle.std.proofs.Common.{subst, sym, ◌++◌, ◌∙◌}
-use Rattle.can_events.specs.inner.Seen.{HasSeen}
 use Rattle.can_bus.specs.Lean.{Lean, IsAfter}
+use Rattle.can_replay.specs.inner.Seen.{HasSeen}
 use Rattle.can_replay.proofs.EventLines.{nothing_legal, one_more, stays_written, step_more}
 use Rattle.can_replay.proofs.events_text.EventsText.carry_step.Goals as goal
 

@@ -1,17 +1,17 @@
 use Rattle.std.proofs.Common.{◌≡◌, ◌++◌, ◌∷◌, List, ℕ, true, Result, Ok, Err, OnOk, is_ok, if◌then◌else◌, ap, subst, sym, ◌∙◌}
 use Rattle.can_event.specs.declared.entry.Entry.{Entry}
 use Rattle.can_bus.specs.Lean.{Lean, IsAfter}
-use Rattle.can_events.specs.declared.wanted.Wanted.{Wanted}
-use Rattle.can_events.specs.Brought.{is_step}
-use Rattle.can_events.specs.EventsText.{asked_of, nothing_wanted, with_parts}
-use Rattle.can_events.specs.inner.Seen.{HasSeen}
+use Rattle.can_replay.specs.declared.wanted.Wanted.{Wanted}
+use Rattle.can_replay.specs.Brought.{is_step}
+use Rattle.can_replay.specs.EventsText.{asked_of, nothing_wanted, with_parts}
+use Rattle.can_replay.specs.inner.Seen.{HasSeen}
 use Rattle.can_replay.proofs.events_text.EventsText.write_parts.Goals as goal
 
 when_ok : {A E : Type 0} (P : Type 0) (r : Result A E) (now more before : List ℕ) → now ≡ (if is_ok r then more else before) → (now ≡ more → P) → OnOk r P
 when_ok P (Ok a) now more before is f = f is
 when_ok P (Err e) now more before is f = tt
 
--- where nothing is wanted, nothing is asked
+-- If nothing is wanted, nothing is asked
 none_asked : (w : Wanted) (e : Entry) → w ≡ nothing_wanted → w ≡ record w { faults = asked_of w.faults e }
 unfolding asked_of
 none_asked w e is = is ∙ ap (λ (x : Wanted). record x { faults = asked_of x.faults e }) (sym is)

@@ -13,6 +13,6 @@ pub returns-in-Front-clause-told : goal.returns-in-Front-clause-told
 returns-in-Front-clause-told c = λ text taken torn. cut_second c.in-Front.field-0 text c.args.torn.now (subst (HasCome text) c.in-Front.is taken) torn
 
 pub returns-in-Entries-clause-events : goal.returns-in-Entries-clause-events
-returns-in-Entries-clause-events c = λ w text cleared written torn.
-    let so = subst (λ (p : Phase). AreWritten w text cleared p c.args.self.events) c.in-Entries.is written in
-    ends_cut_events w text c.args.torn.now cleared c.in-Entries.audit c.args.self.events c.finish_cut.result so (c.finish_cut.ensures.reached text so.taken torn)
+returns-in-Entries-clause-events c = λ w text cleared held written torn.
+    let so = subst (λ (p : Phase). AreWritten w text cleared p held) c.in-Entries.is written in
+    ends_cut_events w text c.args.torn.now cleared c.in-Entries.audit held c.finish_cut.result so (c.finish_cut.ensures.reached text so.taken torn)

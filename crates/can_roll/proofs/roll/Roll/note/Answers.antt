@@ -1,7 +1,7 @@
 use Rattle.std.proofs.Common.{◌≡◌, ◌<◌, [], ◌∷◌, length, sym, ap, ◌∙◌, subst}
 use Rattle.can_roll.specs.declared.rule.View.TheVariants.{OfSlip}
 use Rattle.can_event.specs.Replies.{entry_of}
-use Rattle.can_roll.specs.Lists.{row, added}
+use Rattle.can_roll.specs.Lists.{row, call_added}
 use Rattle.can_roll.specs.Rule.{calls_of, view_in}
 use Rattle.can_roll.specs.Seen.{RollSeen, SlipSeen, roll_seen, slip_seen}
 use Rattle.can_roll.proofs.Rows.{row_added}
@@ -34,7 +34,7 @@ returns g c =
     let sent = once_sent old c.note_last.new.self c.send_last.new.self p calls noted c.send_last.ensures.roll in
     let views = slip_again old c.note_last.new.self p calls c.send_last.result.views noted c.recall.ensures.below c.send_last.ensures.views in
     record {
-      roll = sent ∙ ap (λ (v : SlipSeen). roll_seen old.number (added old.lists v.pass call) old.called) slip;
+      roll = sent ∙ ap (λ (v : SlipSeen). roll_seen old.number (call_added old.lists v.pass call) old.called) slip;
       slip = ap (λ vs. slip_seen c.slip.inside.number p (calls_of (view_in vs))) views
           ∙ ap (λ l. slip_seen c.slip.inside.number p (call ∷ l)) before
           ∙ ap (λ (v : SlipSeen). slip_seen v.number v.pass (call ∷ v.calls)) slip;

@@ -1,6 +1,6 @@
 use Rattle.std.proofs.Common.{◌<◌, [], length, sym, ap, ◌∙◌, subst}
 use Rattle.can_roll.specs.declared.rule.View.TheVariants.{OfRoll}
-use Rattle.can_roll.specs.Lists.{last_of}
+use Rattle.can_roll.specs.Lists.{last_pass}
 use Rattle.can_roll.specs.Rule.{lists_of, called_of}
 use Rattle.can_roll.specs.Seen.{RollSeen}
 use Rattle.can_roll.proofs.Rows.{length-added_all}
@@ -23,6 +23,6 @@ invariant_of-self g c =
       (i.0.0, c.load.ensures.0 ∙ i.0.1, i.0.2),
       (
         new ∙ (λ k. (OfRoll (lists_of (sym new k).0) (called_of (sym new k).0) [], [])),
-        ap (λ m. length (lists_of m.0)) new ∙ length-added_all lists (last_of called) g.C.Says.said ∙ i.1.1,
+        ap (λ m. length (lists_of m.0)) new ∙ length-added_all lists (last_pass called) g.C.Says.said ∙ i.1.1,
       ),
     )

@@ -1,4 +1,4 @@
-use Rattle.std.proofs.Common.{◌≡◌, ◌+◌, ℕ, List, length, drop, Ok, sym, ap, ◌∙◌, subst, lit<, arith}
+use Rattle.std.proofs.Common.{◌≡◌, ◌+◌, ℕ, List, length, drop, Ok, Err, sym, ap, ◌∙◌, subst, lit<, arith}
 use Rattle.std.specs.Prelude.{IsTrue}
 use Rattle.std.specs.List.{list_any}
 use Rattle.std.proofs.lemmas.List.{length_push, at_drop_all}
@@ -12,7 +12,7 @@ use Rattle.can_rules.proofs.run_faults.RunFaults.read.Goals as goal
 
 pub returns-in-Err : goal.returns-in-Err
 returns-in-Err c =
-    let names = c.args.names.now in
+    let names = c.args.names in
     let lines = lines_in c.args.text.now in
     let n = length c.loop-line.yielded in
     let line : List ℕ = c.in-Some.line.now in
@@ -21,11 +21,12 @@ returns-in-Err c =
     ReadsRunFaults-turn names c.args.text.now known c.take_line.new.self (c.loop-line.number + 1) line (drop (n + 1) lines) c.in-Err.fault
     (c.loop-line.invariant.spelled ∙ line-turn (run_lines names known (c.loop-line.number + 1)) lines n line t)
     (λ h. c.loop-line.invariant.memory (subst IsTrue (sym (line-turn (list_any has_bytes) lines n line t)) (any-first line (drop (n + 1) lines) h)))
-    (subst (λ r. TakesRunLine names line (c.loop-line.number + 1) known r c.take_line.new.self) c.in-Err.is c.take_line.ensures)
+    (subst (λ (ns : List (List ℕ)). TakesRunLine ns line (c.loop-line.number + 1) known (Err c.in-Err.fault) c.take_line.new.self) c.loop-line.invariant.names
+    (subst (λ r. TakesRunLine known.names line (c.loop-line.number + 1) known r c.take_line.new.self) c.in-Err.is c.take_line.ensures.taken))
 
 pub loop-line-preserved : goal.loop-line-preserved
 loop-line-preserved c =
-    let names = c.args.names.now in
+    let names = c.args.names in
     let lines = lines_in c.args.text.now in
     let n = length c.loop-line.yielded in
     let line : List ℕ = c.in-Some.line.now in
@@ -34,9 +35,12 @@ loop-line-preserved c =
     let new = c.take_line.new.self in
     let number = c.loop-line.number + 1 in
     let more = length_push c.loop-line.yielded c.in-Some.line in
-    let taken : run_line names known number line ≡ Ok new = subst (λ r. TakesRunLine names line number known r new) c.in_default.is c.take_line.ensures in
+    let taken : run_line names known number line ≡ Ok new =
+    subst (λ (ns : List (List ℕ)). run_line ns known number line ≡ Ok new) c.loop-line.invariant.names
+    (subst (λ r. TakesRunLine known.names line number known r new) c.in_default.is c.take_line.ensures.taken) in
     record {
       number = omega (arith, more, c.loop-line.invariant.number);
+      names = c.take_line.ensures.names ∙ c.loop-line.invariant.names;
       spelled =
           c.loop-line.invariant.spelled
           ∙ line-turn (run_lines names known number) lines n line t
@@ -49,7 +53,7 @@ loop-line-preserved c =
 
 pub returns : goal.returns
 returns c =
-    let names = c.args.names.now in
+    let names = c.args.names in
     let lines = lines_in c.args.text.now in
     let t = YieldsList-end (YieldsList-from_str_split 10 c.args.text.now (lit< tt) (cc) (cc) (cc)) c.loop-line.yielded _ c.loop-line.yielded_by _ _ c.in-None.is c.next.ensures.steps in
     c.loop-line.invariant.spelled

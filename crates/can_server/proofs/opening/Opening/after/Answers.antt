@@ -1,11 +1,11 @@
 use Rattle.std.proofs.Common.{◌≡◌, List, [], ◌∷◌, ℕ, false, refl, sym, ◌∙◌}
 use Rattle.can_server.specs.declared.opening.Opening.{Opening}
 use Rattle.can_server.specs.declared.opening.Opening.TheVariants.{Blank, Word, Client, Stranger}
-use Rattle.can_server.specs.Openings.{is_open, after_bytes}
+use Rattle.can_server.specs.Openings.{is_undecided, after_bytes}
 use Rattle.can_server.proofs.opening.Opening.after.Goals as goal
 
--- what is decided stays
-stays : (o : Opening) (bs : List ℕ) → is_open o ≡ false → after_bytes o bs ≡ o
+-- a decided beginning stays as it is
+stays : (o : Opening) (bs : List ℕ) → is_undecided o ≡ false → after_bytes o bs ≡ o
 stays o [] closed = refl
 stays Blank (b ∷ bs) closed = cc
 stays Word (b ∷ bs) closed = cc

@@ -1,6 +1,6 @@
 use Rattle.std.proofs.Common.{◌≡◌, inl, inr, ℕ, suc, true, false, List, [], ◌++◌, refl, sym, ap, ◌∙◌, append_assoc}
 use Rattle.std.proofs.lemmas.List.{append-nil}
-use Rattle.can_session.specs.Benches.{is_due}
+use Rattle.can_session.specs.Benches.{is_attempt_due}
 use Rattle.can_session.proofs.TimedRuns.{stops_full, tried_as}
 use Rattle.can_session.proofs.bench_state.Bench.make_due.Goals as goal
 
@@ -10,7 +10,7 @@ returns-then-not-branch-clause-made g c =
     let b = c.loop-moment.self in
     let put = c.in_ok-attempt.ensures.tried in
     let v = g.F.FaultSource.verdicts c.args.script.now in
-    let due : is_due c.args.moment b ≡ true = sym c.is_due.ensures ∙ c.loop-moment-test.true in
+    let due : is_attempt_due c.args.moment b ≡ true = sym c.is_due.ensures ∙ c.loop-moment-test.true in
     let none = tried_as v (g.F.FaultSource.verdicts c.loop-moment.script) c.in_ok-attempt.field-0 false b put.0 c.attempt.new.self inv.4 c.if-not-branch.true put.1 in (
       inv.1 ++ put.0,
       record {
@@ -31,7 +31,7 @@ loop-moment-preserved g c =
     let b = c.loop-moment.self in
     let put = c.in_ok-attempt.ensures.tried in
     let v = g.F.FaultSource.verdicts c.args.script.now in
-    let due : is_due c.args.moment b ≡ true = sym c.is_due.ensures ∙ c.loop-moment-test.true in
+    let due : is_attempt_due c.args.moment b ≡ true = sym c.is_due.ensures ∙ c.loop-moment-test.true in
     let one = tried_as v (g.F.FaultSource.verdicts c.loop-moment.script) c.in_ok-attempt.field-0 true b put.0 c.attempt.new.self inv.4 c.if-not-branch.false put.1 in (
       suc inv.0,
       inv.1 ++ put.0,

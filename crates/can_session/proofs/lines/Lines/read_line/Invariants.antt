@@ -1,11 +1,11 @@
 use Rattle.std.proofs.Common.{◌≡◌, ◌≤◌, ◌-◌, false, length, take}
 use Rattle.std.specs.List.{list_any}
-use Rattle.can_session.specs.Lines.{is_lf, IsWithin, Waits}
+use Rattle.can_session.specs.Lines.{is_lf, IsWithinLimits, Waits}
 use Rattle.can_session.proofs.lines.Lines.read_line.Given as goal
 
 abbrev pub invariant-loop-len : goal.invariant-loop-len
 invariant-loop-len g l = record {
-  within : IsWithin l.self;
+  within : IsWithinLimits l.self;
   waits : Waits l.fn.self l.self;
   fine : l.self.fault ≡ l.fn.self.fault;
   began : l.fn.self.ended ≡ false;

@@ -1,14 +1,14 @@
 use Rattle.std.proofs.Common.{ap, sym, ◌∙◌, rules}
 use Rattle.can_event.specs.declared.reply.Reply.TheVariants as reply
 use Rattle.can_station.specs.Held.{StationSeen}
-use Rattle.can_station.specs.Passes.{PassSeen, Reports, calls_listed, next_attempt, pass_after, pass_seen}
+use Rattle.can_station.specs.Passes.{PassSeen, ReportsReply, calls_listed, next_attempt, pass_after, pass_seen}
 use Rattle.can_station.proofs.Listing.{seen_after}
 use Rattle.can_station.proofs.Stepping.{stepped}
 use Rattle.can_station.proofs.station.Station.step.Goals as goal
 
 pub returns : goal.returns
 returns g c =
-    let reports : Reports (λ x. reply.Attempted x) c.map_err.result c.in-Some.reply = search rules in
+    let reports : ReportsReply (λ x. reply.Attempted x) c.map_err.result c.in-Some.reply = search rules in
     stepped g.F.FaultSource.verdicts c.lock-hold.result _ _ c.args.moment _ c.lock-hold.ensures
     (sym (ap (λ (p : PassSeen). p.number) c.pass.view_is) ∙ cc (c.number.ensures, c.if-self-number.false, ap (λ (s : StationSeen). s.number) c.self.view_is))
     c.map_err.result c.in-Some.reply reports c.in-Some.ensures.carried.answer

@@ -7,7 +7,7 @@ use Rattle.can_record.specs.Tapes.{tape}
 use Rattle.can_roll.specs.Seen.{RollSeen, scroll_seen}
 use Rattle.can_rules.specs.Plans.{given, plan_after}
 use Rattle.can_station.specs.Held.{Held}
-use Rattle.can_station.specs.Passes.{IsCarriedOut, head_on, next_plan, next_verdict}
+use Rattle.can_station.specs.Passes.{IsCarriedOutForSlip, next_try, next_plan, next_verdict}
 use Rattle.can_station.proofs.station_state.StationState.step.Goals as goal
 
 pub invariant_of-self : goal.invariant_of-self
@@ -30,9 +30,9 @@ returns-clause-carried g c =
     let sourced : c.verdict-sourced.result ≡ verdict_in (verdicts c.self.inside.source) (length (tape j.history)) =
     c.verdict-sourced.ensures.answer ∙ ap (λ (n : ℕ). verdict_in (verdicts c.self.inside.source) n) attempt in
     let verdict : c.next_verdict-verdict.result ≡ next_verdict verdicts c.args.self.now =
-    c.next_verdict-verdict.ensures.verdict ∙ (λ k. given (sourced k) c.self.inside.plan (attempt k) (head_on j)) ∙ ap (λ (h : Held g.row.F.Denot). next_verdict verdicts h) c.self.view_is in
+    c.next_verdict-verdict.ensures.verdict ∙ (λ k. given (sourced k) c.self.inside.plan (attempt k) (next_try j)) ∙ ap (λ (h : Held g.row.F.Denot). next_verdict verdicts h) c.self.view_is in
     let plan : c.next_verdict-verdict.new.plan ≡ next_plan verdicts c.args.self.now =
-    c.next_verdict-verdict.ensures.after ∙ (λ k. plan_after (sourced k) c.self.inside.plan (attempt k) (head_on j)) ∙ ap (λ (h : Held g.row.F.Denot). next_plan verdicts h) c.self.view_is in
+    c.next_verdict-verdict.ensures.after ∙ (λ k. plan_after (sourced k) c.self.inside.plan (attempt k) (next_try j)) ∙ ap (λ (h : Held g.row.F.Denot). next_plan verdicts h) c.self.view_is in
     let done = c.answer_and_book-reply.ensures in
     let now : Held g.row.F.Denot = record {
       number = inside.roll.number;
@@ -52,7 +52,7 @@ returns-clause-carried g c =
       changes = inside.changes;
       stopped = inside.stopped;
     } in
-    let carried : IsCarriedOut now c.args.slip.now (event.Attempt c.args.moment c.next_verdict-verdict.result) c.answer_and_book-reply.result new c.answer_and_book-reply.new.slip =
+    let carried : IsCarriedOutForSlip now c.args.slip.now (event.Attempt c.args.moment c.next_verdict-verdict.result) c.answer_and_book-reply.result new c.answer_and_book-reply.new.slip =
     record {
       answer = done.answered.answer;
       after = λ k. record {
@@ -66,5 +66,5 @@ returns-clause-carried g c =
       };
       noted = done.slip;
     } in
-    subst (λ (x : Held g.row.F.Denot × Event). IsCarriedOut x.0 c.args.slip.now x.1 c.answer_and_book-reply.result new c.answer_and_book-reply.new.slip)
+    subst (λ (x : Held g.row.F.Denot × Event). IsCarriedOutForSlip x.0 c.args.slip.now x.1 c.answer_and_book-reply.result new c.answer_and_book-reply.new.slip)
     (λ k. (record (c.self.view_is k) { source = c.verdict-sourced.new.self; plan = plan k }, event.Attempt c.args.moment (verdict k))) carried

@@ -1,0 +1,202 @@
+ghost use Rattle.std.specs.Prelude.{◌≡◌, ◌++◌, reverse, slice_get, take, drop, IfOk, OnOk};
+ghost use Rattle.can_bus.specs.Copies.{is_from, received_from};
+ghost use Rattle.can_bus.specs.Queues.{candidates_for, taken_from, taken_after, queued_to, dropped_at};
+ghost use Rattle.can_audit.specs.Histories.{OnHistory, OnRecord, Yields, ReturnsList};
+ghost use Rattle.can_audit.specs.inner.Noted.{room_after};
+ghost use Rattle.can_audit.specs.inner.Posted.{ReturnsCandidates};
+
+use crate::post::{passing_posts, posts_of};
+use crate::sockets::{filters_of, options_of, sockets_of};
+use can_bus::{BusConfig, Entry, Event, Received, Record, Reply, SocketId};
+use can_frame::{Iface, Item};
+use std::alloc::{AllocError, Global};
+
+// The receive queues of a bus's sockets, by its entries.
+
+/// Returns the items that an entry offers to a socket, after the entries before it.
+fn candidates_of(
+    alloc: Global,
+    config: BusConfig,
+    past: &[Entry],
+    id: SocketId,
+    entry: &Entry,
+) -> Result<Vec<Received>, AllocError>
+    ensures { ReturnsCandidates config past.now id.0 entry.now result }
+{
+    let sockets = sockets_of(alloc, past)?;
+    if !sockets.is_open(id) {
+        return Ok(Vec::new(alloc));
+    }
+    let posts = posts_of(alloc, config, past, sockets.iface_of(id), entry)?;
+    let filters = filters_of(alloc, past, id)?;
+    passing_posts(alloc, &filters, &options_of(past, id), id, &posts)
+}
+
+/// All that these entries offered a socket, in order.
+fn candidates_for(
+    alloc: Global,
+    config: BusConfig,
+    past: &[Entry],
+    id: SocketId,
+) -> Result<Vec<Received>, AllocError>
+    ensures { OnHistory config past.now (λ h. ReturnsList result (candidates_for config h id.0)) }
+{
+    let mut offered = Vec::new(alloc);
+    for k in 0..past.len() {
+        let more = candidates_of(alloc, config, &past[..k], id, &past[k])?;
+        offered.extend_from_slice(&more)?;
+    }
+    Ok(offered)
+}
+
+/// Returns the items that an entry adds to those taken from a socket.
+fn note_taken(entry: &Entry, id: SocketId, taken: &mut Vec<Received>) -> Result<(), AllocError>
+    ensures { OnOk result (taken.new.items ≡
+        taken_after entry.now.event entry.now.reply id.0 taken.old.items) }
+{
+    match &entry.event {
+        Event::Receive(of) => {
+            if of.0 == id.0 {
+                if let Reply::Received(Some(received)) = &entry.reply {
+                    taken.push(*received)?;
+                }
+            }
+        }
+        _ => {}
+    }
+    Ok(())
+}
+
+/// The items that were taken from a socket, in order.
+pub(crate) fn taken_from(
+    alloc: Global,
+    past: &[Entry],
+    id: SocketId,
+) -> Result<Vec<Received>, AllocError>
+    ensures { ReturnsList result (taken_from (reverse past.now) id.0) }
+{
+    let mut taken = Vec::new(alloc);
+    for entry in past {
+        note_taken(entry, id, &mut taken)?;
+    }
+    Ok(taken)
+}
+
+/// The candidates of a socket that found room, and the others.
+#[derive(Drop)]
+pub(crate) struct Arrivals {
+    pub queued: Vec<Received>,
+    pub dropped: Vec<Received>,
+}
+
+/// Returns how many more items may wait on a socket to which this many were queued.
+fn room_of(alloc: Global, past: &[Entry], id: SocketId, queued: usize) -> Result<u128, AllocError>
+    ensures { Yields result (room_after (reverse past.now) id.0 queued) }
+{
+    let capacity = sockets_of(alloc, past)?.capacity_of(id);
+    let taken = taken_from(alloc, past, id)?.len();
+    Ok((capacity as u128 + taken as u128).saturating_sub(queued as u128))
+}
+
+/// Queues as many candidates as there is room for.
+fn admit(arrivals: &mut Arrivals, room: u128, candidates: &[Received]) -> Result<(), AllocError>
+    ensures queued { OnOk result (arrivals.new.queued.items ≡ arrivals.old.queued.items ++
+        take room candidates.now) }
+    ensures dropped { OnOk result (arrivals.new.dropped.items ≡ arrivals.old.dropped.items ++
+        drop room candidates.now) }
+{
+    let mut fit = candidates.len();
+    if room < fit as u128 {
+        fit = room as usize;
+    }
+    arrivals.queued.extend_from_slice(&candidates[..fit])?;
+    arrivals.dropped.extend_from_slice(&candidates[fit..])?;
+    Ok(())
+}
+
+/// The item at this place, if there is one.
+pub(crate) fn item_at(items: &[Received], place: usize) -> Option<Received>
+    ensures { result ≡ slice_get items.now place }
+{
+    items.get(place).copied()
+}
+
+/// Returns the items that found room on a socket, and those that did not, in order.
+pub(crate) fn arrivals_at(
+    alloc: Global,
+    config: BusConfig,
+    past: &[Entry],
+    id: SocketId,
+) -> Result<Arrivals, AllocError>
+    ensures queued { OnHistory config past.now
+        (λ h. IfOk result (λ a. a.queued.items ≡ queued_to config h id.0)) }
+    ensures dropped { OnHistory config past.now
+        (λ h. IfOk result (λ a. a.dropped.items ≡ dropped_at config h id.0)) }
+{
+    let mut arrivals = Arrivals {
+        queued: Vec::new(alloc),
+        dropped: Vec::new(alloc),
+    };
+    for k in 0..past.len() {
+        let room = room_of(alloc, &past[..k], id, arrivals.queued.len())?;
+        let offered = candidates_of(alloc, config, &past[..k], id, &past[k])?;
+        admit(&mut arrivals, room, &offered)?;
+    }
+    Ok(arrivals)
+}
+
+/// The items that found room on a socket, in order: those that were taken and those that were not. A socket
+/// that was never opened has none.
+///
+/// Of a record that no bus could have made, nothing is said. The time grows with the cube of the number of
+/// entries.
+pub fn queued(alloc: Global, record: &Record, id: SocketId) -> Result<Vec<Received>, AllocError>
+    ensures { OnRecord «record».now (λ c h. ReturnsList result (queued_to c h id.0)) }
+{
+    let entries = record.to_entries(alloc)?;
+    Ok(arrivals_at(alloc, record.config(), &entries, id)?.queued)
+}
+
+/// The items that came to a socket's interface while it was open and passed its filters and options, in
+/// order, whether they found room or not. A socket that was never opened has none.
+///
+/// Of a record that no bus could have made, nothing is said. The time grows with the cube of the number of
+/// entries.
+pub fn candidates(alloc: Global, record: &Record, id: SocketId) -> Result<Vec<Received>, AllocError>
+    ensures { OnRecord «record».now (λ c h. ReturnsList result (candidates_for c h id.0)) }
+{
+    let entries = record.to_entries(alloc)?;
+    candidates_for(alloc, record.config(), &entries, id)
+}
+
+/// Returns whether it is a data frame that an interface sent.
+fn is_from(iface: Iface, received: &Received) -> bool
+    ensures { result ≡ is_from iface received.now }
+{
+    match &received.item {
+        Item::Data(_) => received.from.number() == iface.number(),
+        Item::Error(_) => false,
+    }
+}
+
+/// The data frames of one interface that found room on a socket, in order, each with its number there.
+///
+/// Of a record that no bus could have made, nothing is said. The time grows with the cube of the number of
+/// entries.
+pub fn projected(
+    alloc: Global,
+    record: &Record,
+    iface: Iface,
+    id: SocketId,
+) -> Result<Vec<Received>, AllocError>
+    ensures { OnRecord «record».now (λ c h. ReturnsList result (received_from c h iface id.0)) }
+{
+    let all = queued(alloc, record, id)?;
+    let mut of_iface = Vec::new(alloc);
+    for received in &all {
+        if is_from(iface, received) {
+            of_iface.push(*received)?;
+        }
+    }
+    Ok(of_iface)
+}

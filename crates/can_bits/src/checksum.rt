@@ -1,0 +1,71 @@
+ghost use Rattle.std.specs.Prelude.{◌≡◌, ◌-◌, ◌∷◌, replicate};
+ghost use Rattle.can_frame.specs.Arbitration.{low_bits};
+ghost use Rattle.can_wire.specs.FrameBits.{bit_of};
+ghost use Rattle.can_wire.specs.inner.Sending.{shifted, shifted_all};
+ghost use Rattle.can_bits.specs.Sent.{levels};
+ghost use Rattle.can_bits.specs.inner.Checking.{IsGenerator, terms_of};
+
+use crate::bit::Bit;
+
+/// A generator polynomial: how many terms follow its first, and which of them are there.
+#[derive(Debug, Clone, Copy)]
+pub(crate) struct Generator {
+    pub width: u32,
+    pub terms: u32,
+}
+
+/// That of classic frames, x^15 + x^14 + x^10 + x^8 + x^7 + x^4 + x^3 + 1.
+pub(crate) const CRC_15: Generator = Generator {
+    width: 15,
+    terms: 0x4599,
+};
+
+/// That of FD frames of at most 16 bytes, x^17 + x^16 + x^14 + x^13 + x^11 + x^6 + x^4 + x^3 + x + 1.
+pub(crate) const CRC_17: Generator = Generator {
+    width: 17,
+    terms: 0x1_685B,
+};
+
+/// That of longer ones, x^21 + x^20 + x^13 + x^11 + x^7 + x^4 + x^3 + 1.
+pub(crate) const CRC_21: Generator = Generator {
+    width: 21,
+    terms: 0x10_2899,
+};
+
+impl Generator {
+    /// A shift register that holds a one, and after it zeros.
+    pub fn one(self) -> u32
+        requires { IsGenerator self }
+        ensures { low_bits self.width result ≡ 1 ∷ replicate (self.width - 1) 0 }
+    {
+        1 << (self.width - 1)
+    }
+
+    /// What a shift register holds after one more bit.
+    fn after_bit(self, register: u32, is_one: bool) -> u32
+        requires { IsGenerator self }
+        ensures { low_bits self.width result
+            ≡ shifted (terms_of self) (bit_of is_one) (low_bits self.width register) }
+    {
+        let is_first = (register >> (self.width - 1)) & 1 == 1;
+        let moved = register << 1;
+        if is_one == is_first {
+            moved
+        } else {
+            moved ^ self.terms
+        }
+    }
+
+    /// What it holds after bits.
+    pub fn after(self, register: u32, bits: &[Bit]) -> u32
+        requires { IsGenerator self }
+        ensures { low_bits self.width result
+            ≡ shifted_all (terms_of self) (levels bits.now) (low_bits self.width register) }
+    {
+        let mut register = register;
+        for bit in bits {
+            register = self.after_bit(register, bit.is_recessive);
+        }
+        register
+    }
+}

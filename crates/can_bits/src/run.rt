@@ -1,0 +1,116 @@
+ghost use Rattle.std.specs.Prelude.{◌≡◌, ◌≤◌, ◌↔◌, IsTrue};
+ghost use Rattle.can_bits.specs.inner.Sending.{added, flushed, nothing_sent, stuff_bit};
+
+use crate::bit::{Bit, Field};
+use std::marker::Model;
+
+/// How many bits of one value are followed by a stuff bit.
+const LONGEST: u8 = 5;
+
+/// What was sent last: the field and the value of the last bit, and how many bits of this value it is one of.
+#[derive(Debug, Clone, Copy)]
+pub(crate) struct Run {
+    field: Field,
+    is_recessive: bool,
+    count: u8,
+}
+
+impl Model for Run {
+    ghost use Rattle.std.specs.Prelude.{◌≤◌};
+    ghost use Rattle.can_bits.specs.inner.Sending.{Last};
+
+    ghost Value = { Last };
+
+    ghost view = { λ r. record {
+      field = r.field;
+      is_recessive = r.is_recessive;
+      count = r.count;
+    } };
+
+    ghost invariant = { λ r. r.count ≤ 5 };
+
+    ghost inverse = { λ v. record {
+      field = v.field;
+      is_recessive = v.is_recessive;
+      count = v.count;
+    } };
+}
+
+impl Run {
+    /// Nothing was sent.
+    pub fn new() -> Run
+        ensures { result ≡ nothing_sent }
+    {
+        Run {
+            field: Field::StartOfFrame,
+            is_recessive: false,
+            count: 0,
+        }
+    }
+
+    /// Whether a stuff bit is due.
+    pub fn is_full(self) -> bool
+        ensures full { IsTrue result ↔ (self.count ≡ 5) }
+        ensures within { self.count ≤ 5 }
+    {
+        self.count == LONGEST
+    }
+
+    /// The value of the last bit.
+    pub fn is_recessive(self) -> bool
+        ensures { result ≡ self.is_recessive }
+    {
+        self.is_recessive
+    }
+
+    /// A stuff bit of the last bit's field.
+    pub fn stuff_bit(self, is_fast: bool) -> Bit
+        ensures { result ≡ stuff_bit is_fast self.field self.is_recessive }
+    {
+        stuff_bit(self.field, self.is_recessive, is_fast)
+    }
+
+    /// After the stuff bit that is due.
+    pub fn flushed(self) -> Run
+        ensures last { result ≡ flushed self }
+        ensures short { result.count ≤ 4 }
+    {
+        if !self.is_full() {
+            return self;
+        }
+        Run {
+            field: self.field,
+            is_recessive: !self.is_recessive,
+            count: 1,
+        }
+    }
+
+    /// After one more bit.
+    pub fn then(self, bit: Bit) -> Run
+        requires { self.count ≤ 4 }
+        ensures { result ≡ added bit self }
+    {
+        let count = if bit.is_recessive == self.is_recessive {
+            self.count + 1
+        } else {
+            1
+        };
+        Run {
+            field: bit.field,
+            is_recessive: bit.is_recessive,
+            count,
+        }
+    }
+}
+
+/// A stuff bit of this field after a bit of this value.
+pub(crate) fn stuff_bit(field: Field, last: bool, is_fast: bool) -> Bit
+    ensures { result ≡ stuff_bit is_fast field last }
+{
+    Bit {
+        field,
+        is_recessive: !last,
+        is_stuff: true,
+        is_fast,
+    }
+}

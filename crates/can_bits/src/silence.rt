@@ -1,0 +1,43 @@
+ghost use Rattle.std.specs.Prelude.{◌≡◌, IfOk};
+ghost use Rattle.can_bits.specs.Sent.{levels};
+ghost use Rattle.can_bits.specs.Text.{silence, silence_after};
+
+use crate::bit::{Bit, Field};
+use crate::sending::frame_bits;
+use can_frame::Frame;
+use std::alloc::{AllocError, Global};
+
+/// Where the sender of another frame falls silent, if it loses arbitration to the frame with these bits: the place of the
+/// bit, from 0, and its field.
+pub fn silence(
+    alloc: Global,
+    frame: &Frame,
+    bits: &[Bit],
+    other: &Frame,
+) -> Result<Option<(usize, Field)>, AllocError>
+    ensures { IfOk result (λ found. found ≡ silence frame.now bits.now other.now) }
+{
+    if frame.arbitration_key() >= other.arbitration_key() {
+        return Ok(None);
+    }
+    Ok(silent_at(bits, &frame_bits(alloc, other)?))
+}
+
+/// The first bit at which one who sends others sends a one and sees a zero.
+fn silent_at(bits: &[Bit], others: &[Bit]) -> Option<(usize, Field)>
+    ensures { result ≡ silence_after 0 bits.now (levels others.now) }
+{
+    for (place, bit) in bits.iter().enumerate() {
+        let Some(other) = others.get(place) else {
+            return None;
+        };
+        if bit.is_recessive != other.is_recessive {
+            return if other.is_recessive {
+                Some((place, bit.field))
+            } else {
+                None
+            };
+        }
+    }
+    None
+}

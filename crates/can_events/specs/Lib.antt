@@ -1,4 +1,0 @@
-pub mod Brought
-pub mod Words
-pub mod EventsText
-pub mod inner

@@ -1,5 +1,0 @@
-use Rattle.can_reference.proofs.Counting.{counts-as}
-use Rattle.can_reference.proofs.counters.note.Goals as goal
-
-pub returns-in-Attempted : goal.returns-in-Attempted
-returns-in-Attempted c = counts-as c.args.config c.args.entry.now.event c.args.entry.now.reply c.args.nodes.now c.note_attempt.new.nodes _ _ _ c.in-Attempt.is c.in-Attempted.is (c.note_attempt.ensures c.in-Attempt.field-0)

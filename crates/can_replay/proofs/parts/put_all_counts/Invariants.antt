@@ -1,0 +1,7 @@
+use Rattle.std.proofs.Common.{◌≡◌, ◌++◌}
+use Rattle.std.specs.List.{flat_map, range_with_len}
+use Rattle.can_replay.specs.inner.Seen.{told_counts_at}
+use Rattle.can_replay.proofs.parts.put_all_counts.Given as goal
+
+abbrev pub invariant-loop-i : goal.invariant-loop-i
+invariant-loop-i l = l.out.items ≡ l.initial.out.items ++ flat_map (told_counts_at l.before l.after) (range_with_len 0 l.i)

@@ -1,0 +1,90 @@
+ghost use Rattle.std.specs.Prelude.{◌≡◌, ◌++◌, codes, IfOk, OnOk, Some};
+ghost use Rattle.can_replay.specs.EventsText.{asked_by, asked_of, rule_by, rule_in, rules_at_end, rules_at_start, rules_before, rules_by};
+ghost use Rattle.can_replay.specs.Words.{numbered};
+
+use crate::taken_rules::{put_first, put_until};
+use can_event::{Attempt, Entry, Event, Reply};
+use can_frame::Text;
+use can_rules::RunFaults;
+use std::alloc::AllocError;
+
+/// Room for the part: its name and a number.
+type RuleText = Text<32>;
+
+/// The lines of the rules of the script.
+#[tactic(auto, unfolding(crate::specs::EventsText::rules_at_start))]
+pub fn put_first_rules(out: &mut Vec<u8>, faults: &Option<RunFaults>) -> Result<(), AllocError>
+    ensures { OnOk result (out.new.items ≡ out.old.items ++ rules_at_start faults.now) }
+{
+    match faults {
+        Some(run) => put_first(out, run),
+        None => Ok(()),
+    }
+}
+
+/// The lines of the rules that the bus takes after all attempts, and of where all end.
+#[tactic(auto, unfolding(crate::specs::EventsText::rules_at_end))]
+pub fn put_last_rules(out: &mut Vec<u8>, faults: &mut Option<RunFaults>) -> Result<(), AllocError>
+    ensures { OnOk result (out.new.items ≡ out.old.items ++ rules_at_end faults.old) }
+{
+    match faults {
+        Some(run) => put_until(out, run, u64::MAX),
+        None => Ok(()),
+    }
+}
+
+/// The lines of rules that come before that of an entry, and the number of the rule that gave its attempt its verdict, if one
+/// did. The rules are asked where the attempt tried a frame.
+#[tactic(auto, unfolding(crate::specs::EventsText::rules_before, crate::specs::EventsText::rule_in, crate::specs::EventsText::asked_of))]
+pub(crate) fn put_rules(
+    out: &mut Vec<u8>,
+    faults: &mut Option<RunFaults>,
+    entry: &Entry,
+) -> Result<Option<u64>, AllocError>
+    ensures lines { OnOk result
+        (out.new.items ≡ out.old.items ++ rules_before faults.old entry.now) }
+    ensures rule { IfOk result (λ rule. rule ≡ rule_in faults.old entry.now) }
+    ensures after { OnOk result (faults.new ≡ asked_of faults.old entry.now) }
+{
+    match faults {
+        Some(run) => put_rules_of(out, run, entry),
+        None => Ok(None),
+    }
+}
+
+/// The same by these faults.
+fn put_rules_of(
+    out: &mut Vec<u8>,
+    run: &mut RunFaults,
+    entry: &Entry,
+) -> Result<Option<u64>, AllocError>
+    ensures lines { OnOk result (out.new.items ≡ out.old.items ++
+        rules_by run.old entry.now.event entry.now.reply) }
+    ensures rule { IfOk result
+        (λ rule. rule ≡ rule_by run.old entry.now.event entry.now.reply) }
+    ensures after { OnOk result (run.new ≡ asked_by run.old entry.now.event entry.now.reply) }
+{
+    let Event::Attempt(_, verdict) = &entry.event else {
+        return Ok(None);
+    };
+    let Reply::Attempted(Attempt::Tried(tried)) = &entry.reply else {
+        return Ok(None);
+    };
+    let attempt = run.tried();
+    put_until(out, run, attempt)?;
+    Ok(run.rule_of(tried.winner, &tried.frame, *verdict))
+}
+
+/// The part with this number, if there is one.
+#[tactic(auto, unfolding(crate::specs::Words::numbered, crate::specs::Words::parted))]
+pub(crate) fn put_rule(out: &mut Vec<u8>, rule: Option<u64>) -> Result<(), AllocError>
+    ensures { OnOk result (out.new.items ≡ out.old.items ++ numbered (codes "rule") rule) }
+{
+    let Some(number) = rule else {
+        return Ok(());
+    };
+    let mut part: RuleText = Text::new();
+    part.push_all(b"; rule ");
+    part.push_count(number);
+    out.extend_from_slice(part.as_bytes())
+}

@@ -1,0 +1,79 @@
+//! The lines of the rules that a bus takes: which rule a number is.
+ghost use Rattle.std.specs.Prelude.{◌≡◌, ◌++◌, ◌∷◌, [], codes, decimal, OnOk};
+ghost use Rattle.std.specs.List.{flat_map};
+ghost use Rattle.can_rules.specs.RunFaults.{made_until};
+ghost use Rattle.can_replay.specs.TakenRules.{first_rules, made_line, rule_line, rules_until};
+
+use can_frame::{Names, Text};
+use can_rules::{Made, Rule, RunFaults, put_rule_words};
+use std::alloc::AllocError;
+
+/// Room for the front of a rule's line.
+type FrontText = Text<32>;
+
+/// The lines of the rules of the script, which the bus takes at the start: nothing was asked or made before.
+pub(crate) fn put_first(out: &mut Vec<u8>, faults: &RunFaults) -> Result<(), AllocError>
+    ensures { OnOk result (out.new.items ≡ out.old.items ++ first_rules faults.now) }
+{
+    put_rule_lines(out, faults.rules_left(), faults.names())
+}
+
+/// Makes the changes that come before the attempt with this number, and writes their lines.
+pub(crate) fn put_until(
+    out: &mut Vec<u8>,
+    faults: &mut RunFaults,
+    attempt: u64,
+) -> Result<(), AllocError>
+    ensures lines { OnOk result
+        (out.new.items ≡ out.old.items ++ rules_until attempt faults.old) }
+    ensures after { OnOk result (faults.new ≡ made_until attempt faults.old) }
+{
+    while let Some(made) = faults.make_next(attempt)? {
+        put_made(out, &made, faults.names())?;
+    }
+    Ok(())
+}
+
+// The line of what became of a change.
+fn put_made(out: &mut Vec<u8>, made: &Made, names: &Names) -> Result<(), AllocError>
+    ensures { OnOk result (out.new.items ≡ out.old.items ++ made_line names.now made.now) }
+{
+    match made {
+        Made::Taken(rule) => put_rule_line(out, rule, names),
+        Made::Refused => Ok(()),
+        Made::Ended => out.extend_from_slice(b"nofaults\n"),
+    }
+}
+
+// The lines of rules, which have numbers.
+fn put_rule_lines(out: &mut Vec<u8>, rules: &[Rule], names: &Names) -> Result<(), AllocError>
+    ensures { OnOk result
+        (out.new.items ≡ out.old.items ++ flat_map (rule_line names.now) rules.now) }
+{
+    for rule in rules {
+        put_rule_line(out, rule, names)?;
+    }
+    Ok(())
+}
+
+// The line of a rule.
+#[tactic(auto, unfolding(crate::specs::TakenRules::rule_line))]
+fn put_rule_line(out: &mut Vec<u8>, rule: &Rule, names: &Names) -> Result<(), AllocError>
+    ensures { OnOk result (out.new.items ≡ out.old.items ++ rule_line names.now rule.now) }
+{
+    put_rule_front(out, rule.number)?;
+    put_rule_words(out, rule, names)?;
+    out.extend_from_slice(b"\n")
+}
+
+// The front of the line of a rule with this number.
+fn put_rule_front(out: &mut Vec<u8>, number: u64) -> Result<(), AllocError>
+    ensures { OnOk result
+        (out.new.items ≡ out.old.items ++ (codes "rule " ++ decimal number ++ 32 ∷ [])) }
+{
+    let mut front: FrontText = Text::new();
+    front.push_all(b"rule ");
+    front.push_count(number);
+    front.push(b' ');
+    out.extend_from_slice(front.as_bytes())
+}

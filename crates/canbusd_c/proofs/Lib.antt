@@ -1,0 +1,3 @@
+pub mod FilterLists
+pub mod Frames
+pub mod Runs

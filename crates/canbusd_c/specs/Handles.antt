@@ -1,0 +1,17 @@
+use base.Fml.{Fml}
+use denote.Ref.{MutBor}
+use denote.Follow.{follows}
+use Rattle.canbusd_c.specs.Locals.{Local}
+use Rattle.canbusd_c.specs.declared.handle.Handle.{Handle}
+use Rattle.canbusd_c.specs.contracts.handle.Handle.{the_row as handle_row}
+use Rattle.canbusd_c.specs.contracts.local_bus.LocalBus.{the_row as bus_row}
+
+-- A handle and the bus behind it.
+
+-- the handle with this bus behind it
+abbrev pub with_value : Handle → Local → Handle
+with_value h b = record { at = h.at; value = b }
+
+-- once the borrow r ends, the handle behind h has the bus that was last written through r
+abbrev pub handle_follows : MutBor Handle → MutBor Local → Fml
+handle_follows h r = follows handle_row bus_row h.ghost_name r.ghost_name (with_value h.now)

@@ -1,0 +1,6 @@
+pub mod Locals
+pub mod Shapes
+pub mod Codes
+pub mod Calls
+pub mod Handles
+pub mod Making

@@ -1,0 +1,126 @@
+//! The codes that calls return: 0 where one did what it is for, else why not.
+ghost use Rattle.std.specs.Prelude.{◌≡◌};
+ghost use Rattle.canbusd_c.specs.Codes.{IsTold, IsUntouched, refusal_code, rule_code, run_code};
+
+use crate::local_bus::RunFault;
+use can_bus::Refusal;
+use can_rules::RuleRefusal;
+
+pub const OK: u32 = 0;
+
+pub const RECORD_FULL: u32 = 1;
+
+pub const NO_INTERFACE: u32 = 2;
+
+pub const BAD_CAPACITY: u32 = 3;
+
+pub const TOO_MANY_SOCKETS: u32 = 4;
+
+pub const NO_SOCKET: u32 = 5;
+
+pub const FD_OFF: u32 = 6;
+
+pub const BUS_OFF: u32 = 7;
+
+pub const NO_BUFFERS: u32 = 8;
+
+pub const NOT_BUS_OFF: u32 = 9;
+
+pub const NO_MEMORY: u32 = 10;
+
+pub const DOWN: u32 = 11;
+/// Nothing waits.
+pub const NOTHING: u32 = 12;
+
+pub const BAD_FRAME: u32 = 13;
+
+pub const BAD_MOMENT: u32 = 14;
+
+pub const BAD_OPTION: u32 = 15;
+
+pub const BAD_FILTER: u32 = 16;
+
+pub const TOO_MANY_FILTERS: u32 = 17;
+
+pub const BAD_RULE: u32 = 18;
+
+pub const TOO_MANY_RULES: u32 = 19;
+
+pub const BAD_NAMES: u32 = 20;
+
+pub const BAD_CONFIG: u32 = 21;
+
+pub const BAD_BIT_RATES: u32 = 22;
+
+pub const BAD_RUN: u32 = 23;
+
+/// The code of a refusal.
+pub fn refusal_code(why: Refusal) -> u32
+    ensures { result ≡ refusal_code why }
+{
+    match why {
+        Refusal::RecordFull => RECORD_FULL,
+        Refusal::NoInterface => NO_INTERFACE,
+        Refusal::BadCapacity => BAD_CAPACITY,
+        Refusal::TooManySockets => TOO_MANY_SOCKETS,
+        Refusal::NoSocket => NO_SOCKET,
+        Refusal::FdOff => FD_OFF,
+        Refusal::BusOff => BUS_OFF,
+        Refusal::NoBuffers => NO_BUFFERS,
+        Refusal::NotBusOff => NOT_BUS_OFF,
+        Refusal::NoMemory => NO_MEMORY,
+        Refusal::Down => DOWN,
+    }
+}
+
+/// The code of an event that returns nothing.
+pub fn done_code(outcome: Result<(), Refusal>) -> u32
+    ensures { IsTold refusal_code outcome result tt }
+{
+    match outcome {
+        Ok(()) => OK,
+        Err(why) => refusal_code(why),
+    }
+}
+
+/// The code of an event that returns a number, which is written where it did.
+pub fn number_code(outcome: Result<u64, Refusal>, number: &mut u64) -> u32
+    ensures told { IsTold refusal_code outcome result number.new }
+    ensures kept { IsUntouched result number.old number.new }
+{
+    match outcome {
+        Ok(found) => {
+            *number = found;
+            OK
+        }
+        Err(why) => refusal_code(why),
+    }
+}
+
+/// The code of a rule that is given.
+pub fn rule_code(outcome: Result<(), RuleRefusal>) -> u32
+    ensures { IsTold rule_code outcome result tt }
+{
+    match outcome {
+        Ok(()) => OK,
+        Err(RuleRefusal::BadRule) => BAD_RULE,
+        Err(RuleRefusal::UnknownInterface) => NO_INTERFACE,
+        Err(RuleRefusal::TooManyRules) => TOO_MANY_RULES,
+        Err(RuleRefusal::NoMemory) => NO_MEMORY,
+    }
+}
+
+/// The code of a run, whose number of attempts is written.
+pub fn run_code(outcome: Result<u64, RunFault>, made: &mut u64) -> u32
+    ensures told { IsTold run_code outcome result made.new }
+    ensures kept { IsUntouched result made.old made.new }
+{
+    match outcome {
+        Ok(found) => {
+            *made = found;
+            OK
+        }
+        Err(RunFault::BadRun) => BAD_RUN,
+        Err(RunFault::RecordFull) => RECORD_FULL,
+    }
+}

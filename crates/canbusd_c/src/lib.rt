@@ -1,0 +1,19 @@
+//! The bus of a process of its own: what libcanbusd.so calls. `libcanbusd/canbusd.c` is between it and a C program: it tests
+//! pointers, and has the texts of the codes.
+//!
+//! Each export lends the bus behind a handle to a function of `calls`, and has that function's contract. The contracts
+//! are those of the bus and of the bench: the events of `specs/Locals.antt` are can_bus's, its attempts those of a bench.
+#![tactic(auto)]
+
+mod calls;
+mod codes;
+pub mod exports;
+pub mod handle;
+mod lending;
+pub mod local_bus;
+mod looks;
+mod making;
+mod parts;
+pub mod shapes;
+mod shaping;
+mod timed;

@@ -1,0 +1,64 @@
+//! The attempts of a bus with bit rates, on a schedule, as those of a bench (can_session).
+ghost use Rattle.std.specs.Prelude.{◌≡◌, option_map};
+ghost use Rattle.can_session.specs.Wires.{nothing_yet, set_to, moment_on, schedule_after, shown_at};
+
+use can_bus::Attempt;
+use can_fault::Verdict;
+use can_frame::{Frame, Iface, Moment};
+use can_proto::BusLoad;
+use can_wire::{Schedule, Timing};
+
+/// The schedule of a bus before its first attempt, if it has bit rates.
+pub fn first_schedule(timing: Option<Timing>) -> Option<Schedule>
+    ensures { result ≡ option_map nothing_yet timing }
+{
+    match timing {
+        Some(timing) => Some(Schedule::new(timing)),
+        None => None,
+    }
+}
+
+/// The schedule where this moment is set.
+pub fn set_to(mut schedule: Schedule, moment: Moment) -> Schedule
+    ensures { result ≡ set_to moment schedule }
+{
+    schedule.set_since(moment);
+    schedule
+}
+
+/// The moment of the next attempt, which tries this frame, if one. Where it tries none, `waits` is whether an interface
+/// waits for its restart.
+pub fn moment_on(schedule: &Schedule, waits: bool, head: Option<(Iface, Frame)>) -> Moment
+    ensures { result ≡ moment_on waits head schedule.now }
+{
+    match head {
+        Some((_, frame)) => schedule.next_moment(Some(&frame)),
+        None if waits => schedule.next_moment(None),
+        None => schedule.begin_moment(),
+    }
+}
+
+/// Notes in a schedule what an attempt with this verdict came to, before which an interface waited for its restart or
+/// none did.
+pub fn note_attempt(schedule: &mut Schedule, waits: bool, verdict: Verdict, attempt: &Attempt)
+    ensures { schedule.new ≡ schedule_after waits verdict attempt.now schedule.old }
+{
+    match attempt {
+        Attempt::Tried(tried) => schedule.note_tried(&tried.frame, tried.class, verdict),
+        Attempt::Idle { .. } if waits => schedule.note_idle(),
+        Attempt::Idle { .. } => schedule.note_no_time(),
+    }
+}
+
+/// The load of the wire in the last whole second before a moment, and in all.
+pub fn load_at(schedule: &Schedule, moment: Moment) -> BusLoad
+    ensures { result ≡ shown_at moment schedule.now }
+{
+    let (load, timing) = (schedule.load(), schedule.wire().timing());
+    BusLoad {
+        permille: load.recent().permille_at(moment),
+        micros: load.busy_micros(),
+        bitrate: timing.nominal(),
+        dbitrate: timing.fast(),
+    }
+}
