@@ -1,5 +1,5 @@
 /* CAN_BCM, the broadcast manager: what a program writes. It makes, changes and ends tasks: frames that are sent again
- * and again, and frames that are received only where they change. */
+ * and again, and frames that are received only if they change. */
 #include "bcm.h"
 
 #include <errno.h>

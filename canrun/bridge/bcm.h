@@ -29,7 +29,7 @@ struct bcm_task {
     struct bcm_head head; /* with the flags, timers and count that there are now */
     unsigned at;          /* the frame that is sent next */
     uint64_t due;         /* the next frame, or the timeout; 0 for never */
-    uint64_t held_until;  /* the throttle; 0 where it is off */
+    uint64_t held_until;  /* the throttle; 0 if it is off */
     uint64_t reported;    /* when the program got a frame last */
     unsigned asked;       /* remote frames that have no reply yet */
     int detected; /* with timers, and for all interfaces: the first that a frame came from, which is the only one */

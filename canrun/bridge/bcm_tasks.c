@@ -1,4 +1,4 @@
-/* CAN_BCM: what tasks do. A TX task sends its frames again and again; an RX task hands over what it receives, where
+/* CAN_BCM: what tasks do. A TX task sends its frames again and again; an RX task hands over what it receives, if
  * that has changed or does not come in time. */
 #include "bcm.h"
 

@@ -1,4 +1,4 @@
-/* What the files of the bridge share. A bridge is one process for one CAN socket: at descriptor 3 it has the other end
+/* The bridge's common part. A bridge is one process for one CAN socket: at descriptor 3 it has the other end
  * of the program's pair, and it has a session of the server for each interface that the socket is bound to. It ends
  * when the last copy of the socket is closed. */
 #ifndef BRIDGE_H
@@ -84,7 +84,7 @@ struct session {
     uint8_t sent[NUMBERS_KEPT / 8]; /* a bit for each of the last numbers below that: whether one has got it */
 };
 
-/* Connects to the server; NULL and the refusal where there is none. */
+/* Connects to the server; NULL and the refusal if there is none. */
 struct session *session_start(int *error);
 void session_end(struct session *session);
 
@@ -92,7 +92,7 @@ void session_end(struct session *session);
  * server said first that is not ok. */
 int session_command(struct session *session, const char *text);
 
-/* Sends a frame, and returns the server's verdict; where it asks for the counts too these come after it. */
+/* Sends a frame, and returns the server's verdict; if it asks for the counts too these come after it. */
 int session_send(struct session *session, const struct canfd_frame *frame, bool is_fd, bool asks_counts);
 
 /* Whether the server sends nothing by this session but replies, and none is due. */
@@ -122,12 +122,12 @@ int session_look(struct session *session);
  * how many places it has. */
 bool session_has_room(struct session *session);
 
-/* Reads what there is, handles it, and hands it on. False where it waited, and nothing came in PATIENCE. */
+/* Reads what there is, handles it, and hands it on. False if it waited, and nothing came in PATIENCE. */
 bool session_read(struct session *session, bool waits);
 
 /* ---- room.c: frames that wait for room in a transmit queue ---- */
 
-/* What is called once a frame that waited was sent, or was not: then the error is an errno. `reply_to` is the pipe of
+/* Called once a frame that waited was sent, or was not: then the error is an errno. `reply_to` is the pipe of
  * the write that waits, or NOBODY, and `value` what it returns. */
 struct later {
     void (*done)(const struct later *later, int error);
@@ -153,10 +153,10 @@ bool room_takes_requests(void);
 /* A signal ends the wait of the write whose reply comes by this pipe. */
 void room_cancel(int asks);
 
-/* What was to call this is not sent, and it is not called. */
+/* The frame of this call is not sent, and it is not called. */
 void room_forget(void (*done)(const struct later *later, int error));
 
-/* What waits at this interface is given up. */
+/* Frames that wait at this interface are given up. */
 void room_leave(int index);
 
 /* Whether no frame waits. */
@@ -197,7 +197,7 @@ uint64_t clock_now(void);
  * what the sessions bring is handled. Returns whether the program asks for something, or has closed its socket. */
 bool wait_for_input(int64_t nanoseconds, bool takes_requests);
 
-/* Waits until this session can be read or written, or until this moment of the clock; false where it has passed. */
+/* Waits until this session can be read or written, or until this moment of the clock; false if it has passed. */
 bool wait_for_session(const struct session *session, uint64_t until);
 
 /* Whether the last copy of the socket has been closed. */
@@ -219,10 +219,10 @@ bool order_has_news(void);
 
 /* ---- outbox.c: what is on its way to the program ---- */
 
-/* Puts a message after the others. Where there is no room it is lost, and counted. */
+/* Puts a message after the others. If there is no room it is lost, and counted. */
 void outbox_put(const void *data, size_t length, uint64_t moment, int index, uint32_t message_flags);
 
-/* The same with the way of a message, where each has one. */
+/* The same with the way of a message, if each has one. */
 void outbox_keep_ways(void);
 void outbox_put_way(const void *data, size_t length, const struct wire_note *note, const struct wire_way *way);
 
@@ -260,7 +260,7 @@ void error_set(int error);
 /* The same, but who was woken for an error that nobody has taken is not woken again. */
 void error_change(int error);
 
-/* Takes the error; 0 where there is none. */
+/* Takes the error; 0 if there is none. */
 int error_take(void);
 bool error_is_set(void);
 
@@ -302,10 +302,10 @@ ssize_t receive_within(int fd, void *data, size_t length, uint64_t nanoseconds);
 /* Sends the descriptor of the memory by this end of a pair; returns SENT_LATER. */
 int quick_share(int to);
 
-/* Carries out a quick write; false where the data are none. */
+/* Carries out a quick write; false if the data are none. */
 bool quick_serve(const char *data, size_t length);
 
-/* In virtual time: lends the session to the programs of the socket, where that can be; and takes it back, after what
+/* In virtual time: lends the session to the programs of the socket, if that can be; and takes it back, after what
  * they have begun. */
 bool quick_lend(void);
 void quick_take_back(void);
@@ -325,7 +325,7 @@ bool request_waits(const struct wire_request *request, int to);
 /* Whether these are ends of one pipe. */
 bool is_same_pipe(int one, int other);
 
-/* Carries out one request. Returns false where the last copy of the socket is closed. */
+/* Carries out one request. Returns false if the last copy of the socket is closed. */
 bool request_serve(void);
 
 /* For a protocol that keeps requests: a descriptor that is ready to be read when a request comes; and whether one is
@@ -333,7 +333,7 @@ bool request_serve(void);
 int request_news(void);
 bool request_is_kept(void);
 
-/* Where no message is being sent, or waits to be, the socket can be written. */
+/* If no message is being sent, or waits to be, the socket can be written. */
 void request_release(void);
 
 /* The end of a pair by which a close waits for the end of this bridge, or -1. */

@@ -23,10 +23,10 @@ struct card {
 };
 #define NEVER UINT64_MAX
 
-/* The card of this interface; NULL where it has none, or, where `opens`, where it can't be had, and then why. */
+/* The card of this interface; NULL if it has none, or, if `opens`, if it can't be had, and then why. */
 struct card *card_of(int index, bool opens, struct link_reply *why);
 
-/* Asks the server for what it knows of this interface, after these commands; false where it does not reply. */
+/* Asks the server for what it knows of this interface, after these commands; false if it does not reply. */
 bool card_ask(struct card *card, const char *commands);
 
 /* Reads what the server says of itself. */

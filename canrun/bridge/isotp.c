@@ -88,7 +88,7 @@ uint64_t isotp_last_number(void) {
 
 /* ---- options ---- */
 
-/* Where an option is kept, and its size. */
+/* The place of an option, and its size. */
 static void *place_of(int option, size_t *size) {
     switch (option) {
     case CAN_ISOTP_OPTS: *size = sizeof isotp.options; return &isotp.options;
@@ -183,7 +183,7 @@ static int isotp_bind(const struct sockaddr_can *address) {
     }
     isotp.rx_id = rx_id;
     isotp.tx_id = tx_id;
-    /* What it sends comes back to it, once it was on the bus. */
+    /* Its frames come back to it, once they were on the bus. */
     struct can_filter wanted[] = {only(tx_id), only(rx_id)};
     int error = raw_want(wanted, is_to_all ? 1 : 2);
     raw_want_fd(isotp.link.mtu == CANFD_MTU);
@@ -206,7 +206,7 @@ static void isotp_receive(const struct item *item, int index) {
     }
 }
 
-/* Starts a message. Where its write waits for the end, SENT_LATER is returned, and the pipe is kept. */
+/* Starts a message. If its write waits for the end, SENT_LATER is returned, and the pipe is kept. */
 static int start(const char *data, size_t length, int reply_to) {
     int error = error_take();
     error = error ? refused(error, "the message before did not get through") : isotp_send_start(data, length);

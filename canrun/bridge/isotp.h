@@ -1,4 +1,4 @@
-/* What the files of CAN_ISOTP (ISO 15765-2) share. The rules are those of net/can/isotp.c of the kernel. */
+/* The common part of the files of CAN_ISOTP (ISO 15765-2). The rules are those of net/can/isotp.c of the kernel. */
 #ifndef ISOTP_H
 #define ISOTP_H
 
@@ -8,7 +8,7 @@
 
 /* The longest message, as the kernel has it. */
 #define ISOTP_LONGEST 66000
-/* How many seconds the other end may be silent, and a frame may take until it was on the bus. */
+/* The number of seconds that the other end may be silent, and a frame may take until it was on the bus. */
 #define ISOTP_TIMEOUT 1
 #define ISOTP_ECHO_TIMEOUT 2
 
@@ -60,7 +60,7 @@ void isotp_send_echo(uint64_t number);
 void isotp_send_flow_control(const struct canfd_frame *frame);
 /* Sends what is due. Returns when the next is, by the clock, or 0. */
 uint64_t isotp_send_due(void);
-/* Called at the end of a message, with an errno, or 0 where its last frame was on the bus; in isotp.c. */
+/* Called at the end of a message, with an errno, or 0 if its last frame was on the bus; in isotp.c. */
 void isotp_send_done(int error);
 
 /* ---- isotp_receive.c ---- */

@@ -38,7 +38,7 @@ static void begin_waiting(void) {
     isotp_timer_start(&tx.timer, tx.state == SENDING ? ISOTP_ECHO_TIMEOUT : ISOTP_TIMEOUT);
 }
 
-/* What could not be sent has no echo, and the message ends by that, as in the kernel. */
+/* A frame that could not be sent has no echo, and the message ends by that, as in the kernel. */
 static void sent_late(const struct later *later, int error) {
     (void)later;
     tx.frame = error ? NO_FRAME : isotp_last_number();
@@ -68,7 +68,7 @@ static int put(const struct canfd_frame *frame, int state) {
     return error;
 }
 
-/* Sends the first frame of a message, or its only one: where that is refused, so is the message. */
+/* Sends the first frame of a message, or its only one: if that is refused, so is the message. */
 static int put_first(const struct canfd_frame *frame, int state) {
     int error = put(frame, state);
     if (error) {

@@ -2,7 +2,7 @@
  * frame comes. Here the server has to, for each of its threads that hand a frame on, and so has the bridge at the other
  * end. So a timer goes in steps. A step ends when the server has replied to more questions, one after the other, than a
  * frame and its reply take turns of a processor, and all has come that it had received for this socket. What was on the
- * bus in time is never missed; where nobody waits for a processor the questions take less than a millisecond. */
+ * bus in time is never missed; if nobody waits for a processor the questions take less than a millisecond. */
 #include "isotp.h"
 
 #define STEP (SECOND / 10)

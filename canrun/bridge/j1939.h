@@ -61,7 +61,7 @@ struct j1939_told {
         TOLD_REPLY,   /* an error, and its text; or 0 */
         TOLD_MESSAGE, /* the data follow */
         TOLD_NOTICE,  /* for the error queue */
-        TOLD_ERROR,   /* of the socket, where it has no error queue */
+        TOLD_ERROR,   /* of the socket, if it has no error queue */
         TOLD_FREED,   /* a segment of this length has been sent */
         TOLD_ENDED,   /* a message of this key is over */
         TOLD_GONE,    /* the server is gone */
@@ -101,15 +101,15 @@ void writes_count_anew(void);
 
 /* ---- j1939_link.c: the bridge's end of the connection ---- */
 
-/* Connects to the host of an interface. Returns an errno, or 0; ECONNREFUSED, and its name, where it is to be started.
+/* Connects to the host of an interface. Returns an errno, or 0; ECONNREFUSED, and its name, if it is to be started.
  */
 int link_open(int index, struct sockaddr_un *name, socklen_t *length);
-/* Its descriptor; -1 where there is none. */
+/* Its descriptor; -1 if there is none. */
 int link_fd(void);
 void link_close(void);
 /* Asks the host, and waits for its reply; what it says besides is kept for link_take. Returns an errno, or 0. */
 int link_ask(const struct j1939_ask *ask, const void *data, size_t length);
-/* Takes the next that the host has said; false where there is nothing. Where it is gone it says so. */
+/* Takes the next that the host has said; false if there is nothing. Where it is gone it says so. */
 bool link_take(struct j1939_told *told, const char **data, size_t *length);
 
 /* ---- j1939_errors.c: the error queue ---- */

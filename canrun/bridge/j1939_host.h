@@ -70,11 +70,11 @@ void members_deliver(const struct wire_way *way, const void *data, size_t length
 int names_use(uint64_t name, uint8_t address);
 void names_release(uint64_t name, uint8_t address);
 bool names_are_local(uint8_t address);
-/* The name that has the address, or 0; the address of the name, J1939_IDLE_ADDR where it has none, and J1939_NO_ADDR
+/* The name that has the address, or 0; the address of the name, J1939_IDLE_ADDR if it has none, and J1939_NO_ADDR
  * without a name. */
 uint64_t names_at(uint8_t address);
 uint8_t names_address(uint64_t name);
-/* A claim was on the bus at this moment; one is to be sent: then false where no socket has the name. */
+/* A claim was on the bus at this moment; one is to be sent: then false if no socket has the name. */
 void names_claimed(uint64_t name, uint8_t address, uint64_t moment);
 bool names_claim(uint64_t name, uint8_t address);
 /* Claims that nobody has contested until this moment are good; returns when the next is. */
@@ -108,12 +108,12 @@ struct transfer {
     uint64_t send_at, due; /* when it goes on, and when it is given up, by the clock; or NEVER */
 };
 
-/* One that goes on between these ends, in this direction or the other; NULL where none does. */
+/* One that goes on between these ends, in this direction or the other; NULL if none does. */
 struct transfer *transfer_find(const struct wire_way *way, enum transfer_kind kind, bool is_reverse, bool is_sent);
-/* A new one, without data, or with room for what is received; NULL where there is no memory. */
+/* A new one, without data, or with room for what is received; NULL if there is no memory. */
 struct transfer *transfer_receive(const struct wire_way *way, enum transfer_kind kind, uint32_t size);
 struct transfer *transfer_make(const struct wire_way *way, enum transfer_kind kind, uint32_t size);
-/* It goes on from now; false where another does between the same ends. */
+/* It goes on from now; false if another does between the same ends. */
 bool transfer_activate(struct transfer *transfer);
 /* Forgets it where nothing will happen to it any more; or whatever may. */
 void transfer_settle(struct transfer *transfer);
@@ -148,7 +148,7 @@ void transfers_leave(const struct member *owner);
 int queue_send(struct member *owner, const struct j1939_ask *ask, const void *data, size_t length);
 /* Adds the next bytes; those of a message that is over are forgotten. */
 void queue_fill(struct member *owner, uint32_t key, const void *data, size_t length);
-/* Where this is the first of its socket, the next one begins. */
+/* If this is the first of its socket, the next one begins. */
 void queue_begin_next(struct transfer *transfer);
 /* Gives up all that the socket sends. */
 void queue_leave(struct member *owner);
@@ -195,7 +195,7 @@ void transfer_send_abort(const struct transfer *transfer, uint8_t reason);
 
 /* ---- j1939_receive.c: the frames of transfers that are received ---- */
 
-/* Takes a frame of a transfer; false where it is none. */
+/* Takes a frame of a transfer; false if it is none. */
 bool transfers_take(const struct heard *heard);
 
 #endif

@@ -58,7 +58,7 @@ static int check(const struct wire_way *way, uint32_t size) {
     return 0;
 }
 
-/* It is the first of its socket: where another goes on between the same ends all are given up. */
+/* It is the first of its socket: if another goes on between the same ends all are given up. */
 static int begin(struct transfer *transfer) {
     struct member *owner = transfer->owner;
     if (transfer_activate(transfer)) {

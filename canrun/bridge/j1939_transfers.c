@@ -227,7 +227,7 @@ static void time_out(struct transfer *transfer) {
     transfer_settle(transfer);
 }
 
-/* A frame was refused, and not for want of room. */
+/* A frame was refused, and not for lack of room. */
 static void fail(struct transfer *transfer, int error) {
     if (error == ENETDOWN) {
         return; /* It is given up in its time. */
@@ -286,7 +286,7 @@ void transfers_sent(uint64_t number) {
     }
 }
 
-/* The first whose time to go on has come, or that has waited in vain until what is known; NULL where there is none. */
+/* The first whose time to go on has come, or that has waited in vain until what is known; NULL if there is none. */
 static struct transfer *next_due(uint64_t now, uint64_t known) {
     struct transfer *best = NULL;
     uint64_t soonest = NEVER;

@@ -11,7 +11,8 @@
 #define TURNS 64
 /* Requests that stay in the socket, at most. */
 #define KEPT 64
-/* How many bytes the kernel counts for a segment: of its buffer, whose size is a power of two, some are no data. */
+/* The number of bytes that the kernel counts for a segment: of its buffer, whose size is a power of two, some are no
+ * data. */
 #define BUFFER_HEAD 256
 #define BUFFER_LEAST 512
 #define BUFFER_OTHER 384
@@ -142,7 +143,7 @@ static int go_on(struct turn *turn) {
     return 0;
 }
 
-/* The result of a write: the bytes that were handed on, where it has waited in vain for the rest. */
+/* The result of a write: the bytes that were handed on, if it has waited in vain for the rest. */
 static void finish(const struct turn *turn, int error) {
     bool is_part = turn->done && (error == EAGAIN || error == EINTR);
     request_reply(turn->reply_to, is_part ? 0 : error, (int)turn->done | (writes_are_full(0) ? WIRE_FULL : 0));

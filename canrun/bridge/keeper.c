@@ -185,7 +185,7 @@ static bool has_cards(void) {
 
 /* ---- requests ---- */
 
-/* The facts as they are now; of each interface that is known, where several are looked at. */
+/* The facts as they are now; of each interface that is known, if several are looked at. */
 static void look(const struct link_request *asked, struct link_reply *reply) {
     for (int i = 0; i < INTERFACE_MOST; i++) {
         struct link_reply ignored;
@@ -223,7 +223,7 @@ static void carry_out(const struct link_request *asked, int fd, pid_t process, s
     }
 }
 
-/* Reads the request of a connection, and the descriptor that may come with it. False where none comes soon. */
+/* Reads the request of a connection, and the descriptor that may come with it. False if none comes soon. */
 static bool read_request(int connection, struct link_request *request, int *fd) {
     union {
         char room[CMSG_SPACE(sizeof(int))];

@@ -111,7 +111,7 @@ static void serve(void) {
     }
 }
 
-/* Finds the protocol of this digit of the name; false where there is none. */
+/* Finds the protocol of this digit of the name; false if there is none. */
 static bool find_protocol(char digit) {
     protocol = digit >= '0' && digit < '0' + CAN_NPROTO ? protocols[digit - '0'] : NULL;
     return protocol;

@@ -1,4 +1,4 @@
-/* What is on its way to the program: a ring of messages that its socket has no room for yet, and the counts of those
+/* Messages on their way to the program: a ring of those that its socket has no room for yet, and the counts of those
  * that were lost. */
 #define _GNU_SOURCE
 #include "bridge.h"
@@ -26,7 +26,7 @@
 /* A message is its note and its data, which begin at such a place. */
 #define PLACE 8
 static char ring[RING] __attribute__((aligned(PLACE)));
-/* Messages are from `first` on; where `end` is not after it, they go on at 0 after `wrap`. */
+/* Messages are from `first` on; if `end` is not after it, they go on at 0 after `wrap`. */
 static size_t first, end, wrap;
 static unsigned count, room = USUAL_ROOM;
 static uint32_t dropped, dropped_before;
@@ -39,7 +39,7 @@ static bool is_counted, is_stamped;
 static unsigned uncounted;
 static uint64_t count_at;
 
-/* Before the data of a message there is its way, where all have one. */
+/* Before the data of a message there is its way, if all have one. */
 static size_t way_size;
 
 static size_t size_of(size_t length) {
@@ -50,7 +50,7 @@ static struct wire_note *note_at(size_t at) {
     return (struct wire_note *)(void *)(ring + at);
 }
 
-/* Takes a place for a message of this length; NULL where there is none. */
+/* Takes a place for a message of this length; NULL if there is none. */
 static struct wire_note *place_for(size_t length) {
     size_t size = size_of(length), at = end;
     if (count == 0) {
@@ -72,7 +72,7 @@ static char *data_of(struct wire_note *note) {
     return (char *)(note + 1) + way_size;
 }
 
-/* Returns the place, or NULL where the message is lost. */
+/* Returns the place, or NULL if the message is lost. */
 static struct wire_note *put(const void *data, size_t length, const struct wire_note *note) {
     struct wire_note *place = place_for(length);
     if (!place) {
@@ -130,7 +130,7 @@ void outbox_has_room(void) {
     is_blocked = false;
 }
 
-/* Writes the note of a message that comes after so many others, where it has bytes; returns their number. */
+/* Writes the note of a message that comes after so many others, if it has bytes; returns their number. */
 static uint64_t write_note(struct wire_note *note, uint64_t *notes, uint64_t bytes) {
     note->from = bytes;
     if (note->length) {

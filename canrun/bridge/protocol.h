@@ -9,7 +9,7 @@
 #include <stddef.h>
 
 struct protocol {
-    /* Where a protocol has this, requests stay in the socket while it is so, and the program finds no room; so many are
+    /* If a protocol has this, requests stay in the socket while it is so, and the program finds no room; so many are
      * there already. */
     bool (*is_full)(unsigned kept);
 
@@ -23,9 +23,9 @@ struct protocol {
     int (*getname)(struct sockaddr_can *address, bool is_peer);
     int (*setsockopt)(int option, const void *value, size_t length);
     int (*getsockopt)(int option, void *room, uint32_t *length);
-    /* Takes an option of SOL_SOCKET; false where it is for the outbox too. */
+    /* Takes an option of SOL_SOCKET; false if it is for the outbox too. */
     bool (*set_socket)(int option, int number);
-    /* Sends a message. Where that has to wait it returns SENT_LATER, and the reply is given by the pipe in the end. */
+    /* Sends a message. If that has to wait it returns SENT_LATER, and the reply is given by the pipe in the end. */
     int (*sendmsg)(const struct wire_request *request, const char *data, size_t length, int reply_to,
                    struct wire_reply *reply);
     /* Other requests, whose reply's data are written here. */
@@ -33,7 +33,7 @@ struct protocol {
     /* A signal ends the wait of the write whose reply comes by this pipe. */
     void (*cancel)(int asks);
 
-    /* Takes data that came without a request, where they are no message. */
+    /* Takes data that came without a request, if they are no message. */
     bool (*takes)(const char *data, size_t length);
     /* Takes a frame that a session has brought. Nothing can be sent in this call. */
     void (*receive)(const struct item *item, int index);

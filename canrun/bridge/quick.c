@@ -12,7 +12,7 @@
 #include <sys/syscall.h>
 #include <unistd.h>
 
-/* The one session that may be lent; NULL where there is none. */
+/* The one session that may be lent; NULL if there is none. */
 static struct session *session_to_lend(void) {
     bool is_one = is_virtual() && session_count == 1 && is_bound && sessions[0]->index == bound_index;
     return is_one && sessions[0]->fd >= 0 && sessions[0]->is_local ? sessions[0] : NULL;
@@ -39,7 +39,7 @@ static void send_descriptors(int to) {
         session->is_shared = true;
     }
     if (sendmsg(to, &message, MSG_NOSIGNAL | MSG_DONTWAIT) < 0) {
-        /* Who asked is gone. */
+        /* The program that asked is gone. */
     }
 }
 

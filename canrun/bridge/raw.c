@@ -47,7 +47,7 @@ static uint32_t error_classes(void) {
     return classes;
 }
 
-/* Writes the filters of frames; returns how many there are, or -1 where they have no room. */
+/* Writes the filters of frames; returns how many there are, or -1 if they have no room. */
 static int filter_words(char words[FILTER_TEXT + 20]) {
     size_t length = 0;
     int count = 0;
@@ -66,7 +66,7 @@ static int filter_words(char words[FILTER_TEXT + 20]) {
     return count;
 }
 
-/* The command for the filters; where they are too many, or none are wanted, all or nothing passes. */
+/* The command for the filters; if they are too many, or none are wanted, all or nothing passes. */
 static size_t filter_command(char *text, size_t size, bool is_none) {
     char words[FILTER_TEXT + 20] = " 0 0";
     int count = is_none ? 0 : filters_here ? 1 : filter_words(words);
@@ -111,7 +111,7 @@ void raw_setup(struct session *session, char *text, size_t size) {
     *given = wanted;
 }
 
-/* Where an option of one number is kept; NULL for others. */
+/* The place of an option of one number; NULL for others. */
 static void *place_of(int option) {
     switch (option) {
     case CAN_RAW_LOOPBACK: return &options.loopback;

@@ -1,4 +1,4 @@
-/* What the program asks for: one request at a time, each with a pipe for its reply. */
+/* The program's requests: one at a time, each with a pipe for its reply. */
 #define _GNU_SOURCE
 #include "bridge.h"
 
@@ -32,7 +32,7 @@ void request_release(void) {
         if (recv(PROGRAM, &(char){0}, 1, MSG_DONTWAIT) >= 0) {
             kept_count--;
         } else if (errno != ECONNRESET) {
-            /* ECONNRESET, where the program has left something unread, comes once in place of a request. */
+            /* ECONNRESET, if the program has left something unread, comes once in place of a request. */
             kept_count = 0;
         }
     }
@@ -62,7 +62,7 @@ static void refuse_bare(int error) {
     error_set(error);
 }
 
-/* Who has the reply finds the socket ready to be written, where it is. */
+/* A program with the reply finds the socket ready to be written, if it is. */
 static void put_reply(int to, int error, struct reply *reply) {
     request_release();
     if (to == NOBODY) {
@@ -77,7 +77,7 @@ static void put_reply(int to, int error, struct reply *reply) {
         memcpy(reply->data, refusal, reply->head.length);
     }
     if (write(to, reply, sizeof reply->head + reply->head.length) < 0) {
-        /* Who asked is gone. */
+        /* The program that asked is gone. */
     }
     close(to);
 }
@@ -126,7 +126,7 @@ int close_waiter_fd(void) {
     return close_waiter;
 }
 
-/* The program closes a copy of the socket. Where it was the last, and a message is being sent, the close waits for the
+/* The program closes a copy of the socket. If it was the last, and a message is being sent, the close waits for the
  * end of this bridge. */
 static int begin_close(int pair) {
     struct pollfd polled = {pair, POLLIN, 0};

@@ -62,7 +62,7 @@ static int send_now(struct session *to, const struct canfd_frame *frame, bool is
     return error;
 }
 
-/* The same for a frame that waits where there is no room: then it is sent only where there is. */
+/* The same for a frame that waits if there is no room: then it is sent only if there is. */
 static int send_to_room(struct session *to, const struct canfd_frame *frame, bool is_fd) {
     if (!session_has_room(to)) {
         int error = session_look(to);
@@ -112,7 +112,7 @@ static bool is_abandoned(const struct later *later) {
     return later->reply_to >= 0 && poll(&polled, 1, 0) > 0 && polled.revents & POLLERR;
 }
 
-/* Sends what there is room for; where a send fails otherwise, so does each wait. */
+/* Sends what there is room for; if a send fails otherwise, so does each wait. */
 static void look(struct session *session) {
     uint64_t gone_before = session->gone;
     int error = session_look(session);

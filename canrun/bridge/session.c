@@ -14,7 +14,7 @@
 
 /* The longest text of commands that are given at once: filters, and the echo. */
 #define LONGEST 2048
-/* What a refusal of the server is to a program: as SocketCAN has it. */
+/* The errno of a server's refusal, as SocketCAN has it. */
 static int error_of(const char *reply) {
     static const struct {
         const char *text;
@@ -75,7 +75,7 @@ uint64_t session_last_number(const struct session *session) {
     return session->sent_end - 1;
 }
 
-/* Takes the text that accepts a frame, with its number; false where it is another. */
+/* Takes the text that accepts a frame, with its number; false if it is another. */
 static bool note_sent(struct session *session, const char *text) {
     static const char word[] = "ack ";
     uint64_t number;
@@ -100,7 +100,7 @@ static uint32_t message_flags(const struct session *session, const struct item *
 
 /* ---- what the server says ---- */
 
-/* Takes the counts; false where the text is another. */
+/* Takes the counts; false if the text is another. */
 static bool note_counts(struct session *session, const char *text, unsigned long *queued, unsigned *dropped) {
     unsigned long done, waiting, lost;
     if (strncmp(text, "stats ", 6) ||
@@ -223,7 +223,7 @@ static void set_silent(struct session *session, bool is_silent) {
     setsockopt(session->fd, SOL_SOCKET, SO_RCVTIMEO, &time, sizeof time);
 }
 
-/* Waits until no more than this is due; false where it does not come in time. */
+/* Waits until no more than this is due; false if it does not come in time. */
 static bool settle(struct session *session, enum due most) {
     while (session->due > most && session->fd >= 0) {
         if (!session_read(session, true)) {

@@ -12,7 +12,7 @@ int session_count;
 bool is_bound;
 int bound_index;
 
-/* Says which interface it was, where the server has no room for one session more. */
+/* Says which interface it was, if the server has no room for one session more. */
 static int explain(int error, const char *name) {
     static char why[240];
     const char *address = getenv("CANBUSD_ADDRESS");

@@ -73,7 +73,7 @@ static int fault(const char *text, const char *word) {
     return STATUS_FAULT;
 }
 
-/* The value of an option, as `--name VALUE` or `--name=VALUE`; NULL where the word is another. */
+/* The value of an option, as `--name VALUE` or `--name=VALUE`; NULL if the word is another. */
 static const char *value_of(const char *name, char ***at) {
     size_t length = strlen(name);
     if (strncmp(**at, name, length) != 0) {
@@ -85,7 +85,7 @@ static const char *value_of(const char *name, char ***at) {
     return (**at)[length] ? NULL : (*at)[1] ? *++*at : "";
 }
 
-/* Takes an option of --virtual; false where it is none. `fault` is set where its value is wrong. */
+/* Takes an option of --virtual; false if it is none. `fault` is set where its value is wrong. */
 static int take_virtual(char ***at, struct words *words, int *status) {
     static const char *const names[] = {"date", "until", "stall", "seed", "jitter"};
     for (size_t i = 0; i < sizeof names / sizeof *names; i++) {
@@ -105,7 +105,7 @@ static int take_virtual(char ***at, struct words *words, int *status) {
     return 0;
 }
 
-/* What does not go together: canbusd-run starts no server, so with --virtual there is none yet. */
+/* Options that exclude each other: canbusd-run starts no server, so with --virtual there is none yet. */
 static int check_words(const struct words *words) {
     if (words->virtual_word && !words->is_virtual) {
         return fault("only --virtual has this option", words->virtual_word);

@@ -32,7 +32,7 @@ struct parcel {
     char data[LONGEST + 1];
 };
 
-/* How many bytes its pieces have, as far as there is room here. */
+/* The number of bytes that its pieces have, as far as there is room here. */
 static size_t length_of(const struct parcel *parcel) {
     size_t length = 0;
     for (size_t i = 0; i < parcel->theirs.msg_iovlen; i++) {
@@ -160,7 +160,7 @@ static int64_t give_name(const struct call *call, const struct parcel *parcel, i
                : -EFAULT;
 }
 
-/* Gives the program what is known of a message besides its bytes. */
+/* Gives the program the facts about a message besides its bytes. */
 static int64_t give_head(const struct call *call, struct parcel *parcel, int64_t value) {
     struct msghdr *theirs = &parcel->theirs;
     const struct msghdr *ours = &parcel->ours;

@@ -13,7 +13,7 @@
 /* Looks a program up as execvp does; returns 0, or an errno. */
 int program_find(const char *name, char path[PATH_MAX]);
 
-/* Returns why the sockets of this program will be the kernel's; NULL where there is no such reason, or none to be seen.
+/* Returns why the sockets of this program will be the kernel's; NULL if there is no such reason, or none to be seen.
  */
 const char *program_obstacle(const char *path);
 

@@ -115,7 +115,7 @@ pid_t process_of(pid_t thread) {
 
 /* ---- descriptors ---- */
 
-/* A copy of the descriptor; -1 and errno where there is none, or this process may not have one. */
+/* A copy of the descriptor; -1 and errno if there is none, or this process may not have one. */
 int copy_descriptor(pid_t process, int fd) {
     int pidfd = (int)syscall(SYS_pidfd_open, process, 0);
     int copy = pidfd < 0 ? -1 : (int)syscall(SYS_pidfd_getfd, pidfd, fd, 0), error = errno;

@@ -72,7 +72,7 @@ static void read_message(int fd, char *message, size_t size) {
     }
 }
 
-/* Returns NULL where this is the greeting of a canbusd that has room, else what it is. */
+/* Returns NULL if this is the greeting of a canbusd that has room, else what it is. */
 static const char *other_greeting(char *greeting) {
     static char said[160];
     if (!strncmp(greeting, "< hi >", 6)) {
@@ -90,7 +90,7 @@ static const char *other_greeting(char *greeting) {
     return said;
 }
 
-/* Asks for the names of all interfaces; false where the server does not know the question, or a terminal could not show
+/* Asks for the names of all interfaces; false if the server does not know the question, or a terminal could not show
  * them. */
 static bool ask_interfaces(int fd, struct server *server) {
     static const char question[] = "< interfaces >", before[] = "< interfaces ", after[] = " >";
@@ -114,7 +114,7 @@ static bool ask_interfaces(int fd, struct server *server) {
     return true;
 }
 
-/* Returns NULL where a canbusd with room listens there, or a fault for the line; `is_absent` where it may come yet. */
+/* Returns NULL if a canbusd with room listens there, or a fault for the line; `is_absent` where it may come yet. */
 static const char *look(const struct address *address, bool *is_absent, struct server *server) {
     char greeting[64];
     int fd = address_connect(address);

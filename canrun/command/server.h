@@ -14,7 +14,7 @@ struct server {
     char interfaces[INTERFACE_NAMES];
 };
 
-/* Looks whether a canbusd listens at this address; where `waits`, until one does. False after a line on standard error.
+/* Looks whether a canbusd listens at this address; if `waits`, until one does. False after a line on standard error.
  */
 bool server_find(const char *text, bool waits, struct server *server);
 

@@ -8,12 +8,12 @@
 #include <linux/seccomp.h>
 #include <stdbool.h>
 
-/* Where the descriptors of the sockets are, so that the filter of system calls knows them: below those that select
+/* The place of the sockets' descriptors, so that the filter of system calls knows them: below those that select
  * can't have. */
 #define STATIC_FIRST 960
 #define STATIC_PAST 1024
 
-/* Becomes this program, whose calls a supervisor makes from now on. Returns a status, after a line, where it can't. */
+/* Becomes this program, whose calls a supervisor makes from now on. Returns a status, after a line, if it can't. */
 int static_run(const char *path, char **program);
 
 /* The supervisor: serves the calls that come by this descriptor until nobody makes any; `program` is a descriptor of

@@ -20,7 +20,7 @@ struct call {
 
 /* ---- remote.c: the program ---- */
 
-/* Copy from, or to, memory of the program; false where it has none there. */
+/* Copy from, or to, memory of the program; false if it has none there. */
 bool take(const struct call *call, void *here, uint64_t there, size_t length);
 bool give(const struct call *call, uint64_t there, const void *here, size_t length);
 
@@ -41,7 +41,7 @@ bool has_library(pid_t thread);
 /* The process of a thread. */
 pid_t process_of(pid_t thread);
 
-/* A copy of a descriptor of a process; -1 and errno where it has none, or this process may not have one. */
+/* A copy of a descriptor of a process; -1 and errno if it has none, or this process may not have one. */
 int copy_descriptor(pid_t process, int fd);
 
 /* ---- parcels.c ---- */

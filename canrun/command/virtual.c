@@ -18,7 +18,7 @@ static double seconds_in(const char *value) {
     return seconds >= 0 && !*end && isfinite(seconds) && seconds <= MOST_SECONDS ? seconds : -1;
 }
 
-/* A count up to this; false where it is none. */
+/* A count up to this; false if it is none. */
 static bool count_in(const char *value, uint64_t most, uint64_t *count) {
     char *end;
     *count = *value >= '0' && *value <= '9' ? strtoull(value, &end, 10) : most + 1;

@@ -6,7 +6,7 @@
 
 #include <stdbool.h>
 
-/* What is there without options: 2026, no end, 30 seconds without a step. */
+/* The defaults: 2026, no end, 30 seconds without a step. */
 #define VIRTUAL_DEFAULTS \
     { .epoch = 1767225600ull * 1000000000ull, .until = UINT64_MAX, .stall = 30 }
 

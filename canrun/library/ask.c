@@ -33,11 +33,11 @@ int put_request(int fd, int with, const struct wire_request *request, const stru
     rights->cmsg_type = SCM_RIGHTS;
     rights->cmsg_len = CMSG_LEN(sizeof(int));
     memcpy(CMSG_DATA(rights), &with, sizeof(int));
-    /* Requests are taken at once, so there is room soon also where the program does not want to wait. */
+    /* Requests are taken at once, so there is room soon also if the program does not want to wait. */
     return syscall(SYS_sendmsg, fd, &message, MSG_NOSIGNAL) >= 0 ? 0 : errno;
 }
 
-/* Where the reply comes, and of what. */
+/* The place for the reply, and its request. */
 struct asked {
     int fd, reply_from;
     const char *what;

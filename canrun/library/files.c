@@ -48,7 +48,7 @@ static bool find_place(const char *path, struct place *place) {
 
 /* ---- texts ---- */
 
-/* Writes the text of a file about what changes; false where it is another, or not known. */
+/* Writes the text of a file about what changes; false if it is another, or not known. */
 static bool write_fact(const struct place *place, char *text, size_t size) {
     struct link_facts facts = links_facts(place->index);
     const struct {
@@ -69,7 +69,7 @@ static bool write_fact(const struct place *place, char *text, size_t size) {
                                                : false;
 }
 
-/* Writes the text of a file; false where there is no such file. */
+/* Writes the text of a file; false if there is no such file. */
 static bool write_text(const struct place *place, char *text, size_t size) {
     char name[IFNAMSIZ];
     const struct {
@@ -238,7 +238,7 @@ static struct {
 #define LISTS (sizeof lists / sizeof *lists)
 static pthread_mutex_t lists_lock = PTHREAD_MUTEX_INITIALIZER;
 
-/* The place of a stream among these; LISTS where it has none. With NULL a free one. */
+/* The place of a stream among these; LISTS if it has none. With NULL a free one. */
 static size_t list_of(const DIR *stream) {
     size_t at = 0;
     while (at < LISTS && lists[at].stream != stream) {
@@ -283,7 +283,7 @@ EXPORT void rewinddir(DIR *stream) {
     real()->rewinddir(stream);
 }
 
-/* The next interface of the server after the kernel's; NULL where there is none. Both forms of an entry are alike. */
+/* The next interface of the server after the kernel's; NULL if there is none. Both forms of an entry are alike. */
 static struct dirent64 *next_interface(const DIR *stream) {
     char name[IFNAMSIZ];
     int before = errno;

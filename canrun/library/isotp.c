@@ -8,7 +8,7 @@
 #include <string.h>
 #include <sys/syscall.h>
 
-/* A write has failed: where that was by the error of the socket, nobody else hears of it. */
+/* A write has failed: if that was by the error of the socket, nobody else hears of it. */
 static void forget_error(int fd) {
     static const int known[] = {EMSGSIZE, ECOMM, EBADMSG, EILSEQ, ETIMEDOUT};
     for (size_t i = 0; i < sizeof known / sizeof *known; i++) {

@@ -232,7 +232,7 @@ static ssize_t j1939_sendmsg(const struct socket *sock, const struct msghdr *mes
 
 /* ---- reads ---- */
 
-/* Adds a control message, of which a part is given where there is no room for all, as in the kernel. */
+/* Adds a control message, of which a part is given if there is no room for all, as in the kernel. */
 static void put_control(struct msghdr *message, size_t room, int level, int type, const void *data, size_t length) {
     size_t used = message->msg_controllen, left = room - used;
     if (left < sizeof(struct cmsghdr)) {
@@ -247,7 +247,7 @@ static void put_control(struct msghdr *message, size_t room, int level, int type
     message->msg_controllen = used + MIN(left, CMSG_SPACE(length));
 }
 
-/* Where a message comes from, and its own control messages, which are before those of all sockets. */
+/* The source of a message, and its own control messages, which are before those of all sockets. */
 int j1939_describe(struct msghdr *message, size_t room, const struct wire_way *way, int index) {
     struct sockaddr_can can = {.can_family = AF_CAN, .can_ifindex = index};
     can.can_addr.j1939.name = way->name;

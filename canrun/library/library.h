@@ -1,4 +1,4 @@
-/* What the files of the preloaded library share.
+/* The common part of the preloaded library's files.
  *
  * The library has no state about sockets. A CAN socket is one end of a pair of Unix sockets whose name says so, and
  * stays one across fork, dup, exec and SCM_RIGHTS; poll, select, epoll, fcntl and close are the kernel's own. */
@@ -124,7 +124,7 @@ int fail(int error);
 /* The same. With CANBUSD_RUN_DEBUG=1 a line of standard error says what was refused, and why. */
 int refuse(const char *what, int error, const char *why);
 
-/* Copies from or to memory that a program names; false where there is none, EFAULT. It leaves errno as it was. */
+/* Copies from or to memory that a program names; false if there is none, EFAULT. It leaves errno as it was. */
 bool copy_from(void *room, const void *program, size_t length);
 bool copy_to(void *program, const void *data, size_t length);
 
@@ -134,7 +134,7 @@ bool copy_to(void *program, const void *data, size_t length);
 /* How many of these bytes the pieces of a message have room for. */
 size_t room_of(const struct msghdr *message, size_t length);
 
-/* What a reply brings, besides its error. The data are cut where there is no room. */
+/* The parts of a reply besides its error. The data are cut if there is no room. */
 struct answer {
     int value;
     void *data;
@@ -160,7 +160,7 @@ int refuse_unsent(const char *what, int error);
 
 /* A write begins to wait for a reply by this pipe; NULL without --wait, or where too many wait. */
 struct wait *wait_begin(int fd, int reply_from);
-/* Its request has been sent; true where a signal came before that, and nothing has ended the wait yet. */
+/* Its request has been sent; true if a signal came before that, and nothing has ended the wait yet. */
 bool wait_is_over(struct wait *wait);
 /* The reply is there; whether such a signal came before. */
 bool wait_end(struct wait *wait);
@@ -190,7 +190,7 @@ struct shared {
     struct loaned copy;
 };
 
-/* The shared memory of a socket, until share_leave; NULL where it can't be had. */
+/* The shared memory of a socket, until share_leave; NULL if it can't be had. */
 struct shared *share_enter(const struct socket *sock);
 void share_leave(struct shared *one);
 
@@ -203,7 +203,7 @@ int share_make(const char *name);
 /* ---- notes.c: what is known of a datagram besides its bytes ---- */
 
 /* Finds the note of a datagram that has just been read, or looked at (`is_peeked`), and that begins with these bytes;
- * of J1939 also its way, else that is NULL. False where there are no notes. */
+ * of J1939 also its way, else that is NULL. False if there are no notes. */
 bool note_of(struct wire_memory *memory, int fd, bool is_peeked, const void *head, size_t length,
              struct wire_note *note, struct wire_way *way);
 
@@ -227,10 +227,10 @@ enum talk { TALK_DONE, TALK_LEFT, TALK_NONE };
 enum talk loan_talk(struct wire_memory *memory, const struct loaned *copy, const struct wire_request *request,
                     const struct iovec *data, size_t pieces, uint32_t at);
 
-/* Takes the error that a socket has by itself, as SO_ERROR does; 0 where it has none. It leaves errno as it was. */
+/* Takes the error that a socket has by itself, as SO_ERROR does; 0 if it has none. It leaves errno as it was. */
 int take_error(int fd);
 
-/* Takes the error of a socket of which a read got no bytes: -1 and errno, or 0 where another call has taken it. */
+/* Takes the error of a socket of which a read got no bytes: -1 and errno, or 0 if another call has taken it. */
 int take_shown(int fd);
 
 /* Notes that this is a socket that may have an error which poll shows. */
@@ -245,7 +245,7 @@ uint32_t error_events(int fd, uint32_t events);
 
 /* ---- watch.c ---- */
 
-/* ppoll, where one of the sockets has an error queue. */
+/* ppoll, if one of the sockets has an error queue. */
 int watched_poll(struct pollfd *fds, nfds_t count, const struct timespec *timeout, const sigset_t *mask);
 
 /* ---- j1939.c ---- */

@@ -16,7 +16,7 @@
 
 /* ---- attributes ---- */
 
-/* The attribute of this type among these; NULL where there is none. The last one counts. */
+/* The attribute of this type among these; NULL if there is none. The last one counts. */
 static const struct nlattr *find(const void *attributes, size_t length, unsigned type) {
     const char *at = attributes;
     const struct nlattr *found = NULL;
@@ -41,7 +41,7 @@ static const struct nlattr *find_in(const struct nlattr *nest, unsigned type) {
     return nest ? find(nest + 1, length_of(nest), type) : NULL;
 }
 
-/* Copies a value of this length; false where there is none. */
+/* Copies a value of this length; false if there is none. */
 static bool get(const struct nlattr *one, void *value, size_t length) {
     if (length_of(one) < length) {
         return false;
@@ -68,7 +68,7 @@ static const struct nlattr *attribute(const struct question *question, unsigned 
     return find(question->attributes, question->length, type);
 }
 
-/* Reads a message about links; false where it is another. A request for a dump may have a short head. */
+/* Reads a message about links; false if it is another. A request for a dump may have a short head. */
 static bool read_question(const struct nlmsghdr *head, struct question *question) {
     bool is_of_link = head->nlmsg_type == RTM_GETLINK || head->nlmsg_type == RTM_NEWLINK ||
                       head->nlmsg_type == RTM_SETLINK || head->nlmsg_type == RTM_DELLINK;
@@ -129,7 +129,7 @@ bool addresses_are_asked(const struct nlmsghdr *asked) {
 
 /* ---- answers ---- */
 
-/* Puts what has come of a request: an errno, or 0 where that is asked for. A text says why, as that of the kernel's
+/* Puts what has come of a request: an errno, or 0 if that is asked for. A text says why, as that of the kernel's
  * extended acknowledgements. */
 static void put_verdict(struct outgoing *out, const struct nlmsghdr *asked, int error, const char *why) {
     struct {
@@ -160,7 +160,7 @@ static void put_verdict(struct outgoing *out, const struct nlmsghdr *asked, int 
     mail_put(out, LINK_ANSWER, &verdict.head, &verdict, verdict.head.nlmsg_len);
 }
 
-/* Where the server does not reply there is an interface all the same, of which nothing is known. */
+/* If the server does not reply there is an interface all the same, of which nothing is known. */
 static void put_link(struct outgoing *out, const struct nlmsghdr *asked, int index) {
     struct link_message message;
     struct link_reply reply;

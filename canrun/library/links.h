@@ -15,11 +15,11 @@ struct outgoing {
     char data[OUTGOING];
 };
 
-/* Adds a message that is sent back by the kernel: this head's, of this type, and what follows. False where there is no
+/* Adds a message that is sent back by the kernel: this head's, of this type, and what follows. False if there is no
  * room. */
 bool mail_put(struct outgoing *out, enum link_mail type, const struct nlmsghdr *head, const void *data, size_t length);
 
-/* Answers a message that is about an interface of the server; false where it is the kernel's, as it is. */
+/* Answers a message that is about an interface of the server; false if it is the kernel's, as it is. */
 bool links_answer(const struct nlmsghdr *asked, struct outgoing *out);
 
 /* Whether this asks for all links, also for ours. */

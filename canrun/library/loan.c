@@ -19,7 +19,7 @@
 /* Seconds until a reply is left to the bridge. */
 #define PATIENCE_SECONDS 5
 
-/* The run's library has these, where there is one. */
+/* The run's library has these, if there is one. */
 __attribute__((weak)) bool canbusd_virtual_turn(void);
 __attribute__((weak)) long canbusd_virtual_talk(int fd, char *text, size_t length, size_t room, uint32_t *word,
                                                 uint64_t key, const struct timespec *time);

@@ -1,4 +1,4 @@
-/* Memory of the program that a call names. The kernel copies it, as it does for its own calls: where there is none,
+/* Memory of the program that a call names. The kernel copies it, as it does for its own calls: if there is none,
  * that is EFAULT and no SIGSEGV. Its copy takes as long as two other calls, so what is on the stack of the caller, or
  * on the page that was copied last, is copied here. */
 #define _GNU_SOURCE
@@ -24,7 +24,7 @@ static bool is_known(uintptr_t from, size_t length, bool writes) {
     return page == (from + length - 1) / PAGE && page == __atomic_load_n(&known[writes], __ATOMIC_RELAXED);
 }
 
-/* Copies by a call of the kernel, which says how much it has copied. Where it may not, as in a sandbox, memcpy does. */
+/* Copies by a call of the kernel, which says how much it has copied. If it may not, as in a sandbox, memcpy does. */
 static bool copy(void *here, void *program, size_t length, bool writes) {
     if (!length) {
         return true;

@@ -114,7 +114,7 @@ static bool is_ours(const struct ifaddrs *entry) {
     return entry->ifa_name == link->name && entry->ifa_data == &link->counts;
 }
 
-/* The interfaces of the server, in one block; NULL where there are none, or no memory. */
+/* The interfaces of the server, in one block; NULL if there are none, or no memory. */
 static struct link *links(void) {
     char name[IFNAMSIZ];
     int count = 0;

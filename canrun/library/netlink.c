@@ -2,7 +2,7 @@
  * library has no state about them. The answer to a message about an interface of the server is sent to the kernel, in
  * place of that message, as one of a type that it does not know: its refusal brings the answer back, and the read that
  * finds one takes it out. So comes the request of a dump of links, which is answered as it is read; the kernel's links
- * follow. Where the kernel does not send back what it refuses, interfaces are not found by netlink. */
+ * follow. If the kernel does not send back what it refuses, interfaces are not found by netlink. */
 #define _GNU_SOURCE
 #include "library.h"
 
@@ -63,7 +63,7 @@ static bool is_carried(void) {
 
 /* ---- sending ---- */
 
-/* Room for a message of this length; NULL where there is none. */
+/* Room for a message of this length; NULL if there is none. */
 static void *extend(struct outgoing *out, size_t length) {
     size_t at = NLMSG_ALIGN(out->length);
     if (at + length > sizeof out->data) {
@@ -119,7 +119,7 @@ static bool put_plain(struct outgoing *out, const struct nlmsghdr *asked) {
     return place;
 }
 
-/* Puts the answer to a message; false where it is the kernel's. */
+/* Puts the answer to a message; false if it is the kernel's. */
 static bool put_answer(struct outgoing *out, const struct nlmsghdr *asked) {
     const struct dump start = {.next = INTERFACE_FIRST};
     char name[IFNAMSIZ];
@@ -132,7 +132,7 @@ static bool put_answer(struct outgoing *out, const struct nlmsghdr *asked) {
     return addresses_are_asked(asked) ? put_done(out, asked) : links_answer(asked, out);
 }
 
-/* Puts answers, and what is the kernel's as it is, up to what is no message. False where nothing is ours. */
+/* Puts answers, and what is the kernel's as it is, up to what is no message. False if nothing is ours. */
 static bool replace(const char *data, size_t length, struct outgoing *out) {
     bool has_ours = false;
     for (size_t at = 0; at + sizeof(struct nlmsghdr) <= length;) {
@@ -207,7 +207,7 @@ static ssize_t netlink_sendmsg(const struct socket *sock, const struct msghdr *m
 
 /* ---- receiving ---- */
 
-/* Gives a message in place of what was received; as the kernel, it is cut where there is no room. */
+/* Gives a message in place of what was received; as the kernel, it is cut if there is no room. */
 static ssize_t give(struct msghdr *message, const char *data, size_t length, int flags) {
     size_t done = 0;
     for (size_t i = 0; i < message->msg_iovlen && done < length; i++) {
@@ -256,7 +256,7 @@ static ssize_t give_dump(int fd, struct msghdr *message, const char *request, ui
     return give(message, part, length, flags);
 }
 
-/* Reads the mail that is next, and gives what it brings. Returns 0 where another thread has read it. */
+/* Reads the mail that is next, and gives what it brings. Returns 0 if another thread has read it. */
 static ssize_t take_mail(int fd, struct msghdr *message, int flags) {
     char mail[sizeof(struct refusal) + MAIL];
     struct iovec part = {mail, sizeof mail};
@@ -307,7 +307,7 @@ static ssize_t netlink_recvmsg(const struct socket *sock, struct msghdr *message
 
 /* ---- groups and options ---- */
 
-/* Has the socket get events, where it may. */
+/* Has the socket get events, if it may. */
 static int watched(int fd, bool is_watched) {
     int before = errno;
     if (is_watched && is_route(fd) && is_carried()) {

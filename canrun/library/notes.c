@@ -16,7 +16,8 @@
 /* Notes that the bridge may be writing. */
 #define BEING_WRITTEN 64
 
-/* How many bytes were read from the socket until now, at least and at most: the bridge may be putting more there. */
+/* The number of bytes that were read from the socket until now, at least and at most: the bridge may be putting more
+ * there. */
 struct span {
     int64_t least, most;
 };
@@ -30,7 +31,7 @@ static struct span read_until_now(const struct wire_notes *received, int fd) {
     return (struct span){put - left, meant - left};
 }
 
-/* Waits for the bridge; false where that was in vain. */
+/* Waits for the bridge; false if that was in vain. */
 static bool wait_for_bridge(int turn) {
     if (turn < YIELDS) {
         sched_yield();
@@ -86,7 +87,7 @@ static struct match look(const struct wire_notes *received, uint64_t found, stru
     return best;
 }
 
-/* The same, where several fit as the bridge is putting more into the socket. The next one after those that were found
+/* The same, if several fit as the bridge is putting more into the socket. The next one after those that were found
  * is it, if nothing is read without a look for its note; else the bridge is waited for. */
 static uint64_t find(const struct wire_notes *received, uint64_t found, int fd, bool is_peeked, const void *head,
                      size_t length) {

@@ -39,7 +39,7 @@ EXPORT ssize_t pwritev64v2(int fd, const struct iovec *parts, int count, off64_t
 
 /* ---- pipes and files ---- */
 
-/* The run's library has it, where there is one; a wait in splice is not seen there. */
+/* The run's library has it, if there is one; a wait in splice is not seen there. */
 __attribute__((weak)) bool canbusd_virtual_turn(void);
 
 static ssize_t splice_from(int socket, off64_t *offset, int pipe, off64_t *pipe_offset, size_t length, unsigned flags) {

@@ -1,5 +1,5 @@
 /* The length of a transmit queue, for SIOCGIFTXQLEN. No message of the server has it, so it is taken from the command
- * line of the process that listens at the server's address, where that can be seen. */
+ * line of the process that listens at the server's address, if that can be seen. */
 #define _GNU_SOURCE
 #include "library.h"
 
@@ -53,7 +53,7 @@ static int length_of_process(const char *process) {
     return size > 0 ? length_of(words, (size_t)size) : USUAL;
 }
 
-/* The process that listens at a path; 0 where it can't be seen. */
+/* The process that listens at a path; 0 if it can't be seen. */
 static int process_at_path(const struct address *address) {
     struct ucred peer = {0};
     socklen_t length = sizeof peer;

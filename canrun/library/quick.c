@@ -16,7 +16,7 @@
 #define BORROWING 4
 static bool is_off;
 
-/* The run's library has it, where there is one. */
+/* The run's library has it, if there is one. */
 __attribute__((weak)) long canbusd_virtual_wait(uint32_t *word, uint32_t expected, uint64_t key,
                                                 const struct timespec *time);
 

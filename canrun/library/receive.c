@@ -73,7 +73,7 @@ static ssize_t no_device(void) {
     return refuse("read", ENODEV, "the server is gone, and its interfaces with it");
 }
 
-/* The error of a socket whose next datagram says that it has one; 0 where another call has taken that. The bridge of a
+/* The error of a socket whose next datagram says that it has one; 0 if another call has taken that. The bridge of a
  * socket ends only with it, or by a fault. */
 static int error_of(int fd) {
     struct answer answer = {0};
@@ -92,7 +92,7 @@ int take_shown(int fd) {
     return error ? (int)refuse_read(error) : 0;
 }
 
-/* Takes what is known of a message without data; false where the datagram said something else. */
+/* Takes what is known of a message without data; false if the datagram said something else. */
 static bool take_empty(int fd, struct wire_empty *empty) {
     struct answer answer = {.data = empty, .room = sizeof *empty};
     return !ask(fd, "read", &(struct wire_request){.kind = WIRE_EMPTY}, NULL, 0, &answer) && answer.value;
@@ -310,7 +310,7 @@ static bool is_over(struct timespec *timeout, const struct timespec *end) {
     return left == 0;
 }
 
-/* When a timeout that begins now is over; false and errno where it is none. */
+/* When a timeout that begins now is over; false and errno if it is none. */
 static bool read_end(struct timespec *end, const struct timespec *timeout) {
     struct timespec now;
     if (!copy_from(end, timeout, sizeof *end)) {
@@ -352,7 +352,7 @@ EXPORT int recvmmsg(int fd, struct mmsghdr *messages, unsigned count, int flags,
     return (int)done;
 }
 
-/* What programs call that are built with _FORTIFY_SOURCE. */
+/* The calls of programs that are built with _FORTIFY_SOURCE. */
 EXPORT ssize_t __read_chk(int fd, void *data, size_t length, size_t room);
 EXPORT ssize_t __recv_chk(int fd, void *data, size_t length, size_t room, int flags);
 EXPORT ssize_t __recvfrom_chk(int fd, void *restrict data, size_t length, size_t room, int flags,

@@ -52,7 +52,7 @@ static uint32_t hash_of(const char *name) {
     return (uint32_t)(hash >> (64 - KNOWN_BITS));
 }
 
-/* Makes it that of this socket, where no thread uses it. */
+/* Makes it that of this socket, if no thread uses it. */
 static bool change(struct shared *one, const char *name, struct wire_memory *memory) {
     uint32_t users = 0;
     if (!__atomic_compare_exchange_n(&one->users, &users, IS_CHANGING, false, __ATOMIC_ACQUIRE, __ATOMIC_RELAXED)) {
@@ -98,7 +98,7 @@ static bool keep(const char *name, struct wire_memory *memory) {
     return false;
 }
 
-/* Finds the memory of the socket with this name, which is used from now on; NULL where there is none yet. */
+/* Finds the memory of the socket with this name, which is used from now on; NULL if there is none yet. */
 static struct shared *find(const char *name) {
     uint32_t hash = hash_of(name);
     for (uint32_t i = 0; i < FEW; i++) {

@@ -20,7 +20,7 @@
 
 #define STACK 16384
 
-/* What the bridge has to know of the environment. */
+/* The variables of the environment that the bridge needs. */
 static const char *const SETTINGS[] = {
     "CANBUSD_ADDRESS", "CANBUSD_INTERFACES", "CANBUSD_RUN_WAIT", "CANBUSD_RUN_VIRTUAL", PLANTED_SETTING,
 #ifdef __SANITIZE_ADDRESS__
@@ -56,7 +56,7 @@ static long copy_process(int (*function)(void *), void *stack, void *argument) {
 }
 #endif
 
-/* What a start needs, in memory of its own: a thread of the program may have a small stack. */
+/* The values of a start, in memory of its own: a thread of the program may have a small stack. */
 struct start {
     int end, memory, failed;
     pid_t bridge;
@@ -122,7 +122,7 @@ static int find_bridge(char path[PATH_MAX]) {
     return length < PATH_MAX ? 0 : ENAMETOOLONG;
 }
 
-/* The setting of this name, with the name, as the environment has it; NULL where it has none. */
+/* The setting of this name, with the name, as the environment has it; NULL if it has none. */
 static char *setting(const char *name) {
     const size_t length = strlen(name);
     for (char **at = environ; at && *at; at++) {

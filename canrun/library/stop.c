@@ -60,7 +60,7 @@ static bool is_ours(const struct sigaction *action) {
     return action->sa_flags & SA_SIGINFO && action->sa_sigaction == on_signal;
 }
 
-/* Puts the handler here in front of the program's, where that has one. */
+/* Puts the handler here in front of the program's, if that has one. */
 static void replace(size_t at) {
     struct sigaction action;
     bool has_handler = !sigaction(numbers[at], NULL, &action) &&

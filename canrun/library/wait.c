@@ -123,7 +123,7 @@ static void mark(struct epoll_event *events, int count, int fd, uint64_t data) {
     }
 }
 
-/* Reads a line of the file, as `tfd: 5 events: 19 data: 7fff0005 pos:0 ..`; false where it is another. */
+/* Reads a line of the file, as `tfd: 5 events: 19 data: 7fff0005 pos:0 ..`; false if it is another. */
 static bool read_line(const char *line, int *fd, uint64_t *data) {
     unsigned long long number;
     bool is_one = sscanf(line, "tfd: %d events: %*x data: %llx", fd, &number) == 2;
@@ -189,7 +189,7 @@ EXPORT int epoll_pwait2(int epoll, struct epoll_event *events, int most, const s
     return epolled(epoll, events, real()->epoll_pwait2(epoll, events, most, timeout, mask));
 }
 
-/* What programs call that are built with _FORTIFY_SOURCE. */
+/* The calls of programs that are built with _FORTIFY_SOURCE. */
 EXPORT int __poll_chk(struct pollfd *fds, nfds_t count, int timeout, size_t room);
 EXPORT int __ppoll_chk(struct pollfd *fds, nfds_t count, const struct timespec *timeout, const sigset_t *mask,
                        size_t room);

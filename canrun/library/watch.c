@@ -1,5 +1,5 @@
 /* poll of a socket that has an error queue, as one of J1939: the kernel shows POLLERR once there is an entry, also
- * where nothing else is waited for. Its bridge says so by a pipe, which is waited for beside the socket. */
+ * if nothing else is waited for. Its bridge says so by a pipe, which is waited for beside the socket. */
 #define _GNU_SOURCE
 #include "library.h"
 

@@ -17,11 +17,11 @@ struct address {
     unsigned short port;
 };
 
-/* Reads an address; false where the text is none. */
+/* Reads an address; false if the text is none. */
 bool address_read(const char *text, struct address *address);
 
 /* Connects to a path, or to a host that is a number or localhost: it looks no name up, so that the bridge needs no
- * library of names. Returns a descriptor, or -1 and errno: ENOENT where the host is no number. */
+ * library of names. Returns a descriptor, or -1 and errno: ENOENT if the host is no number. */
 int address_connect(const struct address *address);
 
 #endif

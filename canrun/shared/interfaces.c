@@ -14,7 +14,7 @@ static void next_name(const char **list, char name[IFNAMSIZ]) {
     *list += length + ((*list)[length] == ',');
 }
 
-/* What there was at the start, for a program that clears its environment. */
+/* The interfaces at the start, for a program that clears its environment. */
 static char names_before[INTERFACE_NAMES];
 
 __attribute__((constructor)) static void keep_names(void) {

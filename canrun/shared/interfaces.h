@@ -15,10 +15,10 @@
 /* Their names, joined by commas. */
 const char *interface_names(void);
 
-/* The index of the interface of this name; 0 where the server has none. */
+/* The index of the interface of this name; 0 if the server has none. */
 int interface_index(const char *name);
 
-/* Writes the name of the interface of this index; an empty one, and false, where there is none. */
+/* Writes the name of the interface of this index; an empty one, and false, if there is none. */
 bool interface_name(int index, char name[IFNAMSIZ]);
 
 #endif

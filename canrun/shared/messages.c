@@ -141,7 +141,7 @@ static const struct kind {
              {"fdframex ", true, 0},
              {"error ", false, CAN_ERR_FLAG}};
 
-/* Reads what follows the word; false where it is no frame: a refusal, such as `error bad id`, has no moment. */
+/* Reads what follows the word; false if it is no frame: a refusal, such as `error bad id`, has no moment. */
 static bool get_item(const struct kind *kind, const char *at, struct item *item) {
     uint32_t identifier;
     uint64_t remote_length = 0;

@@ -15,7 +15,7 @@ struct item {
     bool is_fd;
     uint64_t moment; /* nanoseconds since 1970 */
     enum { ORIGIN_NONE, ORIGIN_SAME, ORIGIN_OTHER } origin;
-    uint64_t number;        /* of the frame at its sender's interface, where it has an origin */
+    uint64_t number;        /* of the frame at its sender's interface, if it has an origin */
     uint32_t message_flags; /* of recvmsg: MSG_DONTROUTE, MSG_CONFIRM */
 };
 
@@ -25,10 +25,10 @@ struct item {
 /* Writes the command that sends a frame. */
 void message_of_frame(char text[COMMAND], const struct canfd_frame *frame, bool is_fd);
 
-/* Reads the text of a message, without < and >, that hands over a frame; false where it is another. */
+/* Reads the text of a message, without < and >, that hands over a frame; false if it is another. */
 bool message_to_item(const char *text, struct item *item);
 
-/* Reads decimal digits, and goes past them; false where there are none. */
+/* Reads decimal digits, and goes past them; false if there are none. */
 bool message_number(const char **at, uint64_t *number);
 
 #endif

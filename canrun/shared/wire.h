@@ -1,4 +1,4 @@
-/* What the preloaded library and a bridge say to each other, over the SOCK_SEQPACKET pair that is a CAN socket.
+/* The messages between the preloaded library and a bridge, over the SOCK_SEQPACKET pair that is a CAN socket.
  *
  * The program's end of the pair has an abstract name that begins with WIRE_NAME and a digit, the protocol's number of
  * linux/can.h; that is how the library knows a CAN socket.
@@ -38,7 +38,7 @@ enum wire_kind {
     WIRE_SET_DEVICE, /* SO_BINDTODEVICE, which the kernel does not keep; the index is `ifindex` */
     WIRE_GET_DEVICE, /* the same; it is the reply's value */
     WIRE_ADDRESS,    /* the reply's data are the address of the socket; with an `option`, of its peer */
-    WIRE_ERROR,      /* takes the socket's error, which is the reply's value; 0 where another has taken it */
+    WIRE_ERROR,      /* takes the socket's error, which is the reply's value; 0 if another has taken it */
     WIRE_CLOSE,      /* the socket is closed once a byte comes by what is no pipe, but one end of a pair; the end of a
                       * message is waited for until another comes, or the other end is gone */
     WIRE_NOTICE,     /* takes the first entry of the error queue, which is the reply's data; its value is of enum
@@ -47,7 +47,7 @@ enum wire_kind {
                   * reply  is given once it has */
     WIRE_EMPTY,  /* takes the first message without data, which is the reply's data; its value, whether there is one */
     WIRE_FILL,   /* does nothing, but takes room in the socket while that has none for writes */
-    WIRE_HOST,   /* connects to the host of the interface `ifindex`; where it is to be started the reply's data are its
+    WIRE_HOST,   /* connects to the host of the interface `ifindex`; if it is to be started the reply's data are its
                   * abstract name */
     WIRE_CANCEL, /* a signal ends the wait of the request whose pipe this is the read end of; the reply is its own */
     WIRE_SHARE,  /* the memory of quick writes comes by what is no pipe, but one end of a pair (SCM_RIGHTS) */
@@ -78,7 +78,7 @@ struct wire_quick {
     uint32_t place; /* of the reply */
 };
 
-/* Where the reply of one quick write comes; `state`, an enum wire_state, is a futex. */
+/* The place for the reply of one quick write; `state`, an enum wire_state, is a futex. */
 struct wire_place {
     uint32_t state;
     struct wire_reply reply; /* without data; its error may be WIRE_NO_ROOM */
@@ -98,7 +98,7 @@ enum wire_state {
  * frame there, and reads the reply. Who has the turn may change all of this. */
 #define WIRE_NUMBERS 1024
 struct wire_loan {
-    uint32_t session; /* the number of the session, where it is lent; 0: none */
+    uint32_t session; /* the number of the session, if it is lent; 0: none */
     uint32_t shared;  /* that of the session whose descriptor came with that of the memory; 0: none */
     uint32_t asked;   /* the place of the write whose reply is due, and one; 0: none */
     uint32_t left;    /* the same of a write that leaves the text of its reply, in its place, to the bridge */
@@ -113,14 +113,14 @@ struct wire_note {
     uint64_t from;        /* how many bytes the datagrams before it have, since the socket was made */
     uint64_t nanoseconds; /* the server's moment, since 1970 */
     int32_t ifindex;
-    uint32_t dropped;       /* frames lost before this one, where SO_RXQ_OVFL asks for it */
+    uint32_t dropped;       /* frames lost before this one, if SO_RXQ_OVFL asks for it */
     uint32_t message_flags; /* MSG_DONTROUTE, MSG_CONFIRM */
     uint16_t is_stamped;    /* SO_TIMESTAMPING asks for the moment */
     uint16_t head_length;
     uint32_t length;
     uint8_t head[20]; /* its first bytes */
 };
-/* Where a message of J1939 comes from and goes to. Of the error queue, besides: what happened, and to which message. */
+/* Source and destination of a message of J1939. Of the error queue, besides: what happened, and to which message. */
 struct wire_way {
     uint64_t name, to_name;
     uint32_t pgn;

@@ -9,6 +9,7 @@ import tempfile
 
 import pytest
 
+from made_once import made_once
 from running import (
     FAST,
     SANITIZERS,
@@ -56,19 +57,20 @@ PLAIN = (
 @pytest.fixture(params=["", pytest.param("sanitized", marks=pytest.mark.sanitized)], ids=["plain", "sanitized"])
 def build(request, tmp_path):
     """Compiles a program, and runs it by canbusd-run: both as they are, and both with sanitizers."""
-    return Build(request.param == "sanitized", str(tmp_path))
+    return Build(request, str(tmp_path))
 
 
 class Build:
-    def __init__(self, is_sanitized, folder):
-        self.folder, self.flags, self.how, self.settings = folder, (), {}, {}
-        if is_sanitized:
+    def __init__(self, request, folder):
+        self.request, self.folder, self.flags, self.how, self.settings = request, folder, (), {}, {}
+        if request.param == "sanitized":
             reports = f"log_path={folder}/report:verify_asan_link_order=0:detect_stack_use_after_return=0"
             self.flags, self.how = SANITIZERS, {"runner": sanitized_command()}
             self.settings = {"ASAN_OPTIONS": reports, "UBSAN_OPTIONS": f"log_path={folder}/report:print_stacktrace=1"}
 
     def passes(self, server, name, *words, **how):
-        path = compiled(name, self.folder, *self.flags)
+        made = f"{self.request.param}run_c-{name}"
+        path = made_once(self.request, made, lambda folder: compiled(name, folder, *self.flags)) / name
         written = passes(
             server, path, *words, patience=200, env=environment(server, **self.settings), **self.how, **how
         )

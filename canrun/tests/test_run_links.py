@@ -162,6 +162,19 @@ def test_restart_ms(tmp_path):
         assert state_of(server) == ("ERROR-ACTIVE", "0", "0")
 
 
+@needs_ip
+def test_bit_rates_of_each_bus():
+    """`ip` shows those of the interface's bus, and takes no others for it"""
+    rates = ("--bitrate", "500000", "--bitrate", "body0=125000", "--dbitrate", "can0=2000000")
+    with bus(*rates, "can0,can1", "body0") as server:
+        for name, nominal, fast in (("can0", 500000, 2000000), ("can1", 500000, 2000000), ("body0", 125000, 125000)):
+            shown = passes(server, IP, "-details", "link", "show", name)
+            assert re.findall(r"bitrate (\d+)", shown)[:2] == [str(nominal), str(fast)], shown
+        passes(server, IP, "link", "set", "body0", "type", "can", "bitrate", "125000")
+        refused = run(server, IP, "link", "set", "body0", "type", "can", "bitrate", "500000")
+        assert refused.returncode == 2 and "125000" in refused.stderr, refused
+
+
 @needs_gcc
 @needs_ip
 def test_monitor(tmp_path):

@@ -9,6 +9,7 @@ from typing import Dict, NamedTuple
 
 import pytest
 
+from made_once import made_once
 from running import FLAGS, needs_gcc
 from serving import ROOT
 from virtual_runs import virtual
@@ -73,12 +74,11 @@ def skip_without(tool: str) -> None:
 
 
 @pytest.fixture(scope="module", name="program_of_c")
-def make_program_of_c(tmp_path_factory):
+def make_program_of_c(request):
     """The C program with all waits."""
-    path = tmp_path_factory.mktemp("waits") / "waits"
     sources = [os.path.join(FOLDER, f"{name}.c") for name in ("main", *TOPICS)]
-    subprocess.run(["gcc", *FLAGS, "-Wno-deprecated-declarations", "-o", str(path), *sources, "-lutil"], check=True)
-    return path
+    words = ["gcc", *FLAGS, "-Wno-deprecated-declarations", *sources, "-lutil", "-o"]
+    return made_once(request, "waits", lambda folder: subprocess.run([*words, folder / "waits"], check=True)) / "waits"
 
 
 def names_of(topic):

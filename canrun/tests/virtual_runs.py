@@ -1,5 +1,6 @@
 """Runs in virtual time for tests: programs, and cases whose output and files are compared."""
 
+import importlib.util
 import os
 import re
 import subprocess
@@ -7,42 +8,30 @@ import sys
 
 import pytest
 
+from made_once import made_once
 from running import FLAGS, command, needs
 from serving import ROOT, program
 
 SOURCES = os.path.join(ROOT, "canrun", "tests", "virtual_c")
 CASES = os.path.join(ROOT, "canrun", "tests", "virtual_cases")
 
-has_can = subprocess.run([sys.executable, "-c", "import can"], check=False, capture_output=True).returncode == 0
-needs_can = pytest.mark.skipif(not has_can, reason="no python-can")
+needs_can = pytest.mark.skipif(not importlib.util.find_spec("can"), reason="no python-can")
 needs_tools = needs("candump", "cangen", "canplayer")
+
+#: The C programs of virtual_c/.
+NODES = "bcm cyclic drawn forger full isotp j1939 late lent many orphans race respond slow_end unseen waits".split()
 
 
 @pytest.fixture(scope="module")
-def nodes(tmp_path_factory):
+def nodes(request):
     """The folder of the C programs."""
-    folder = tmp_path_factory.mktemp("nodes")
-    for name in (
-        "bcm",
-        "cyclic",
-        "drawn",
-        "forger",
-        "full",
-        "isotp",
-        "j1939",
-        "late",
-        "lent",
-        "many",
-        "orphans",
-        "race",
-        "respond",
-        "slow_end",
-        "unseen",
-        "waits",
-    ):
-        source = os.path.join(SOURCES, f"{name}.c")
-        subprocess.run(["gcc", *FLAGS, "-o", str(folder / name), source], check=True)
-    return folder
+
+    def compile_all(folder):
+        for name in NODES:
+            source = os.path.join(SOURCES, f"{name}.c")
+            subprocess.run(["gcc", *FLAGS, "-o", str(folder / name), source], check=True)
+
+    return made_once(request, "nodes", compile_all)
 
 
 def virtual(*words, options=(), patience=300, **how):

@@ -1,4 +1,4 @@
-/* What the files of the library share: the calls that it replaces. */
+/* The common part of the library's files: the calls that it replaces. */
 #ifndef CALLS_H
 #define CALLS_H
 
@@ -65,7 +65,7 @@ static inline void cancel_point(void) {
     }
 }
 #endif
-/* wait_turn in a call that ends where its thread is cancelled; one that may not be cancelled goes on waiting. */
+/* wait_turn in a call that ends if its thread is cancelled; one that may not be cancelled goes on waiting. */
 uint32_t wait_turn_or_cancel(uint64_t deadline, uint64_t key, enum kind kind);
 /* Whether what came, in a call that begins anew after a handler with SA_RESTART, ends the call. */
 static inline bool ends_wait(uint32_t flags) {
@@ -91,10 +91,10 @@ uint32_t wait_for_epoll(int fd, uint64_t deadline);
 void note_entry(int fd);
 /* Looks which of these are ready now; returns what the kernel does. */
 long look_at(struct pollfd *fds, nfds_t count);
-/* A call on a descriptor that blocks waits once more; false and errno where its timeout, or a signal, has come, or
+/* A call on a descriptor that blocks waits once more; false and errno if its timeout, or a signal, has come, or
  * where it does not block. `deadline` is 0 at first. */
 bool await_later(int fd, short events, uint64_t *deadline);
-/* Whether a call on a descriptor that blocks can be made; false and errno where its timeout, or a signal, has come. */
+/* Whether a call on a descriptor that blocks can be made; false and errno if its timeout, or a signal, has come. */
 bool await_ready(int fd, short events, int flags);
 /* The same, which waits no longer than this. */
 bool await_until(int fd, short events, uint64_t deadline);

@@ -142,7 +142,7 @@ ALSO(ntp_gettime, ntp_gettimex)
 
 /* ---- sleeps ---- */
 
-/* Sleeps until a moment; false where a signal came before. */
+/* Sleeps until a moment; false if a signal came before. */
 static bool sleep_until(uint64_t deadline) {
     cancel_point();
     regain_turn();

@@ -30,16 +30,16 @@
 #include <time.h>
 #include <unistd.h>
 
-/* Milliseconds between two looks at who has the turn, and while births or others outside are waited for. Where the turn
- * went on at each of so many looks, or is of one that runs, these are twice as far apart, up to the longest; where it
+/* Milliseconds between two looks at who has the turn, and while births or others outside are waited for. If the turn
+ * went on at each of so many looks, or is of one that runs, these are twice as far apart, up to the longest; if it
  * stays with one that sleeps they are as near as at first. */
 #define WATCH_MS 4
 #define LONGEST_WATCH_MS 32
 #define IDLE_LOOKS 8
 #define SOON_MS 1
 #define STATUS_STUCK 125
-/* Seconds of the run that programs have to end once PROGRAM has; of real time, where they wait for nothing that comes;
- * and of a processor, where one does not wait at all. */
+/* Seconds of the run that programs have to end once PROGRAM has; of real time, if they wait for nothing that comes;
+ * and of a processor, if one does not wait at all. */
 #define END_SECONDS 2
 /* Looks between two at how long a thread has run, and seconds between two at how busy the processor is. */
 #define RARELY 12
@@ -192,7 +192,7 @@ static bool is_stalled(void) {
     return most_stall() > 0 && now - coordinator.since > most_stall();
 }
 
-/* Nothing goes on: the run fails, with this text, but where PROGRAM has ended it is over. */
+/* Nothing goes on: the run fails, with this text, but if PROGRAM has ended it is over. */
 static void end_stalled(const char *text) {
     if (coordinator.has_ended) {
         coordinator.is_over = true;
@@ -341,7 +341,7 @@ static void watch(void) {
     }
 }
 
-/* ---- the processor: all of a run is on one, where a thread wakes another fastest ---- */
+/* ---- the processor: all of a run is on one, if a thread wakes another fastest ---- */
 
 static void pin(uint32_t tid, int processor) {
     cpu_set_t one;
@@ -350,7 +350,7 @@ static void pin(uint32_t tid, int processor) {
     sched_setaffinity((pid_t)tid, sizeof one, &one);
 }
 
-/* Others may run there too. Where the run waits for it most of the time it goes where this process has been put, which
+/* Others may run there too. If the run waits for it most of the time it goes where this process has been put, which
  * the kernel moves. */
 static void find_processor(void) {
     static double looked_at;
@@ -535,7 +535,7 @@ static int status_of(int status) {
     return WIFEXITED(status) ? WEXITSTATUS(status) : 128 + WTERMSIG(status);
 }
 
-/* Makes this process the coordinator of a run that has no program yet; false where it can't be had. `before` are the
+/* Makes this process the coordinator of a run that has no program yet; false if it can't be had. `before` are the
  * signals that were blocked. */
 static bool begin(const struct virtual_options *options, pid_t parent, sigset_t *before) {
     coordinator.options = options;

@@ -1,4 +1,4 @@
-/* Datagrams to what is no part of the run: for it time goes on as ever, so the run ends where one is sent to it. */
+/* Datagrams to what is no part of the run: for it time goes on as ever, so the run ends if one is sent to it. */
 #define _GNU_SOURCE
 #include "calls.h"
 #include "peers.h"

@@ -83,7 +83,7 @@ static bool is_idle(int fd) {
     return keepers[fd] && (keepers[fd] - 1U == my.index || slot->state != SLOT_WAITS || slot->kind != KIND_DESCRIPTOR);
 }
 
-/* Leaves it in the epoll for this thread and these events, also after the wait; false where that can't be. */
+/* Leaves it in the epoll for this thread and these events, also after the wait; false if that can't be. */
 static bool watch_staying(int fd, short events) {
     bool is_in = keepers[fd] == my.index + 1 && !control(EPOLL_CTL_MOD, fd, events);
     if (!is_in) {
@@ -96,7 +96,7 @@ static bool watch_staying(int fd, short events) {
 }
 
 /* Registers a descriptor for one event. Returns the one that is to be taken out after the wait: itself, another number
- * where a second thread waits for the same, or -1 where it stays, or is always ready. */
+ * where a second thread waits for the same, or -1 if it stays, or is always ready. */
 static int watch(int fd, short events, bool may_stay) {
     if (may_stay && fd < STAYING && watch_staying(fd, events)) {
         return -1;
@@ -114,7 +114,7 @@ static int watch(int fd, short events, bool may_stay) {
     return other;
 }
 
-/* What is waited for of a descriptor that may be there several times. */
+/* The events that a wait wants of a descriptor that may be there several times. */
 static short events_of(const struct pollfd *fds, nfds_t count, int fd) {
     short events = 0;
     for (nfds_t i = 0; i < count; i++) {
@@ -278,7 +278,7 @@ bool await_until(int fd, short events, uint64_t deadline) {
 }
 
 bool await_ready(int fd, short events, int flags) {
-    /* Where it does not block the call itself says so. */
+    /* If it does not block, the call itself reports that. */
     return !run || flags & MSG_DONTWAIT || await_until(fd, events, 0) || (errno == EAGAIN && is_nonblocking(fd));
 }
 
@@ -335,7 +335,7 @@ EXPORT ssize_t CALL(recv)(int fd, void *data, size_t length, int flags) {
 
 /* For libcanbusd-run.so: has the turn. */
 EXPORT bool canbusd_virtual_turn(void);
-/* For libcanbusd-run.so: sends a text, and reads the reply into it; its length. -1 where it was not sent, and 0 where
+/* For libcanbusd-run.so: sends a text, and reads the reply into it; its length. -1 if it was not sent, and 0 if
  * there is no reply after this time, or somebody else has changed the word and woken the key. */
 EXPORT long canbusd_virtual_talk(int fd, char *text, size_t length, size_t room, uint32_t *word, uint64_t key,
                                  const struct timespec *t);

@@ -14,10 +14,10 @@ int descendant_open(uint32_t pid);
 /* Sends a signal to a process if it is below this one. */
 void descendant_signal(uint32_t pid, int number);
 
-/* A process has asked that the signals of its alarm are sent, from now on; false where that is no alarm. */
+/* A process has asked that the signals of its alarm are sent, from now on; false if that is no alarm. */
 bool alarm_grant(uint32_t pid, const struct request *request);
 
-/* Sends the signal of this alarm; false where its process has not asked for that, or is gone. */
+/* Sends the signal of this alarm; false if its process has not asked for that, or is gone. */
 bool alarm_signal(uint32_t place);
 
 /* Forgets what a process has asked for, which has ended. */

@@ -1,4 +1,4 @@
-/* Waits for what only the kernel knows: locks of files, queues and semaphores of System V, a listener without room.
+/* Waits that only the kernel can end: locks of files, queues and semaphores of System V, a listener without room.
  * They are tried without a wait, and again before the clock goes on where others have gone on meanwhile. */
 #define _GNU_SOURCE
 #include "calls.h"

@@ -1,4 +1,4 @@
-/* Where a place in memory is for all processes that share it: which file, and where in it. */
+/* The origin of a place in memory for all processes that share it: which file, and where in it. */
 #define _GNU_SOURCE
 #include "calls.h"
 
@@ -18,7 +18,7 @@ struct mapping {
     bool is_shared;
 };
 
-/* The era ends where a mapping does. */
+/* The era ends if a mapping does. */
 static struct mapping cached[CACHED];
 static uint32_t era = 1;
 

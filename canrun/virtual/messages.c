@@ -1,4 +1,4 @@
-/* What the coordinator says: see messages.h. */
+/* The coordinator's messages: see messages.h. */
 #define _GNU_SOURCE
 #include "messages.h"
 #include "proc.h"

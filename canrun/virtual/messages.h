@@ -1,4 +1,4 @@
-/* What the coordinator says, on standard error. */
+/* The coordinator's messages, on standard error. */
 #ifndef MESSAGES_H
 #define MESSAGES_H
 

@@ -18,7 +18,7 @@
 #define LIBRARY "libcanbusd-virtual.so"
 /* Only PROGRAM has this without the library, until it is executed: it is a copy of the coordinator before. */
 #define MEMORY "/memfd:" RUN_MEMORY
-/* What a program has loaded once it has loaded what is preloaded. */
+/* The files that a program has loaded after the preloaded ones. */
 #define C_LIBRARY "/libc.so."
 #define LOADER "/ld-linux"
 /* How long a program without the library goes on before that is said: nanoseconds of a processor, and real seconds of
@@ -166,7 +166,7 @@ static bool is_timed(const struct called *called) {
     case SYS_io_getevents: return a[4] != 0;
     case SYS_semtimedop:
     case SYS_epoll_pwait2: return a[3] != 0;
-    case SYS_io_uring_enter: return true; /* What it waits for is not known. */
+    case SYS_io_uring_enter: return true; /* Its wait is not known. */
     default: return false;
     }
 }
@@ -331,7 +331,7 @@ bool outside_watch(uint64_t turn, int looks, bool (*is_asked)(void)) {
     uint32_t pid = slot->pid, tid = slot->tid;
     char state = proc_state(pid, tid);
     if (state == 'Z' || state == 'X') {
-        /* A thread that has ended unseen; of a process its end is seen. Where others of its threads are still to end
+        /* A thread that has ended unseen; of a process its end is seen. If others of its threads are still to end
          * with it, what it has open is not closed yet, for which some may wait. */
         if ((pid != tid || state == 'Z') && !process_runs(pid) && turn_change(turn, NOBODY)) {
             free_slot(slot);

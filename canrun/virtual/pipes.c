@@ -12,7 +12,7 @@ static uint64_t key_of_pipe(const struct stat *status) {
     return key_of_file(status->st_dev, status->st_ino, 0);
 }
 
-/* Whether a pipe that is open for reading has a writer: tee returns 0 where there is none. */
+/* Whether a pipe that is open for reading has a writer: tee returns 0 if there is none. */
 static bool has_writer(int fd) {
     int ends[2];
     if (RAW(SYS_pipe2, ends, O_CLOEXEC)) {

@@ -54,7 +54,7 @@ static nfds_t take_sets(struct sets *sets, struct pollfd *fds) {
     return count;
 }
 
-/* Where it fails the sets are as they were. */
+/* If it fails the sets stay as they were. */
 static void give_sets(const struct sets *sets, int result) {
     for (int i = 0; i < 3 && result >= 0; i++) {
         if (sets->of[i]) {

@@ -1,4 +1,4 @@
-/* What /proc says: see proc.h. */
+/* The facts of /proc: see proc.h. */
 #define _GNU_SOURCE
 #include "proc.h"
 #include "raw.h"
@@ -14,9 +14,9 @@
  * between two looks, in nanoseconds. */
 #define SETTLE_SECONDS 60
 #define SETTLE_PAUSE 200000
-/* How many processes there may be between one of the run and its coordinator. */
+/* The number of processes that there may be between one of the run and its coordinator. */
 #define DEEPEST 1000
-/* How often it is looked anew for these, where one of them ended meanwhile. */
+/* How often it is looked anew for these, if one of them ended meanwhile. */
 #define CLIMBS 100
 
 static char *put_number(char *at, uint32_t number) {
@@ -148,7 +148,7 @@ static bool is_settled(uint32_t pid) {
         is_there |= !has_ended;
         is_stopped |= state == 'T' || state == 't';
         if (slot->tid && (state == 'R' || (has_ended && my.slot))) {
-            return false; /* Who has ended is there until the coordinator has seen it. */
+            return false; /* A thread that has ended is there until the coordinator has seen it. */
         }
     }
     return !is_there || is_stopped || !proc_has_signal(pid);

@@ -1,4 +1,4 @@
-/* What /proc says of a thread. */
+/* The facts of /proc about a thread. */
 #ifndef PROC_H
 #define PROC_H
 
@@ -6,13 +6,13 @@
 #include <stddef.h>
 #include <stdint.h>
 
-/* Reads /proc/PID/task/TID/NAME, or /proc/PID/NAME where tid is 0; returns how many bytes, 0 where there is none. */
+/* Reads /proc/PID/task/TID/NAME, or /proc/PID/NAME where tid is 0; returns how many bytes, 0 if there is none. */
 size_t proc_read(uint32_t pid, uint32_t tid, const char *name, char *text, size_t room);
 
-/* The letter of its state as proc(5) has it; X where it has ended. */
+/* The letter of its state as proc(5) has it; X if it has ended. */
 char proc_state(uint32_t pid, uint32_t tid);
 
-/* The parent of a process; 0 where there is no such process. */
+/* The parent of a process; 0 if there is no such process. */
 uint32_t proc_parent(uint32_t pid);
 
 /* Whether a process is below another, or is that one. */

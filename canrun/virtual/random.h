@@ -11,7 +11,7 @@ void start_random(void);
 /* A file was opened, perhaps /dev/urandom. */
 void random_opened(int fd, const char *path);
 
-/* So many bytes were read: where they are random, they are those of this run. */
+/* So many bytes were read: if they are random, they are those of this run. */
 void random_read(int fd, const struct iovec *parts, int count, ssize_t length);
 
 #endif

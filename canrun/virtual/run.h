@@ -1,8 +1,8 @@
-/* What all threads of a run in virtual time share: one block of memory, and one epoll.
+/* The common part of all threads of a run in virtual time: one block of memory, and one epoll.
  *
  * One thread of the run has the turn; it runs, and the clock stands still. All others sleep on a word of their slots.
  * Who has to wait for something (a moment, a descriptor, a lock, a child) writes into its slot what that is, and hands
- * the turn to the next one that can go on; where there is none, the clock goes to the least moment that one waits for.
+ * the turn to the next one that can go on; if there is none, the clock goes to the least moment that one waits for.
  * Which descriptors are ready is seen in the epoll, in which each thread registers those that it waits for. So nobody
  * has to find out who sleeps, and the order is the same in each run.
  *
@@ -52,7 +52,7 @@ enum {
     TRIES_AGAIN = 64
 };
 
-/* What a thread waits for, for messages. */
+/* The wait of a thread, for messages. */
 enum kind {
     KIND_MOMENT,
     KIND_DESCRIPTOR,
@@ -122,7 +122,7 @@ struct timer {
     uint64_t unread; /* how often it had come when it last came */
 };
 
-/* What one of the run has the coordinator say: see tell.h. */
+/* A message that a process has the coordinator print: see tell.h. */
 #define NOTICES 8
 #define NOTICE 640
 enum notice_state { NOTICE_NONE, NOTICE_BEGUN, NOTICE_READY };

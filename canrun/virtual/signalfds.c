@@ -1,4 +1,4 @@
-/* Descriptors that read signals. The kernel finds a signal in one only for the process that looks: where another one
+/* Descriptors that read signals. The kernel finds a signal in one only for the process that looks: if another one
  * looks at an epoll with one of them, for the run, the kernel takes the entry from the list of what is ready. So these
  * are put there again before their own process looks. */
 #define _GNU_SOURCE

@@ -20,7 +20,7 @@
 /* The least number of the run's descriptor in a program, so that it is in nobody's way. */
 #define HIGH_DESCRIPTOR 900
 
-/* The descriptor that comes with the coordinator's reply, -1 where there is none. */
+/* The descriptor that comes with the coordinator's reply, -1 if there is none. */
 static int take_epoll(int fd) {
     struct rights rights;
     struct msghdr *message = rights_message(&rights, -1);
@@ -159,7 +159,7 @@ static void end_traced(void) {
     }
 }
 
-/* A program that calls the kernel itself, as those of Go do also where they load libraries, waits unseen: so the run
+/* A program that calls the kernel itself, as those of Go do also if they load libraries, waits unseen: so the run
  * ends at once. */
 static void end_bypassing(void) {
     const char *obstacle = is_server ? NULL : program_bypass(SELF);
@@ -204,7 +204,7 @@ __attribute__((constructor(103))) static void start(void) {
 }
 
 /* Makes a process part of the run that its environment names, which has loaded this library before and has one thread:
- * it was forked outside of the run. Returns 0, or -1 where there is no such run. */
+ * it was forked outside of the run. Returns 0, or -1 if there is no such run. */
 EXPORT int canbusd_virtual_enter(void);
 EXPORT int canbusd_virtual_enter(void) {
     if (!run) {

@@ -1,10 +1,10 @@
-/* What a program of the run has the coordinator say: its own standard error may be captured, as by pytest. */
+/* A message that a program has the coordinator print: its own standard error may be captured, as by pytest. */
 #ifndef TELL_H
 #define TELL_H
 
 #include <stdbool.h>
 
-/* A line on standard error of the run. Nobody waits for it: where there is no coordinator, or no room, it is on that of
+/* A line on standard error of the run. Nobody waits for it: if there is no coordinator, or no room, it is on that of
  * this program. Where `ends_run` the run ends with status 125, and this does not return. */
 void tell(bool ends_run, const char *format, ...) __attribute__((format(printf, 2, 3)));
 

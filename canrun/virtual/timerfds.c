@@ -167,7 +167,7 @@ void timers_find(void) {
 
 /* ---- calls ---- */
 
-/* Takes a place; NULL where there is none. */
+/* Takes a place; NULL if there is none. */
 static struct timer *new_timer(void) {
     static const uint32_t taken = UINT32_MAX;
     for (uint32_t i = 0; i < TIMERS; i++) {

@@ -42,7 +42,7 @@ static struct alarm *alarm_of(uint32_t id) {
     return NULL;
 }
 
-/* `number` is 0 where the coordinator sends no signal; NULL where there is no place, or it does not take it. */
+/* `number` is 0 if the coordinator sends no signal; NULL if there is no place, or it does not take it. */
 static struct alarm *new_alarm(uint32_t id, int number, uint32_t tid) {
     for (uint32_t i = 0; i < ALARMS; i++) {
         struct alarm *alarm = &run->alarms[i];

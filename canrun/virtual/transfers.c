@@ -202,7 +202,7 @@ EXPORT int accept(int fd, struct sockaddr *restrict from, socklen_t *restrict ro
 
 #define TENTH (SECOND / 10)
 
-/* A terminal that is read byte by byte may have a timeout of its own, VTIME; false where it has none. */
+/* A terminal that is read byte by byte may have a timeout of its own, VTIME; false if it has none. */
 static bool has_timeout(int fd, struct termios *settings) {
     return !RAW(SYS_ioctl, fd, TCGETS, settings) && !(settings->c_lflag & ICANON) && settings->c_cc[VTIME];
 }

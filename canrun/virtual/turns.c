@@ -19,7 +19,8 @@ void (*hold_cancel)(bool is_held);
 /* How long a thread sleeps before it looks whether the coordinator is still there, in real time. */
 #define LIVE_SECONDS 1
 #define BIRTH_NANOSECONDS 20000000
-/* How many events are taken at once, and how often: more than slots and descriptors of each are ready together. */
+/* The number of events that are taken at once, and how often: more than slots and descriptors of each are ready
+ * together. */
 #define EVENTS 32
 #define MOST_LOOKS 2000
 /* How often it is looked whether a thread has ended, first without a pause, and the nanoseconds between; a minute. */
@@ -196,7 +197,7 @@ static struct look look_round(void) {
     return look;
 }
 
-/* Lets those look once more that nobody wakes, where another has gone on since they did; false where there is none. */
+/* Lets those look once more that nobody wakes, if another has gone on since they did; false if there is none. */
 static bool try_again(void) {
     bool has_one = false;
     for (uint32_t i = 0; run->tries && i < slots_used(); i++) {
@@ -210,7 +211,7 @@ static bool try_again(void) {
     return has_one;
 }
 
-/* Sets the clock to the next moment that one waits for, where the coordinator has nothing to do before. */
+/* Sets the clock to the next moment that one waits for, if the coordinator has nothing to do before. */
 static bool go_on(uint64_t next) {
     uint64_t alarm = NEVER;
     for (uint32_t i = 0; i < run->alarm_count && i < ALARMS; i++) {

@@ -13,7 +13,7 @@ extern int run_epoll;
 /* The process of the coordinator. */
 extern int coordinator_pid;
 
-/* How many slots were ever used. */
+/* The number of slots that were ever used. */
 static inline uint32_t slots_used(void) {
     uint32_t used = run->used;
     return used < SLOTS ? used : SLOTS;
@@ -26,7 +26,7 @@ static inline struct slot *slot_at(uint32_t index) {
 /* Whether a wait is for what nobody of the run wakes its thread for, and whether it is one more of the same. */
 enum tries { TRIES_NOT, TRIES, TRIES_ON };
 
-/* What a thread of a program knows of itself. */
+/* A thread's knowledge of itself. */
 struct my {
     struct slot *slot;
     uint32_t index;
@@ -71,7 +71,7 @@ uint32_t wait_turn(uint64_t deadline, uint64_t key, enum kind kind);
 /* Lets all others go on that can in this moment. */
 void yield_turn(void);
 
-/* Waits for the turn, where it was taken from this thread. */
+/* Waits for the turn, if it was taken from this thread. */
 void regain_turn(void);
 bool has_turn(void);
 void await_turn(void);
@@ -85,19 +85,19 @@ void wake(uint64_t key, int most);
 /* Lets all of a process's threads look again that wait for descriptors; 0: of all processes. */
 void wake_descriptors(uint32_t pid);
 
-/* Turns, for a thread that pthread_cancel is to end anywhere, off and on that it does so now; NULL where none is. */
+/* Turns, for a thread that pthread_cancel is to end anywhere, off and on that it does so now; NULL if none is. */
 extern void (*hold_cancel)(bool is_held);
 
 /* A moment from now, and the moment at which a clock shows this. */
 uint64_t after(uint64_t nanoseconds);
 
-/* Whose turn it is, or NOBODY. */
+/* The thread that has the turn, or NOBODY. */
 uint32_t turn_owner(void);
 
-/* Changes the turn from `turn`, as it was read, to that of another, or marks it by DECIDING; false where it is over. */
+/* Changes the turn from `turn`, as it was read, to that of another, or marks it by DECIDING; false if it is over. */
 bool turn_change(uint64_t turn, uint32_t to);
 
-/* Begins to decide whose turn is next, for who has it; false where it was taken back. */
+/* Begins to decide whose turn is next, for who has it; false if it was taken back. */
 bool begin_deciding(void);
 
 /* Who can go on next: the number of its slot, or NOBODY and run->pause. Only for who decides. */
@@ -107,7 +107,7 @@ void hand_turn(uint32_t index);
 /* Wakes the thread whose turn it is now. */
 void wake_owner(uint32_t index);
 
-/* Has the coordinator look whose turn it is, where it is nobody's. */
+/* Has the coordinator look whose turn it is, if it is nobody's. */
 void ring(void);
 
 /* Whether a process handled all signals that it was sent, or has ended; waits for it for a while. */
@@ -120,9 +120,9 @@ uint64_t key_of_number(uint64_t number);
 uint64_t key_of_children(uint32_t pid);
 uint64_t key_of_signals(uint32_t pid);
 
-/* Handles signals that came while this thread decided; NULL where no program has handlers. */
+/* Handles signals that came while this thread decided; NULL if no program has handlers. */
 extern void (*handle_deferred)(void);
-/* Asks the coordinator for the epoll. Returns false where there is none. */
+/* Asks the coordinator for the epoll. Returns false if there is none. */
 bool register_process(void);
 /* Asks it to send the signals of an alarm of this process. */
 bool register_alarm(const struct alarm *alarm);
