@@ -39,6 +39,8 @@ def program_files():
     # Without a gcc, as it has said then, there may be no canbusd-run, as with `make install`.
     with contextlib.suppress(subprocess.CalledProcessError):
         programs += said("run-program", "files")
+    with contextlib.suppress(subprocess.CalledProcessError):
+        programs += said("library", "fitting")
     return sorted(CLONE / name for name in [*programs, "tools/serve"])
 
 

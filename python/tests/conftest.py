@@ -8,9 +8,12 @@ import sys
 
 import pytest
 
+import kept_bytecode  # noqa: F401
+from browser import Browser
 from canbusd._process.program import find_program
 from canbusd.server import Server
 from common import PYTHON
+from made_once import made_once
 
 # Programs that the tests start have the package of the tests, and the program that fits the sources.
 os.environ["PYTHONPATH"] = os.path.dirname(importlib.util.find_spec("canbusd").submodule_search_locations[0])
@@ -23,6 +26,14 @@ if "CANBUSD" not in os.environ:
 def pytest_addoption(pluginmanager):
     """Where the package is not installed, pytest has not found its plugin."""
     pluginmanager.import_plugin("canbusd.pytest_plugin")
+
+
+@pytest.fixture(scope="session")
+def browser(tmp_path_factory):
+    """A browser that opens one page after the other."""
+    browser = Browser(tmp_path_factory.mktemp("browser"))
+    yield browser
+    browser.close()
 
 
 @pytest.fixture
@@ -39,10 +50,8 @@ def pair(server):
         yield can0, can1
 
 
-@pytest.fixture(scope="session")
-def installed(tmp_path_factory):
-    """The environment of a process that finds the package as pip installs it, with its entry points."""
-    folder = tmp_path_factory.mktemp("installed")
+def install(folder):
+    """Installs the package by pip."""
     # Not where it is: setuptools builds in the folder that it is given.
     source = folder / "clone" / "python"
     shutil.copytree(PYTHON, source, ignore=shutil.ignore_patterns("build", "*.egg-info", "__pycache__", ".*"))
@@ -53,5 +62,11 @@ def installed(tmp_path_factory):
         capture_output=True, text=True, check=False,
     )  # fmt: skip
     assert done.returncode == 0, done.stderr
-    given = {"PYTHONPATH": str(folder / "target"), "CANBUSD_RUN": find_program("canbusd-run")}
+
+
+@pytest.fixture(scope="session")
+def installed(request):
+    """The environment of a process that finds the package as pip installs it, with its entry points."""
+    place = made_once(request, "installed", install) / "target"
+    given = {"PYTHONPATH": str(place), "CANBUSD_RUN": find_program("canbusd-run")}
     return {**os.environ, **given, "PYTHONWARNINGS": "ignore", "PYTHONUNBUFFERED": "1"}

@@ -583,8 +583,26 @@ def test_a_run_to_a_moment_that_is_refused():
 
 
 @pytest.mark.parametrize(
+    "rates", [{"bitrate": {"can1": 5_000}}, {"bitrate": {None: 5_000}}, {"bitrate": {"can0": 5_000, None: 500_000}}]
+)
+def test_a_bit_rate_by_an_interface(rates):
+    """123# takes 45 bits, of 200 microseconds."""
+    with Bench("can0,can1", **rates) as bench:
+        bench.open("can0").send(0x123)
+        assert bench.attempt().timestamp == 0.009
+        assert [one.timestamp for one in bench.record().attempts] == [0.009]
+
+
+@pytest.mark.parametrize(
     "rates",
-    [{"bitrate": 4_999}, {"dbitrate": 500_000}, {"bitrate": 500_000, "dbitrate": 499_999}, {"bitrate": "500k"}],
+    [
+        {"bitrate": 4_999},
+        {"dbitrate": 500_000},
+        {"bitrate": 500_000, "dbitrate": 499_999},
+        {"bitrate": "500k"},
+        {"bitrate": {"can1": 500_000}},
+        {"bitrate": {"can0": "500k"}},
+    ],
 )
 def test_bit_rates_that_a_bus_may_not_have(rates):
     with pytest.raises(ValueError, match="bitrate"):

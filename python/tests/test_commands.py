@@ -1,4 +1,4 @@
-"""canbusd COMMAND: dump, send, status, report and replay, each as a process."""
+"""canbusd COMMAND: dump, send, status, report and replay, each as a process: a fork, or a program of its own."""
 
 import contextlib
 import json
@@ -21,6 +21,7 @@ from canbusd.commands.status import table_of
 from canbusd.faults import Faults
 from canbusd.frames import Frame
 from canbusd.server import Server
+from forked import forked
 
 WAIT = 30
 READY, END = 0x7FF, 0x7FE
@@ -39,11 +40,7 @@ def words_of(*words):
 
 def call(*words, server=None, **more):
     """Runs a command to its end; its status, what it wrote, and its faults."""
-    done = subprocess.run(
-        words_of(*words), env=environment(server), stdin=subprocess.DEVNULL, stdout=subprocess.PIPE,
-        stderr=subprocess.PIPE, text=True, timeout=WAIT, **more,
-    )  # fmt: skip
-    return done.returncode, done.stdout, done.stderr
+    return forked(*words, env=environment(server), **more)
 
 
 def message(identifier, data=b"", **more):
@@ -343,6 +340,11 @@ def test_status_has_the_load_of_buses_with_a_bit_rate():
         "can1       off     256    0     1     0        0     1        0  100.0 % ##########",
         "body0      active    0    7     0     0        0     0        0    0.0 % ..........",
     ]
+    assert table_of(rows[1:], [Load(432, 1_080_000, 5_000, 5_000), Load(0, 0, 0, 0)]) == [
+        "interface  state   TEC  REC  sent  done  waiting  lost  refused            bus load",
+        "can1       off     256    0     1     0        0     1        0   43.2 % ####......",
+        "body0      active    0    7     0     0        0     0        0                   -",
+    ]
     assert table_of(rows[:1], [Load(0, 0, 0, 0)]) == [
         "interface  state   TEC  REC  sent  done  waiting  lost  refused",
         "can0       active    0    0  1200  1190       10     0        3",
@@ -505,7 +507,10 @@ def test_commands_and_their_help():
         assert f"canbusd {name}" in page
     assert call("help")[:2] == (0, written)
     assert call("dance")[0] == call("help", "dance")[0] == call()[0] == 2
-    assert call("--version") == (0, f"canbusd {canbusd.__version__}\n", "")
+    status, written, said = call("--version")
+    assert (status, said) == (0, "")
+    # An installed package names its commit.
+    assert re.fullmatch(rf"canbusd {re.escape(canbusd.__version__)}( \([0-9a-f]{{8}}\+?\))?\n", written)
 
 
 @pytest.mark.parametrize(

@@ -7,7 +7,7 @@ import pytest
 
 from browser import PROGRAM
 from test_commands import call
-from test_page import CUT, WEAK, WIDE, browser, opened  # noqa: F401  fixtures
+from test_page import CUT, WEAK, WIDE, opened  # noqa: F401  a fixture
 
 from canbusd._process.rates import Rates
 from canbusd._run.alignment import aligned, common

@@ -1,13 +1,13 @@
 """Which rule of faults gave an attempt its verdict, by the file that a run had or left; the page is tried in test_report.py."""
 
-import itertools
 import os
 import random
 
 import pytest
 
+from canbusd._process.rates import Rates
 from canbusd._run import fault_rules_of_run
-from canbusd._run.fault_rules_of_run import FaultsFile, deciders, faults_beside, texts_of
+from canbusd._run.fault_rules_of_run import FaultsFile, deciders, faults_beside, is_of_faults, read_ruled, taken_in
 from canbusd.bench import Bench
 from canbusd.record import BadRecord, parse_record, read_record, read_run
 
@@ -144,15 +144,39 @@ def test_a_record_that_comes_by_a_pipe(tmp_path):
         ruled(record, tmp_path / "faults", tmp_path / "fifo")
 
 
-def record_of(*identifiers):
-    """A record in which a sends a frame of each of these identifiers."""
+def test_a_record_that_is_read_once(tmp_path):
+    """by a pipe too, with the time on the wire; and its faults may be wrong, or it"""
+    record, _ = run_of(tmp_path, SCRIPT)
+    wanted = ruled(record, tmp_path / "faults")
+    rates = Rates(500_000)
+    reads, writes = os.pipe()
+    os.write(writes, (tmp_path / "a.rec").read_bytes())
+    os.close(writes)
+    for path in (tmp_path / "a.rec", f"/dev/fd/{reads}"):
+        found, rules = read_ruled(path, ["a", "b"], False, rates, FaultsFile(tmp_path / "faults", path))
+        again = read_run(tmp_path / "a.rec", ["a", "b"], cut=False, rates=rates)
+        assert rules == wanted and found.attempts == again.attempts and found.items == again.items
+    os.close(reads)
+    (tmp_path / "faults").write_text("next 0 good\n")
+    with pytest.raises(BadRecord, match="^script line 1: bad line: ") as fault:
+        read_ruled(tmp_path / "a.rec", ["a", "b"], False, None, FaultsFile(tmp_path / "faults"))
+    assert is_of_faults(fault.value)
+    (tmp_path / "b.rec").write_text("canbus record 1\n")
+    (tmp_path / "faults").write_text(SCRIPT)
+    with pytest.raises(BadRecord, match="^line 2: bad line") as fault:
+        read_ruled(tmp_path / "b.rec", ["a", "b"], False, None, FaultsFile(tmp_path / "faults"))
+    assert not is_of_faults(fault.value)
+
+
+def record_of(*identifiers, names=("a", "b")):
+    """A record in which the first of these sends a frame of each of these identifiers."""
     lines = ["open 0 256 = socket 0"]
     for number, identifier in enumerate(identifiers):
         frame = f"{identifier:03X}#"
         lines += [f"send 0 {frame} = number {number}"]
         lines += [f"attempt 0.{number:06} good = tried 0 {number} {frame} done 0002 0000"]
     text = "\n".join(["canbus record 1", "bus 2 always 0000 10 10000", *lines, f"end {len(lines)}", ""])
-    return parse_record(text.encode(), names=["a", "b"])
+    return parse_record(text.encode(), names=names)
 
 
 FULL = "".join(f"next 1 id 7{number:02X} lastbit\n" for number in range(64))
@@ -165,13 +189,13 @@ USED = "".join(f"at {number} next 1 id {number:03X} good\n" for number in range(
     [
         # None of the 64 can have been used up before the first attempt: the 65th has no number.
         (f"{FULL}at 0 next 9 id 001 global form\nat 0 nofaults\nat 0 next 1 id 000 good\n", {0: "next 1 id 000 good"}),
-        # One may have been used up by attempt 0, which is good: only the number of those after the 65th is known.
-        (f"{FULL}at 1 next 9 id 001 good\nat 1 nofaults\nat 1 next 1 id 002 good\n", {2: "rule 65"}),
+        # One could have been used up by attempt 0, which is good, and was not.
+        (f"{FULL}at 1 next 9 id 001 good\nat 1 nofaults\nat 1 next 1 id 002 good\n", {2: "next 1 id 002 good"}),
         # Until then all are known.
         (f"at 0 next 1 id 000 good\n{FULL[:-22]}at 1 always good\nat 2 nofaults", {0: "next 1 id 000 good", 1: "always good"}),
         # No rule without end is used up, and none that gives more verdicts than there were attempts.
         ("always id 7FF good\n" * 63 + "next 3 id 7FE good\nat 2 always lastbit\nat 2 nofaults\nat 2 always good", {2: "always good"}),
-        ("always id 7FF good\n" * 63 + "next 2 id 7FE good\nat 2 always lastbit\nat 2 nofaults\nat 2 always good", {2: "rule 65"}),
+        ("always id 7FF good\n" * 63 + "next 2 id 7FE good\nat 2 always lastbit\nat 2 nofaults\nat 2 always good", {2: "always good"}),
         # What was before all rules were ended is forgotten.
         ("at 1 nofaults\n" + "at 1 next 1 id 7FE good\n" * 64 + LATE, {1: "next 1 id 001 good"}),
         # A hundred, each of which is used up at once.
@@ -185,12 +209,12 @@ def test_more_rules_than_have_a_place(tmp_path, faults, rules):
     assert {number: rule for number, rule in enumerate(found) if rule} == rules
 
 
-def test_an_interface_that_is_called_nofaults():
+def test_an_interface_that_is_called_nofaults(tmp_path):
     """a rule may end in its name, and ends no others"""
-    full = b"at 0 always id 7FF local crc nofaults\n" * 64
-    given = b"at 0 always local crc nofaults\nat 0 nofaults\nat 0 always good"
-    assert texts_of(full + given, [65]) == {65: "always good"}
-    assert texts_of(full + given + b"\nat 0 nofaults", [65, 66]) == {65: "always good"}
+    full = "at 0 always id 7FF local crc nofaults\n" * 63
+    (tmp_path / "faults").write_text(f"{full}at 0 always good\nat 0 always local crc nofaults\n")
+    record = record_of(0, names=["a", "nofaults"])
+    assert ruled(record, tmp_path / "faults") == ["always good"]
 
 
 def random_faults(source, attempts):
@@ -210,23 +234,24 @@ def random_faults(source, attempts):
     return "".join(f"{line}\n" for line in [*lines, *start])
 
 
-def test_the_numbers_are_those_of_the_program(tmp_path):
-    """a rule that gave an attempt its verdict is about the identifier of that one, if its text is known"""
-    known = unknown = 0
+def test_the_rules_are_about_the_attempts(tmp_path):
+    """a rule that gave an attempt its verdict is about the identifier of that one"""
+    known = 0
     record = record_of(*range(120))
     for seed in range(40):
         (tmp_path / "faults").write_text(random_faults(random.Random(seed), 120))
         for attempt, rule in enumerate(ruled(record, tmp_path / "faults")):
-            assert not rule or rule.startswith("rule ") or f" id {attempt:03X} " in f"{rule} ", (seed, attempt, rule)
-            known, unknown = known + rule.startswith(("next", "always")), unknown + rule.startswith("rule ")
-    assert known > 1000 and unknown > 100, (known, unknown)
+            assert not rule or f" id {attempt:03X} " in f"{rule} ", (seed, attempt, rule)
+            known += bool(rule)
+    assert known > 1000, known
 
 
 def test_only_the_rules_that_are_named_are_read(monkeypatch):
     """of a hundred thousand"""
     read = []
     monkeypatch.setattr(fault_rules_of_run, "parse_rule", lambda text: read.append(text) or text)
-    ended = itertools.repeat("at 0 next 1 good\nat 0 nofaults\n", 100_000)
-    faults = f"{''.join(ended)}at 0 next 2 lastbit\n"
-    assert texts_of(faults.encode(), [100_001, 0]) == {100_001: "next 2 lastbit"}
+    ended = [line for number in range(1, 100_001) for line in (f"rule {number} next 1 good", "nofaults")]
+    attempts = ["attempt 0.000001 lastbit = tried 0 0 123# lastbit 0002 0000; rule 100001"] * 2
+    events = "\n".join([*ended, "rule 100001 next 2 lastbit", *attempts])
+    assert taken_in([events]).deciders() == ["next 2 lastbit"] * 2
     assert read == ["next 2 lastbit"]

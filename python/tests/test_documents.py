@@ -7,6 +7,7 @@ import subprocess
 import sys
 from pathlib import Path
 
+from canbusd._library import library
 from canbusd.server import Server
 
 CLONE = Path(__file__).resolve().parents[2]
@@ -17,6 +18,14 @@ DOCUMENTS = {"readme": "README.md", "guide": "docs/GUIDE.md"}
 def blocks(path):
     """The blocks of Python in a document."""
     return re.findall(r"^```python\n(.*?)^```$", (CLONE / path).read_text(encoding="utf-8"), re.M | re.S)
+
+
+def found_library():
+    """The path of libcanbusd, or None where there is none."""
+    try:
+        return library.find_library()
+    except library.LibraryNotFound:
+        return None
 
 
 def test_the_tests_of_the_documents_need_their_faults(installed, tmp_path):
@@ -38,16 +47,19 @@ def test_the_tests_of_the_documents_need_their_faults(installed, tmp_path):
 
 def test_the_code_of_the_package(installed):
     code = blocks("docs/PYTHON.md")
+    libcanbusd = found_library()
     runs = [
         block
         for block in code
         if ("hypothesis" not in block or importlib.util.find_spec("hypothesis"))
         and ("candump" not in block or shutil.which("candump"))
+        and ("LocalBus" not in block or libcanbusd)
     ]
     program = "\n".join(["from canbusd import Bench, Faults, Server", *runs])
     with Server("can0,can1") as server:
         env = {**installed, "CANBUSD_ADDRESS": server.address}
+        env |= {"CANBUSD_LIBRARY": libcanbusd} if libcanbusd else {}
         done = subprocess.run([sys.executable, "-c", program], env=env, capture_output=True, text=True, check=False)
     assert done.returncode == 0, done.stderr
     assert re.match("Timestamp: .* ID: +0?123 .* 01 02 03 ", done.stdout)
-    assert len(code) == 11
+    assert len(code) == 12

@@ -11,6 +11,7 @@ import pytest
 from canbusd._run.logs import Entry, name_of, read_entries, write_entries
 from canbusd.bench import Bench
 from canbusd.frames import Frame
+from forked import forked
 
 TOOL = Path(__file__).resolve().parents[2] / "tools" / "candump2bench"
 # Moments, interfaces and frames, of each kind.
@@ -33,10 +34,7 @@ def log(tmp_path):
 
 def convert(*words):
     """The command: its status, and what it wrote."""
-    done = subprocess.run(
-        [sys.executable, "-m", "canbusd", "convert", *map(str, words)], capture_output=True, text=True, check=False
-    )
-    return done.returncode, done.stdout, done.stderr
+    return forked("convert", *words)
 
 
 def output(*words):

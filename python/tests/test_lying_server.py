@@ -4,7 +4,6 @@ import contextlib
 import re
 import socket
 import subprocess
-import sys
 import threading
 from pathlib import Path
 
@@ -12,6 +11,7 @@ import pytest
 from test_commands import environment
 
 from canbusd._process.program import find_program
+from forked import forked
 
 HERE = Path(__file__).parent
 WAIT = 60
@@ -101,7 +101,10 @@ def shown(address, words):
 @pytest.mark.parametrize("name", [*COMMANDS])
 def test_no_control_characters(name, lie):
     with liar(LIES[lie]) as address:
-        written = shown(address, [sys.executable, "-m", "canbusd", *COMMANDS[name]])
+        env = {**environment(), "CANBUSD_ADDRESS": address}
+        # One that goes on is ended.
+        _, written, errors = forked(*COMMANDS[name], env=env, longest=15)
+    written += errors
     assert "Traceback" not in written
     assert not re.findall(r"[^\n\t -~]", written), written
 

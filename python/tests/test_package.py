@@ -92,13 +92,14 @@ LAYERS = """
     _isotp
     _uds+uds
     _process
+    _library
     _database+signals
     e2e+_protected shapes
     _run+record+replay
     _expect
-    bus isotp programs strategies
+    bus local isotp programs strategies
     _restbus+rest_bus
-    bench server
+    bench server local_can
     _page
     _sweep
     commands+candump2bench pytest_plugin

@@ -6,7 +6,7 @@ import io
 import json
 
 import pytest
-from browser import PROGRAM, Browser
+from browser import PROGRAM
 from test_downs import EVENTS, replay_of
 from test_downs import NAMES as NAMES_OF_EVENTS
 from test_report import NAMES, bus_off, record_of
@@ -86,13 +86,6 @@ ENDS = """lanes.map((lane, k) => {
   return end.getBoundingClientRect().right <= name.getBoundingClientRect().right + 1 ? end.textContent : null;
 })"""
 TABS = ["tab-events", "tab-attempts", "tab-items", "tab-nodes", "tab-sockets", "tab-identifiers"]
-
-
-@pytest.fixture(scope="module")
-def browser(tmp_path_factory):
-    browser = Browser(tmp_path_factory.mktemp("browser"))
-    yield browser
-    browser.close()
 
 
 @pytest.fixture

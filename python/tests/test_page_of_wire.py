@@ -3,7 +3,7 @@ Chromium."""
 
 import pytest
 from browser import PROGRAM
-from test_page import ATTEMPT, CUT, TABS, WRITTEN, browser, long_run, opened, show_each  # noqa: F401  two fixtures
+from test_page import ATTEMPT, CUT, TABS, WRITTEN, long_run, opened, show_each  # noqa: F401  a fixture
 from test_report import NAMES, bus_off, record_of
 from test_time_on_wire import run_of_three_messages
 

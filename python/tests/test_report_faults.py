@@ -1,14 +1,15 @@
 """The faults of `canbusd report`: those beside the record, and those that are named."""
 
 import argparse
+import contextlib
 import os
 import subprocess
-import sys
 
 import pytest
 
 from canbusd import Bench
 from canbusd.commands import report
+from forked import forked
 from test_report import data_of, rules_on
 
 RULE = "next 1 from a lastbit"
@@ -33,12 +34,9 @@ def reported(tmp_path):
             with Bench(names, faults=f"{RULE}\n", out=tmp_path) as bench:
                 bench.open("a").send(0x123)
                 assert [bench.attempt().outcome for _ in range(2)] == ["lastbit", "done"]
-        command = [sys.executable, "-m", "canbusd", "report", *words]
-        more = {"stdin": subprocess.DEVNULL, **more}
-        done = subprocess.run(command, cwd=tmp_path, capture_output=True, text=True, timeout=60, **more)
+        status, page, said = forked("report", *words, cwd=tmp_path, **more)
         # That an interface has no name is another matter.
-        said = "".join(line for line in done.stderr.splitlines(True) if ": no log names " not in line)
-        return done.returncode, done.stdout, said
+        return status, page, "".join(line for line in said.splitlines(True) if ": no log names " not in line)
 
     return reported
 
@@ -116,18 +114,26 @@ def test_faults_that_can_not_be_opened(tmp_path, monkeypatch, capsys):
     assert capsys.readouterr().err == "canbusd report: without rules of faults: a.rec.faults: Permission denied\n"
 
 
+@contextlib.contextmanager
+def piped(text):
+    """The end of a pipe from which this is read."""
+    reads, writes = os.pipe()
+    os.write(writes, text.encode())
+    os.close(writes)
+    yield reads
+    os.close(reads)
+
+
 def test_faults_by_a_pipe(ruled, tmp_path):
     """they are read once, and standard input is theirs"""
     script = f"{RULE}\n"
-    assert ruled("--faults", "/dev/stdin", "a.rec", stdin=None, input=script) == ([RULE, ""], "")
+    with piped(script) as pipe:
+        assert ruled("--faults", "/dev/stdin", "a.rec", stdin=pipe) == ([RULE, ""], "")
     (tmp_path / "faults").write_text(script)
     with open(tmp_path / "faults") as file:
         assert ruled("--faults", "/dev/stdin", "a.rec", stdin=file) == ([RULE, ""], "")
-    reads, writes = os.pipe()
-    os.write(writes, script.encode())
-    os.close(writes)
-    assert ruled("--faults", f"/dev/fd/{reads}", "a.rec", pass_fds=[reads]) == ([RULE, ""], "")
-    os.close(reads)
+    with piped(script) as pipe:
+        assert ruled("--faults", f"/dev/fd/{pipe}", "a.rec") == ([RULE, ""], "")
     os.mkfifo(tmp_path / "fifo")
     with subprocess.Popen(["sh", "-c", "cat faults > fifo"], cwd=tmp_path):
         assert ruled("--faults", "fifo", "a.rec") == ([RULE, ""], "")

@@ -117,6 +117,13 @@ def test_ways_to_give_faults(tmp_path, form):
         (["can0"], {"dbitrate": 500_000}, "data_bitrate=500000 needs a bitrate too"),
         (["can0"], {"bitrate": 500_000, "data_bitrate": 499_999}, "data_bitrate=499999 is below bitrate=500000"),
         (["can0"], {"data_bitrate": 500_000, "dbitrate": 600_000}, "are one argument, not 500000 and 600000"),
+        (["can0"], {"bitrate": {"can1": 500_000}}, "bitrate is by interfaces, which are can0, not by 'can1'"),
+        (["can0,can1"], {"bitrate": {"can0": 5_000, "can1": 5_000}}, "bitrate has two values for the bus 'can0,can1'"),
+        (["can0"], {"bitrate": {"can0": 5_000, None: 4_999}}, "bitrate is .*, not 4999"),
+        (["can0"], {"bitrate": {"can0": None}}, "bitrate is .*, not None"),
+        (["a", "b"], {"bitrate": {"a": 5_000}, "dbitrate": {"b": 5_000}}, "data_bitrate=5000 needs a bitrate too"),
+        (["a", "b"], {"bitrate": {"a": 5_000}, "dbitrate": 5_000}, "data_bitrate=5000 needs a bitrate too"),
+        (["a", "b"], {"bitrate": {"a": 5_001, None: 5_000}, "dbitrate": 5_000}, "5000 is below bitrate=5001"),
         (["can0"], {"txqueue": "10"}, "txqueue"),
         (["can0"], {"limit": True}, "limit"),
         (["can0"], {"listen": "x"}, "listen is HOST:PORT, .* not 'x'"),
@@ -240,6 +247,40 @@ def test_the_bit_rates_reach_the_program(caplog):
         assert 0 <= moments[place] - moments[place - 1] - wanted <= 1
     # The page has the bus load.
     assert "loadIn" in server.report().read_text(encoding="utf-8")
+
+
+@pytest.mark.quiet
+def test_each_bus_has_bit_rates_of_its_own():
+    """By any of its interfaces, and the others by None; a bus that no number is for has none."""
+    frame, frames = message(1, b"\x55" * 4), 3
+    rates = {"bitrate": {"body1": 5_000, "can0": 50_000}, "data_bitrate": {"can0": 500_000}}
+    with Server("can0,can1", "body0,body1", "lin0,lin1", **rates) as server:
+        buses = [server.bus(name) for name in server.interfaces]
+        assert [(one.load().bitrate, one.load().data_bitrate) for one in buses[::2]] == [
+            (50_000, 500_000),
+            (5_000, 5_000),
+            (0, 0),
+        ]
+        for sender, receiver in zip(buses[::2], buses[1::2]):
+            sender.send_many([frame] * frames)
+            assert all(receiver.recv(WAIT) for _ in range(frames))
+        for bus in buses:
+            bus.shutdown()
+    for name, rate in (("can0", 50_000), ("body0", 5_000)):
+        moments = [round(one.timestamp * 1_000_000) for one in server.record(name).attempts]
+        lasts = nanos_of(server.record(name).attempts[0].frame, rate)[1] // 1000
+        assert all(0 <= after - before - lasts <= 1 for before, after in zip(moments, moments[1:])), moments
+        assert "loadIn" in server.report(name).read_text(encoding="utf-8")
+    assert "loadIn" not in server.report("lin0").read_text(encoding="utf-8")
+
+
+def test_a_number_for_all_others():
+    with Server("can0", "can1,can2", "can3", bitrate={None: 500_000, "can2": 125_000}) as server:
+        loads = []
+        for name in server.interfaces:
+            with server.bus(name) as bus:
+                loads.append(bus.load().bitrate)
+    assert loads == [500_000, 125_000, 125_000, 500_000]
 
 
 def test_the_load_of_a_bus():

@@ -19,6 +19,7 @@ from canbusd._process.program import find_program
 from canbusd._sweep.attempts import Attempted
 from canbusd._sweep.faults_given import Fault, parse_fault
 from canbusd._sweep.places import places_at
+from forked import forked
 
 pytest_plugins = ["pytester"]
 EXAMPLES = Path(__file__).resolve().parents[2] / "examples" / "sweep"
@@ -53,14 +54,19 @@ BENCH = """
 
 @pytest.fixture
 def sweep(pytester, monkeypatch):
-    """Runs pytest on tests, in another process with this package; the options are those of a sweep."""
+    """Runs pytest on tests, in another process with this package; the options are those of a sweep. It is started as a sweep
+    starts it anew, so it is started once; pytest itself is started where a test is for that.
+    """
     monkeypatch.setenv("PYTHONPATH", str(Path(canbusd.__file__).parents[1]), prepend=os.pathsep)
     monkeypatch.setenv("PYTHONDONTWRITEBYTECODE", "1")
+    monkeypatch.setenv("PYTHONHASHSEED", "0")
 
-    def run(text, *words):
+    def run(text, *words, is_ready=True):
         pytester.makepyfile("import can, canbusd, pytest\n" + "\n".join(line[4:] for line in text.split("\n")))
+        ready = [find_program("canbusd-run"), "--ready", "--"] if "--canbusd-sweep" in words and is_ready else []
+        pytest_words = [sys.executable, "-m", "pytest", f"--basetemp={pytester.path / 'runs'}"]
         plugins = ["-p", "canbusd.pytest_plugin", "-p", "no:cacheprovider", "-p", "no:xdist"]
-        return pytester.runpytest_subprocess(*plugins, *words)
+        return pytester.run(*ready, *pytest_words, *plugins, *words)
 
     return run
 
@@ -76,7 +82,7 @@ def outcomes(test, kind):
 
 
 def test_a_frame_that_is_counted_twice(sweep, pytester):
-    result = sweep(PRESSES, "--canbusd-sweep", "--junitxml=results.xml")
+    result = sweep(PRESSES, "--canbusd-sweep", "--junitxml=results.xml", is_ready=False)
     result.stdout.fnmatch_lines(
         [
             "test_a_frame_that_is_counted_twice.py::test_presses: 3 attempts, 9 placements, 9 run, 3 failed",
@@ -311,9 +317,9 @@ def test_quick(sweep, pytester):
 
 def joined(pytester, *names):
     """Joins the parts in these folders; its status, what it wrote, and its error."""
-    words = [sys.executable, "-m", "canbusd", "sweep", "--join", *(f"{name}/sweep.json" for name in names)]
-    found = subprocess.run(words, cwd=pytester.path, capture_output=True, text=True)
-    return found.returncode, found.stdout.splitlines(), found.stderr
+    parts = (f"{name}/sweep.json" for name in names)
+    status, written, said = forked("sweep", "--join", *parts, cwd=pytester.path)
+    return status, written.splitlines(), said
 
 
 def test_parts_of_a_sweep(sweep, pytester):
@@ -541,8 +547,8 @@ def test_a_command(pytester, monkeypatch):
     ],
 )
 def test_words_of_the_command(words, said):
-    found = subprocess.run([sys.executable, "-m", "canbusd", "sweep", *words], capture_output=True, text=True)
-    assert found.returncode == 2 and said in found.stderr
+    status, _, errors = forked("sweep", *words)
+    assert status == 2 and said in errors
 
 
 def processes_with(mark):

@@ -64,7 +64,7 @@ def test_the_sender_is_the_interface_that_has_sent_the_frame():
     """though identifiers are the same, and one of the bus is not watched"""
     with Server("can0,can1,can2") as server:
         watcher = Watcher(["can0", "can1"], server.address)
-        assert watcher.wire is None
+        assert watcher.wires == [None, None]
         for sender in ("can0", "can1", "can2", "can1", "can0"):
             with server.bus(sender, receive_own_messages=True) as bus:
                 bus.send(can.Message(arbitration_id=0x100, is_extended_id=False))
@@ -75,11 +75,28 @@ def test_the_sender_is_the_interface_that_has_sent_the_frame():
     assert [(row[1], row[2], row[4]) for row in sorted(rows)] == [("100#", 3, sender) for sender in (0, 1, -1, 1, 0)]
 
 
+def test_how_long_frames_took_on_buses_with_bit_rates_of_their_own():
+    """on one it takes ten times as long, and on another it is not known"""
+    names, rates = ["can0", "body0", "lin0"], {"can0": 50_000, "body0": 5_000}
+    with Server(*names, bitrate=rates) as server:
+        watcher = Watcher(names, server.address)
+        assert [wire and wire.rates.bitrate for wire in watcher.wires] == [50_000, 5_000, None]
+        for number, name in enumerate(names):
+            with server.bus(name, receive_own_messages=True) as bus:
+                bus.send(can.Message(arbitration_id=number, is_extended_id=False))
+                assert bus.recv(5), "the frame before the next one"
+        _, rows = watcher.tick(1)
+        for one in watcher.buses:
+            one.shutdown()
+    wanted = [(f"00{number}#", nanos_of(f"00{number}#", rate)[1]) for number, rate in enumerate(rates.values())]
+    assert sorted((row[1], row[5]) for row in rows) == [*wanted, ("002#", 0)]
+
+
 def test_the_load_and_how_long_frames_took():
     rates = Rates(5_000, 20_000)
     with Server("can0,can1", bitrate=5_000, dbitrate=20_000, txqueue=1_000) as server, server.bus("can0") as bus:
         watcher = Watcher(["can0", "can1"], server.address)
-        assert watcher.wire.rates == rates
+        assert [wire.rates for wire in watcher.wires] == [rates, rates]
         # 26 seconds of frames.
         bus.send_many([can.Message(arbitration_id=1, data=bytes(8), is_extended_id=False)] * 1_000)
         server.wait_for(lambda: bus.load().permille >= 990, timeout=WAIT)

@@ -14,6 +14,7 @@ import pytest
 
 import canbusd
 from common import PYTHON, WAIT
+from made_once import made_once
 
 CLONE = PYTHON.parent
 NAME = f"canbusd-{canbusd.__version__}-py3-none-manylinux_2_34_x86_64.whl"
@@ -28,17 +29,17 @@ def done(*words, **options):
 
 
 @pytest.fixture(scope="module")
-def wheel(tmp_path_factory):
+def wheel(request):
     """The wheel."""
-    folder = tmp_path_factory.mktemp("wheel")
-    done(*SCRIPT, folder, env={**os.environ, "PYTHON": sys.executable})
-    return folder / NAME
+    env = {**os.environ, "PYTHON": sys.executable}
+    return made_once(request, "wheel", lambda folder: done(*SCRIPT, folder, env=env)) / NAME
 
 
 @pytest.fixture
 def environment(tmp_path):
-    """A virtual environment in a folder of its own, where nothing shows the way to a program; python-can is Debian's."""
-    done(sys.executable, "-m", "venv", "--system-site-packages", tmp_path / "venv")
+    """A virtual environment in a folder of its own, where nothing shows the way to a program; python-can and pip are
+    those of the system."""
+    done(sys.executable, "-m", "venv", "--system-site-packages", "--without-pip", tmp_path / "venv")
     kept = {name: value for name, value in os.environ.items() if not name.startswith(("CANBUSD", "PYTHON"))}
 
     def run(*words):
@@ -53,7 +54,10 @@ def test_the_same_sources_give_the_same_wheel(wheel, tmp_path):
     assert (tmp_path / NAME).read_bytes() == wheel.read_bytes()
 
 
-PROGRAMS = ["canbusd", "canbusd-bridge", "canbusd-run", "libcanbusd-run.so", "libcanbusd-virtual.so", "serve"]
+PROGRAMS = [
+    *("canbusd", "canbusd-bridge", "canbusd-run", "libcanbusd-run.so", "libcanbusd-virtual.so", "libcanbusd.so.0"),
+    "serve",
+]
 
 
 def test_what_is_in_the_wheel(wheel, tmp_path):
@@ -91,7 +95,7 @@ def test_changed_sources_give_another_wheel(tmp_path):
 def copy_of_clone(copy):
     """A copy of what the wheel is made of; the proved sources are those of the clone itself."""
     ignored = shutil.ignore_patterns("out", "tests", "build", "*.egg-info", "__pycache__", ".*")
-    for name in ("python", "scripts", "canrun", "dist", "tools"):
+    for name in ("python", "scripts", "canrun", "libcanbusd", "dist", "tools"):
         shutil.copytree(CLONE / name, copy / name, ignore=ignored)
     for name in ("canbusd.1", "crates.txt"):
         shutil.copy(CLONE / name, copy / name)
@@ -148,7 +152,10 @@ def tries_the_commands(bin, folder):
     def written(*words, **options):
         return done(*words, cwd=folder, env=env, **options).stdout
 
-    assert written("canbusd", "--version") == f"canbusd {canbusd.__version__}\n"
+    assert (
+        re.fullmatch(r"canbusd (\S+)(?: \([0-9a-f]{8}\+?\))?\n", written("canbusd", "--version"))[1]
+        == canbusd.__version__
+    )
     assert written("canbusd", "help", "bench") == written("canbusd", "bench", "--help")
     assert written("canbusd", "audit", "run.rec") == "ok 0 entries\n"
     assert "</html>" in written("canbusd", "report", "--names", "can0", "run.rec")
@@ -192,7 +199,8 @@ def test_pip_installs_the_same_from_the_clone(wheel, environment, tmp_path):
     (package,) = (tmp_path / "venv" / "lib").glob("python3*/site-packages/canbusd")
     with zipfile.ZipFile(wheel) as opened:
         for name in opened.namelist():
-            if name.startswith("canbusd/"):
+            # No copy without git knows its commit.
+            if name.startswith("canbusd/") and name != "canbusd/COMMIT":
                 assert (package.parent / name).read_bytes() == opened.read(name), name
     tries_the_package(environment, tmp_path)
 

@@ -40,6 +40,7 @@ if TYPE_CHECKING:
     from canbusd.faults import Faults
     from canbusd.frames import BadFrame, Frame
     from canbusd.isotp import IsoTp, IsoTpError
+    from canbusd.local import LocalBus
     from canbusd.programs import Program
     from canbusd.record import Attempt, BadRecord, Item, Record, read_record
     from canbusd.rest_bus import RestBus
@@ -67,6 +68,7 @@ __all__ = [
     "IsoTpError",
     "Item",
     "Load",
+    "LocalBus",
     "Program",
     "ProgramNotFound",
     "Record",
@@ -91,6 +93,7 @@ _HOMES = {
     "faults": ["Faults"],
     "frames": ["BadFrame", "Frame"],
     "isotp": ["IsoTp", "IsoTpError"],
+    "local": ["LocalBus"],
     "programs": ["Program"],
     "record": ["Attempt", "BadRecord", "Item", "Record", "read_record"],
     "rest_bus": ["RestBus"],

@@ -5,6 +5,7 @@ import difflib
 import importlib
 import sys
 from collections.abc import Callable, Sequence
+from pathlib import Path
 from typing import Any, NoReturn, Optional
 
 from canbusd import __version__
@@ -28,7 +29,7 @@ canbusd-run runs programs with CAN sockets, such as candump; candump2bench turns
 
 
 def module_of(name: str) -> Any:
-    """The module of a command, which is imported only where it is called: reports need no python-can."""
+    """The module of a command, which is imported only if it is called: reports need no python-can."""
     return importlib.import_module(f"canbusd.commands.{name}")
 
 
@@ -50,6 +51,15 @@ def help_text() -> str:
     return TEXT.format(commands="\n".join(f"  {name:<9}{text}" for name, text in COMMANDS.items()))
 
 
+def version_text() -> str:
+    """The version, and the commit that an installed package was made from."""
+    try:
+        commit = (Path(__file__).parent / "COMMIT").read_text(encoding="utf-8").strip()
+    except OSError:
+        return f"canbusd {__version__}"
+    return f"canbusd {__version__} ({commit})"
+
+
 def main_parser() -> argparse.ArgumentParser:
     """The parser of the first word."""
     parser = argparse.ArgumentParser(
@@ -61,8 +71,7 @@ def main_parser() -> argparse.ArgumentParser:
         add_help=False,
     )
     parser.add_argument("-h", "--help", action="help", help="show this help; after COMMAND, that of the command")
-    version = f"canbusd {__version__}"
-    parser.add_argument("-V", "--version", action="version", version=version, help="show the version")
+    parser.add_argument("-V", "--version", action="version", version=version_text(), help="show the version")
     parser.add_argument("command", nargs="?", metavar="COMMAND", help=argparse.SUPPRESS)
     return parser
 

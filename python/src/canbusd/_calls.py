@@ -39,7 +39,7 @@ def close_at_exit(close: Callable[[], object], kind: Optional[type[BaseException
 
 
 def meant(word: str, known: Iterable[str]) -> str:
-    """Returns the name that this word may mean, as a question; the empty text where it may mean none."""
+    """Returns the name that this word may mean, as a question; the empty text if it may mean none."""
     names = list(known)
     near = [OTHER_NAMES[word]] if OTHER_NAMES.get(word) in names else difflib.get_close_matches(word, names, n=1)
     return f" ({near[0]}?)" if near else ""
@@ -72,7 +72,7 @@ def explained(cure: str = "") -> Callable[[F], F]:
 
 
 def misfit(function: Callable[..., Any], args: tuple[Any, ...], kwargs: Mapping[str, Any]) -> str:
-    """Says why these are no arguments of a method or a function; the empty text where they are."""
+    """Says why these are no arguments of a method or a function; the empty text if they are."""
     # It takes its time, and is for mistakes only.
     import inspect
 

@@ -90,11 +90,11 @@ class Placement:
     at_sockets: Sequence[AtSockets] = ()
     resets: Sequence[Reset] = ()
     outages: Sequence[Outage] = ()
-    #: How many programs the test has started.
+    #: The number of programs that the test has started.
     programs: int = 0
     #: Why a fault could not be carried out.
     failure: str = ""
-    #: How many servers and benches the test has started, and the first bus of the first of them.
+    #: The number of servers that and benches the test has started, and the first bus of the first of them.
     runs: int = 0
     first: Optional[BusKey] = None
 
@@ -151,7 +151,7 @@ def at_sockets_of(interface: str) -> Optional[AtSockets]:
 
 
 def acknowledged_by(usual: "Ack") -> "Ack":
-    """Returns who acknowledges frames: the other nodes of the bus only, where the placement takes these off the bus."""
+    """Returns who acknowledges frames: the other nodes of the bus only, if the placement takes these off the bus."""
     is_noack = _current is not None and any(one.kind == "noack" for one in _current.outages)
     return "peers" if is_noack else usual
 

@@ -1,4 +1,4 @@
-"""Says what is missing where there is no python-can, or one that is too old.
+"""Says what is missing if there is no python-can, or one that is too old.
 
 A module that needs python-can imports this one first.
 """

@@ -44,7 +44,7 @@ def named(path: Path, is_its: bool = False) -> Iterator[None]:
 
 
 def checked(path: Path) -> Optional[os.stat_result]:
-    """Returns the status of what is at this path, or None; OSError where it is a link to a file, or may not be written."""
+    """Returns the status of what is at this path, or None; OSError if it is a link to a file, or may not be written."""
     try:
         old = os.stat(path)
     except FileNotFoundError:
@@ -81,7 +81,7 @@ def renamed(path: Path, old: Optional[os.stat_result]) -> Iterator[BinaryIO]:
 
 
 def drafted(folder: int, name: str) -> tuple[int, bool]:
-    """Opens a new file in a folder, with this name only where there are none without; whether it has it."""
+    """Opens a new file in a folder, with this name only if there are none without; whether it has it."""
     # Where it is not there, such a file can't get a name later.
     if os.path.exists(OWN_FILES):
         try:

@@ -39,7 +39,7 @@ VERDICTS = (
     "local crc NAMES",
     "local form NAMES",
 )
-#: What becomes of an attempt that tried a frame, and how a report says it.
+#: The outcome of an attempt that tried a frame, and its words in a report.
 OUTCOMES = {
     "done": "done",
     "lastbit": "failed in the last bit",
@@ -71,11 +71,12 @@ RECORD_FULL = "record full"
 TOO_MANY_SESSIONS = "too many sessions"
 NO_MEMORY = "no memory"
 #: The commands, those of the program first, and what each does.
-PROGRAM = ("serve", "bench", "audit")
+PROGRAM = ("serve", "bench", "audit", "bits")
 COMMANDS = {
     "serve": "serve buses to clients",
     "bench": "run a script of sessions and attempts, the same at each run",
     "audit": "check a record",
+    "bits": "print the bits of a frame on the wire",
     "dump": "print frames as they come",
     "send": "send frames",
     "status": "print the state and the counts of interfaces",

@@ -23,7 +23,8 @@ from canbusd import _placement as placement
 from canbusd._expect.bench_time import SOON, PassesTime
 from canbusd._process.dialogue import BenchError as BenchError, Dialogue, moment_text
 from canbusd._process.program import audited
-from canbusd._process.program_run import Ack, bus_of, option_words, rates_of
+from canbusd._process.program_run import Ack, bus_of, option_words, rates_by_bus
+from canbusd._process.rates import BitRate, words_of
 from canbusd._restbus.node import Node
 from canbusd._restbus.nodes import database_of
 from canbusd._restbus.simulated_nodes import HasRestBus
@@ -89,17 +90,18 @@ class Bench(PassesTime, Dialogue, HasRestBus["BenchRestBus"], NamesWhatThereIs):
         txqueue: int = 10,
         rxqueue: int = 256,
         limit: int = 1_000_000,
-        bitrate: Optional[int] = None,
-        data_bitrate: Optional[int] = None,
-        dbitrate: Optional[int] = None,
+        bitrate: Optional[BitRate] = None,
+        data_bitrate: Optional[BitRate] = None,
+        dbitrate: Optional[BitRate] = None,
         out: Union[str, "os.PathLike[str]", None] = None,
         observe: Union[str, Sequence[str], None] = None,
         database: Union[Database, str, "os.PathLike[str]", None] = None,
     ) -> None:
         words = option_words(ack, report, auto_restart=auto_restart, txqueue=txqueue, rxqueue=rxqueue, limit=limit)
-        self._rates = rates_of(bitrate, data_bitrate, dbitrate)
-        words += self._rates.words if self._rates else []
         self.names, faults = bus_of(names, faults)
+        self._rates_by_bus = rates_by_bus({self.names[0]: self.names}, bitrate, data_bitrate, dbitrate)
+        self._rates = self._rates_by_bus[self.names[0]]
+        words += words_of(self._rates_by_bus)
         self.database = None if database is None else database_of(database)
         PassesTime.__init__(self, observe)
         Dialogue.__init__(self, out)
@@ -116,10 +118,10 @@ class Bench(PassesTime, Dialogue, HasRestBus["BenchRestBus"], NamesWhatThereIs):
             (self._folder / "faults").write_bytes(script)
             bus += f"@{self._folder / 'faults'}"
         self._start("bench", "--show-faults", *words, bus)
-        # What is wrong with the words shows before the first session is used.
+        # Wrong words are reported before the first session is used.
         self._greet()
         self._given = GivenRules(rules_in(script.decode()))
-        # The rule of each attempt, where one gave its fault.
+        # The rule of each attempt, if one gave its fault.
         self._rules: list[str] = []
         # The end of the last attempt.
         self._busy_until = 0.0
@@ -200,8 +202,8 @@ class Bench(PassesTime, Dialogue, HasRestBus["BenchRestBus"], NamesWhatThereIs):
 
         An `interface` may be named, as of a server with several buses.
 
-        All of them are in force then, or none: Refused where they would be more than 64 with those that are left, and
-        ValueError where one is wrong.
+        All of them are in force then, or none: Refused if they would be more than 64 with those that are left, and
+        ValueError if one is wrong.
         """
         rules = rules_of(faults)
         self._named(interface)

@@ -53,6 +53,8 @@ from canbusd.frames import (
 if TYPE_CHECKING:
     from can.typechecking import AutoDetectedConfig
 
+    from canbusd.local import LocalBus
+
 Self = TypeVar("Self", bound="CanbusdBus")
 
 LOG = logging.getLogger("can.canbusd")
@@ -96,7 +98,7 @@ def as_message(given: Any) -> Any:
 
 
 class Periodic:
-    """A bus as a periodic task has it: where the transmit queue is full, or the interface off, the task goes on, as one of
+    """A bus as a periodic task has it: if the transmit queue is full, or the interface off, the task goes on, as one of
     the system's own CAN sockets does. That is logged once; python-can would log each send, with a traceback.
     """
 
@@ -146,6 +148,14 @@ class CanbusdBus(InjectsFaults, NamesWhatThereIs, BusABC):
         **dict.fromkeys(("expect", "expect_no_frame", "expect_state", "bus_off", "wait_for"), "the Server has it"),
     }
 
+    def __new__(cls, *args: Any, local: Optional["LocalBus"] = None, **kwargs: Any) -> Any:
+        """A bus of a server; with `local` one of a bus inside this process, which is a `LocalCanbusdBus`."""
+        if local is None:
+            return super().__new__(cls)
+        from canbusd.local_can import LocalCanbusdBus
+
+        return LocalCanbusdBus(*args, local=local, **kwargs)
+
     @explained()
     def __init__(
         self,
@@ -164,7 +174,7 @@ class CanbusdBus(InjectsFaults, NamesWhatThereIs, BusABC):
         dbitrate: Union[int, str, None] = None,
         **kwargs: Any,
     ) -> None:
-        # python-can 4.3 warns of a bus that is not shut down, also where it never came to be.
+        # python-can 4.3 warns of a bus that is not shut down, also if it never came to be.
         self._is_shutdown = True
         self.channel = interface_name(channel)
         if "host" in kwargs or "port" in kwargs:
@@ -207,7 +217,7 @@ class CanbusdBus(InjectsFaults, NamesWhatThereIs, BusABC):
             raise
 
     def _prepare(self) -> None:
-        """What is known of the bus before it is connected."""
+        """The facts about the bus before it is connected."""
         # From version 4.3 on.
         protocols = getattr(can, "CanProtocol", None)
         if protocols is not None:
@@ -219,7 +229,7 @@ class CanbusdBus(InjectsFaults, NamesWhatThereIs, BusABC):
         self._lock_send_periodic = threading.Lock()
 
     def _compare(self, rates: Mapping[str, int]) -> None:
-        """Logs which of these bit rates are not the server's; it is not asked where there are none."""
+        """Logs which of these bit rates are not the server's; it is not asked if there are none."""
         load = load_of(self._session.answer("load")) if rates else None
         if load is None:
             # An older server does not say.
@@ -263,14 +273,14 @@ class CanbusdBus(InjectsFaults, NamesWhatThereIs, BusABC):
     ) -> None:
         """Puts a message into the transmit queue of the interface.
 
-        Where this returns, the server has accepted it; it goes out once it wins arbitration. As on a bench it may be a Frame, or
+        If this returns, the server has accepted it; it goes out once it wins arbitration. As on a bench it may be a Frame, or
         an identifier with its data, ``send(0x123, b"\\x01")``, which has 29 bits above 7FF.
 
         :param timeout: seconds in which a full transmit queue may make room; none: a full one is an error at once
-        :raises ~can.exceptions.CanOperationError: where the server refuses it; the ``error_code`` of ``no buffers`` is
+        :raises ~can.exceptions.CanOperationError: if the server refuses it; the ``error_code`` of ``no buffers`` is
             ``ENOBUFS``, of ``bus off`` and ``interface down`` ``ENETDOWN``
-        :raises ~can.exceptions.CanTimeoutError: where the queue was full until the timeout, or no answer came
-        :raises ValueError: where this is no message that can be sent here
+        :raises ~can.exceptions.CanTimeoutError: if the queue was full until the timeout, or no answer came
+        :raises ValueError: if this is no message that can be sent here
         """
         if isinstance(msg, int):
             given = b"" if data is None else data_bytes(data)
@@ -286,7 +296,7 @@ class CanbusdBus(InjectsFaults, NamesWhatThereIs, BusABC):
         """Sends messages in their order, as many in one write as the transmit queue has room for.
 
         All messages are taken before the first is sent; call :meth:`send` for each where they come at a pace of their own.
-        Where this returns, the server has accepted all of them. At most :attr:`window` of them wait in the transmit
+        If this returns, the server has accepted all of them. At most :attr:`window` of them wait in the transmit
         queue at once. If it is full all the same, since others send by the same interface or it has less room, what it
         refused is sent again, after what it accepted of the same write.
 
@@ -300,7 +310,7 @@ class CanbusdBus(InjectsFaults, NamesWhatThereIs, BusABC):
     def set_filters(self, filters: Optional[Filters] = None) -> None:
         """Receives what matches one of these filters, by the rules of linux/can.h; without any, everything.
 
-        Where a filter has ``extended``, only frames of 29 bits match it, or only those of 11 bits; remote frames match
+        If a filter has ``extended``, only frames of 29 bits match it, or only those of 11 bits; remote frames match
         as data frames do. Bit 29 of ``can_id`` inverts a filter. Error message frames are not filtered.
         """
         super().set_filters(filters)  # type: ignore[arg-type]
@@ -322,7 +332,7 @@ class CanbusdBus(InjectsFaults, NamesWhatThereIs, BusABC):
         self._session.restart(is_needed=False)
 
     def restart(self) -> None:
-        """Brings the interface back from bus off, or up; CanOperationError where it is neither bus off nor down."""
+        """Brings the interface back from bus off, or up; CanOperationError if it is neither bus off nor down."""
         self._session.restart()
 
     def down(self) -> None:
@@ -375,7 +385,7 @@ class CanbusdBus(InjectsFaults, NamesWhatThereIs, BusABC):
             return []
 
     def recv(self, timeout: Optional[float] = None) -> Optional[Message]:
-        """Returns the next message; None where none comes within these seconds.
+        """Returns the next message; None if none comes within these seconds.
 
         python-can's own asks again for what is left by `time.time`, whose numbers are a quarter of a microsecond apart.
         """
@@ -429,7 +439,7 @@ class CanbusdBus(InjectsFaults, NamesWhatThereIs, BusABC):
         return message
 
     def _message(self, text: str) -> Message:
-        """The message in this text; where own ones are received, one that was sent here is marked."""
+        """The message in this text; if own ones are received, one that was sent here is marked."""
         if not self._receives_own:
             return frame_of_message(self._make, *text.split()[1:])
         text, number = without_origin(text)
@@ -442,7 +452,7 @@ class CanbusdBus(InjectsFaults, NamesWhatThereIs, BusABC):
         return self._session.is_own(number)
 
     def _passes(self, message: Message) -> bool:
-        """Whether a message passes the filters, where the server did not apply them to it."""
+        """Whether a message passes the filters, if the server did not apply them to it."""
         if not self._filters_here:
             if not self._unfiltered:
                 return True
@@ -452,7 +462,7 @@ class CanbusdBus(InjectsFaults, NamesWhatThereIs, BusABC):
         return passes_filters(identifier_word(message), self._pairs, self._join)
 
     def _command(self, msg: Union[Message, Frame]) -> str:
-        """The command that sends this message; ValueError where none does."""
+        """The command that sends this message; ValueError if none does."""
         if not isinstance(msg, (Message, Frame)):
             raise ValueError(f"msg is a can.Message, such as can.Message(arbitration_id=0x123, data=[1]), not {msg!r}")
         if msg.is_fd and not self._fd:

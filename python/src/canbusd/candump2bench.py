@@ -23,7 +23,7 @@ is 1 then.
   canbusd bench tester,can0 < run.bench
 """
 MOST_INTERFACES = 16
-# What `canbusd bench` reads at most.
+# The most bytes that `canbusd bench` reads.
 MOST_BYTES = 16777216
 # How many lines that were left out are named, each on a line of its own.
 MOST_NAMED = 100
@@ -74,7 +74,7 @@ class BenchInput:
         return self.sessions[name]
 
     def _ask_for_fd(self, *numbers: int) -> None:
-        """Sets the option for FD frames of these sessions, where it isn't set yet."""
+        """Sets the option for FD frames of these sessions, if it isn't set yet."""
         for number in numbers:
             if number not in self._with_fd:
                 self._with_fd.add(number)

@@ -32,16 +32,16 @@ MODES: tuple[Mode, ...] = get_args(Mode)
 class Profile:
     """The common part of profiles: the places of a counter and a checksum, and the bytes that they protect."""
 
-    #: How many values the counter has, and the first one that is sent.
+    #: The number of values that the counter has, and the first one that is sent.
     modulo: int
     first: ClassVar[int] = 0
-    #: How many bytes a message has at least.
+    #: The number of bytes that a message has at least.
     least: int
     #: By how much the counter may go on from one frame to the next: frames between them were lost.
     max_delta: int
 
     def of(self, message: "MessageFormat") -> "Profile":
-        """Returns it for this message of a database; ValueError where that has no room for it."""
+        """Returns it for this message of a database; ValueError if that has no room for it."""
         if message.size < self.least:
             raise ValueError(f"{self} needs {times(self.least, 'byte')}, and {message.name} has {message.size}")
         return self
@@ -110,7 +110,7 @@ class Profile1(Profile):
     """Profile 1: a CRC-8 with the polynomial of SAE J1850, and a counter from 0 to 14. Places are in bits.
 
     The `mode` says how the CRC has the data ID: `both` bytes (1A), the low byte and the high one in turn, `alternating` (1B),
-    only the `low` one, or `nibble` (1C), where four bits of the high byte are in the message.
+    only the `low` one, or `nibble` (1C), if four bits of the high byte are in the message.
     """
 
     data_id: int

@@ -4,7 +4,7 @@
     faults = Faults().destroyed(range(32)).last_bit(40).local("crc", ["can1"], 41)
 
 The first are rules, which say who sends and what; `canbusd.rules` has what they mean. The others are lines by the numbers
-of attempts, which are counted from 0, and only where a frame was tried. A line goes before the rules, and a rule before
+of attempts, which are counted from 0, and only if a frame was tried. A line goes before the rules, and a rule before
 those after it. Any other attempt is good.
 """
 
@@ -21,7 +21,7 @@ from canbusd.rules import MOST, NUMBER, VERDICT, Rule, is_rule, parse_rule
 
 # A text of this form is a rule with a fault rather than the path of a file that is not there.
 LIKE_RULE = re.compile(r"\A\S+ (?:[0-9]|.*(?:good|lastbit|last_bit|destroyed|global|local)\b)")
-# What no path is.
+# A text that can't be a path.
 IS_TEXT = re.compile(r"\A\Z|\n|\A(?:[0-9]+|next|always) ")
 
 # The most that an identifier of 11 bits is, and one of 29.
@@ -196,7 +196,7 @@ class Faults(NamesWhatThereIs):
 
     @explained(BY_NUMBER)
     def good(self, attempts: Attempts) -> "Faults":
-        """No fault, also where a rule would give one."""
+        """No fault, also if a rule would give one."""
         return self._add(GOOD, attempts)
 
     @explained(BY_NUMBER)
@@ -265,7 +265,7 @@ def attempts_text(numbers: list[int]) -> str:
 
 
 def call_of(verdict: str, attempts: str = "") -> str:
-    """The call that adds a fault, with the argument that names its attempts where it has one."""
+    """The call that adds a fault, with the argument that names its attempts if it has one."""
     kind, *words = verdict.split()
     given = [attempts] if attempts else []
     if kind == "global":
@@ -293,7 +293,7 @@ def identifier_arguments(word: int, mask: int) -> list[str]:
     return arguments + (["extended=True"] if extended and identifier <= SHORT else [])
 
 
-#: What names a fault script: the path of one, its text, or Faults.
+#: A fault script: its path, its text, or Faults.
 Script = Union[str, "os.PathLike[str]", Faults]
 
 
@@ -333,12 +333,12 @@ def lines_of(text: str) -> list[str]:
 
 
 def rules_in(script: str) -> list[Rule]:
-    """Returns the rules of a script, in their order; ValueError where one is none."""
+    """Returns the rules of a script, in their order; ValueError if one is none."""
     return [parse_rule(line) for line in lines_of(script) if is_rule(line)]
 
 
 def rules_of(faults: Script) -> list[Rule]:
-    """Returns the rules of these faults; ValueError where there are others, which nobody can give a bus that runs."""
+    """Returns the rules of these faults; ValueError if there are others, which nobody can give a bus that runs."""
     lines = lines_of(script_bytes(faults).decode())
     other = next((line for line in lines if line[:1].isdigit()), None)
     if other is not None:

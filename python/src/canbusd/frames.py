@@ -14,7 +14,7 @@ if TYPE_CHECKING:
 EXTENDED, REMOTE, ERROR = 0x80000000, 0x40000000, 0x20000000
 # The same bit in the identifier word of a filter.
 INVERTED = 0x20000000
-# What a class of an error message frame says (linux/can/error.h), as far as a bus of canbusd makes it.
+# The meaning of each class of error message frames (linux/can/error.h) that a bus of canbusd makes.
 CLASSES = [(0x040, "bus off"), (0x100, "restarted"), (0x080, "bus error"), (0x020, "no acknowledgement")]
 # The states in byte 1, with class 004.
 STATE_BITS = [(0x40, "error active"), (0x0C, "error warning"), (0x30, "error passive")]
@@ -30,7 +30,7 @@ PLACES = {
 }
 # The flags of an FD frame, as linux/can.h has them.
 BRS, ESI = 0x1, 0x2
-# How many bytes an FD frame may have.
+# The number of bytes that an FD frame may have.
 FD_LENGTHS = (*range(9), 12, 16, 20, 24, 32, 48, 64)
 # A regular expression of an error message frame, as a record spells it.
 ERROR_FRAME = "[23][0-9A-F]{7}#[0-9A-F]{16}"
@@ -38,7 +38,7 @@ ERROR_FRAME = "[23][0-9A-F]{7}#[0-9A-F]{16}"
 # cansend's spelling: an FD frame has a second # and a digit of flags.
 SPELLING = re.compile("([0-9A-Fa-f]+)#(?:#([0-9A-Fa-f]))?([0-9A-Fa-fRr.]*)")
 # A session's message with a frame or an error message frame: its first word, and all of it; an FD frame with flags has
-# these after the first word; where asked for with whether the same interface has sent it, and its number there. In
+# these after the first word; if asked for with whether the same interface has sent it, and its number there. In
 # replies no moment follows `error`.
 HANDED_OVER = ("frame", "fdframe", "remote", "error")
 MESSAGE = re.compile(
@@ -83,7 +83,7 @@ class Frame(NamesWhatThereIs):
     #: The number of bytes; of a remote frame the number that it asks for.
     dlc: int = 0
     timestamp: float = field(default=0.0, compare=False)
-    #: False where the session that received it has sent it.
+    #: False if the session that received it has sent it.
     is_rx: bool = field(default=True, compare=False)
     #: Of an FD frame: whether it goes on at the bit rate for data.
     bitrate_switch: bool = False
@@ -153,7 +153,7 @@ class Frame(NamesWhatThereIs):
 
     @property
     def meaning(self) -> str:
-        """What an error message frame says, in words; the empty text for another frame."""
+        """The meaning of an error message frame, in words; the empty text for another frame."""
         return meaning(str(self))
 
     def message(self, channel: Optional[str] = None) -> "Message":
@@ -182,7 +182,7 @@ def described_line(name: str, frame: Frame) -> str:
 
 
 class MessageLike(Protocol):
-    """What a frame and python-can's Message have in common."""
+    """The common part of a frame and python-can's Message."""
 
     @property
     def arbitration_id(self) -> int:

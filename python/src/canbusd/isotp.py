@@ -33,7 +33,7 @@ if TYPE_CHECKING:
 HOW_TO_GET = "`pip install can-isotp`, or canbusd-run beside the program"
 #: The implementations.
 LIBRARIES = ("can-isotp", "canbusd-run", "canbusd")
-#: What canbusd-run runs.
+#: The program that canbusd-run runs.
 SOCKET_PROGRAM = os.path.join(os.path.dirname(__file__), "_process", "isotp_socket.py")
 #: Seconds in which the process of a socket has to start, and to end.
 START, END = 20.0, 5.0
@@ -128,7 +128,7 @@ class SocketIsoTp(IsoTp):
     """An end that is a CAN_ISOTP socket, in a process that canbusd-run starts; this one and that one share a pair of sockets.
 
     A packet that goes there is a message to send. One that comes from there is a letter and more: `r` and a message that
-    was received, `s` and the error of what was sent, 0 where it went out, and `e` and the error of what was not received.
+    was received, `s` and the error of what was sent, 0 if it went out, and `e` and the error of what was not received.
     """
 
     library = "canbusd-run"
@@ -195,7 +195,7 @@ class SocketIsoTp(IsoTp):
         self._child.stderr.close()
 
     def _next(self, letters: str, timeout: Optional[float]) -> Optional[bytes]:
-        """The next packet with one of these letters; None where none comes in this time.
+        """The next packet with one of these letters; None if none comes in this time.
 
         Of the threads that wait one reads, and keeps what is for others.
         """
@@ -232,14 +232,14 @@ class SocketIsoTp(IsoTp):
             self._received.append(packet)
 
     def _said(self) -> str:
-        """What the process wrote on standard error, once it has ended."""
+        """The standard error of the process, once it has ended."""
         assert self._child.stderr is not None
         return self._child.stderr.read().decode(errors="replace").strip().split("\n")[-1] or "without a word"
 
 
 def outage_of(address: str, channel: str) -> str:
-    """Why an interface takes no part now, as far as the server says so: `bus off`, `down`, or nothing where it takes part."""
-    # Of python-can, where there is python-can: no answer is none.
+    """Why an interface takes no part now, as far as the server says so: `bus off`, `down`, or nothing if it takes part."""
+    # Of python-can, if there is python-can: no answer is none.
     with contextlib.suppress(Exception):
         session = ObservingSession(address, channel, has_frames=False)
         session.close()

@@ -19,9 +19,9 @@ from canbusd._session.arguments import check_within
 from canbusd._session.connection import LONGEST_POLL, POLL
 from canbusd._text import seconds_words
 
-#: What a program is called by: its words, or one text that is split as a shell splits it.
+#: The words of a program, or one text that is split as a shell splits it.
 Words = Union[str, Sequence[Union[str, "os.PathLike[str]"]]]
-#: What only a shell carries out.
+#: Characters that only a shell carries out.
 OPERATORS = frozenset("();<>|&")
 #: How many of the last lines of its output a failure shows.
 LAST_LINES = 10
@@ -41,7 +41,7 @@ def words_of(words: Words) -> list[str]:
 
 
 def check_no_shell(arguments: dict[str, Any]) -> None:
-    """Raises ValueError where a shell is asked for: it would be the program, and its CAN sockets the server's."""
+    """Raises ValueError if a shell is asked for: it would be the program, and its CAN sockets the server's."""
     if arguments.get("shell"):
         raise ValueError("shell=True: a shell is a program, too: ['sh', '-c', 'cangen can0 | ..']")
 
@@ -134,7 +134,7 @@ class Program(NamesWhatThereIs):
             self._guard.release()
 
     def _power_on(self) -> None:
-        """Starts it anew, where `_power_off` has killed it."""
+        """Starts it anew, if `_power_off` has killed it."""
         if self._is_off:
             self._is_off = False
             self._start()
@@ -146,7 +146,7 @@ class Program(NamesWhatThereIs):
 
     @property
     def status(self) -> Optional[int]:
-        """Its status, below 0 where a signal ended it; None while it runs."""
+        """Its status, below 0 if a signal ended it; None while it runs."""
         status = self._child.poll()
         if status is not None:
             self._guard.release()
@@ -154,7 +154,7 @@ class Program(NamesWhatThereIs):
 
     @property
     def output(self) -> str:
-        """What it has written so far."""
+        """Its output so far."""
         return self._path.read_text(encoding="utf-8", errors="replace")
 
     @explained()
@@ -233,7 +233,7 @@ class Program(NamesWhatThereIs):
 
 
 class RunsPrograms:
-    """What a server has of programs with CAN sockets: its mixin."""
+    """The part of a server for programs with CAN sockets: its mixin."""
 
     address: str
     _folder: Path
@@ -241,7 +241,7 @@ class RunsPrograms:
     _programs: list[Program]
 
     def _check_runs(self, what: str) -> None:
-        """ServerError where the server has ended, with what is not possible then."""
+        """ServerError if the server has ended, with what is not possible then."""
         raise NotImplementedError
 
     def run(
@@ -251,7 +251,7 @@ class RunsPrograms:
 
         With ``wait`` its writes wait where the transmit queue is full; with ``static`` it may be a program that is linked
         statically, or of Go. The other arguments are those of subprocess.run, but for ``shell``: a str is split into words
-        as a shell does, and what only a shell does is a ValueError. So it raises FileNotFoundError where there is no such
+        as a shell does, and what only a shell does is a ValueError. So it raises FileNotFoundError if there is no such
         program; with ``check`` a status other than 0 is an error, too.
         """
         check_no_shell(kwargs)
@@ -266,7 +266,7 @@ class RunsPrograms:
         """Starts such a program, one that stays, as ``"candump can0"``; the end of the server ends it.
 
         If it has ended by itself before, :meth:`stop` is a ServerError, and so a failure of the test, unless it
-        ``may_end``. The other arguments are those of subprocess.Popen, as FileNotFoundError is where there is no such
+        ``may_end``. The other arguments are those of subprocess.Popen, as FileNotFoundError is if there is no such
         program; its output is :attr:`Program.output`.
         """
         check_no_shell(kwargs)

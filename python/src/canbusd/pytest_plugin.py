@@ -36,6 +36,7 @@ from canbusd.virtual import begin_test, is_virtual, python_words, repeated_by, v
 if TYPE_CHECKING:
     from canbusd.programs import Program
     from canbusd.server import Server
+    from canbusd.local import LocalBus
 
 #: The buses of the fixture `canbusd` where no marker names others.
 BUSES = ("can0,can1",)
@@ -79,7 +80,7 @@ def add_virtual_options(group: Any) -> None:
 
 @pytest.hookimpl(tryfirst=True)  # type: ignore[misc]
 def pytest_cmdline_main(config: pytest.Config) -> None:
-    """Starts pytest anew in virtual time or for a sweep, where that is asked for."""
+    """Starts pytest anew in virtual time or for a sweep, if that is asked for."""
     seed, jitter = config.getoption("--canbusd-seed"), config.getoption("--canbusd-jitter")
     if sweep_options.is_swept(config):
         sweep_options.begin(config)
@@ -122,7 +123,7 @@ def pytest_configure(config: pytest.Config) -> None:
 
 @pytest.hookimpl(tryfirst=True)  # type: ignore[misc]
 def pytest_runtestloop(session: pytest.Session) -> Optional[bool]:
-    """Carries out a sweep, where that is asked for, in place of the tests."""
+    """Carries out a sweep, if that is asked for, in place of the tests."""
     config = session.config
     if not sweep_options.is_swept(config) or config.option.collectonly or session.testsfailed:
         return None
@@ -221,7 +222,7 @@ class UnusedMarker(pytest.PytestWarning):
 
 
 class StartsServer(Protocol):
-    """What the fixture `canbusd_server` is: it starts a server with these buses and the options of Server."""
+    """The fixture `canbusd_server`: it starts a server with these buses and the options of Server."""
 
     def __call__(self, *buses: str, **options: Any) -> "Server":
         """Starts a server."""
@@ -277,12 +278,21 @@ class Runs:
         for names in buses:
             self._records[out / f"{names[0]}.rec"] = run, names
 
+    def audit(self, text: bytes, name: str) -> None:
+        """Audits the record of a bus inside the process, which is left in the folder if it is wrong; a fault fails the test."""
+        path = self._folder / f"{name}.rec"
+        path.write_bytes(text)
+        said = audited(path)
+        if not re.fullmatch(r"ok \d+ entries", said):
+            pytest.fail(f"the record {path}: {said}", pytrace=False)
+        path.unlink()
+
     def end(self) -> None:
         """Ends the runs and audits their records; a fault of one of them fails the test. Warns of rules that gave nothing."""
         faults = [*self._stop(), *self._audit()]
         unused = [] if faults else [*self._unused()]
         failed = bool(faults) or self._item.stash.get(FAILED, False)
-        # In a sweep only where the page of the run is wanted.
+        # In a sweep only if the page of the run is wanted.
         if (failed or self._keep == "all") and not (placement.is_there() and self._keep == "none"):
             self._report()
         if self._keep == "none" or (self._keep == "failed" and not failed):
@@ -368,7 +378,7 @@ class Runs:
         if not left.exists():
             return facts
         try:
-            record = read_record(left, names, cut=left != path, rates=run._rates)
+            record = read_record(left, names, cut=left != path, rates=run._rates_by_bus[names[0]])
             facts["story"] = summary.story(record)
             if record.is_cut:
                 cut = f"{left} is cut off after {record.replay.entries} entries: `--cut` of the tools reads it"
@@ -424,7 +434,7 @@ def blamed_on_marker(request: pytest.FixtureRequest) -> Iterator[None]:
 
 
 def refused(request: pytest.FixtureRequest, fault: str) -> BaseException:
-    """What fails the test for what its marker says."""
+    """The failure of a test with a wrong marker."""
     marker = request.node.get_closest_marker("canbusd")
     if marker is not None:
         fault = f"{marker_words(marker)}: {fault}"
@@ -455,3 +465,18 @@ def canbusd_bench(request: pytest.FixtureRequest, _canbusd_runs: Runs) -> Bench:
         raise refused(request, f"canbusd_bench has one bus, not {len(buses)}")
     with blamed_on_marker(request):
         return _canbusd_runs.bench(buses[0], **options)
+
+
+@pytest.fixture
+def canbusd_local(request: pytest.FixtureRequest, _canbusd_runs: Runs) -> Iterator["LocalBus"]:
+    """A bus inside the process, with the interfaces of the marker `canbusd`, else with can0 and can1. Its record is audited."""
+    from canbusd.local import LocalBus
+
+    buses, options = marked(request, LocalBus)
+    if len(buses) != 1:
+        raise refused(request, f"canbusd_local has one bus, not {len(buses)}")
+    with blamed_on_marker(request):
+        bus = LocalBus(buses[0], **options)
+    with bus:
+        yield bus
+        _canbusd_runs.audit(bus.record(), bus.names[0])

@@ -38,7 +38,7 @@ class Attempt:
 
     #: The moment of the attempt, in seconds.
     timestamp: float
-    #: The interface that won arbitration; the empty text where nothing waited and the attempt only restarted others.
+    #: The interface that won arbitration; the empty text if nothing waited and the attempt only restarted others.
     winner: str
     #: Which of the winner's frames it was, from 0.
     number: int
@@ -67,7 +67,7 @@ class Item:
     sender: str
     #: None of a dropped item where it may have been the frame or an error message frame.
     frame: Optional[Frame]
-    #: `taken`, `waiting` at the end of the run, `unread` when the socket was closed, or `dropped` for want of room.
+    #: `taken`, `waiting` at the end of the run, `unread` when the socket was closed, or `dropped` for lack of room.
     fate: Fate
 
 
@@ -80,7 +80,7 @@ class Record(Bus):
     #: Whether it ends before its line `end`.
     is_cut: bool
     names: tuple[str, ...]
-    #: What happened in the run.
+    #: The events of the run.
     replay: Replay = field(repr=False, compare=False)
 
     @functools.cached_property
@@ -95,7 +95,7 @@ class Record(Bus):
 
     @property
     def items(self) -> list[Item]:
-        """What each socket received or lost: by the attempts, and of one by the sockets."""
+        """The items that each socket received or lost: by attempt, then by socket."""
         items = self.replay.items
         return list(map(self._item, items.sockets, items.steps, items.errors, items.fates()))
 
@@ -168,7 +168,7 @@ def read_record(
 
 
 def check_no_log(path: Path) -> None:
-    """BadRecord where this is a log, with the record beside it; what is no file is left to the program."""
+    """BadRecord if this is a log, with the record beside it; what is no file is left to the program."""
     if os.path.isfile(os.fspath(path)):
         with open(path, "rb") as file:
             is_log = file.read(1) == b"("
@@ -200,7 +200,7 @@ def read_run(path: Path, names: Optional[Sequence[str]], cut: bool, rates: Optio
 
 
 def check_beginning(file: BinaryIO) -> None:
-    """BadRecord where a file begins as no record does: the program would read all of it before it says so."""
+    """BadRecord if a file begins as no record does: the program would read all of it before it says so."""
     try:
         text = os.pread(file.fileno(), LINE, 0)
     except OSError:
@@ -249,7 +249,7 @@ def names_of(run: Replay, path: Optional[Path], given: Optional[Sequence[str]]) 
 
 
 def number_named(number: int) -> str:
-    """What an interface is called whose name is not known."""
+    """The name of an interface without one."""
     return f"interface {number}"
 
 

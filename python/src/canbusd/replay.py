@@ -1,4 +1,4 @@
-"""What happened in a run: its steps, its items, its interfaces and its sockets, by the lines of its events.
+"""A run: its steps, its items, its interfaces and its sockets, by the lines of its events.
 
 The program has the rules, and says in these lines what each entry of a record brought about. Here is kept what they say,
 and what follows of it: which frames wait, who takes part in arbitration, and what became of each item. There are millions
@@ -22,7 +22,7 @@ from canbusd._run.steps import DONE, DOWN, RESTART, Items, Places, Rows, Steps
 FIRST_LINE = "canbus events 1"
 #: The replies to a send that the bus did not accept.
 REFUSED = ("bus-off", "interface-down", "no-buffers")
-#: In place of the text of an item that found no room, where no line says what it was.
+#: In place of the text of an item that found no room, if no line says what it was.
 UNKNOWN = "?"
 #: The interfaces, as lines have them.
 IFACES = {str(number): number for number in range(16)}
@@ -32,9 +32,9 @@ class Replay:
     """A run, as far as the lines of its events were taken."""
 
     def __init__(self, rates: Optional[Rates] = None) -> None:
-        #: The bit rates by which lines say how long attempts took the wire; None where they don't.
+        #: The bit rates by which lines say how long attempts took the wire; None if they don't.
         self.rates = rates
-        #: The text of its record, where that was read at once.
+        #: The text of its record, if that was read at once.
         self.text = b""
         #: The configuration of the bus, once its line was taken.
         self.bus: Optional[Bus] = None
@@ -50,7 +50,7 @@ class Replay:
         #: The verdicts of idle attempts that restarted interfaces, by their entries.
         self.idle_verdicts: dict[int, str] = {}
         self.idle = 0
-        #: How many entries were taken.
+        #: The number of entries that were taken.
         self.entries = 0
         #: Whether its last line was taken.
         self.is_whole = False
@@ -60,21 +60,21 @@ class Replay:
         self._taken: "list[array[int]]" = []
         # The two error counts of one interface after the other, as steps have them.
         self._counts = array("H")
-        # How many frames wait, as one number.
+        # The number of frames that wait, as one number.
         self._waiting = 0
         # The interfaces that are down, bit i for interface i.
         self._down = 0
-        # How many attempts were idle before a step.
+        # The number of attempts that were idle before a step.
         self._idle: dict[int, int] = {}
 
     @property
     def attempts(self) -> int:
-        """How many attempts tried a frame."""
+        """The number of attempts that tried a frame."""
         return self.steps.tried
 
     @property
     def idle_since(self) -> int:
-        """How many attempts were idle since the last step."""
+        """The number of attempts that were idle since the last step."""
         return self._idle.get(len(self.steps), 0)
 
     def take(self, lines: Iterable[str]) -> None:
@@ -181,7 +181,7 @@ class Replay:
         """Sockets give their items."""
         sockets = receivers_of(lines.of(RECEIVE), len(self.sockets))
         steps = lines.steps_before(RECEIVE, len(self.steps))
-        # What nobody was handed goes into the last one, which is not kept.
+        # Items that no socket got go into the last one, which is not kept.
         columns = [*self._taken, array("I")]
         # For each line in turn; a queue without room is the quickest that keeps nothing.
         deque(map(array.append, map(columns.__getitem__, sockets), steps), maxlen=0)
@@ -217,25 +217,26 @@ class Replay:
             return errors
         items = [*itertools.accumulate(handed, initial=len(self.items))]
         firsts = self._firsts_lost(rows)
-        for row, (part, verdict) in enumerate(zip(parts, rows.verdicts)):
-            if rows.kinds[row] >= RESTART:
+        counts = self._counts
+        for row, (part, kind, verdict) in enumerate(zip(parts, rows.kinds, rows.verdicts)):
+            if kind >= RESTART:
                 self._set_down(rows, row)
             if verdict in local:
                 rows.hit[row] = int(verdict[-4:], 16) & self._others_on(rows.ifaces[row])
             if part is None:
                 continue
             if part.counts:
-                for count, number in part.counts:
-                    self._counts[count] = number
-                rows.counts[row] = self._counts.tobytes()
+                for place, both in part.counts:
+                    counts[place] = both
+                rows.counts[row] = counts.tobytes()
             if part.lost:
                 self._lose(rows, row, part.lost, firsts)
-            found = [(items[row] + place, text) for place, text in part.errors] if part.errors else []
-            if part.dropped:
+            if part.errors or part.dropped:
+                found = [(items[row] + place, text) for place, text in part.errors]
                 found += self._drop(rows, row, part, items[row + 1])
-            if found:
-                rows.errors[row] = [text for _, text in found]
-                errors += found
+                if found:
+                    rows.errors[row] = [text for _, text in found]
+                    errors += found
         for iface in self.ifaces:
             iface.tec, iface.rec = self._counts[2 * iface.number : 2 * iface.number + 2]
             iface.is_down = bool(self._down >> iface.number & 1)

@@ -34,7 +34,7 @@ VALUES, FRAMES = -1, 0
 
 
 class Counts(NamedTuple):
-    """What became of the frames of a message, or of several."""
+    """The outcome of the frames of a message, or of several."""
 
     #: Frames that the bus accepted into a transmit queue.
     accepted: int = 0
@@ -78,7 +78,7 @@ class Outgoing:
 
 
 def checked_row(row: object) -> tuple[int, Value]:
-    """The moment of a row of a table, in microseconds, and its value; ValueError where it is no such pair."""
+    """The moment of a row of a table, in microseconds, and its value; ValueError if it is no such pair."""
     if not isinstance(row, (tuple, list)) or len(row) != 2 or not isinstance(row[0], Real) or row[0] < 0:
         raise ValueError(f"a table has pairs of seconds and values, such as [(0.0, 800), (1.5, 3000)], not {row!r}")
     return micros(float(row[0])), row[1]
@@ -105,7 +105,7 @@ class Playing:
 class RestMessage(NamesWhatThereIs):
     """A message that a rest bus sends."""
 
-    # A signal is no attribute, also where one is set.
+    # A signal is no attribute, also if one is set.
     __slots__ = (
         "_accepted", "_cycle", "_frame", "_function", "_phase", "_protection", "_refused", "_rest", "_run", "_shapes",
         "_skipped", "_tables", "_tick", "_values", "format", "interface", "is_running",
@@ -125,7 +125,7 @@ class RestMessage(NamesWhatThereIs):
         # By its name, the shape of a signal, and when it began.
         self._shapes: dict[str, Playing] = {}
         self._accepted = self._refused = self._skipped = 0
-        #: What the file says of it.
+        #: Its description in the file.
         self.format = message
         #: The interface by which it is sent.
         self.interface = interface
@@ -134,7 +134,7 @@ class RestMessage(NamesWhatThereIs):
 
     @property
     def counts(self) -> Counts:
-        """What became of its frames."""
+        """The outcome of its frames."""
         return Counts(self._accepted, self._refused, self._skipped)
 
     def __getitem__(self, signal: str) -> Value:
@@ -145,7 +145,7 @@ class RestMessage(NamesWhatThereIs):
 
     @explained("values are a dict, such as {'EngineSpeed': 800}")
     def set(self, values: Mapping[str, Value]) -> None:
-        """Sets signals, from the next frame on; DatabaseError where one can't have its value, and then none has."""
+        """Sets signals, from the next frame on; DatabaseError if one can't have its value, and then none has."""
         if not isinstance(values, Mapping):
             raise ValueError(f"values are a dict of signals, such as {{'EngineSpeed': 800}}, not {values!r}")
         with self._rest.changing():
@@ -217,14 +217,14 @@ class RestMessage(NamesWhatThereIs):
             self._run += 1
 
     def count(self, answer: str) -> None:
-        """Counts a frame by the answer to it: nothing where it was accepted, else the text of the refusal."""
+        """Counts a frame by the answer to it: nothing if it was accepted, else the text of the refusal."""
         if answer:
             self._refused += 1
         else:
             self._accepted += 1
 
     def _check(self, signal: str, value: Value) -> None:
-        """DatabaseError where the signal can't have this value."""
+        """DatabaseError if the signal can't have this value."""
         self.format.encode({**self._values, signal: value}, is_strict=False)
 
     def _turn_to(self, signal: str, run: int, value: Value, _: int) -> None:
@@ -304,7 +304,7 @@ class RestNode(NamesWhatThereIs):
 
 
 class RestBus(NamesWhatThereIs):
-    """What rest buses share: nodes and messages by their names, values, and what is due when."""
+    """The common part of rest buses: nodes and messages by their names, values, and the times of calls."""
 
     _INSTEAD = {
         **dict.fromkeys(("set", "get"), "a signal is rest['Engine']['EngineSpeed']"),
@@ -340,7 +340,7 @@ class RestBus(NamesWhatThereIs):
         return self._nodes[node]
 
     def message(self, name: str) -> RestMessage:
-        """Returns the message of this name; DatabaseError where no node of the rest bus sends it."""
+        """Returns the message of this name; DatabaseError if no node of the rest bus sends it."""
         if name not in self._by_name:
             known = ", ".join(self._by_name) or "none"
             raise DatabaseError(f"no message {name} in the rest bus; there are {known}", message=name)
@@ -401,7 +401,7 @@ class RestBus(NamesWhatThereIs):
         """Sends the frames of a log, of those messages that are in the rest bus, at their moments from the first one's on.
 
         They go by the interfaces of their senders, and these messages are no more sent by their cycle times. Returns how
-        many seconds it takes; ValueError where the log has none of them.
+        many seconds it takes; ValueError if the log has none of them.
         """
         from canbusd._run.logs import read_entries
 

@@ -7,7 +7,6 @@
 The program has them decide; here is what they are.
 """
 
-import math
 import re
 from collections.abc import Iterable, Sequence
 from dataclasses import dataclass
@@ -17,7 +16,7 @@ from canbusd._text import NAME, shown
 from canbusd._words import VERDICTS
 from canbusd.frames import EXTENDED, INVERTED
 
-#: What a number in a rule is at most.
+#: The greatest number in a rule.
 MOST = 99999999
 SHORT_MASK, LONG_MASK = EXTENDED | 0x7FF, EXTENDED | 0x1FFFFFFF
 NUMBER = re.compile("[0-9]{1,8}")
@@ -44,7 +43,7 @@ MEANT = {
 class Rule:
     """A rule: the attempts that it matches, how many of them it takes, and their verdict."""
 
-    #: How many attempts get its verdict; None is all.
+    #: The number of attempts that get its verdict; None is all.
     count: Optional[int]
     #: The verdict in the words of a fault script.
     verdict: str
@@ -128,7 +127,7 @@ def taken(words: list[str], word: str) -> bool:
 
 
 def check_order(words: list[str], given: dict[str, bool]) -> None:
-    """ValueError where the next of the words begins a part that has to be before one that is given, or is given twice."""
+    """ValueError if the next of the words begins a part that has to be before one that is given, or is given twice."""
     parts = list(given)
     if words[:1] and words[0] in parts:
         place = parts.index(words[0])
@@ -137,12 +136,12 @@ def check_order(words: list[str], given: dict[str, bool]) -> None:
 
 
 def next_of(words: list[str]) -> str:
-    """Takes the first of the words; the empty text where there are no more."""
+    """Takes the first of the words; the empty text if there are no more."""
     return words.pop(0) if words else ""
 
 
 def count_of(words: list[str]) -> Optional[int]:
-    """How many attempts the rule takes, by which it begins."""
+    """The number of attempts that the rule takes, by which it begins."""
     first = next_of(words)
     if first == "always":
         return None
@@ -187,54 +186,11 @@ def identifier_of(word: str) -> tuple[int, int]:
 
 
 def check_rules(rules: Iterable[Rule], names: Sequence[str]) -> None:
-    """ValueError where a rule names an interface that is none of these, which are those of its bus."""
+    """ValueError if a rule names an interface that is none of these, which are those of its bus."""
     for rule in rules:
         unknown = next((name for name in rule.names if name not in names), None)
         if unknown is not None:
             raise ValueError(f"rule '{rule}': {unknown} is no interface of its bus, {','.join(names)}")
-
-
-class RulesLeft:
-    """How many verdicts the rules of a bus still give, by the numbers that the program calls them."""
-
-    def __init__(self, taken: int = 0) -> None:
-        self._taken = taken
-        # Of each rule that is not used up; None is without end.
-        self._left: dict[int, Optional[int]] = {}
-
-    def __len__(self) -> int:
-        """How many rules are left."""
-        return len(self._left)
-
-    def add(self, count: Optional[int]) -> int:
-        """Adds a rule after the others; returns its number."""
-        self._taken += 1
-        self._left[self._taken] = count
-        return self._taken
-
-    def end(self) -> None:
-        """Ends all rules."""
-        self._left.clear()
-
-    def among(self, first: int) -> int:
-        """Returns how many of the first so many rules are left."""
-        return sum(number <= first for number in self._left)
-
-    def gave(self, number: int) -> None:
-        """Counts a verdict of the rule of this number."""
-        left = self._left.get(number)
-        if left == 1:
-            del self._left[number]
-        elif left is not None:
-            self._left[number] = left - 1
-
-    def counted(self) -> dict[int, int]:
-        """How many verdicts each rule still gives that has an end, by its number."""
-        return {number: left for number, left in self._left.items() if left is not None}
-
-    def least(self) -> float:
-        """How many verdicts the rule still gives that gives the fewest."""
-        return min(self.counted().values(), default=math.inf)
 
 
 class GivenRules:
@@ -242,33 +198,38 @@ class GivenRules:
 
     def __init__(self, rules: Iterable[Rule] = ()) -> None:
         self._rules: list[Rule] = []
-        self._left = RulesLeft()
+        # The number of verdicts that each rule still gives that is not used up, by its number; None is without end.
+        self._left: dict[int, Optional[int]] = {}
         for rule in rules:
             self.add(rule)
 
     def __len__(self) -> int:
-        """How many rules are left."""
+        """The number of rules that are left."""
         return len(self._left)
 
     def among(self, first: int) -> int:
         """Returns how many of the first so many rules are left."""
-        return self._left.among(first)
+        return sum(number <= first for number in self._left)
 
     def add(self, rule: Rule) -> None:
         """Adds a rule after the others."""
         self._rules.append(rule)
-        self._left.add(rule.count)
+        self._left[len(self._rules)] = rule.count
 
     def end(self) -> None:
         """Ends all rules."""
-        self._left.end()
+        self._left.clear()
 
     def unused(self) -> list[Rule]:
         """Returns those with a number, `next 1 ..`, that gave no verdict, and that nobody ended."""
-        counted = ((self._rules[number - 1], left) for number, left in self._left.counted().items())
+        counted = ((self._rules[number - 1], left) for number, left in self._left.items() if left is not None)
         return [rule for rule, left in counted if rule.count == left]
 
     def gave(self, number: int) -> Rule:
         """Returns the rule of this number, which gave an attempt its verdict, and counts that."""
-        self._left.gave(number)
+        left = self._left.get(number)
+        if left == 1:
+            del self._left[number]
+        elif left is not None:
+            self._left[number] = left - 1
         return self._rules[number - 1]

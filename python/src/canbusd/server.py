@@ -24,7 +24,8 @@ from canbusd._expect.observer import Observer, observed_of
 from canbusd import _placement as placement
 from canbusd._process import lock_file
 from canbusd._process.program import ServerError as ServerError, audited
-from canbusd._process.program_run import RUNNING, Ack, ProgramRun, option_words, rates_of
+from canbusd._process.program_run import RUNNING, Ack, ProgramRun, option_words, rates_by_bus
+from canbusd._process.rates import BitRate, words_of
 from canbusd._process.serve_words import Recorded, bus_words, record_options
 from canbusd._restbus.node import Node
 from canbusd._restbus.nodes import database_of
@@ -43,7 +44,7 @@ from canbusd.programs import Program, RunsPrograms
 from canbusd.record import Attempt, Record, read_record
 from canbusd.rules import check_rules, parse_rule
 from canbusd.signals import Database
-from canbusd.virtual import note_rate
+from canbusd.virtual import note_rates
 
 if TYPE_CHECKING:
     from can.message import Message
@@ -54,7 +55,7 @@ if TYPE_CHECKING:
 #: Seconds in which a server has to listen, and to end. Long records take their time.
 START, END = 10.0, 60.0
 ENTRIES = re.compile(r"bus (\S+) entries (\d+)")
-# What it says of a bus whose record is full.
+# Its note about a bus whose record is full.
 FULL = re.compile(r"bus (\S+): record full")
 #: The calls that end it, with those that do so only if logs and records are written at the end.
 ENDED_BY = "stop(), {}audit(), report() and its with block end it"
@@ -72,7 +73,7 @@ class Result(NamedTuple):
 
     #: The status of the program: 0, or that of a program killed by a signal, below 0, after :meth:`Server.kill`.
     status: int
-    #: How many entries the record of each bus has, by the name of its first interface.
+    #: The number of entries that the record of each bus has, by the name of its first interface.
     entries: dict[str, int]
 
 
@@ -86,7 +87,8 @@ class Server(Expectations, SimulatesNodes, RunsPrograms, ProgramRun, NamesWhatTh
     :meth:`attempts` return what is there; with ``record="none"`` logs are, and there is no record. Then a run may go
     on for weeks, and ``limit`` (1,000,000 entries) is not given. With a ``bitrate`` attempts take the time of their
     bits, in place of ``pace_ms``; with a ``data_bitrate``, which may be called ``dbitrate`` too, FD frames with
-    ``bitrate_switch`` go on at that for their data.
+    ``bitrate_switch`` go on at that for their data. Each is a number for all buses, or a dict of numbers by the name of
+    an interface of each bus, with that of all others by None.
     ``observe`` names the interfaces whose frames :meth:`expect` looks at, by default all, or the first of each bus where
     there are more than 8; without any, ``observe=()``, the record has nothing of it. ``database``, a file or what
     load_database returns, has the names of messages and signals that are expected. The server runs when the constructor returns,
@@ -115,9 +117,9 @@ class Server(Expectations, SimulatesNodes, RunsPrograms, ProgramRun, NamesWhatTh
         ack: Ack = "always",
         report: bool = False,
         auto_restart: int = 0,
-        bitrate: Optional[int] = None,
-        data_bitrate: Optional[int] = None,
-        dbitrate: Optional[int] = None,
+        bitrate: Optional[BitRate] = None,
+        data_bitrate: Optional[BitRate] = None,
+        dbitrate: Optional[BitRate] = None,
         pace_ms: int = 1,
         write_bytes: int = 16_384,
         txqueue: int = 10,
@@ -138,18 +140,19 @@ class Server(Expectations, SimulatesNodes, RunsPrograms, ProgramRun, NamesWhatTh
         options, numbers = record_options(record, limit, flush, sync)
         numbers.update(auto_restart=auto_restart, pace_ms=pace_ms, write_bytes=write_bytes)
         options += option_words(placement.acknowledged_by(ack), report, txqueue=txqueue, rxqueue=rxqueue, **numbers)
-        self._rates = rates_of(bitrate, data_bitrate, dbitrate)
-        options += self._rates.words if self._rates else []
-        note_rate(bitrate)
         self.database = None if database is None else database_of(database)
         super().__init__(out)
         self._txqueue = txqueue
         self._by_bus = bus_words(buses, faults, self._folder, self._number)
+        names = {name: bus[:-1] for name, bus in self._by_bus.items()}
+        self._rates_by_bus = rates_by_bus(names, bitrate, data_bitrate, dbitrate)
+        options += words_of(self._rates_by_bus)
+        note_rates(self._rates_by_bus.values())
         self._prepare(record)
         self._observed = observed_of(observe, self._names(), lambda name: self._first(name, "observe"))
         words = ["--until-eof", "--listen", listen, *options, "--out", str(self._out)]
         self._start("serve", *words, "--", *(bus[-1] for bus in self._by_bus.values()))
-        #: Where clients connect: HOST:PORT, or a Unix path.
+        #: The address for clients: HOST:PORT, or a Unix path.
         self.address = self._listening()
         self._sleepers = LiveSleepers(self.address, self._names())
         if self._observed:
@@ -172,7 +175,7 @@ class Server(Expectations, SimulatesNodes, RunsPrograms, ProgramRun, NamesWhatTh
                 placement.note_failure(reason)
 
     def _prepare(self, record: str) -> None:
-        """What is known of the run before it begins."""
+        """The facts about the run before it begins."""
         # When the record is written; logs and records that are written while the server runs, by bus.
         self._record_when = record
         self._logs = {name: LiveLog(self._out / f"{name}.log") for name in self._by_bus}
@@ -227,10 +230,10 @@ class Server(Expectations, SimulatesNodes, RunsPrograms, ProgramRun, NamesWhatTh
 
     @explained()
     def inject(self, faults: Script, interface: Optional[str] = None) -> None:
-        """Gives a bus these rules of faults while it runs, after those that it has, from the next attempt on.
+        """Adds these fault rules to a running bus, after those that it has, from the next attempt on.
 
         `faults` are rules of Faults, such as ``Faults().next(32, sender="ecu").destroyed()``, or their text, and
-        `interface` is one of the bus; it may be left out where there is one bus. Refused where the bus would have more
+        `interface` is one of the bus; it may be left out if there is one bus. Refused if the bus would have more
         than 64 rules: those before the one that is named are in force.
         """
         rules = rules_of(faults)
@@ -262,7 +265,7 @@ class Server(Expectations, SimulatesNodes, RunsPrograms, ProgramRun, NamesWhatTh
     def stop(self) -> Result:
         """Ends the server, after the programs that it started; logs and records are written. Again it returns the same.
 
-        :raises ServerError: where the server ended with a fault, or was killed by others, or where a program that
+        :raises ServerError: if the server ended with a fault, or was killed by others, or if a program that
             :meth:`start` has started had ended by itself
         """
         self._check_process()
@@ -300,7 +303,7 @@ class Server(Expectations, SimulatesNodes, RunsPrograms, ProgramRun, NamesWhatTh
 
         With ``record="live"`` and ``"none"`` it does not end it, and returns those that were written so far. The channel
         of each is the interface that sent it. A frame that was destroyed or not acknowledged is an error message frame.
-        The name may be left out where there is one bus.
+        The name may be left out if there is one bus.
         """
         first = self._first(name)
         return self._logs[first].messages() if self._record_when != "end" else read_log(self._file(name, "log"))
@@ -313,8 +316,8 @@ class Server(Expectations, SimulatesNodes, RunsPrograms, ProgramRun, NamesWhatTh
         """
         first = self._recorded(name)
         if self._record_when == "live":
-            return self._records[first].record(self._rates)
-        return read_record(self._file(name, "rec"), self._by_bus[first][:-1], rates=self._rates)
+            return self._records[first].record(self._rates_by_bus[first])
+        return read_record(self._file(name, "rec"), self._by_bus[first][:-1], rates=self._rates_by_bus[first])
 
     def attempts(self, name: Optional[str] = None) -> list[Attempt]:
         """Returns the attempts on the bus of this interface: with ``record="live"`` those that were written so far.
@@ -351,10 +354,10 @@ class Server(Expectations, SimulatesNodes, RunsPrograms, ProgramRun, NamesWhatTh
 
         faults = faults_beside(left_by(path.with_suffix(".rec"), self._record_when))
         rules = deciders(record, faults) if faults else []
-        return write_page(record, path, rules, self._rates, self.database)
+        return write_page(record, path, rules, self._rates_by_bus[record.names[0]], self.database)
 
     def _check_runs(self, what: str) -> None:
-        """ServerError where the server has ended, with what is not possible then."""
+        """ServerError if the server has ended, with what is not possible then."""
         if self._result is not None:
             by = "" if self._result.status < 0 else f"; {ENDED_BY.format(self._ends_too)}"
             raise ServerError(f"the server {'has ended' if by else 'was killed'}: {what}{by}")
@@ -418,7 +421,7 @@ class Server(Expectations, SimulatesNodes, RunsPrograms, ProgramRun, NamesWhatTh
         return found[0]
 
     def _recorded(self, name: Optional[str]) -> str:
-        """The first interface of the bus that has this one; ServerError where there is no record of it."""
+        """The first interface of the bus that has this one; ServerError if there is no record of it."""
         if self._record_when == "none":
             raise ServerError('there is no record: the server has record="none"')
         return self._first(name)
@@ -471,5 +474,6 @@ class Server(Expectations, SimulatesNodes, RunsPrograms, ProgramRun, NamesWhatTh
                 lock_file.remove_left(self._out)
         for name, bus in self._by_bus.items():
             own = sum(one in self._observed for one in bus[:-1])
-            placement.keep((self._number, name), bus[:-1], own, self._out / f"{name}.rec", self._rates)
+            rates = self._rates_by_bus[name]
+            placement.keep((self._number, name), bus[:-1], own, self._out / f"{name}.rec", rates)
         return self._child.returncode, written.decode()

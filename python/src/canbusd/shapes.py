@@ -35,7 +35,7 @@ class Shape:
     seconds: float
 
     def of(self, signal: "SignalFormat") -> "Shape":
-        """Returns it for a signal, with the limits of that where it has no ends of its own; ValueError where there are none."""
+        """Returns it for a signal, with the limits of that where it has no ends of its own; ValueError if there are none."""
         return self
 
     @property

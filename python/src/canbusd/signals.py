@@ -40,7 +40,7 @@ class Decoded(NamedTuple):
     fault: str = ""
 
     def value(self, name: str) -> Value:
-        """Returns the value of the signal of this name; DatabaseError where the frame has none."""
+        """Returns the value of the signal of this name; DatabaseError if the frame has none."""
         for signal in self.signals:
             if signal.name == name:
                 return signal.value
@@ -53,7 +53,7 @@ class Decoded(NamedTuple):
 class Database(NamesWhatThereIs):
     """The messages of files, by their identifiers and names; `str()` of it shows all of them.
 
-    DatabaseError where two messages have one name or one identifier, and are not the same.
+    DatabaseError if two messages have one name or one identifier, and are not the same.
     """
 
     _INSTEAD = {
@@ -74,7 +74,7 @@ class Database(NamesWhatThereIs):
             self._by_name[one.name] = self._by_frame[frame] = one
 
     def with_more(self, other: "Database") -> "Database":
-        """Returns these messages and those of another; where one of that has a name or an identifier of these, it is left out."""
+        """Returns these messages and those of another; if one of that has a name or an identifier of these, it is left out."""
         more = [one for one in other.messages if not self._has(one)]
         return Database([*self.messages, *more]) if more else self
 
@@ -96,7 +96,7 @@ class Database(NamesWhatThereIs):
         return list(names)
 
     def message(self, name: str) -> MessageFormat:
-        """Returns the message of this name; DatabaseError where there is none."""
+        """Returns the message of this name; DatabaseError if there is none."""
         if name not in self._by_name:
             known = ", ".join(sorted(self._by_name)) or "none"
             raise DatabaseError(f"no message {name}; there are {known}", message=name)
@@ -141,7 +141,7 @@ def lines_of(message: MessageFormat) -> Iterator[str]:
 def frame_of(message: MessageFormat, data: bytes) -> Frame:
     """Returns the frame of a message with this data, an FD frame filled up to the next length that there is.
 
-    DatabaseError where no frame has as many bytes.
+    DatabaseError if no frame has as many bytes.
     """
     if message.is_fd:
         data = data.ljust(next((length for length in FD_LENGTHS if length >= len(data)), 0), b"\0")

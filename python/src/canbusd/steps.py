@@ -82,5 +82,5 @@ def step(title: str, *, now: Optional[Callable[[], float]] = None) -> Iterator[N
 
 
 def with_allure() -> Any:
-    """Returns the module allure, where pytest has loaded its plugin; None elsewhere."""
+    """Returns the module allure, if pytest has loaded its plugin; None elsewhere."""
     return importlib.import_module("allure") if "allure_pytest" in sys.modules else None

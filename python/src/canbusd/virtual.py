@@ -6,10 +6,10 @@ import random
 import shlex
 import sys
 import warnings
-from collections.abc import Sequence
+from collections.abc import Iterable, Sequence
 from typing import Optional
 
-#: What canbusd-run sets for programs in virtual time: where its memory is, and the options that repeat the run.
+#: Variables that canbusd-run sets for programs in virtual time: for its memory, and the options that repeat the run.
 SETTING, OPTIONS = "CANBUSD_RUN_VIRTUAL", "CANBUSD_RUN_OPTIONS"
 
 
@@ -24,9 +24,9 @@ def _warn_of_no_rate() -> None:
     warnings.warn(text, stacklevel=4)
 
 
-def note_rate(bitrate: Optional[int]) -> None:
-    """Warns, once, of a server in virtual time that has no bit rate."""
-    if is_virtual() and bitrate is None:
+def note_rates(rates: Iterable[object]) -> None:
+    """Warns, once, of a server in virtual time with a bus that has no bit rate."""
+    if is_virtual() and None in rates:
         _warn_of_no_rate()
 
 

@@ -10,9 +10,9 @@ from typing import Optional
 
 from canbusd._text import shown
 
-#: How many digits a number has at most, and what its exponent is: those of a double are 309 and 324.
+#: The number of digits that a number has at most, and what its exponent is: those of a double are 309 and 324.
 MOST_DIGITS, MOST_EXPONENT = 400, 999
-#: How many bytes a message has at most, and a line.
+#: The number of bytes that a message has at most, and a line.
 MOST_BYTES, MOST_LINE = 65_535, 1 << 20
 QUOTE = re.compile(rb'(?<!\\)"')
 NUMBER = re.compile(rb"(?<![\w.])[0-9.]+(?:[eE][-+]?([0-9]+))?")
@@ -38,7 +38,7 @@ def is_dbc(path: str) -> bool:
 
 
 def check_numbers(path: str, most_values: Optional[int] = None) -> None:
-    """LineFault where a number is beyond those of signals, so that to read it takes long, or makes no sense; so is a range of
+    """LineFault if a number is beyond those of signals, so that to read it takes long, or makes no sense; so is a range of
     multiplexer values of more than `most_values`, for a library that makes a list of them."""
     is_in_text = False
     for number, line in lines_of(path):

@@ -1,4 +1,4 @@
-"""What a file of a database says of messages and signals, whichever library has read it.
+"""The messages and signals of a database's file, whichever library has read it.
 
 A library reads the file, and decodes frames to raw numbers; what a value is, which signals of a multiplexed message are there,
 the bytes of a message, and whether the file makes sense is worked out here, so it is the same with each of them. canmatrix takes
@@ -15,7 +15,7 @@ from typing import NamedTuple, Optional, Union
 from canbusd._database.dbc_lines import is_dbc, line_of
 from canbusd.frames import FD_LENGTHS
 
-#: What a signal has: a number, or the name of one.
+#: The value of a signal: a number, or the name of one.
 Value = Union[int, float, str]
 #: The number of a signal on the bus.
 Raw = Union[int, float]
@@ -59,12 +59,12 @@ class SignalFormat:
     #: The number on the bus times `factor`, plus `offset`, is the value.
     factor: Decimal = Decimal(1)
     offset: Decimal = Decimal(0)
-    #: The least and the most value; None where the file has no limits.
+    #: The least and the most value; None if the file has no limits.
     minimum: Optional[Decimal] = None
     maximum: Optional[Decimal] = None
     #: The names of numbers on the bus.
     choices: Mapping[int, str] = field(default_factory=dict)
-    #: What is on the bus at the start.
+    #: The value on the bus at the start.
     raw_start: Decimal = Decimal(0)
     is_signed: bool = False
     is_float: bool = False
@@ -117,7 +117,7 @@ class SignalFormat:
         return plain(Decimal(str(raw)) * self.factor + self.offset)
 
     def raw_of(self, value: Value) -> Raw:
-        """Returns the number on the bus of a value, of its text, or of its name; DatabaseError where it has none."""
+        """Returns the number on the bus of a value, of its text, or of its name; DatabaseError if it has none."""
         for number_of_name, name in self.choices.items():
             if name == value:
                 return number_of_name
@@ -178,7 +178,7 @@ class MessageFormat:
     name: str
     identifier: int
     is_extended: bool
-    #: How many bytes it has.
+    #: The number of bytes that it has.
     size: int
     signals: tuple[SignalFormat, ...]
     #: How the library decodes the numbers of the signals that are there.
@@ -186,9 +186,9 @@ class MessageFormat:
     is_fd: bool = False
     #: The nodes that send it, the main one first.
     senders: tuple[str, ...] = ()
-    #: Seconds between two of them; 0 where the file has none.
+    #: Seconds between two of them; 0 if the file has none.
     cycle_time: float = 0.0
-    #: Seconds from the start to the first; 0 where the file has none.
+    #: Seconds from the start to the first; 0 if the file has none.
     start_delay: float = 0.0
     #: The name of its send type, as the file has it.
     send_type: str = ""
@@ -204,13 +204,13 @@ class MessageFormat:
 
     @property
     def is_cyclic(self) -> bool:
-        """Whether it is sent by its cycle time: where it has one, unless its send type says that an event sends it."""
+        """Whether it is sent by its cycle time: if it has one, unless its send type says that an event sends it."""
         kind = self.send_type.lower()
         is_event = any(word in kind for word in EVENTS) and not any(word in kind for word in PERIODS)
         return self.cycle_time > 0 and not is_event
 
     def signal(self, name: str) -> SignalFormat:
-        """Returns the signal of this name; DatabaseError where there is none."""
+        """Returns the signal of this name; DatabaseError if there is none."""
         for signal in self.signals:
             if signal.name == name:
                 return signal
@@ -249,7 +249,7 @@ class MessageFormat:
             raise DatabaseError(f"{self.place()}: message {self.name}: {fault}", self.path, self.name) from None
 
     def present(self, raw: Mapping[str, Raw]) -> list[SignalFormat]:
-        """Returns the signals that are there, where the multiplexers have these numbers."""
+        """Returns the signals that are there, if the multiplexers have these numbers."""
         if not self._is_multiplexed:
             return list(self.signals)
         by_name = {signal.name: signal for signal in self.signals}
@@ -277,7 +277,7 @@ class MessageFormat:
         return len(bits) > len(set(bits))
 
     def check(self) -> None:
-        """DatabaseError where the file contradicts itself in this message; its text has the file, message and signal."""
+        """DatabaseError if the file contradicts itself in this message; its text has the file, message and signal."""
         seen: set[str] = set()
         for signal in self.signals:
             past = [bit for bit in signal.bits if not 0 <= bit < self.size * 8]
@@ -297,7 +297,7 @@ class MessageFormat:
             seen.add(signal.name)
 
     def _check_bits(self, there: Sequence[str]) -> None:
-        """DatabaseError where two of these signals have a bit in common: which of them would it be of?"""
+        """DatabaseError if two of these signals have a bit in common: which of them would it be of?"""
         owners: dict[int, str] = {}
         for signal in self.signals if self._has_common_bits else ():
             if signal.name in there:
@@ -342,7 +342,7 @@ def named(nodes: Optional[Sequence[object]]) -> tuple[str, ...]:
 
 
 def plain(value: Union[int, float, Decimal]) -> Union[int, float]:
-    """Returns a number as one of Python, whole where it is."""
+    """Returns a number as one of Python, whole if it is."""
     if isinstance(value, Decimal):
         return int(value) if abs(value) < MOST_WHOLE and value == value.to_integral_value() else float(value)
     return int(value) if value == value // 1 else float(value)

@@ -14,7 +14,7 @@ from canbusd._database.dbc_lines import LineFault, lines_of
 from canbusd._database.formats import DatabaseError, MessageFormat, Raw, SignalFormat, bits_of, limits, named
 from canbusd._text import shown
 
-# What canmatrix prints where it leaves a line of a DBC file out.
+# The note of canmatrix on a line of a DBC file that it leaves out.
 LEFT_OUT = re.compile(r"^error with line no: [0-9]+\n(b.*)$", re.M)
 
 # The files that canmatrix reads by lxml, without which it knows nothing of them.

@@ -41,7 +41,7 @@ def message_of(message: Any, path: str) -> MessageFormat:
 
 
 def attribute(message: Any, name: str) -> Any:
-    """What a DBC file says of a message by an attribute; None where it says nothing, and in other files."""
+    """The value of a message's attribute in a DBC file; None if there is none, and in other files."""
     attributes = getattr(message.dbc, "attributes", None) or {}
     return attributes[name].value if name in attributes else None
 

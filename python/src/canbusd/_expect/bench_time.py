@@ -48,7 +48,7 @@ class PassesTime(Expectations):
     def __init__(self, observe: Union[str, Sequence[str], None]) -> None:
         self._observed = observed_of(observe, [self.names], lambda name: self._named(name, "observe"))
         self._observer: Optional[BenchObserver] = None
-        #: How many sessions are the package's own, if they were opened first.
+        #: The number of sessions that are the package's own, if they were opened first.
         self._own_sessions = 0
         # The senders at moments; and the moment that waiting calls have reached, in microseconds.
         self._due: list[Due] = []
@@ -76,7 +76,7 @@ class PassesTime(Expectations):
         return max(self._reached, round(float(self._moment) * MICROS))
 
     def pass_time(self, look: Callable[[], Optional[T]], seconds: Optional[float]) -> Optional[T]:
-        """Returns what `look` finds, once time has passed until that is something; None where it is nothing within these
+        """Returns what `look` finds, once time has passed until that is something; None if it is nothing within these
         seconds, or, without them, when nothing more can come."""
         if seconds is not None:
             check_within(seconds, "timeout")
@@ -178,7 +178,7 @@ class PassesTime(Expectations):
         self._observing().session(self._named(interface)).end_rules()
 
     def _named(self, interface: Optional[str], what: str = "interface") -> str:
-        """The interface that is named, or the first; ValueError where it is none of the bus."""
+        """The interface that is named, or the first; ValueError if it is none of the bus."""
         if interface is not None and interface not in self.names:
             raise ValueError(f"{what} is an interface of the bench, one of {', '.join(self.names)}, not {interface!r}")
         return interface or self.names[0]

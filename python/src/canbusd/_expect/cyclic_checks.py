@@ -75,7 +75,7 @@ def follow(frames: Iterable[Seen], steps: Sequence[Wanted], between: Optional[Se
 
 
 class Change(NamedTuple):
-    """What a frame says that the one before it said otherwise."""
+    """The values of a frame that differ from those of the frame before it."""
 
     before: object
     after: object

@@ -56,7 +56,7 @@ def wait_for(predicate: Callable[[], T], timeout: float) -> Optional[T]:
 
 
 class Expectations(Supervision):
-    """What a test expects of a running server; the mixin of Server."""
+    """Expectations of a running server; the mixin of Server."""
 
     def _observing(self) -> "Observer":
         """The observer of the server."""
@@ -67,7 +67,7 @@ class Expectations(Supervision):
         raise NotImplementedError
 
     def _shown(self, signals: Sequence[str] = ()) -> str:
-        """What was seen last, for the end of a failure."""
+        """The last frames that were seen, for the end of a failure."""
         return self._observing().shown(self.database, signals)
 
     def _wait(self, predicate: Callable[[], T], timeout: float) -> Optional[T]:
@@ -132,8 +132,8 @@ class Expectations(Supervision):
     def bus_off(self, name: str, timeout: float = 5.0) -> ErrorCounters:
         """Drives an interface bus off, whatever the others send; returns once it is.
 
-        The next attempts in which it sends are destroyed, 32 where it had no errors, so it has to send: a rule for them is
-        injected. AssertionError where it is not off after these seconds; its text says where it sent nothing. The rule is
+        The next attempts in which it sends are destroyed, 32 if it had no errors, so it has to send: a rule for them is
+        injected. AssertionError if it is not off after these seconds; its text says where it sent nothing. The rule is
         ended then, unless the bus has others, which would end with it: it is left, as the text says.
         """
         __tracebackhide__ = True
@@ -144,7 +144,7 @@ class Expectations(Supervision):
             counters = self._wait(drive.off, timeout)
             if counters is None:
                 raise AssertionError(f"{drive.failure(timeout)}{self._shown()}")
-            # Where it restarts by itself it may be back.
+            # If it restarts by itself it may be back.
             was = observer.skip_to_state(name, "off")
             return was.counters if was is not None and counters.state != "off" else counters
         finally:
@@ -225,7 +225,7 @@ class Expectations(Supervision):
     ) -> None:
         """Fails if such a frame was seen since the last expectation, or is within these seconds.
 
-        It fails, too, where frames were lost since then, so that this can't be known.
+        It fails, too, if frames were lost since then, so that this can't be known.
         """
         __tracebackhide__ = True
         wanted = self._wanted(
@@ -251,7 +251,7 @@ class Expectations(Supervision):
 
         That is known by the error message frames that its interface received; of `down` there is none, so it has to be down
         when it is looked at, from time to time. AssertionError if it does not come into it
-        within these seconds; its text says in which states it was. Returns its error counts: as they are, where it still
+        within these seconds; its text says in which states it was. Returns its error counts: as they are, if it still
         is in this state, else those when it came into it, of which the receive count at bus off is not known, and 0.
         """
         __tracebackhide__ = True
@@ -282,7 +282,7 @@ class Drive:
         self._injected: Optional[tuple[int, int]] = None
 
     def off(self) -> Optional[ErrorCounters]:
-        """Returns the counts of the interface once it is off, or was, where it restarts by itself."""
+        """Returns the counts of the interface once it is off, or was, if it restarts by itself."""
         left = self._bus.rules_left()
         counters, stats = self._bus.error_counters(), self._bus.stats()
         if counters.state == "off":
@@ -311,7 +311,7 @@ class Drive:
             self._bus.end_rules()
 
     def _is_only(self, left: int) -> bool:
-        """Whether its own is the only rule, where the bus has so many left."""
+        """Whether its own is the only rule, if the bus has so many left."""
         return left == 1 and self._injected is not None and self._injected[0] == 0
 
     def _reason(self, counters: ErrorCounters, stats: Stats) -> str:

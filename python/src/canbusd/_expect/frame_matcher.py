@@ -1,4 +1,4 @@
-"""What a frame has to be that a test looks for, by its fields, by the name of its message or by a signal; and in words."""
+"""The frame that a test looks for, by its fields, by the name of its message or by a signal; and in words."""
 
 import difflib
 import functools
@@ -22,17 +22,17 @@ Step = Union[int, str, Mapping[str, Any]]
 LEAST_EXTENDED = 0x800
 MOST_IDENTIFIER = 0x1FFFFFFF
 NO_DATABASE = "names of messages and signals need a database: give the server database='car.dbc', or a rest bus"
-# How many signals are named where the one that is asked for is none.
+# How many names to suggest for an unknown signal.
 MOST_NAMED = 12
 
 
 class Wanted:
-    """What is looked for: `matches` says whether a frame is that, and `str()` what it is, `frame 123 with data 11 22`.
+    """The frame that is looked for: `matches` tests a frame, and `str()` has it in words, `frame 123 with data 11 22`.
 
     None is any. `id` is an identifier or the name of a message; one above 7FF has 29 bits unless `is_extended_id` says
     otherwise. A `signal` is named as `EngineSpeed`, or as `Engine.EngineSpeed` with its message; of `above`, `below`,
     `equals` and `between`, which has its two ends, those that are given have to be so. `channel` is only said. ValueError
-    where no frame can be that.
+    if no frame can be that.
     """
 
     def __init__(
@@ -130,7 +130,7 @@ class Wanted:
 
 
 def checked_data(data: object) -> bytes:
-    """The bytes that a frame has to have; ValueError where none can."""
+    """The bytes that a frame has to have; ValueError if none can."""
     found = data_bytes(data)
     if len(found) not in FD_LENGTHS:
         raise ValueError(
@@ -157,7 +157,7 @@ def identifier(id: Union[int, str, None], database: Optional[Database]) -> tuple
 
 
 def check_identifier(id: Optional[int], has: Optional[bool], is_extended_id: Optional[bool], is_error: bool) -> None:
-    """ValueError where no frame has this identifier; `has` is whether the message with its name has 29 bits."""
+    """ValueError if no frame has this identifier; `has` is whether the message with its name has 29 bits."""
     if id is None:
         return
     if not 0 <= id <= MOST_IDENTIFIER:
@@ -169,7 +169,7 @@ def check_identifier(id: Optional[int], has: Optional[bool], is_extended_id: Opt
 
 
 def digits_in(text: str) -> str:
-    """The hexadecimal digits of a number, as identifiers are written: 101 or 0x101; the empty text where it is none."""
+    """The hexadecimal digits of a number, as identifiers are written: 101 or 0x101; the empty text if it is none."""
     found = re.fullmatch("(?:0[xX])?([0-9A-Fa-f]+)", text)
     return found[1] if found else ""
 
@@ -227,7 +227,7 @@ def formats_of(name: str, messages: Sequence[MessageFormat], is_bare: bool) -> l
 
 
 def wanted_of(step: Step, database: Optional[Database]) -> Wanted:
-    """What a step of a sequence looks for."""
+    """The frame that a step of a sequence looks for."""
     if isinstance(step, (list, tuple)):
         given = ", ".join(map(repr, step))
         raise ValueError(f"steps are given one by one, as expect_sequence({given}), not as {step!r}")

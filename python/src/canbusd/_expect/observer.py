@@ -21,12 +21,12 @@ from canbusd.signals import Database
 
 T = TypeVar("T")
 
-# Up to how many interfaces a server has all of them are observed, where `observe` names none; of more the first of each
+# Up to how many interfaces a server has all of them are observed, if `observe` names none; of more the first of each
 # bus, since each that is observed makes each frame an entry more of the record.
 MOST_OBSERVED = 8
 # Up to how many of them have a session from the start, which receives their states at least. A server has 64 sessions.
 MOST_WITH_STATES = 16
-# How many frames a session keeps as they came while nobody expects anything. More are handed on, so many at once, and then
+# The number of frames that a session keeps as they came while nobody expects anything. More are handed on, so many at once, and then
 # other threads, such as that of a rest bus, run for these seconds.
 MOST_UNREAD_FRAMES, FRAMES_AT_ONCE, PAUSE_SECONDS = 20_000, 16, 0.0001
 
@@ -79,7 +79,7 @@ class Watching(Protocol):
         """The counts of the session and of its interface."""
 
     def rules_left(self) -> int:
-        """How many rules the bus has that are not used up."""
+        """The number of rules that the bus has that are not used up."""
 
     def end_rules(self) -> None:
         """Ends all rules of the bus."""
@@ -148,7 +148,7 @@ class Observer:
         return [session for session in self._sessions.values() if isinstance(session, ObservingSession)]
 
     def session(self, name: str) -> Watching:
-        """Returns the session on an interface, which is opened where there is none."""
+        """Returns the session on an interface, which is opened if there is none."""
         with self._lock:
             found = self._sessions.get(name)
             if found is None:
@@ -178,7 +178,7 @@ class Observer:
                 wait_for_input([session], left)
 
     def wait(self, look: Callable[[], Optional[T]], may_be: Callable[[Seen], bool], within: float) -> Optional[T]:
-        """Returns what `look` finds in what was received; None where that is nothing within these seconds.
+        """Returns what `look` finds in what was received; None if that is nothing within these seconds.
 
         It looks at once, then after each arrival that may be what it looks for, and at the end.
         """
@@ -308,7 +308,7 @@ class Observer:
         return self.wait(lambda: self.came_into(name, state, is_settled=True), may_be, within)
 
     def came_into(self, name: str, state: str, is_settled: bool = False) -> Optional[StateSeen]:
-        """Returns when an interface came into a state, since the last that was expected; None where it did not."""
+        """Returns when an interface came into a state, since the last that was expected; None if it did not."""
         if not is_settled:
             self.settle()
         counters = self.session(name).error_counters()
@@ -356,7 +356,7 @@ class Observer:
         return f": {', and '.join(texts)}" if texts else ""
 
     def _note_dropped(self) -> None:
-        """What was dropped up to now was before what is expected next."""
+        """Items dropped up to now do not count for the next expectation."""
         for name in self.received.observed:
             self._dropped[name] = self._sessions[name].stats().dropped
 

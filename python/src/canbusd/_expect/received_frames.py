@@ -1,4 +1,4 @@
-"""What the sessions of a server's own have received: the frames of each bus in their order, each once, and states.
+"""The frames of each bus that a server's own sessions received, in their order, each once, and states.
 
 Sessions on several interfaces of a bus receive the same frame, one sooner than another. Here it is one: it is known by
 its moment, its text and its number at its sender, and stands at its moment. So the order is that of the bus, whichever
@@ -103,7 +103,7 @@ class SeenBus:
         self.names = tuple(names)
         self.frames: list[Seen] = []
         self._moments: list[int] = []
-        #: How many frames were forgotten, which were before the first.
+        #: The number of frames that were forgotten, which were before the first.
         self.forgotten = 0
         # By each session, what it received last, and how often one after another.
         self._last: dict[str, tuple[tuple[object, ...], int]] = {}
@@ -148,7 +148,7 @@ class SeenBus:
 
 
 class Received:
-    """What was received on the buses of a server, and how far expectations have come.
+    """The frames received on the buses of a server, and the place of the expectations among them.
 
     `observed` are the interfaces whose frames count; of others there are error message frames only, which say their states.
     """
@@ -157,7 +157,7 @@ class Received:
         self.observed = tuple(observed)
         self.buses = [SeenBus(names) for names in buses]
         self._bus_of = {name: bus for bus in self.buses for name in bus.names}
-        #: What came, as it came, and how much of that is forgotten.
+        #: The frames that came, in their order, and how many of them are forgotten.
         self.arrivals: deque[Seen] = deque(maxlen=MOST_KEPT)
         self.arrived = 0
         #: By the name of an interface the states that it was in, oldest first.
@@ -211,7 +211,7 @@ class Received:
     # Frames.
 
     def channels(self, channel: Optional[str]) -> Sequence[str]:
-        """The observed interfaces at which a frame may be; ValueError where there is none, or this is none of them."""
+        """The observed interfaces at which a frame may be; ValueError if there is none, or this is none of them."""
         if not self.observed:
             raise ValueError("no interface of the server is observed: it was given observe=()")
         if channel is not None and channel not in self.observed:
@@ -265,7 +265,7 @@ class Received:
             self._expected[name] = len(states) - 1
 
     def missed(self, channel: Optional[str]) -> int:
-        """How many frames were forgotten that were not taken."""
+        """The number of frames that were forgotten that were not taken."""
         return sum(max(0, bus.forgotten - self._first(number, channel)) for number, bus in self._buses_of(channel))
 
     def last(self) -> list[Seen]:
@@ -282,7 +282,7 @@ class Received:
 
     def expected_state(self, name: str, state: str) -> Optional[StateSeen]:
         """Returns the first time since the state that was expected last that an interface came into this one; else the
-        present one, where it is that. The next is looked for from there."""
+        present one, if it is that. The next is looked for from there."""
         states = self.states[name]
         last = len(states) - 1
         for place in [*range(self._expected.get(name, 0) + 1, last), last]:

@@ -32,7 +32,7 @@ class Follower:
         # When the value before the first was on the bus, if it is known.
         self._before = before
         self._samples: list[Sample] = []
-        # Where the shape may have begun: the places of these values.
+        # The places of the values at which the shape may have begun.
         self._begun: list[int] = []
         #: Of those where it did not, the one after which it was followed longest, and where it was left.
         self._best: Optional[tuple[int, int]] = None
@@ -54,7 +54,7 @@ class Follower:
         return None
 
     def _span(self, begun: int, place: int) -> tuple[float, float]:
-        """The values that the shape may have at a place, where it has begun at another, or since the one before."""
+        """The values that the shape may have at a place, if it has begun at another, or since the one before."""
         since = self._samples[place].moment - self._samples[begun].moment
         before = self._samples[begun - 1].moment if begun else self._before
         gap = 0.0 if before is None else self._samples[begun].moment - before

@@ -1,4 +1,4 @@
-"""What the value of a signal may have to be, `above`, `below`, `equals` and `between`, and what none of them can be."""
+"""The limits of a signal's value, `above`, `below`, `equals` and `between`, and limits that no value can meet."""
 
 import math
 from collections.abc import Callable, Mapping, Sequence
@@ -11,7 +11,7 @@ from canbusd.signals import Value
 
 
 def check_conditions(name: str, formats: Sequence[SignalFormat], conditions: Mapping[str, Any]) -> None:
-    """ValueError where one of these can never be so; `formats` are the signals that the name may mean."""
+    """ValueError if one of these can never be so; `formats` are the signals that the name may mean."""
     for kind in ("above", "below"):
         if kind in conditions:
             check_number(kind, conditions[kind])
@@ -22,13 +22,13 @@ def check_conditions(name: str, formats: Sequence[SignalFormat], conditions: Map
 
 
 def check_number(kind: str, limit: object) -> None:
-    """ValueError where a limit is no number."""
+    """ValueError if a limit is no number."""
     if not isinstance(limit, (Real, Decimal)) or math.isnan(limit):
         raise ValueError(f"{kind} is a number, not {limit!r}")
 
 
 def check_ends(ends: object) -> None:
-    """ValueError where these are not the two ends of a range, the lower one first."""
+    """ValueError if these are not the two ends of a range, the lower one first."""
     if not isinstance(ends, (tuple, list)) or len(ends) != 2:
         raise ValueError(f"between has two ends, such as (0, 100), not {ends!r}")
     for one in ends:
@@ -38,7 +38,7 @@ def check_ends(ends: object) -> None:
 
 
 def check_value(name: str, formats: Sequence[SignalFormat], value: Value) -> None:
-    """ValueError where this is no number and none of the names that the signal has for one, or a number that has a name."""
+    """ValueError if this is no number and none of the names that the signal has for one, or a number that has a name."""
     if any(value in one.choices.values() for one in formats):
         return
     names = list(dict.fromkeys(name for one in formats for name in one.choices.values()))
@@ -59,7 +59,7 @@ def is_number(value: Value) -> bool:
 
 
 def name_of(signal: SignalFormat, value: Value) -> str:
-    """The name that a signal has for a number; the empty text where it has none."""
+    """The name that a signal has for a number; the empty text if it has none."""
     numbers_of_names = {name: float(raw * signal.factor + signal.offset) for raw, name in signal.choices.items()}
     return next((name for name, number in numbers_of_names.items() if is_near(number, value)), "")
 
@@ -95,5 +95,5 @@ CONDITIONS: dict[str, Callable[[Value, Any], bool]] = {
 
 
 def limit_words(limit: object) -> str:
-    """What a signal is compared with: a value, or the two ends of a range."""
+    """The limit of a signal: a value, or the two ends of a range."""
     return " and ".join(map(str, limit)) if isinstance(limit, (tuple, list)) else str(limit)

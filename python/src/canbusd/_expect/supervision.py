@@ -1,4 +1,4 @@
-"""What a test expects of several frames of a running server: that they are cyclic, in order, and stay the same.
+"""Expectations of several frames of a running server: they are cyclic, in order, and stay the same.
 
     server.expect_cyclic(0x100, period=0.1, tolerance=0.01, count=10)
     server.expect_sequence("Request", "Response", within=0.5)
@@ -38,20 +38,20 @@ if TYPE_CHECKING:
 
 #: Seconds more than the periods take, in which cyclic frames may come that begin late or are late.
 SLACK = 1.0
-# How many wrong gaps a failure shows.
+# The number of wrong gaps that a failure shows.
 MOST_GAPS = 100
 
 
 def check_count(count: object, what: str) -> None:
-    """ValueError where this is no number of what is waited for."""
+    """ValueError if this is no number of what is waited for."""
     if isinstance(count, bool) or not isinstance(count, int) or count < 1:
         raise ValueError(f"count is a number of {what}, 1 or more, not {count!r}")
 
 
 class Supervision:
-    """What a test expects of several frames; a part of Expectations."""
+    """Expectations of several frames; a part of Expectations."""
 
-    #: Where names of messages and signals are from.
+    #: The database of names of messages and signals.
     database: Optional[Database] = None
 
     def _observing(self) -> "Observer":
@@ -59,7 +59,7 @@ class Supervision:
         raise NotImplementedError
 
     def _shown(self, signals: Sequence[str] = ()) -> str:
-        """What was seen last, for the end of a failure."""
+        """The last frames that were seen, for the end of a failure."""
         raise NotImplementedError
 
     @explained()
@@ -342,7 +342,7 @@ class Supervision:
     ) -> None:
         """Fails if the data of frames with this identifier, or the value of this signal, changes within these seconds.
 
-        It must stay what it was at the last expectation, or first after it. It fails, too, where no such frame was ever
+        It must stay what it was at the last expectation, or first after it. It fails, too, if no such frame was ever
         seen, or frames were lost, so that this can't be known.
         """
         __tracebackhide__ = True

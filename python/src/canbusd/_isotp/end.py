@@ -43,14 +43,14 @@ class IsoTp(NamesWhatThereIs, ABC):
 
     @abstractmethod
     def send(self, data: bytes, timeout: float = LONGEST_TRANSFER, *, functional: bool = False) -> None:
-        """Sends a message, and returns once its last frame was sent; IsoTpError where the transfer fails.
+        """Sends a message, and returns once its last frame was sent; IsoTpError if the transfer fails.
 
         With `functional` it goes to all, by the identifier that the end was given as `functional`, in a single frame.
         """
 
     @abstractmethod
     def recv(self, timeout: Optional[float] = None) -> Optional[bytes]:
-        """Returns the next message; None where none is complete within these seconds, IsoTpError where one fails."""
+        """Returns the next message; None if none is complete within these seconds, IsoTpError if one fails."""
 
     @abstractmethod
     def close(self) -> None:

@@ -3,7 +3,7 @@
 from dataclasses import dataclass
 from typing import Optional, Union
 
-#: How many bytes a frame may have that is sent.
+#: The number of bytes that a frame may have that is sent.
 FRAME_LENGTHS = (8, 12, 16, 20, 24, 32, 48, 64)
 
 
@@ -13,10 +13,10 @@ class Options:
 
     tx: int
     rx: int
-    #: The byte that fills frames up to 8 bytes; None where they are as short as can be.
+    #: The byte that fills frames up to 8 bytes; None if they are as short as can be.
     padding: Optional[int] = None
     fd: bool = False
-    #: How many bytes a frame has at most that is sent.
+    #: The number of bytes that a frame has at most that is sent.
     tx_dl: int = 8
     #: Its flow control: a byte of time between consecutive frames, and how many of them before the next.
     stmin: int = 0
@@ -43,7 +43,7 @@ def options_of(
     extended: Union[int, tuple[int, int], None],
     functional: Optional[int],
 ) -> Options:
-    """Returns the options that these arguments of `isotp` are; ValueError where one is wrong."""
+    """Returns the options that these arguments of `isotp` are; ValueError if one is wrong."""
     identifiers = {"tx": tx, "rx": rx, **({} if functional is None else {"functional": functional})}
     for name, identifier in identifiers.items():
         if isinstance(identifier, bool) or not isinstance(identifier, int) or not 0 <= identifier <= 0x1FFFFFFF:

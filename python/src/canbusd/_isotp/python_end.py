@@ -49,7 +49,7 @@ class Incoming:
 
     def __init__(self, size: int, data: bytes) -> None:
         self.size, self.data = size, bytearray(data)
-        #: How many bytes its consecutive frames have, but for the last: one more than its first frame.
+        #: The number of bytes that its consecutive frames have, but for the last: one more than its first frame.
         self.longest = len(data) + 1
         #: The number of the next consecutive frame, and how many come before the next flow control.
         self.number, self.left = 1, 0
@@ -91,7 +91,7 @@ class PythonIsoTp(IsoTp):
         #: Messages, each with whether it was for all, and the numbers of the errors of those that failed.
         self._received: deque[Union[tuple[bytes, bool], int]] = deque()
         self._controls: deque[Received] = deque()
-        # How many frames were given to the bus, and how many of them it has carried.
+        # The number of frames that were given to the bus, and how many of them it has carried.
         self._given = self._carried = 0
         self._incoming: Optional[Incoming] = None
         # Flow controls that are late, and when they are due.
@@ -245,7 +245,7 @@ class PythonIsoTp(IsoTp):
                 self._news.notify_all()
 
     def _seconds_left(self) -> Optional[float]:
-        """Seconds until something is due; None where nothing is."""
+        """Seconds until something is due; None if nothing is."""
         deadlines = [moment for moment, _ in self._late]
         deadlines += [self._incoming.deadline] if self._incoming else []
         return seconds_until(min(deadlines)) if deadlines else None
@@ -330,7 +330,7 @@ class PythonIsoTp(IsoTp):
             self._incoming = None
 
     def _reply(self, segment: Segment) -> None:
-        """Gives a flow control to the bus. Where that takes none, as at bus off, the message fails, and the thread goes on."""
+        """Gives a flow control to the bus. If that takes none, as at bus off, the message fails, and the thread goes on."""
         try:
             self._give(segment, self._options.tx)
         except IsoTpError as fault:

@@ -95,7 +95,7 @@ def flow_control(status: int, block_size: int, stmin: int, address: bytes) -> Se
 
 
 def read_segment(data: bytes, head: int) -> Received:
-    """Returns what a frame says, after an address of `head` bytes; ValueError where it is no segment."""
+    """Returns what a frame says, after an address of `head` bytes; ValueError if it is no segment."""
     content = data[head:]
     name = CODES.get(content[0] >> 4) if content else None
     if name is None:
@@ -114,7 +114,7 @@ def read_segment(data: bytes, head: int) -> Received:
 
 
 def filled(data: bytes, padding: Optional[int]) -> bytes:
-    """Returns the bytes of a frame, filled up to 8 where there is a padding, and to a length of FD frames."""
+    """Returns the bytes of a frame, filled up to 8 if there is a padding, and to a length of FD frames."""
     size = next(length for length in FD_LENGTHS if length >= len(data))
     if padding is not None:
         size = max(size, 8)

@@ -23,10 +23,12 @@ function bitsOf(text) {
   if (identifier.length === 3) return `${bits.padStart(11, "0")} ${rtr}0`;
   return bits.padStart(29, "0").replace(/^.{11}/, "$& 11 ") + ` ${rtr}`;
 }
+// The nodes that take part in an attempt, with their frames.
+const takingPart = step => names.map((_, iface) => iface).filter(iface => queues[iface].all[step])
+  .map(iface => ({ iface, text: headOf(iface, step) }));
 function arbitration(step) {
   if (!isAttempt(step)) return [];
-  const taking = names.map((_, iface) => iface).filter(iface => queues[iface].all[step])
-    .map(iface => ({ iface, text: headOf(iface, step) }));
+  const taking = takingPart(step);
   if (taking.length < 2) return [element("p", "No other node had a frame to send.")];
   const best = bitsOf(taking.find(one => one.iface === steps.iface[step]).text);
   const wide = Math.max(...names.map(name => name.length));
@@ -117,6 +119,6 @@ function showChosen() {
   at("chosen").replaceChildren(element("h2", title[0].toUpperCase() + title.slice(1) + entry),
     element("p", sentence(step)), ...more, ...eventsAt(step), ...isAttempt(step) ? [fieldList(step)] : [], ...signalTable(step),
     countersAround(step),
-    ...arbitration(step), ...itemsOf(step));
+    ...arbitration(step), ...bitTable(step), ...itemsOf(step));
   if (isAttempt(step)) at("number").value = attemptOf[step];
 }

@@ -2,7 +2,7 @@
 
 All local users and all web sites that are open in a browser can connect to 127.0.0.1. So the path of each request has to
 begin with a token that only the URL of the page has, and the request has to name this machine as its host: a site whose name
-leads here is another one. Where the server is at a Unix path, which file permissions protect, the browser has to be of the user
+leads here is another one. If the server is at a Unix path, which file permissions protect, the browser has to be of the user
 who runs the command.
 
 The page asks for each of its acts, such as sending a frame, by POST: with its own origin, and with the token in a header too,
@@ -47,7 +47,7 @@ ACTS, ACT_SCRIPTS, ACT_STYLES = "watch_acts.html", ("watch_acts.js",), ("watch_a
 # How much a page gets that is opened later: ticks, and frames.
 MOST_TICKS, MOST_FRAMES = 2400, 4000
 # Seconds in which pages are sent that the server has ended, after which a silent connection is closed, and between two looks
-# for a file descriptor where there are no more.
+# for a file descriptor if there are no more.
 CLOSE_TIMEOUT, REQUEST_TIMEOUT, PAUSE = 2.0, 10.0, 0.2
 # Seconds after which a page gets an empty list, if there is no news: the write fails if the page is closed.
 BEAT = 1.0
@@ -168,7 +168,7 @@ class Pages(ThreadingHTTPServer):
         return has_token and origins == [f"http://{host}"]
 
     def get_request(self) -> tuple[Any, Any]:
-        """Takes a connection. Where there is no file descriptor for it, it waits for one, and burns no processor."""
+        """Takes a connection. If there is no file descriptor for it, it waits for one, and burns no processor."""
         try:
             return super().get_request()
         except OSError:
@@ -225,7 +225,7 @@ def policy_of(page: str) -> str:
 
 
 def user_of(client: tuple[str, int], server: tuple[str, int]) -> Optional[int]:
-    """Returns the user whose socket is the client's end of a TCP connection on this machine; None where it is closed."""
+    """Returns the user whose socket is the client's end of a TCP connection on this machine; None if it is closed."""
     for table, prefix in (("tcp", ""), ("tcp6", "::ffff:")):
         ends = " ".join(f"{words_of(prefix + host)}:{port:04X}" for host, port in (client, server))
         try:
@@ -302,7 +302,7 @@ class Request(BaseHTTPRequestHandler):
             self.send_error(HTTPStatus.NOT_FOUND)
 
     def do_POST(self) -> None:
-        """Does what the page asks for. Where nothing can be asked for, there is no such method."""
+        """Does what the page asks for. If nothing can be asked for, there is no such method."""
         acts = self.server.acts
         if acts is None or self.path not in acts.by_name:
             self.send_error(HTTPStatus.NOT_IMPLEMENTED, f"Unsupported method ({self.command!r})")

@@ -2,8 +2,8 @@
 
 With a file of messages, as `--dbc` names one, the header of the data has two objects more, by the places of frames in
 `texts` as `meanings` is: `messages`, the name of the message of each frame that the file knows, and `signals`, for each
-of these a list of [signal, value, unit]. A value is a number, or a text where the file has names for numbers; a unit is
-a text, empty where there is none. A frame that is shorter than its message has the empty list. Without a file both
+of these a list of [signal, value, unit]. A value is a number, or a text if the file has names for numbers; a unit is
+a text, empty if there is none. A frame that is shorter than its message has the empty list. Without a file both
 objects are empty.
 
 With bit rates the header has an object `wire` more, with a run to compare it with an object `other`, and the page a script
@@ -38,7 +38,8 @@ from canbusd.signals import Database
 
 # The scripts of a page, in their order, before the last one, which begins.
 SCRIPTS = (
-    *("core", "lanes", "moves", "lists", "run", "strips", "signals", "chosen", "cursors", "run_signals", "identifiers"),
+    *("core", "lanes", "moves", "lists", "run", "strips", "signals"),
+    *("chosen", "bits", "cursors", "run_signals", "identifiers"),
     *("tables", "address"),
 )
 
@@ -96,35 +97,38 @@ class Timeline:
 
     def __init__(self, run: Replay) -> None:
         self.steps, self.ifaces = run.steps, len(run.ifaces)
-        #: Where each step is among the rows.
+        #: The row of each step.
         self.places: Sequence[int] = range(len(self.steps))
-        #: The step of each row; of idle attempts the one after them, at the end the number of steps.
-        self.own: Sequence[int] = self.places
-        # The rows of idle attempts, and how many they are.
+        #: The rows of idle attempts, and how many they are.
         self.idle: list[tuple[int, int]] = []
+        # The steps whose rows follow each other; idle attempts are in the row of the last step of a piece but the last.
+        self._pieces: list[slice] = []
         if run.idle:
-            self._place_idle(run.idle_since)
+            self._place_idle([*self.steps.idle, run.idle_since])
 
-    def _place_idle(self, idle_since: int) -> None:
+    def _place_idle(self, idle: Sequence[int]) -> None:
         """Puts a row before each step that has idle attempts before it, and after the last one for those of the end."""
-        self.places, self.own = places, own = array("I"), array("I")
-        for number, idle in enumerate(itertools.chain(self.steps.idle, [idle_since])):
-            if idle:
-                self.idle.append((len(own), idle))
-                own.append(number)
-            if number < len(self.steps):
-                places.append(len(own))
-                own.append(number)
+        ends = [*itertools.compress(itertools.count(), idle), len(self.steps)]
+        firsts = [0, *ends[:-1]]
+        self.idle = [(step + before, idle[step]) for before, step in enumerate(firsts[1:])]
+        self._pieces = [*map(slice, firsts, [*(end + 1 for end in ends[:-1]), ends[-1]])]
+        rows = (range(first + before, end + before) for before, (first, end) in enumerate(zip(firsts, ends)))
+        self.places = array("I", itertools.chain.from_iterable(rows))
 
-    def shown(self, column: "array[int]") -> "array[int]":
-        """Returns a column of the steps by rows. Idle attempts have the number of the step after them, else of the last."""
+    def shown(self, column: "array[int]", end: Optional[int] = None) -> "array[int]":
+        """Returns a column of the steps by rows. Idle attempts have the number of the step after them.
+
+        After the last step they have this `end`, else the number of that step.
+        """
         if not self.idle:
             return column
-        padded = column + (column[-1:] or array(column.typecode, [0]))
-        return array(column.typecode, map(padded.__getitem__, self.own))
+        if end is None:
+            end = column[-1] if column else 0
+        padded = column + array(column.typecode, [end])
+        return array(column.typecode, b"".join(map(padded.__getitem__, self._pieces)))
 
     def rows(self, column: "array[int]", idle: int = 0) -> "array[int]":
-        """Returns a column of the steps by rows, where idle attempts have this number."""
+        """Returns a column of the steps by rows, if idle attempts have this number."""
         found = self.shown(column)
         for row, _ in self.idle:
             found[row] = idle
@@ -142,7 +146,7 @@ class Timeline:
         return self.lasting(self.steps.counts[place :: 2 * self.ifaces])
 
     def lasting(self, column: "array[int]") -> "array[int]":
-        """Returns a column of the steps by rows, where idle attempts leave it as it was."""
+        """Returns a column of the steps by rows, if idle attempts leave it as it was."""
         found = self.shown(column)
         for row, _ in self.idle:
             found[row] = found[row - 1] if row else 0
@@ -201,7 +205,7 @@ def items_of(items: Items, most: int, timeline: Timeline, block: Block) -> Json:
         # 0 for the frame of the step, else the place of an error message frame.
         "error": block.column("I", items.errors[:most]),
         "fate": block.column("B", items.fates()[:most]),
-        # The first row in which it was no longer in its queue; 0 where it stayed there, or never was.
+        # The first row in which it was no longer in its queue; 0 if it stayed there, or never was.
         "end": block.column("I", ends),
     }
 
@@ -254,7 +258,7 @@ def decoded_of(texts: Iterable[str], database: Optional[Database]) -> Json:
 
 
 def meanings_of(run: Replay) -> dict[int, str]:
-    """What error message frames say, and items that no line names, by their places."""
+    """The texts of error message frames, and of items that no line names, by their places."""
     unknown, texts = {UNKNOWN: "a frame or an error message frame"}, run.texts.all
     return {place: unknown.get(texts[place]) or meaning(texts[place]) for place in sorted({0, *run.items.errors})[1:]}
 

@@ -1,4 +1,4 @@
-"""What the page of a run has of time on the wire: columns beside those of its steps, where its bus has bit rates."""
+"""The time on the wire in the page of a run: columns next to those of its steps, if its bus has bit rates."""
 
 import itertools
 import operator
@@ -33,7 +33,7 @@ def wire_of(
         # In nanoseconds: how long after the one before, which is shorter than since the first.
         "begin": [*column("d", map(operator.sub, begins, itertools.chain([start], begins))), "rising"],
         "end": end - start,
-        # How many bits the frame has at each bit rate, and how long it and the attempt take, in nanoseconds.
+        # The number of bits that the frame has at each bit rate, and how long it and the attempt take, in nanoseconds.
         "nominal": column("H", timeline.rows(steps.nominal_bits)),
         "fast": column("H", timeline.rows(steps.fast_bits)),
         "frame": column("I", timeline.rows(steps.frame_nanos)),
@@ -47,16 +47,14 @@ def begins_of(run: Replay, timeline: "Timeline", slots: Sequence[Slot], over: in
 
     Those after the last step begin when all attempts are over.
     """
-    by_step = [1000 * micros for micros in run.steps.moments]
+    by_step = array("q", (1000 * micros for micros in run.steps.moments))
     for slot in slots:
         by_step[slot.step] = slot.begin
-    # After the last step.
-    by_step.append(over)
-    return list(itertools.accumulate(map(by_step.__getitem__, timeline.own), max))
+    return list(itertools.accumulate(timeline.shown(by_step, over), max))
 
 
 def since_of(run: Replay, places: Sequence[int]) -> "array[int]":
-    """How many rows before each attempt its frame first took part in arbitration."""
+    """The number of rows that before each attempt its frame first took part in arbitration."""
     steps, since = run.steps, array("I")
     firsts: dict[int, int] = {}
     for step, (place, kind, iface, off) in enumerate(zip(places, steps.kinds, steps.ifaces, steps.off)):

@@ -38,7 +38,7 @@ class Dialogue(ProgramRun):
     def __init__(self, out: Union[str, "os.PathLike[str]", None]) -> None:
         super().__init__(out)
         self._moment = "0.000000"
-        # One call at a time. Where one was interrupted, its answer is still to come, and would be taken for that of the next.
+        # One call at a time. If one was interrupted, its answer is still to come, and would be taken for that of the next.
         self._turn = threading.RLock()
         self._in_step = True
         self._written = 0

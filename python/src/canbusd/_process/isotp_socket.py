@@ -41,7 +41,7 @@ def relay(own: socket.socket, end: socket.socket) -> None:
 
 
 def error_of(end: socket.socket, data: bytes) -> int:
-    """Sends a message; the number of the error, 0 where it went out."""
+    """Sends a message; the number of the error, 0 if it went out."""
     try:
         end.send(data)
         return end.getsockopt(socket.SOL_SOCKET, socket.SO_ERROR)

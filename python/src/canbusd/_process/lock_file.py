@@ -15,7 +15,7 @@ CLOSING = 0.2
 def remove_left(folder: Path) -> None:
     """Removes the file that a server of this folder left, by the server's rule: it is empty, and no other server has it."""
     path = folder / NAME
-    # Where it can't be removed it stays, which harms nobody.
+    # If it can't be removed it stays, which does no harm.
     with contextlib.suppress(OSError):
         lock = os.open(path, os.O_RDWR | os.O_NOFOLLOW)
         try:
@@ -27,7 +27,7 @@ def remove_left(folder: Path) -> None:
 
 
 def take(lock: int) -> None:
-    """Locks this file; BlockingIOError where a server keeps it."""
+    """Locks this file; BlockingIOError if a server keeps it."""
     deadline = time.monotonic() + CLOSING
     while True:
         try:

@@ -31,7 +31,7 @@ class Output:
         return f".. {first:,} bytes before\n{text}" if first else text
 
     def last_lines(self, most: int) -> list[str]:
-        """Returns its last lines, after one that says how many there are; nothing where there are none."""
+        """Returns its last lines, after one that says how many there are; nothing if there are none."""
         lines = self.text().splitlines()
         if not lines:
             return []
@@ -51,7 +51,7 @@ class Search:
         self._decoder = codecs.getincrementaldecoder("utf-8")("replace")
         # The end of what was read, in which the text may begin; each of its lines may end in two characters.
         self._rest = ""
-        #: How many bytes were read.
+        #: The number of bytes that were read.
         self.place = 0
         self.is_found = not text
 

@@ -7,12 +7,12 @@ from collections.abc import Sequence
 from pathlib import Path
 from typing import NoReturn, Optional, Union
 
-#: What has set a variable where that was not its user, by its name: an option of pytest's ini file.
+#: The source of a variable that its user did not set, by its name: an option of pytest's ini file.
 SET_BY: dict[str, str] = {}
 
 
 class ServerError(RuntimeError):
-    """The server could not be started, or ended with a fault; the text is what canbusd said of it."""
+    """The server could not be started, or ended with a fault; the text is that of canbusd."""
 
 
 class ProgramNotFound(FileNotFoundError):
@@ -22,7 +22,7 @@ class ProgramNotFound(FileNotFoundError):
 def find_program(name: str = "canbusd") -> str:
     """Returns the path of a program: `$CANBUSD`, else that of the package, of its clone, or on the PATH.
 
-    A wheel has the programs in the package. Where the package is in a clone, it is `./canbusd` of that. For another
+    A wheel has the programs in the package. If the package is in a clone, it is `./canbusd` of that. For another
     name the variable is that: `$CANBUSD_RUN` for canbusd-run. A command that pip made of this package is none of them.
     """
     variable = name.upper().replace("-", "_")

@@ -1,4 +1,4 @@
-"""What Server and Bench share: the options of the program, a folder of its own, and an end."""
+"""The common part of Server and Bench: the options of the program, a folder of its own, and an end."""
 
 import _thread
 import os
@@ -8,7 +8,7 @@ import signal
 import subprocess
 import tempfile
 import weakref
-from collections.abc import Iterable, Sequence
+from collections.abc import Iterable, Mapping, Sequence
 from contextvars import ContextVar
 from pathlib import Path
 from types import TracebackType
@@ -16,7 +16,7 @@ from typing import Literal, Optional, TypeVar, Union
 
 from canbusd import _placement as placement
 from canbusd._process.program import find_program
-from canbusd._process.rates import Rates
+from canbusd._process.rates import LEAST_BITRATE, MOST_BITRATE, MOST_DBITRATE, BitRate, Rates
 from canbusd._session.arguments import one_data_rate, truth
 from canbusd._text import NAME
 from canbusd._words import MOST_NAMES, NUMBERS
@@ -24,7 +24,7 @@ from canbusd.faults import Script
 
 Self = TypeVar("Self", bound="ProgramRun")
 
-#: Where runs have their folders; None is the system's place for temporary files.
+#: The folder of all runs' folders; None is the system's place for temporary files.
 FOLDERS: "ContextVar[Optional[Path]]" = ContextVar("FOLDERS", default=None)
 
 Ack = Literal["always", "peers"]
@@ -48,9 +48,39 @@ def number_words(**numbers: int) -> list[str]:
     return words
 
 
-def rates_of(bitrate: Optional[int], data_bitrate: Optional[int], dbitrate: Optional[int] = None) -> Optional[Rates]:
-    """Returns these bit rates, if there are any; ValueError where they are none of a bus."""
-    fast = one_data_rate(data_bitrate, dbitrate)
+def rates_by_bus(
+    buses: Mapping[str, Sequence[str]],
+    bitrate: Optional[BitRate],
+    data_bitrate: Optional[BitRate],
+    dbitrate: Optional[BitRate] = None,
+) -> dict[str, Optional[Rates]]:
+    """Returns the bit rates of each bus by the first of its names; ValueError if they are none of a bus."""
+    fast = rate_by_bus("data_bitrate", one_data_rate(data_bitrate, dbitrate), buses)
+    nominal = rate_by_bus("bitrate", bitrate, buses)
+    return {first: rates_of(nominal[first], fast[first]) for first in buses}
+
+
+def rate_by_bus(argument: str, rate: Optional[BitRate], buses: Mapping[str, Sequence[str]]) -> dict[str, Optional[int]]:
+    """Returns what an argument gives each bus by the first of its names; ValueError names what is wrong in it."""
+    if not isinstance(rate, Mapping):
+        return dict.fromkeys(buses, rate)
+    firsts = {name: first for first, names in buses.items() for name in names}
+    found: dict[str, Optional[int]] = {}
+    for name, number in rate.items():
+        number_words(**{argument: number})
+        if name is None:
+            continue
+        if name not in firsts:
+            raise ValueError(f"{argument} is by interfaces, which are {', '.join(firsts)}, not by {name!r}")
+        first = firsts[name]
+        if first in found:
+            raise ValueError(f"{argument} has two values for the bus {','.join(buses[first])!r}")
+        found[first] = number
+    return {first: found.get(first, rate.get(None)) for first in buses}
+
+
+def rates_of(bitrate: Optional[int], fast: Optional[int]) -> Optional[Rates]:
+    """Returns these bit rates of a bus, if there are any; ValueError if they are none of a bus."""
     rates = {"bitrate": bitrate, "data_bitrate": fast}
     number_words(**{name: rate for name, rate in rates.items() if rate is not None})
     if fast is not None and bitrate is None:
@@ -61,7 +91,7 @@ def rates_of(bitrate: Optional[int], data_bitrate: Optional[int], dbitrate: Opti
 
 
 def check_names(names: Sequence[str]) -> Sequence[str]:
-    """Returns the names of a bus's interfaces; ValueError where they are not joined by commas only, or one is wrong."""
+    """Returns the names of a bus's interfaces; ValueError if they are not joined by commas only, or one is wrong."""
     joined = ",".join(names)
     parted = [name for name in re.split(r"[\s,;]+", joined) if name]
     if re.search(r"[\s;]", joined) and parted:
@@ -129,7 +159,7 @@ class ProgramRun:
 
     @property
     def said(self) -> str:
-        """What the program has written to standard error so far, such as `note: bus can0: record full`."""
+        """The standard error of the program so far, such as `note: bus can0: record full`."""
         return (self._folder / "stderr").read_text(errors="replace").strip()
 
     def _start(self, *words: str) -> None:
@@ -162,7 +192,7 @@ class ProgramRun:
             self._child.stdin = None
 
     def _signal(self) -> None:
-        """Kills the program, and its launcher where it has one; both are in a session of their own."""
+        """Kills the program, and its launcher if it has one; both are in a session of their own."""
         try:
             os.killpg(self._child.pid, signal.SIGKILL)
         except ProcessLookupError:
@@ -179,7 +209,7 @@ class ProgramRun:
         try:
             self.stop()
         except RuntimeError:
-            # What went wrong first is what is raised.
+            # The first fault is raised.
             if kind is None:
                 raise
 

@@ -63,8 +63,8 @@ def interfaces_of(
 ) -> dict[str, str]:
     """Returns the interface of each node that sends something, but for those that are left out.
 
-    It is the one given for the node, else `interface`, else the one that has the node's name. NoInterface where there is
-    none, and ValueError where the name of a node is wrong.
+    It is the one given for the node, else `interface`, else the one that has the node's name. NoInterface if there is
+    none, and ValueError if the name of a node is wrong.
     """
     senders = list(dict.fromkeys(sender(message) for message in database.messages if message.senders))
     if not isinstance(nodes, Mapping):

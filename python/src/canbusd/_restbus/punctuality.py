@@ -1,4 +1,4 @@
-"""What has the threads of this process be punctual.
+"""Makes the threads of this process punctual.
 
 Unless told otherwise a thread that computes keeps the others out for 5 milliseconds at a time, and a full collection of garbage
 stops all of them while it looks at each object: for 30 milliseconds at those of pytest and a library of databases.
@@ -28,7 +28,7 @@ class Punctuality:
             if self._users == 1:
                 self._interval = sys.getswitchinterval()
                 sys.setswitchinterval(min(self._interval, INTERVAL))
-                # What somebody else has frozen is not ours to thaw.
+                # Objects frozen by other code are not ours to thaw.
                 self._has_frozen = not gc.get_freeze_count()
                 if self._has_frozen:
                     gc.freeze()

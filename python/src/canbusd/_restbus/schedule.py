@@ -1,4 +1,4 @@
-"""What is due when, in microseconds, and phases that keep what is cyclic apart."""
+"""The times of calls, in microseconds, and phases that keep cyclic calls apart."""
 
 import heapq
 import math
@@ -27,7 +27,7 @@ class Schedule:
         self._added += 1
 
     def first(self) -> Optional[int]:
-        """Returns when the next call is due; None where there is none."""
+        """Returns when the next call is due; None if there is none."""
         return self._heap[0][0] if self._heap else None
 
     def take(self, now: int) -> Iterator[tuple[int, Callable[[int], None]]]:

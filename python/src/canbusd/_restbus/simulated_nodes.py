@@ -18,7 +18,7 @@ Library = Literal["can-isotp", "canbusd-run", "canbusd"]
 
 
 class HasRestBus(Generic[R]):
-    """What a bench and a server have of a rest bus."""
+    """The common part of a bench and a server for a rest bus."""
 
     database: "Optional[Database]"
     # The rest buses that were made.
@@ -70,7 +70,7 @@ class HasRestBus(Generic[R]):
 
 
 class SimulatesNodes(HasRestBus["RestBus"]):
-    """What a server has of simulated nodes."""
+    """The part of a server for simulated nodes."""
 
     address: str
     _result: Any

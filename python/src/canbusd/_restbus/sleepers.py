@@ -69,7 +69,7 @@ class Watch(RawSession):
     """A session on an interface that receives what wakes a node."""
 
     def __init__(self, address: str, name: str) -> None:
-        #: How many frames were taken here.
+        #: The number of frames that were taken here.
         self.taken = 0
         try:
             super().__init__(address, name, [str(filter_message(NO_FRAMES))], TIMEOUT)

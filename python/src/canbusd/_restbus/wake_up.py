@@ -7,7 +7,7 @@ from canbusd._expect.frame_matcher import LEAST_EXTENDED, MOST_IDENTIFIER, check
 from canbusd.frames import EXTENDED, REMOTE, Frame
 from canbusd.signals import Database
 
-#: What wakes a node: an identifier, the name of a message, a range of identifiers, or several of these.
+#: The frames that wake a node: an identifier, the name of a message, a range of identifiers, or several of these.
 WakeOn = Union[int, str, range, Sequence[Union[int, str, range]]]
 KNOWN = "wake_on is an identifier, the name of a message, a range, such as range(0x500, 0x540), or a list of these"
 

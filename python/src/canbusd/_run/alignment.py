@@ -57,7 +57,7 @@ def rows_of(attempts: Sequence[Attempt]) -> dict[tuple[str, str], list[Sent]]:
 
 
 def aligned(one: Sequence[str], other: Sequence[str]) -> list[tuple[Place, Place]]:
-    """Returns the places of both rows in pairs; None where one of them has nothing."""
+    """Returns the places of both rows in pairs; None if one of them has nothing."""
     most = min(len(one), len(other))
     begin = next((k for k in range(most) if one[k] != other[k]), most)
     end = next((k for k in range(most - begin) if one[-1 - k] != other[-1 - k]), most - begin)
@@ -83,7 +83,7 @@ def between(first: tuple[int, int], end: tuple[int, int]) -> Iterator[tuple[Plac
 
 
 def common(one: Sequence[str], other: Sequence[str]) -> list[tuple[int, int]]:
-    """Returns the places of a longest common part; none where the rows differ by more than MOST_EDITS."""
+    """Returns the places of a longest common part; none if the rows differ by more than MOST_EDITS."""
     # By its diagonal, how far into the first row the edits up to now reach; and that before each number of edits.
     ends, before = {1: 0}, []
     for edits in range(min(len(one) + len(other), MOST_EDITS) + 1):

@@ -18,7 +18,7 @@ from canbusd.record import Attempt, Record, attempts_of, is_named, number_named
 Kind = Literal["only here", "only there", "other data", "other outcome", "later", "earlier", "restarts", "downs"]
 #: By how many seconds the moments of a frame may differ, counted from the first frame of both runs.
 TOLERANCE = 0.01
-# How many differences are listed as text.
+# The number of differences that are listed as text.
 MOST_LISTED = 1000
 SIGNS = {"only here": "-", "only there": "+"}
 
@@ -44,7 +44,7 @@ def names_of_both(one: Record, other: Record) -> tuple[Sequence[str], Sequence[s
     """Returns the names by which the interfaces of two runs are compared and shown.
 
     They are those of each run where all have one. Else an interface is called alike in both: by the name that it has in
-    either of them, or all by their numbers, where the names of the runs don't fit each other.
+    either of them, or all by their numbers, if the names of the runs don't fit each other.
     """
     if all(map(is_named, [*one.names, *other.names])):
         return one.names, other.names

@@ -17,7 +17,7 @@ IS[OTHER] = bytes(other not in IS for other in range(256))
 NO_QUEUE = bytes(other for other in range(256) if other not in (SEND, STEP))
 #: The replies to sends and attempts that most of their lines have.
 USUAL = {SEND: " = number ", STEP: " = tried "}
-#: How many words the line of a step has before what became of it.
+#: The number of words that the line of a step has before what became of it.
 WORDS = 8
 #: A restart or a down as the line of a step, which has no verdict and no frame.
 NO_ATTEMPT = "attempt {}  = tried {} 0  {} 0000 0000{}"
@@ -25,7 +25,7 @@ NO_ATTEMPT = "attempt {}  = tried {} 0  {} 0000 0000{}"
 RESTARTED = " restarted "
 #: Before parts of which only those of some interfaces are meant.
 ONLY = "; only {:04X}"
-#: In place of the number of a socket, where a receive handed out no item: the last place of a list.
+#: In place of the number of a socket, if a receive handed out no item: the last place of a list.
 NOBODY = -1
 
 third_letter = operator.itemgetter(2)
@@ -108,12 +108,12 @@ class Lines:
         return itertools.compress(self.entries, self.kinds.translate(IS[kind]))
 
     def steps_before(self, kind: int, first: int) -> Iterator[int]:
-        """How many steps there were before each line of a kind, with those before the first line."""
+        """The number of steps that there were before each line of a kind, with those before the first line."""
         steps = itertools.accumulate(self.kinds.translate(IS[STEP]), initial=first)
         return itertools.compress(steps, self.kinds.translate(IS[kind]))
 
     def in_queues(self, units: Sequence[int], left: Iterable[int], first: int) -> list[int]:
-        """How many frames wait in queues before each step and after the last line, by what each send and step changes."""
+        """The number of frames that wait in queues before each step and after the last line, by what each send and step changes."""
         kinds = self.kinds.translate(None, NO_QUEUE)
         came = [*itertools.accumulate(units, initial=first)]
         gone = [*itertools.accumulate(left, initial=0)]
@@ -128,7 +128,7 @@ def senders_of(sends: Iterable[str], sockets: int) -> Iterator[int]:
 
 
 def receivers_of(receives: Iterable[str], sockets: int) -> Iterator[int]:
-    """The numbers of the sockets in the lines of receives, NOBODY where one has no item; there are so many sockets."""
+    """The numbers of the sockets in the lines of receives, NOBODY if one has no item; there are so many sockets."""
     return map(RECEIVERS.__getitem__, map(words_after("receive", len(f"{sockets} = d")), receives))
 
 

@@ -1,23 +1,23 @@
-"""What lines say that a step brought about, which many steps have in common."""
+"""The effects of a step as lines have them, which many steps have in common."""
 
 import functools
 from array import array
 from collections.abc import Iterable, Iterator, Sequence
-from typing import NamedTuple, Optional
+from typing import Any, NamedTuple, Optional
 
 from canbusd._run.run_parts import Socket
 from canbusd._run.steps import DONE, KIND_NUMBERS, RESTART
 
-#: How many are kept, of some hundred bytes each: where attempts fail there are many.
+#: The number that is kept, of some hundred bytes each: if attempts fail there are many.
 MOST_KEPT = 4096
 
 
 class Parts(NamedTuple):
-    """What few steps bring about."""
+    """Effects that few steps have."""
 
-    #: Of the error counts, two of each interface, those that change, by their numbers.
-    counts: list[tuple[int, int]]
-    #: How many frames bus off took out of the transmit queue of the sender, or that an interface went down out of its own.
+    #: Of the error counts, two of each interface, the places of those that change, and both.
+    counts: list[tuple[slice, "array[int]"]]
+    #: The number of frames that bus off took out of the transmit queue of the sender, or that an interface went down out of its own.
     lost: int
     #: Error message frames, by their places among the items of the step.
     errors: Sequence[tuple[int, str]]
@@ -26,19 +26,19 @@ class Parts(NamedTuple):
 
 
 class Outcome(NamedTuple):
-    """What the line of a step says after its frame."""
+    """The part of a step's line after its frame."""
 
-    #: What the step is.
+    #: The kind of the step.
     kind: int
     #: Who accepted its frame, and who went bus off, as columns have them: bit i for interface i.
     accepted: bytes
     off: bytes
-    #: How many frames leave the transmit queue of the sender.
+    #: The number of frames that leave the transmit queue of the sender.
     left: int
-    #: How many items were handed out, and the sockets to which they were, in their order, as a column has them.
+    #: The number of items that were handed out, and the sockets to which they were, in their order, as a column has them.
     handed: int
     sockets: bytes
-    #: The time on the wire, where the line has it.
+    #: The time on the wire, if the line has it.
     wire: Optional[tuple[int, ...]]
     parts: Optional[Parts]
 
@@ -62,24 +62,23 @@ class Outcomes(dict[str, Outcome]):
         lost, wire = 0, None
         if parts and parts[0].startswith("only "):
             parts = [*self._parts_of(parts[1:], int(parts[0][-4:], 16), kind == RESTART)]
-        counts: list[tuple[int, int]] = []
+        counts: list[tuple[slice, "array[int]"]] = []
         errors: Sequence[tuple[int, str]] = ()
         dropped: list[tuple[int, int]] = []
         sockets = b""
         for part in parts:
-            name, _, words = part.partition(" ")
+            name, found = part_of(part)
             if name == "counts":
-                iface, tec, rec = numbers_of(words)
-                counts += (2 * iface, tec), (2 * iface + 1, rec)
+                counts.append(found)
             elif name == "put":
-                sockets, errors = put_of(words)
+                sockets, errors = found
             elif name == "dropped":
-                dropped = [(int(socket), int(count)) for socket, _, count in map(halves, words.split(" "))]
+                dropped = found
                 sockets += b"".join(column_of((socket,)) * count for socket, count in dropped)
             elif name == "wire":
-                wire = numbers_of(words)
+                wire = found
             else:
-                lost = numbers_of(words)[1]
+                lost = found[1]
         rare = Parts(counts, lost, errors, dropped) if counts or lost or errors or dropped else None
         handed = len(sockets) // array("I").itemsize
         return Outcome(kind, accepted, off, (kind == DONE) + lost, handed, sockets, wire, rare)
@@ -100,16 +99,30 @@ class Outcomes(dict[str, Outcome]):
 
 @functools.lru_cache(maxsize=4096)
 def result_of(text: str) -> tuple[int, bytes, bytes]:
-    """What a step is, who accepted its frame and who went bus off, as an outcome has them."""
+    """The kind of a step, the interfaces that accepted its frame, and those that went bus off."""
     kind, accepted, off = text.split(" ")
     accepting, going = (array("H", [int(members, 16)]).tobytes() for members in (accepted, off))
     return KIND_NUMBERS[kind], accepting, going
 
 
-@functools.lru_cache(maxsize=4096)
-def put_of(words: str) -> tuple[bytes, Sequence[tuple[int, str]]]:
+@functools.lru_cache(maxsize=65536)
+def part_of(part: str) -> tuple[str, Any]:
+    """The name of a part, and what it says, as an outcome has it: many parts say the same."""
+    name, *words = part.split(" ")
+    if name == "put":
+        return name, put_of(words)
+    if name == "dropped":
+        return name, [(int(socket), int(count)) for socket, _, count in map(halves, words)]
+    numbers = tuple(map(int, words))
+    if name == "counts":
+        place = 2 * numbers[0]
+        return name, (slice(place, place + 2), array("H", numbers[1:]))
+    return name, numbers
+
+
+def put_of(words: Iterable[str]) -> tuple[bytes, Sequence[tuple[int, str]]]:
     """The sockets that got items, as an outcome has them, and the error message frames by their places among these."""
-    found = [*map(halves, words.split(" "))]
+    found = [*map(halves, words)]
     errors = [(place, error) for place, (_, _, error) in enumerate(found) if error]
     return column_of(int(socket) for socket, _, _ in found), errors
 
@@ -122,9 +135,3 @@ def column_of(sockets: Iterable[int]) -> bytes:
 def halves(word: str) -> tuple[str, str, str]:
     """A word before its colon and after it."""
     return word.partition(":")
-
-
-@functools.lru_cache(maxsize=65536)
-def numbers_of(words: str) -> tuple[int, ...]:
-    """The numbers that these words are: many parts say the same."""
-    return tuple(map(int, words.split(" ")))

@@ -1,4 +1,4 @@
-"""What the program says of a record: the lines of `canbusd audit --events`, docs/RECORD.md, or why it refuses it."""
+"""The lines of `canbusd audit --events` on a record, docs/RECORD.md, or the reason why it is refused."""
 
 import contextlib
 import fcntl
@@ -13,7 +13,7 @@ from typing import IO, BinaryIO, Optional
 from canbusd._process.program import ProgramNotFound, find_program
 from canbusd._process.rates import Rates
 
-# How many bytes are read at once; more are no quicker.
+# The number of bytes that are read at once; more are no quicker.
 BLOCK = 1 << 17
 # How many the program may be ahead.
 AHEAD = 1 << 20
@@ -26,7 +26,7 @@ SILENCE = 1000
 class BadRecord(ValueError):
     """Why a file is not the record of a run.
 
-    `verdict` is what `canbusd audit` says of it, such as `line 5: bad line`; None where it is not asked that.
+    `verdict` is what `canbusd audit` says of it, such as `line 5: bad line`; None if it is not asked that.
     """
 
     def __init__(self, message: str, verdict: Optional[str] = None) -> None:
@@ -60,7 +60,7 @@ class Events:
         if self._input is not None:
             # A write takes what has room: the program may wait until its own output is read.
             os.set_blocking(self._input.fileno(), False)
-        # How many lines were handed in, how many came, and what was written of one that has not ended.
+        # The number of lines that were handed in, how many came, and what was written of one that has not ended.
         self._handed = self._came = 0
         self._rest = ""
         self.close = weakref.finalize(self, end, self._process)
@@ -104,7 +104,9 @@ class Events:
                 if not block:
                     self._check_status()
                     return
-                yield from self._whole_lines(block)
+                for lines in self._whole_lines(block):
+                    self._came += lines.count("\n") + 1
+                    yield lines
 
     def texts_of_file(self) -> Iterator[str]:
         """Yields the lines of the events of the file, some together, without the LF of the last."""
@@ -116,11 +118,10 @@ class Events:
         """Yields the lines that end in what was read, if some do, together."""
         lines, has_ended, self._rest = f"{self._rest}{block.decode()}".rpartition("\n")
         if has_ended:
-            self._came += lines.count("\n") + 1
             yield lines
 
     def _check_status(self) -> None:
-        """Waits for the end of the program; BadRecord where it refused the record."""
+        """Waits for the end of the program; BadRecord if it refused the record."""
         assert self._process.stderr is not None
         said = self._process.stderr.read().decode(errors="replace")
         status = self._process.wait()
@@ -132,7 +133,7 @@ class Events:
 
 
 def widen(pipe: IO[bytes]) -> None:
-    """Gives a pipe more room, where the system lets it, so that who writes need not wait while a block is taken."""
+    """Gives a pipe more room, if the system lets it, so that who writes need not wait while a block is taken."""
     with contextlib.suppress(OSError):
         fcntl.fcntl(pipe, SET_PIPE_SIZE, AHEAD)
 

@@ -1,39 +1,42 @@
 """Which rule of faults gave each attempt of a run its verdict: the program says it, for the faults of the run."""
 
+import contextlib
 import dataclasses
 import functools
 import os
 import re
 import tempfile
-from collections.abc import Iterable, Iterator, Sequence
+from collections.abc import Callable, Iterable, Iterator, Sequence
 from pathlib import Path
 from types import TracebackType
-from typing import Optional
+from typing import BinaryIO, Optional, TypeVar
 
+from canbusd._process.rates import Rates
 from canbusd._run.events import BadRecord, Events
-from canbusd.record import Path as AnyPath, Record, is_named
-from canbusd._words import MOST_RULES
-from canbusd.rules import NAMES, Rule, RulesLeft, parse_rule
+from canbusd.record import Path as AnyPath, Record, check_beginning, check_no_log, is_named, record_of
+from canbusd.rules import NAMES, Rule, parse_rule
 
+Found = TypeVar("Found")
 # More bytes than a line has: names of 16 interfaces, twice, and a few words.
 LONGEST_LINE = 4096
 # How files end of a run that goes on, and of one that was cut off.
 GROWING = (".new", ".cut")
-# Parts of lines of faults, which may be a million: names, and rules.
+# The program's words about names that are not as many as the interfaces of a record's bus.
+OTHER_BUS = "names of another bus"
+# The names in lines of faults, which may be a million.
 NAMED = re.compile(rb" (?:from|local (?:stuff|crc|form)) (\S+)")
-RULE_LINES = re.compile(rb"\n((?:next|always|at) [^\n]*)")
 JOINED = re.compile(NAMES)
 
 
 class FaultsFile:
     """The script or the faults of a run, whose file is opened at once and read once: a pipe can't be read again, and a
-    server that ends renames its files. So the record is kept open with it, where that is a file."""
+    server that ends renames its files. So the record is kept open with it, if that is a file."""
 
     def __init__(self, path: AnyPath, record: Optional[AnyPath] = None, is_beside: bool = False) -> None:
         self.path = os.fspath(path)
         #: Whether it lies beside the record, as a server leaves it.
         self.is_beside = is_beside
-        #: The last line, where it was left out.
+        #: The last line, if it was left out.
         self.torn = b""
         self._file = open(path, "rb")
         self.record = open(record, "rb") if record is not None and os.path.isfile(record) else None
@@ -56,12 +59,29 @@ class FaultsFile:
         """Returns its content; BadRecord if its first bytes are of no script."""
         first = self._file.read(LONGEST_LINE)
         if len(first) == LONGEST_LINE and b"\n" not in first:
-            raise BadRecord(f"{self.path}: no line of faults has {LONGEST_LINE:,} bytes, as its first one has")
+            raise BadRecord(f"no line of faults has {LONGEST_LINE:,} bytes, as its first one has", "script line 1")
         return first + self._file.read()
+
+    def read(self, by: Callable[[bytes], Found], is_cut: bool) -> Found:
+        """Returns what is found by the text. The last line of one beside a record that is cut off may be torn: it counts for no
+        entry, and is left out where the program can't read it."""
+        try:
+            return by(self.text)
+        except BadRecord as fault:
+            whole = self.text[: self.text.rfind(b"\n") + 1]
+            if not (is_of_faults(fault) and self.is_beside and is_cut) or whole == self.text:
+                raise
+            self.torn = self.text[len(whole) :]
+            return by(whole)
+
+
+def is_of_faults(fault: BadRecord) -> bool:
+    """Whether the program found this fault in faults, at which it looks first, and not in the record."""
+    return (fault.verdict or "").startswith(("script line ", "bad bus"))
 
 
 def faults_beside(record: AnyPath) -> Optional[FaultsFile]:
-    """The faults that a server writes beside this record, or None where the run had none: can0.rec.faults beside can0.rec,
+    """The faults that a server writes beside this record, or None if the run had none: can0.rec.faults beside can0.rec,
     can0.rec.faults.new beside can0.rec.new."""
     path = Path(record)
     stem, ending = (path.stem, path.suffix) if path.suffix in GROWING else (path.name, "")
@@ -70,7 +90,7 @@ def faults_beside(record: AnyPath) -> Optional[FaultsFile]:
 
 
 def with_names(record: Record, faults: FaultsFile) -> Record:
-    """Returns the record with a name for its one interface that has none, where faults name one that it does not have."""
+    """Returns the record with a name for its one interface that has none, if faults name one that it does not have."""
     unnamed = [place for place, name in enumerate(record.names) if not is_named(name)]
     if len(unnamed) != 1:
         return record
@@ -90,29 +110,52 @@ def names_in(faults: bytes) -> set[str]:
     return {name for names in found if JOINED.fullmatch(names) for name in names.split(",")}
 
 
+def read_ruled(
+    path: AnyPath, names: Sequence[str], cut: bool, rates: Optional[Rates], faults: FaultsFile
+) -> tuple[Record, list[str]]:
+    """Returns the record in this file, as read_run does, and its rules, as deciders does: it is read once, so it may be a pipe.
+
+    is_of_faults says of a BadRecord whether faults are wrong, or the record.
+    """
+    check_no_log(path)
+    with faults, contextlib.ExitStack() as stack:
+        file = faults.record or stack.enter_context(open(path, "rb"))
+        check_beginning(file)
+        found = faults.read(lambda text: ruled_in(file, text, path, names, cut, rates), cut)
+    return found
+
+
+def ruled_in(
+    file: BinaryIO, text: bytes, path: AnyPath, names: Sequence[str], cut: bool, rates: Optional[Rates]
+) -> tuple[Record, list[str]]:
+    """Returns the record in this file and its rules, by the faults of this text."""
+    taken = TakenRules()
+    given = names.split(",") if isinstance(names, str) else names
+    with bus_with(given, text) as bus, Events(cut, rates, file, bus) as events:
+        try:
+            record = record_of(taken.without(events.texts_of_file()), b"", path, names, rates)
+        except BadRecord as fault:
+            if fault.verdict != OTHER_BUS:
+                raise
+            raise BadRecord(
+                f"its bus has another number of interfaces than names are given: {','.join(given)}"
+            ) from None
+    return record, taken.deciders()
+
+
 def deciders(record: Record, faults: FaultsFile) -> list[str]:
-    """Returns the rule that gave each attempt of a run that tried a frame its verdict; the empty text where none did, and
-    `rule 66` where only its number is known. Where no rule did the list is empty. BadRecord says what is wrong with faults.
+    """Returns the rule that gave each attempt of a run that tried a frame its verdict; the empty text if none did. Where no
+    rule did the list is empty. BadRecord says what is wrong with faults.
 
     The last line of those beside a record that is cut off may be torn: it counts for no entry, and is left out where the
     program can't read it.
     """
     with faults:
-        text = faults.text
-        try:
-            numbers = numbers_of(record, text, faults)
-        except BadRecord:
-            whole = text[: text.rfind(b"\n") + 1]
-            if not (faults.is_beside and record.is_cut) or whole == text:
-                raise
-            numbers = numbers_of(record, whole, faults)
-            faults.torn, text = text[len(whole) :], whole
-    texts = texts_of(text, numbers)
-    return [texts.get(number, f"rule {number}") if number else "" for number in numbers] if any(numbers) else []
+        return faults.read(lambda text: rules_of(record, text, faults), record.is_cut)
 
 
-def numbers_of(record: Record, text: bytes, faults: FaultsFile) -> list[int]:
-    """Returns the numbers of the rules of this text that gave attempts their verdicts, 0 for none."""
+def rules_of(record: Record, text: bytes, faults: FaultsFile) -> list[str]:
+    """Returns the rules of this text that gave attempts their verdicts, as deciders does."""
     if not text:
         return []
     file = None if record.text else faults.record
@@ -120,109 +163,81 @@ def numbers_of(record: Record, text: bytes, faults: FaultsFile) -> list[int]:
         file.seek(0)
     elif not record.text:
         raise BadRecord("for its rules the record is read twice, so it has to be a file")
+    with bus_with(record.names, text) as bus, Events(record.is_cut, file=file, faults=bus) as events:
+        texts = events.texts(record.text) if file is None else events.texts_of_file()
+        return taken_in(texts).deciders()
+
+
+@contextlib.contextmanager
+def bus_with(names: Sequence[str], text: bytes) -> Iterator[str]:
+    """The word for a bus with these names and faults of this text, as the program takes it."""
     with tempfile.NamedTemporaryFile() as script:
         script.write(text)
         script.flush()
         # One that has no name here, `interface 1`, has one as the program takes it.
-        bus = f"{','.join(record.names).replace(' ', '-')}@{script.name}"
-        with Events(record.is_cut, file=file, faults=bus) as events:
-            return list(numbers_in(events.texts(record.text) if file is None else events.texts_of_file()))
+        yield f"{','.join(names).replace(' ', '-')}@{script.name}"
 
 
 def unused_rules(names: Sequence[str], faults: FaultsFile) -> list[Rule]:
     """Returns the rules with a number, `next 1 ..`, that gave no attempt a verdict, and that nobody ended.
 
-    `faults` are those that a server has written beside a whole record. Of that no more is read than up to where each rule has
-    given its first verdict.
+    `faults` are those that a server has written beside a whole record.
     """
     with faults:
-        *ended, (_, rules) = stretches(faults.text)
-        first = 1 + sum(len(lines) for _, lines in ended)
-        found = enumerate((parse_rule(parted(line)[1].decode()) for line in rules), first)
-        left = {number: rule for number, rule in found if rule.count is not None}
-        if not left or faults.record is None:
+        if not faults.text or faults.record is None:
             return []
         with Events(file=faults.record, faults=f"{','.join(names)}@{faults.path}") as events:
-            for number in numbers_in(events.texts_of_file()):
-                if left.pop(number, None) and not left:
-                    break
-    return list(left.values())
+            return taken_in(events.texts_of_file()).unused()
 
 
-def numbers_in(events: Iterable[str]) -> Iterator[int]:
-    """Yields the numbers of rules that the lines of events have, of each attempt that tried a frame."""
-    lines = (line for text in events for line in text.split("\n"))
-    tried = (line for line in lines if line.startswith("attempt ") and " = tried " in line)
-    return (int(line.partition("; rule ")[2] or 0) for line in tried)
+def taken_in(events: Iterable[str]) -> "TakenRules":
+    """Returns the rules that lines of events say."""
+    taken = TakenRules()
+    for _ in taken.without(events):
+        pass
+    return taken
 
 
-def texts_of(faults: bytes, numbers: Sequence[int]) -> dict[int, str]:
-    """Returns the texts of the rules that decided, by their numbers; `numbers` is the one of each attempt, 0 for none.
+class TakenRules:
+    """The rules that a bus took, as the lines of events say them, by the numbers that they have there."""
 
-    The program counts the rules that the bus took. Where it may have refused one for want of a place, the numbers of those
-    after it are not known.
-    """
-    found: dict[int, str] = {}
-    wanted = sorted({*numbers} - {0}, reverse=True)
-    last = 0
-    for begin, rules in stretches(faults):
-        taken, is_known = (rules, True) if len(rules) <= MOST_RULES else taken_of(rules, begin, last, numbers)
-        while wanted and wanted[-1] <= last + len(taken):
-            number = wanted.pop()
-            found[number] = str(parse_rule(parted(taken[number - last - 1])[1].decode()))
-        if not wanted or not is_known:
-            break
-        last += len(taken)
-    return found
+    def __init__(self) -> None:
+        # In the words of the program. Those that nobody has ended are from this number on.
+        self._words: dict[int, str] = {}
+        self._first = 1
+        # The number of the rule of each attempt that tried a frame, 0 for none.
+        self._numbers: list[int] = []
 
+    def without(self, events: Iterable[str]) -> Iterator[str]:
+        """Yields the lines of events as they are without faults, and takes what they say of rules."""
+        for text in events:
+            lines = "\n".join(filter(None, map(self._take, text.split("\n"))))
+            if lines:
+                yield lines
 
-def stretches(faults: bytes) -> Iterator[tuple[bytes, list[bytes]]]:
-    """Yields the lines of rules from the start to the first `nofaults`, from there to the next, and so on, each time after the
-    line that ended all before."""
-    begin, lines = b"at 0 nofaults", RULE_LINES.findall(b"\n" + faults)
-    rules = [line for line in lines if line.startswith((b"next ", b"always "))]
-    for line in lines:
-        if line.startswith(b"at "):
-            # An interface may have this name.
-            if line.endswith(b" nofaults") and line.count(b" ") == 2:
-                yield begin, rules
-                begin, rules = line, []
-            else:
-                rules.append(line)
-    yield begin, rules
+    def _take(self, line: str) -> str:
+        """Takes what a line says of rules, and returns the rest."""
+        if line.startswith("attempt "):
+            line, _, number = line.partition("; rule ")
+            if " = tried " in line:
+                self._numbers.append(int(number or 0))
+            return line
+        if line.startswith("rule "):
+            _, number, words = line.split(" ", 2)
+            self._words[int(number)] = words
+            return ""
+        if line == "nofaults":
+            self._first = len(self._words) + 1
+            return ""
+        return line
 
+    def deciders(self) -> list[str]:
+        """Returns the rule of each attempt, as the function of this name does."""
+        texts = {number: str(parse_rule(self._words[number])) for number in {*self._numbers} - {0}}
+        return [texts.get(number, "") for number in self._numbers] if texts else []
 
-def parted(line: bytes) -> tuple[int, bytes]:
-    """The attempt before which a rule came, and the rule."""
-    if not line.startswith(b"at "):
-        return 0, line
-    _, attempt, rule = line.split(b" ", 2)
-    return int(attempt), rule
-
-
-def taken_of(rules: list[bytes], begin: bytes, last: int, numbers: Sequence[int]) -> tuple[list[bytes], bool]:
-    """Returns those of these rules that the bus took, the first of them with the number after `last`, and whether that is known
-    of all of them; at `begin` there were no rules.
-
-    An attempt that has no number may be one that a rule did not fit: then that one may be used up all the same.
-    """
-    left, taken, unknown = RulesLeft(last), [], 0
-    done, _ = parted(begin)
-    # How a line begins that is refused as the one before it was.
-    alike: Optional[bytes] = None
-    for line in rules:
-        if alike is not None and line.startswith(alike):
-            continue
-        attempt, rule = parted(line)
-        for number in numbers[done:attempt]:
-            unknown += not number
-            left.gave(number)
-        done, alike = attempt, None
-        if len(left) < MOST_RULES:
-            left.add(None if rule.startswith(b"always ") else int(rule.split(b" ", 2)[1]))
-            taken.append(line)
-        elif left.least() <= unknown or attempt >= len(numbers):
-            return taken, False
-        else:
-            alike = b"at %d " % attempt
-    return taken, True
+    def unused(self) -> list[Rule]:
+        """Returns the rules with a number that gave no attempt a verdict, and that nobody ended."""
+        left = {*range(self._first, len(self._words) + 1)}.difference(self._numbers)
+        rules = (parse_rule(self._words[number]) for number in sorted(left))
+        return [rule for rule in rules if rule.count is not None]

@@ -1,18 +1,18 @@
-"""How long frames take the wire of a bus that has bit rates: the program says it of a run in which they are sent."""
+"""The time of frames on the wire of a bus that has bit rates: the program adds it to a run in which they are sent."""
 
 from collections.abc import Iterable
 
 from canbusd._process.rates import Rates
 from canbusd.record import parse_record
 
-# How many frames are kept.
+# The number of frames that are kept.
 MOST_KEPT = 1 << 16
 # What a run begins with in which each frame is done: version 4 has frames of every kind, and room for all.
 FRONT = ["canbus record 4", "bus 1 always 0000 1 4294967294 0", "open 0 1 = socket 0", "option 0 fd 1 = ok"]
 
 
 class FrameTimes:
-    """How many nanoseconds frames take the wire, with the bits that follow them; what is known of a frame is kept."""
+    """The number of nanoseconds that frames take the wire, with the bits that follow them; what is known of a frame is kept."""
 
     def __init__(self, rates: Rates) -> None:
         self.rates = rates

@@ -24,7 +24,7 @@ def left_by(record: Path, when: str) -> Path:
 
 
 class GrowingFile:
-    """A file that another process appends lines to, at the first of these paths where there is one."""
+    """A file that another process appends lines to, at the first of these paths if there is one."""
 
     def __init__(self, *paths: Path) -> None:
         self._paths = paths

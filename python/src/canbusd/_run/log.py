@@ -65,7 +65,7 @@ def log_beside(path: Path) -> Optional[str]:
 
 
 def names_in_log(steps: Steps, log: Path) -> dict[int, str]:
-    """The names of the interfaces that won an attempt; none where the log is of another run.
+    """The names of the interfaces that won an attempt; none if the log is of another run.
 
     A log has a line for each tried attempt: `(MOMENT) NAME FRAME`, with the winner's name.
     """

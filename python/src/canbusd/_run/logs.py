@@ -18,7 +18,7 @@ from canbusd._text import shown
 from canbusd._whole_file import Path, replaced
 from canbusd.frames import BadFrame, Frame, frame_like, log_line
 
-#: The endings of files that python-can reads, also where `.gz` follows; another file is a log of candump.
+#: The endings of files that python-can reads, also if `.gz` follows; another file is a log of candump.
 ENDINGS = (".asc", ".blf", ".csv", ".db", ".mf4", ".trc")
 #: The endings of files that are text.
 TEXTS = (".asc", ".csv", ".trc")
@@ -116,7 +116,7 @@ def python_can_messages(path: Path) -> "Iterator[Any]":
 
 
 def name_of(channel: object, names: Sequence[str]) -> str:
-    """The name of an interface, where a log has a number for it, or none."""
+    """The name of an interface, if a log has a number for it, or none."""
     text = str(channel)
     if channel is not None and not NUMBER.fullmatch(text):
         return text
@@ -127,7 +127,7 @@ def name_of(channel: object, names: Sequence[str]) -> str:
 def write_entries(path: Path, entries: Iterable[Entry], names: Sequence[str] = ()) -> tuple[int, list[str]]:
     """Writes a log, whose ending says what it is; how many frames it has, and the interfaces.
 
-    Where it has numbers of channels the first interface is the first channel: of these names, and then as they turn up.
+    If it has numbers of channels the first interface is the first channel: of these names, and then as they turn up.
     What was there before is replaced once all is written; ValueError for another ending.
     """
     ending = os.path.splitext(os.fspath(path))[1].lower()

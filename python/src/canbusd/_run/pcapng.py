@@ -22,7 +22,7 @@ FD = 0x4
 #: Which way a packet went, in its flags.
 INBOUND, OUTBOUND = 1, 2
 
-#: A frame, the interface that it is of, and which way it went; 0 where that is not known.
+#: A frame, the interface that it is of, and which way it went; 0 if that is not known.
 Packet = tuple[str, Frame, int]
 
 
@@ -30,7 +30,7 @@ class Capture:
     """A capture that is written packet by packet; each write is of whole blocks."""
 
     def __init__(self, file: BinaryIO, interfaces: Iterable[tuple[str, int]] = ()) -> None:
-        """Begins with these interfaces, each with its bits a second; 0 where it has none."""
+        """Begins with these interfaces, each with its bits a second; 0 if it has none."""
         self._file = file
         self._numbers: dict[str, int] = {}
         begin = block(SECTION, struct.pack("<IHHq", 0x1A2B3C4D, 1, 0, -1), option(APPLICATION, b"canbusd"))

@@ -1,10 +1,10 @@
-"""What a bus is made of, as the events of its run leave it: its line, its interfaces and its sockets."""
+"""The parts of a bus, as the events of its run leave them: its line, its interfaces and its sockets."""
 
 from array import array
 from dataclasses import dataclass
 from typing import Optional
 
-#: How many frames wait at each interface is one number, in which interface 0 has the lowest of so many bits each, those of
+#: The number of frames that wait at each interface is one number, in which interface 0 has the lowest of so many bits each, those of
 #: a number of the column.
 WAITING_BITS = 16
 MOST_WAITING = (1 << WAITING_BITS) - 1
@@ -21,7 +21,7 @@ def severity(count: int) -> int:
 class Bus:
     """The configuration of a bus."""
 
-    #: How many interfaces it has.
+    #: The number of interfaces that it has.
     ifaces: int
     #: Whether a silent node acknowledges each frame.
     always: bool
@@ -29,7 +29,7 @@ class Bus:
     reporting: int
     tx_capacity: int
     limit: int
-    #: In which attempt after bus off an interface is restarted; 0 where none is.
+    #: In which attempt after bus off an interface is restarted; 0 if none is.
     auto_restart: int
 
 
@@ -46,13 +46,13 @@ class Socket:
 
     def __init__(self, number: int, iface: int, capacity: int) -> None:
         self.number, self.iface, self.capacity = number, iface, capacity
-        #: The last step before it was closed, -1 where there was none; None of one that is open.
+        #: The last step before it was closed, -1 if there was none; None of one that is open.
         self.closed_after: Optional[int] = None
         # Whether error message frames come to it: from how many steps on, and whether from there.
         self._takes_errors = [(0, False)]
-        #: How many items came to it, and how many of them found no room.
+        #: The number of items that came to it, and how many of them found no room.
         self.handed = self.dropped = 0
-        #: How many steps there were before each of its items was taken.
+        #: The number of steps that there were before each of its items was taken.
         self.taken_after = array("I")
 
     def set_errors(self, steps: int, is_taken: bool) -> None:
@@ -65,17 +65,17 @@ class Socket:
 
     @property
     def queued(self) -> int:
-        """How many items found room."""
+        """The number of items that found room."""
         return self.handed - self.dropped
 
     @property
     def taken(self) -> int:
-        """How many items were taken."""
+        """The number of items that were taken."""
         return len(self.taken_after)
 
     @property
     def waiting(self) -> int:
-        """How many items wait in its queue."""
+        """The number of items that wait in its queue."""
         return self.queued - self.taken if self.closed_after is None else 0
 
 
@@ -90,14 +90,14 @@ class Interface:
         self.is_down = False
         #: The lines of the sends of the frames that wait.
         self.queue: list[str] = []
-        #: How many frames left its queue, and how many of them were taken out as it went bus off or down.
+        #: The number of frames that left its queue, and how many of them were taken out as it went bus off or down.
         self.gone = self.lost = 0
-        #: How many sends were refused since its queue was full.
+        #: The number of sends that were refused since its queue was full.
         self.refused = 0
 
     @property
     def done(self) -> int:
-        """How many frames are done."""
+        """The number of frames that are done."""
         return self.gone - self.lost
 
     @property
@@ -107,7 +107,7 @@ class Interface:
 
     @property
     def sent(self) -> int:
-        """How many frames came into its queue."""
+        """The number of frames that came into its queue."""
         return self.gone + len(self.queue)
 
     def leave(self, waiting: int) -> None:

@@ -1,8 +1,8 @@
-"""When the attempts of a run have the wire, where its bus has bit rates, and how busy that makes the wire.
+"""When the attempts of a run have the wire, if its bus has bit rates, and how busy that makes the wire.
 
 The moment of an attempt is the end of the frame that it tries, in whole microseconds, rounded down: so that frame ends
 up to 999 nanoseconds later. Of the ends that are possible the earliest are taken, one attempt after another, so what
-the rounding leaves open does not add up, and attempts overlap only where they do for all of them.
+the rounding leaves open does not add up, and attempts overlap only if they do for all of them.
 """
 
 from collections.abc import Iterable, Sequence
@@ -38,7 +38,7 @@ class Load(NamedTuple):
 
     @property
     def share(self) -> float:
-        """The share of the time; above 1 where attempts overlap."""
+        """The share of the time; above 1 if attempts overlap."""
         return self.busy / self.whole if self.whole else 0.0
 
 

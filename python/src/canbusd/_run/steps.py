@@ -18,7 +18,7 @@ from canbusd.frames import EXTENDED, REMOTE, is_fd
 #: The kinds of steps, by their numbers in the column and on a page. Kinds before `restart` are attempts, `idle` is only on pages.
 KINDS = (*OUTCOMES, "restart", "down", "idle")
 DONE, LASTBIT, DESTROYED, NOACK, RESTART, DOWN, IDLE = range(7)
-#: What became of an item, by its number; `waiting` is at the end of the run, `unread` at the close of its socket.
+#: The outcome of an item, by its number; `waiting` is at the end of the run, `unread` at the close of its socket.
 FATES = ("taken", "waiting", "unread", "dropped")
 TAKEN, WAITING, UNREAD, DROPPED = range(4)
 
@@ -119,7 +119,7 @@ class Step:
     counts: Sequence[Counts]
     #: Before the step: how many frames wait at each interface.
     waiting: Sequence[int]
-    #: How many attempts were idle since the step before. One that restarts interfaces counts for the first of them.
+    #: The number of attempts that were idle since the step before. One that restarts interfaces counts for the first of them.
     idle: int
 
 
@@ -138,19 +138,19 @@ class Rows:
     ifaces: Sequence[int]
     numbers: Sequence[str]
     frames: Sequence[str]
-    #: Times on the wire, where lines have them.
+    #: Times on the wire, if lines have them.
     wires: Sequence[Optional[tuple[int, ...]]]
-    #: How many frames waited.
+    #: The number of frames that waited.
     waiting: Sequence[int]
-    #: How many frames left the queue of the interface that won, or went down.
+    #: The number of frames that left the queue of the interface that won, or went down.
     left: Sequence[int]
     #: The error message frames that it brought about, in the order of the steps.
     errors: dict[int, list[str]] = field(default_factory=dict)
-    #: Who was hit.
+    #: The interfaces that were hit.
     hit: dict[int, int] = field(default_factory=dict)
-    #: The error counts after it, where they changed, as bytes of the column.
+    #: The error counts after it, if they changed, as bytes of the column.
     counts: dict[int, bytes] = field(default_factory=dict)
-    #: The interfaces that are down after it, where they changed.
+    #: The interfaces that are down after it, if they changed.
     down: dict[int, int] = field(default_factory=dict)
 
 
@@ -177,11 +177,11 @@ class Steps(Sequence[Step]):
         self.lost: dict[int, list[tuple[int, str]]] = {}
         #: The interfaces that are down after it, as a set.
         self.down = array("H")
-        #: How many nanoseconds the frame takes the wire, and the attempt until the next one may begin; how many bits of the
-        #: frame go at the nominal bit rate, and at the one for data. All are 0 where the line does not say it.
+        #: The number of nanoseconds that the frame takes the wire, and the attempt until the next one may begin; how many bits of the
+        #: frame go at the nominal bit rate, and at the one for data. All are 0 if the line does not say it.
         self.frame_nanos, self.busy_nanos = array("I"), array("I")
         self.nominal_bits, self.fast_bits = array("H"), array("H")
-        #: How many attempts there were.
+        #: The number of attempts that there were.
         self.tried = 0
         # Of each interface the steps in which it tried a frame, among so many steps.
         self._tries: "list[array[int]]" = []
@@ -358,12 +358,12 @@ class Steps(Sequence[Step]):
 
 
 class Items:
-    """What interfaces handed to sockets, in this order, in columns."""
+    """The items that interfaces handed to sockets, in this order, in columns."""
 
     def __init__(self, sockets: Sequence[Socket]) -> None:
         #: The number of the socket, and the step in which it got the item.
         self.sockets, self.steps = array("I"), array("I")
-        #: The place of an error message frame among the texts; 0 where the item is the frame of its step.
+        #: The place of an error message frame among the texts; 0 if the item is the frame of its step.
         self.errors = array("I")
         self._all_sockets = sockets
         # From where on items were dropped, and to where, one after the other: there may be a million.
@@ -395,7 +395,7 @@ class Items:
         fates, queues = array("B", [TAKEN]) * len(self), self._queues()
         for places in self.drops():
             fates[places.start : places.stop] = array("B", [DROPPED]) * len(places)
-        # What a socket has not given are the last ones that it got.
+        # A socket has not given the last items that it got.
         left = Counter({socket.number: socket.queued - socket.taken for socket in self._all_sockets})
         place, many = len(self), sum(left.values())
         while many:
@@ -408,8 +408,8 @@ class Items:
         return fates
 
     def ends(self) -> "array[int]":
-        """Returns the number of steps before each was taken or its socket closed; 0 where it was neither."""
-        # What a socket got first it gives first.
+        """Returns the number of steps before each was taken or its socket closed; 0 if it was neither."""
+        # A socket gives first the item that it got first.
         ends = [*map(ends_at, self._all_sockets), itertools.repeat(0)]
         found: Iterator[int] = map(next, map(ends.__getitem__, self._queues()), itertools.repeat(0))
         return array("I", found)
@@ -429,7 +429,7 @@ def ends_at(socket: Socket) -> Iterator[int]:
 
 
 def by_iface(waiting: Sequence[int], ifaces: int) -> "array[int]":
-    """How many frames wait at each of the interfaces, one after the other, by these numbers for all."""
+    """The number of frames that wait at each of the interfaces, one after the other, by these numbers for all."""
     each = operator.methodcaller("to_bytes", ifaces * WAITING_BITS // 8, "little")
     found = array("H", b"".join(map(each, waiting)))
     if sys.byteorder == "big":

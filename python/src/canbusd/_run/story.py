@@ -84,9 +84,9 @@ def level_changes(steps: Steps, ifaces: int) -> Iterator[int]:
     """The steps in which a count of an interface becomes as bad as it was not before, or no longer is, and maybe the first."""
     for place in range(2 * ifaces if steps.changed else 0):
         column = steps.counts[place :: 2 * ifaces]
-        if max(column, default=0) >= WARNING:
-            level = {count: severity(count) for count in set(column)}
-            levels = bytes(map(level.__getitem__, column))
+        most = max(column, default=0)
+        if most >= WARNING:
+            levels = bytes(map([*map(severity, range(most + 1))].__getitem__, column))
             yield from (found.start() for found in SAME_LEVEL.finditer(levels))
 
 
@@ -118,12 +118,12 @@ def duration_words(micros: int) -> str:
 
 
 class Climb(NamedTuple):
-    """What raised the transmit count of an interface since it was last 0."""
+    """The attempts that raised the transmit count of an interface since it was last 0."""
 
     #: The number of its first attempt, and how many there were that changed a count.
     first: int
     attempts: int
-    #: How many attempts failed, by their verdicts or `noack`.
+    #: The number of attempts that failed, by their verdicts or `noack`.
     faults: Counter[str]
 
     def words(self, names: Sequence[str]) -> str:
@@ -135,7 +135,7 @@ class Climb(NamedTuple):
 
 
 def climb_to(steps: Steps, last: int, iface: int) -> Climb:
-    """What raised the transmit count of an interface up to this step of its own."""
+    """The attempts that raised the transmit count of an interface up to this step of its own."""
     found: list[int] = []
     for place in reversed(range(bisect.bisect_right(steps.changed, last))):
         number = steps.changed[place]
@@ -241,7 +241,7 @@ def counts_by_kind(run: Replay) -> dict[str, int]:
 
 
 def facts_of(run: Replay) -> str:
-    """What there is in the run, in numbers."""
+    """The parts of the run, in numbers."""
     counts = counts_by_kind(run)
     outcomes = [f"{counts[kind]:,} {words}" for kind, words in OUTCOMES.items() if counts[kind]]
     facts = [f"{times(run.attempts, 'attempt')}: {joined(outcomes)}"] if outcomes else []

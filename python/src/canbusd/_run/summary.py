@@ -1,4 +1,4 @@
-"""What happened on a bus, in a few lines: its events, the end of its log, and a table of its interfaces."""
+"""A bus in a few lines: its events, the end of its log, and a table of its interfaces."""
 
 import os
 import re
@@ -47,7 +47,7 @@ def story(record: Record, most: int = MOST_EVENTS) -> list[str]:
 
 
 def load_words(permille: int) -> str:
-    """Returns the load of a bus, of 1000 where it is full, with a small bar: ` 43.2 % ####......`."""
+    """Returns the load of a bus, of 1000 if it is full, with a small bar: ` 43.2 % ####......`."""
     return f"{permille / 10:5.1f} % {'#' * min(round(permille / 100), 10):.<10}"
 
 

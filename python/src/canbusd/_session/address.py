@@ -1,4 +1,4 @@
-"""Where a server is: the addresses that are read, a socket that is connected there, and why there is none."""
+"""The address of a server: those that are read, a socket that is connected there, and why there is none."""
 
 import os
 import re
@@ -6,7 +6,7 @@ import socket
 from typing import Optional
 
 DEFAULT_ADDRESS = "127.0.0.1:29536"
-# What an address is where nobody listens: of TCP, and a Unix path that is not there.
+# The errors of an address at which no server listens: of TCP, and a Unix path that is not there.
 NO_SERVER = (ConnectionRefusedError, FileNotFoundError)
 # HOST:PORT or [V6]:PORT.
 HOST_PORT = re.compile(r"(?:\[([^][]+)\]|([^][:]+)):([0-9]{1,5})")
@@ -15,7 +15,7 @@ HOST_PORT = re.compile(r"(?:\[([^][]+)\]|([^][:]+)):([0-9]{1,5})")
 def parse_address(
     text: str, what: str = "address", least_port: int = 1
 ) -> tuple[Optional[str], Optional[tuple[str, int]]]:
-    """Returns the Unix path, or the host and the port, that an address names; ValueError where it names neither."""
+    """Returns the Unix path, or the host and the port, that an address names; ValueError if it names neither."""
     if text.startswith(("/", ".")):
         return text, None
     words = HOST_PORT.fullmatch(text)
@@ -26,7 +26,7 @@ def parse_address(
 
 
 def meant(text: str) -> str:
-    """Returns the address that a text with a part of one may mean, as a question; nothing where it may mean none."""
+    """Returns the address that a text with a part of one may mean, as a question; nothing if it may mean none."""
     if re.fullmatch(":?[0-9]{1,5}", text):
         return f" (127.0.0.1:{text.lstrip(':')}?)"
     return f" (./{text}?)" if re.fullmatch("[^:]*[.][^:]*", text) else ""

@@ -1,7 +1,7 @@
 """The arguments of a bus: each may be a text, as in can.conf and on a command line. And those of other calls."""
 
 from numbers import Real
-from typing import Optional, TypeVar, Union
+from typing import TypeVar, Union
 
 from canbusd._text import NAME
 
@@ -58,12 +58,12 @@ def interface_name(channel: object) -> str:
 
 
 def check_within(seconds: object, what: str = "within") -> None:
-    """ValueError where nobody can wait for so many seconds."""
+    """ValueError if nobody can wait for so many seconds."""
     if not isinstance(seconds, Real) or not float(seconds) >= 0:
         raise ValueError(f"{what} is a number of seconds, 0 or more, not {seconds!r}")
 
 
-def one_data_rate(data_bitrate: Optional[Rate], dbitrate: Optional[Rate]) -> Optional[Rate]:
+def one_data_rate(data_bitrate: Rate, dbitrate: Rate) -> Rate:
     """Returns the bit rate for data, which has two names: that of python-can and that of the program."""
     if data_bitrate is not None and dbitrate is not None and data_bitrate != dbitrate:
         raise ValueError(f"data_bitrate and dbitrate are one argument, not {data_bitrate!r} and {dbitrate!r}")

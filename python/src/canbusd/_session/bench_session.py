@@ -64,7 +64,7 @@ class PeriodicSend:
         self._next = None
 
     def first_due(self) -> Optional[int]:
-        """When the next is due, in microseconds; None where it has ended."""
+        """When the next is due, in microseconds; None if it has ended."""
         return self._next
 
     def put_due(self, moment: int) -> None:
@@ -171,7 +171,7 @@ class Session(InjectsFaults, NamesWhatThereIs):
     def recv(self, timeout: Optional[float] = None) -> Optional[Frame]:
         """Returns the next frame, once time has passed until there is one: seconds of the bus.
 
-        None where none comes within these seconds, and without a timeout where nothing is left that could come.
+        None if none comes within these seconds, and without a timeout where nothing is left that could come.
         """
 
         def first() -> Optional[Frame]:

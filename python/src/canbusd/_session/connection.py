@@ -63,13 +63,13 @@ class Connection:
         self._asking = threading.Lock()
         self._reading = threading.Lock()
         self._lock = threading.Lock()
-        # What threads wait for while another one reads: it is locked until there is news.
+        # Threads wait for this while another one reads: it is locked until there is news.
         self._news: Optional[threading.Lock] = None
-        # What was read and is not sorted yet, and the beginning of a message.
+        # The bytes that were read and are not sorted yet, and the beginning of a message.
         self._pieces: list[bytes] = []
         self._rest = ""
         self._frames: deque[str] = deque()
-        # Whether the server accepts each frame by its number, and the numbers of one's own, where they are noted.
+        # Whether the server accepts each frame by its number, and the numbers of one's own, if they are noted.
         self._has_acks = False
         self._own: Optional[OwnNumbers] = None
         # How long the question at hand is, and what was sent of it.
@@ -89,7 +89,7 @@ class Connection:
             raise
 
     def ask(self, messages: Sequence[str]) -> list[str]:
-        """Writes these messages at once, and returns the answer to each; the empty text where it had none, or accepts a
+        """Writes these messages at once, and returns the answer to each; the empty text if it had none, or accepts a
         frame."""
         written: list[str] = []
         ends = ""
@@ -122,7 +122,7 @@ class Connection:
         return self._own is not None and number in self._own
 
     def frame(self, timeout: Optional[float]) -> Optional[str]:
-        """Returns the next message that hands over a frame, from `<` on; None where none came in this time, in seconds."""
+        """Returns the next message that hands over a frame, from `<` on; None if none came in this time, in seconds."""
         if self._frames and self._readiness is None:
             # The usual case in a burst.
             try:
@@ -133,7 +133,7 @@ class Connection:
             return self._wait(self._next_frame, None if timeout is None else time.monotonic() + timeout)
         except ConnectionError:
             with self._lock:
-                # Who waits for the file descriptor learns of the end once.
+                # A thread that waits for the file descriptor learns of the end once.
                 if self._readiness is not None and not self._is_closing:
                     self._readiness.show(False)
             raise
@@ -141,7 +141,7 @@ class Connection:
     def take_frames(self, to: deque[str]) -> int:
         """Reads once what the socket has, without waiting, and moves the frames that were read to the end of `to`.
 
-        Returns how many there were. One call for many: an exception of a signal's handler finds them here or there. Where another
+        Returns how many there were. One call for many: an exception of a signal's handler finds them here or there. If another
         thread reads, it has its turn first: who calls this again and again would keep it from that.
         """
         before = len(to)

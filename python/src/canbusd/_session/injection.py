@@ -27,10 +27,10 @@ class Refused(RuntimeError):
 
 
 class InjectsFaults:
-    """What gives rules to the bus of its interface, and ends them."""
+    """A session that gives rules to the bus of its interface, and ends them."""
 
     def _answer(self, message: str) -> str:
-        """What a message gets: the empty text for `ok`, an answer, or the text of a refusal."""
+        """The reply to a message: the empty text for `ok`, an answer, or the text of a refusal."""
         raise NotImplementedError
 
     def _refused(self, message: str) -> str:
@@ -38,7 +38,7 @@ class InjectsFaults:
         return self._answer(message)
 
     def _refusal(self, text: str) -> Exception:
-        """What is raised for a refusal."""
+        """The error for a refusal."""
         return Refused(text)
 
     def _parsed(self, answer: str, read: Callable[[str], Optional[T]]) -> T:
@@ -51,7 +51,7 @@ class InjectsFaults:
     def inject(self, faults: Script) -> None:
         """Gives the bus of the interface these rules, after those that it has, from the next attempt on.
 
-        `faults` are rules of Faults, such as ``Faults().next(32, sender="ecu").destroyed()``, or their text. Where one is
+        `faults` are rules of Faults, such as ``Faults().next(32, sender="ecu").destroyed()``, or their text. If one is
         refused, as the 65th is, the exception names it; those before it are in force.
         """
         self._give(rules_of(faults))
@@ -82,7 +82,7 @@ class InjectsFaults:
 class RuleSession(InjectsFaults):
     """A session of a server on this interface, without a socket there: the record has no entry of it.
 
-    OSError where there is no server, SessionRefused where it takes no session, Refused where it has no such interface.
+    OSError if there is no server, SessionRefused if it takes no session, Refused if it has no such interface.
     """
 
     def __init__(self, address: str, channel: str) -> None:

@@ -14,7 +14,7 @@ from canbusd._session.raw_session import RawSession, fault, with_cure
 from canbusd._session.waits import wait_for_ready
 from canbusd.virtual import is_virtual
 
-# Seconds for which what comes is left to come, so that much of it is read at once, where nobody waits for it. A Unix socket holds
+# Seconds for which what comes is left to come, so that much of it is read at once, if nobody waits for it. A Unix socket holds
 # some 4,000 frames. In virtual time a bus of 1 Mbit/s carries half of that meanwhile, else a server without a pace.
 NAP = 0.1 if is_virtual() else 0.02
 # As many frames as were read at once may not be all that had come.
@@ -29,9 +29,9 @@ class ObservingSession(RawSession):
     _queries = ("status",)
 
     def __init__(self, address: str, name: str, has_frames: bool) -> None:
-        #: How many frames were taken here.
+        #: The number of frames that were taken here.
         self.taken = 0
-        # What was read, and is not handed on yet.
+        # The frames that were read, and are not handed on yet.
         self._texts: deque[str] = deque()
         words = [] if has_frames else ["filter 0"]
         try:
@@ -43,7 +43,7 @@ class ObservingSession(RawSession):
 
     @property
     def unread(self) -> int:
-        """How many frames were read, and are not handed on."""
+        """The number of frames that were read, and are not handed on."""
         return len(self._texts)
 
     def read(self) -> None:

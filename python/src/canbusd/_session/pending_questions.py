@@ -9,13 +9,13 @@ from canbusd.frames import HANDED_OVER, MESSAGE
 ECHO, VERDICT = "e", "v"
 # The verdict that accepts a frame, with its number. A bus has fewer than 2**32 entries, so it has ten digits at most.
 ACK, LONGEST_ACK = "ack ", len("ack ") + 10
-# How many numbers are noted together, and how many such pages are kept: a frame that is older than all of them would be
+# The number of numbers that are noted together, and how many such pages are kept: a frame that is older than all of them would be
 # received 16 million numbers late.
 PAGE, MOST_PAGES = 4096, 4096
 
 
 class Asked(NamedTuple):
-    """What was asked, and what has come of the answers. It is replaced as a whole, so that no exception leaves half of it."""
+    """The questions and their answers so far. It is replaced as a whole, so that no exception leaves half of it."""
 
     #: How each answer that was asked for ends.
     ends: str

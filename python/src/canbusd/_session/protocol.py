@@ -9,7 +9,7 @@ from typing import Any, Literal, NamedTuple, Optional, Union
 from canbusd._words import BUS_OFF, INTERFACE_DOWN, LONGEST_MESSAGE, NO_BUFFERS
 from canbusd.frames import EXTENDED, INVERTED
 
-# What may be in an answer: the names of 256 interfaces.
+# The longest answer: the names of 256 interfaces.
 LONGEST_ANSWER = 4120
 ALL_CLASSES = 0x1FFFFFFF
 # The states of an interface: the states of its error counts, the best first, and `down`.
@@ -83,7 +83,7 @@ def refusal_in(answer: str) -> str:
 
 
 def numbers(words: Sequence[str], count: int) -> Optional[list[int]]:
-    """Returns the numbers that these words write in decimal digits; None where they are not that, or not so many."""
+    """Returns the numbers that these words write in decimal digits; None if they are not that, or not so many."""
     is_right = len(words) == count and all(word.isascii() and word.isdigit() for word in words)
     return [int(word) for word in words] if is_right else None
 
@@ -156,7 +156,7 @@ def options(
 def filter_words(one: Mapping[str, Any]) -> tuple[int, int]:
     """Returns the identifier word and the mask of a filter of python-can, in the words of linux/can.h.
 
-    Where the filter says `extended`, only frames of that kind pass; data and remote frames pass alike.
+    If the filter says `extended`, only frames of that kind pass; data and remote frames pass alike.
     """
     if not isinstance(one, Mapping):
         raise ValueError(f"a filter is a dict with can_id and can_mask, not {one!r}")

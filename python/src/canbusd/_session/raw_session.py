@@ -1,6 +1,6 @@
 """A session with a raw socket on an interface of a server: what it sends and receives, and how its interface is.
 
-The interface of python-can is made of it, and what a server sees by itself. Nothing here needs python-can; where it is
+The interface of python-can is made of it, and what a server sees by itself. Nothing here needs python-can; if it is
 installed, faults are its exceptions.
 """
 
@@ -26,9 +26,9 @@ from canbusd._words import (
     UNKNOWN_COMMAND,
 )
 
-# What the system's own CAN sockets report.
+# The error of the system's own CAN sockets.
 ERROR_CODES = {NO_BUFFERS: errno.ENOBUFS, BUS_OFF: errno.ENETDOWN, INTERFACE_DOWN: errno.ENETDOWN}
-# What to do, where it can be said in a few words.
+# The cure, if it can be said in a few words.
 CURES = {
     NO_BUFFERS: ": the transmit queue is full; send(msg, timeout=1) waits for room, and a server's txqueue= makes more",
     BUS_OFF: ": restart() brings the interface back, as the server's auto_restart= does",
@@ -58,7 +58,7 @@ def stayed_full(after: str = "") -> Exception:
 
 
 def with_cure(text: str) -> str:
-    """Returns a text with what to do, where it ends as a full record's does."""
+    """Returns a text with what to do, if it ends as a full record's does."""
     return f"{text}{CURES[RECORD_FULL]}" if text.endswith(RECORD_FULL) else text
 
 
@@ -66,11 +66,11 @@ class RawSession(InjectsFaults):
     """A session in raw mode, whose socket has the options that these messages set.
 
     Unless `notes_own` is None, each send is answered by the number of its frame, and these are noted for `is_own` if it is
-    true; an older server can do neither. OSError where there is no server, SessionRefused where it does not take the
+    true; an older server can do neither. OSError if there is no server, SessionRefused if it does not take the
     session, the interface or an option.
     """
 
-    # What is asked in the same write as the session is opened, so that nothing comes between.
+    # Questions in the same write as the session is opened, so that nothing comes between.
     _queries: Sequence[str] = ()
 
     def __init__(
@@ -124,7 +124,7 @@ class RawSession(InjectsFaults):
         return self.answers([message])[0]
 
     def frame(self, timeout: Optional[float]) -> Optional[str]:
-        """Returns the next message that hands over a frame, from `<` on; None where none came in this time, in seconds."""
+        """Returns the next message that hands over a frame, from `<` on; None if none came in this time, in seconds."""
         try:
             began = time.monotonic()
             found = self._connection.frame(timeout)

@@ -25,7 +25,7 @@ class Readiness:
         return self._epoll.fileno()
 
     def show(self, is_ready: bool) -> None:
-        """Makes it readable, or readable only where the socket is."""
+        """Makes it readable, or readable only if the socket is."""
         if is_ready and not self._is_shown:
             os.write(self._writer, b"!")
             self._is_shown = True

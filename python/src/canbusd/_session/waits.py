@@ -1,4 +1,4 @@
-"""Waits that end at their moment to the microsecond, also where nothing else makes them late: in virtual time."""
+"""Waits that end at their moment to the microsecond, also if nothing else makes them late: in virtual time."""
 
 import math
 import select

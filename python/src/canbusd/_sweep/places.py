@@ -9,7 +9,7 @@ from typing import Optional
 from canbusd._sweep.attempts import Attempted
 from canbusd._sweep.faults_given import Fault
 
-#: How many attempts in a row a burst destroys.
+#: The number of attempts that in a row a burst destroys.
 BURST = 16
 #: For how many microseconds a sender is down. How long before a frame begins others go down, so that they do not acknowledge it,
 #: and how long after its end they come up: before it can be sent again.
@@ -46,7 +46,7 @@ class Kind:
 
     line: Callable[[Attempted], str]
     meaning: str
-    #: The verdict of a rule that leaves the same bytes; empty where there is none.
+    #: The verdict of a rule that leaves the same bytes; empty if there is none.
     verdict: str = ""
 
 
@@ -93,7 +93,7 @@ class Result:
     long: str = ""
     #: Seconds of the test's own time.
     took: float = 0.0
-    #: How many programs it started.
+    #: The number of programs that it started.
     programs: int = 0
     #: A sum of its records: the same for the same run.
     records: str = ""
@@ -160,7 +160,7 @@ class Place:
 
 
 def pairs_of(places: Sequence[Place], count: int, draw: random.Random) -> Iterator[Place]:
-    """Yields placements with a second fault, each at an attempt of the run that a first one made, where the test passed."""
+    """Yields placements with a second fault, each at an attempt of the run that a first one made, if the test passed."""
     firsts = [one for one in places if one.later and one.result is not None and one.result.outcome == "passed"]
     # A fault that makes the test fail by itself says nothing as a second one.
     bad = {one.group for one in places if one.has_failed}

@@ -80,7 +80,7 @@ class Pool:
         self._until = until
         self._folder = Path(tempfile.mkdtemp(prefix="canbusd-sweep-"))
         self._number = 0
-        #: How many runs did not begin in time.
+        #: The number of runs that did not begin in time.
         self.not_begun = 0
 
     def carry_out(self, jobs: Iterable[Job], done: Callable[[Outcome], Iterable[Job]]) -> None:

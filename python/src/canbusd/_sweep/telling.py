@@ -50,7 +50,7 @@ class Telling:
         """`page` is the path of the page, if there is one; `report` is called with what failed and what passed."""
         self._terminal, self._page, self._report = terminal, page, report
         self._began = self._last = time.monotonic()
-        #: How many failures are none that a marker knows of.
+        #: The number of failures that are none that a marker knows of.
         self.failures = 0
         self._reports: list[Report] = []
 

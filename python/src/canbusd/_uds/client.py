@@ -60,14 +60,14 @@ class Client(NamesWhatThereIs):
         #: Its end of ISO-TP, such as `connection` takes for udsoncan.
         self.end = server.isotp(channel, tx=tx, rx=rx, functional=functional, library="canbusd", **options)
         self._python_end = cast(PythonIsoTp, self.end)
-        #: How many pending responses came before the last answer.
+        #: The number of pending responses that came before the last answer.
         self.pending = 0
 
     @explained()
     def request(self, data: bytes, *, functional: bool = False) -> bytes:
         """Sends a request, and returns the positive response to it, all of its bytes.
 
-        With `functional` it goes to all, and the first answer counts. NegativeResponse where it is refused, TimeoutError where
+        With `functional` it goes to all, and the first answer counts. NegativeResponse where it is refused, TimeoutError if
         no answer comes within P2, or P2* after a pending response.
         """
         __tracebackhide__ = True
@@ -186,7 +186,7 @@ def _number(what: str, number: object) -> bytes:
 def connection(end: IsoTp) -> Any:
     """Returns a connection of udsoncan over an end of ISO-TP, for ``udsoncan.client.Client(uds.connection(end))``.
 
-    ImportError where udsoncan is not installed.
+    ImportError if udsoncan is not installed.
     """
     try:
         base: Any = importlib.import_module("udsoncan.connections").BaseConnection

@@ -221,7 +221,7 @@ class Ecu(Answers, NamesWhatThereIs):
             self._send(answer)
 
     def _send(self, answer: bytes) -> None:
-        # Where the other end has given up, or the interface is bus off, the test sees it there.
+        # If the other end has given up, or the interface is bus off, the test sees it there.
         with contextlib.suppress(IsoTpError):
             self._end.send(answer)
 

@@ -5,7 +5,7 @@ from typing import Optional
 
 from canbusd._uds.codes import DOWNLOAD, TRANSFER, TRANSFER_EXIT, NegativeResponse, check_length
 
-#: How many bytes a TransferData has at most: its service, its counter and data.
+#: The number of bytes that a TransferData has at most: its service, its counter and data.
 BLOCK = 0x402
 
 
@@ -17,7 +17,7 @@ class Transfer:
     start: int
     size: int
     is_download: bool
-    #: How many bytes are done, and the number of the next block.
+    #: The number of bytes that are done, and the number of the next block.
     done: int = 0
     counter: int = 1
 

@@ -11,14 +11,14 @@ from canbusd._run.pcapng import INBOUND, OUTBOUND, Capture, Packet
 from canbusd.bus import CanbusdBus
 from canbusd.frames import Frame, frame_like
 
-# How many seconds a session may take to hand over what it has, and how many frames are taken of it at once.
+# The number of seconds that a session may take to hand over what it has, and how many frames are taken of it at once.
 PATIENCE, BATCH = 5.0, 1000
 
 
 class Watched(CanbusdBus):
     """A bus on which all that its interface has sent is its own, whichever session has sent it."""
 
-    #: How many frames it has received.
+    #: The number of frames that it has received.
     received = 0
 
     def _is_own(self, number: int) -> bool:

@@ -19,7 +19,7 @@ class BadWords(ValueError):
 def run_command(work: Callable[[], Optional[int]], name: str) -> NoReturn:
     """Calls a command's work, and exits. A fault is reported in one line on standard error, with status 1.
 
-    Where the reader of standard output goes, as `head` does, and at Ctrl-C the command ends silently, as others do.
+    If the reader of standard output goes, as `head` does, and at Ctrl-C the command ends silently, as others do.
     """
     signal.signal(signal.SIGINT, signal.SIG_DFL)
     # A long run is many objects and no cycles.
@@ -46,7 +46,7 @@ def run_command(work: Callable[[], Optional[int]], name: str) -> NoReturn:
 
 
 def status_of(work: Callable[[], Optional[int]]) -> Optional[int]:
-    """The status of a command's work, also where the parser of its words ends it, which may have written help."""
+    """The status of a command's work, also if the parser of its words ends it, which may have written help."""
     try:
         return work()
     except SystemExit as end:
@@ -61,7 +61,7 @@ def forget_output() -> None:
 
 
 def is_can_error(fault: Exception) -> bool:
-    """Whether this is a fault of python-can, which is imported only where a command needs it."""
+    """Whether this is a fault of python-can, which is imported only if a command needs it."""
     can = sys.modules.get("can")
     return can is not None and isinstance(fault, can.CanError)
 

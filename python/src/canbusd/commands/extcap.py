@@ -13,7 +13,7 @@ from canbusd._session.protocol import ALL_CLASSES
 from canbusd.commands import add_address
 from canbusd.commands._command import BadWords
 
-# Wireshark calls this several times before it shows its list, so that python-can is imported only where it is needed.
+# Wireshark calls this several times before it shows its list, so that python-can is imported only if it is needed.
 
 EPILOG = """\
 Once it is installed for the user, Wireshark and tshark list `canbusd`, which captures all interfaces of a server, each frame

@@ -45,7 +45,7 @@ def run(options: argparse.Namespace) -> None:
             if options.end:
                 session.end_rules()
             if rule:
-                # With a line feed it is a text, whatever its words are.
+                # A text with a line feed is a script, whatever its words are.
                 session.inject(f"{rule}\n")
             if options.left:
                 print(session.rules_left())

@@ -112,7 +112,7 @@ def lines_of(record: Record) -> Iterator[str]:
 
 
 def words_of(attempt: Attempt) -> str:
-    """What became of an attempt, in words."""
+    """The outcome of an attempt, in words."""
     words: list[str] = [attempt.outcome]
     if attempt.fault not in ("good", attempt.outcome):
         words.append(f"({attempt.fault})")

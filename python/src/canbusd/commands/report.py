@@ -10,7 +10,7 @@ from typing import Optional
 from canbusd._process.rates import Rates
 from canbusd._run import drawings, summary
 from canbusd._run.comparison import TOLERANCE, Comparison
-from canbusd._run.fault_rules_of_run import FaultsFile, deciders, faults_beside, with_names
+from canbusd._run.fault_rules_of_run import FaultsFile, deciders, faults_beside, is_of_faults, read_ruled, with_names
 from canbusd._run.slots import load_of, load_words, slots_of
 from canbusd._text import shown
 from canbusd.commands import add_database, add_rates, database_of, digits, least_zero, rates_of
@@ -84,9 +84,8 @@ def run(options: argparse.Namespace) -> int:
     check_words(options)
     # Opened first: a server that ends meanwhile renames both.
     faults = None if has_drawings(options) else faults_of(options)
-    record = replayed(options.record, options.names, options.cut, rates)
+    record, named, rules = with_rules(faults, rates, options)
     other = None if options.other is None else replayed(options.other, options.names, options.cut)
-    named, rules = with_rules(record, faults, options)
     note_of_names("canbusd report", (options.record, named), *([] if other is None else [(options.other, other)]))
     title = "" if other is None else title_beside(options.record, options.other)
     comparison = None if other is None else Comparison(record, other, title, options.tolerance / 1000)
@@ -156,27 +155,42 @@ def faults_of(options: argparse.Namespace) -> Optional[FaultsFile]:
         return None
 
 
-def with_rules(record: Record, faults: Optional[FaultsFile], options: argparse.Namespace) -> tuple[Record, list[str]]:
-    """The record with the name that its faults say, and the rule of each attempt. Those beside the record may be wrong.
+def with_rules(
+    faults: Optional[FaultsFile], rates: Optional[Rates], options: argparse.Namespace
+) -> tuple[Record, Record, list[str]]:
+    """The record, the same with the name that its faults say, and the rule of each attempt. Faults beside the record may be wrong.
 
-    Two runs have the names that their logs say, since they are compared.
+    Two runs have the names that their logs say, since they are compared. Where all names are given the record is read once.
     """
     if faults is None:
-        return record, []
-    named = with_names(record, faults)
+        return as_it_is(rates, options)
+    record = None if options.names else as_it_is(rates, options)[0]
     try:
-        rules = deciders(named, faults)
+        if record is None:
+            record, rules = read_ruled(options.record, options.names, options.cut, rates, faults)
+            named = record
+        else:
+            named = with_names(record, faults)
+            rules = deciders(named, faults)
     except BadRecord as fault:
+        if record is None and not is_of_faults(fault):
+            raise BadRecord(f"{options.record}: {fault}") from None
         why = f"{faults.path}: {fault}"
-        if "unknown interface" in (fault.verdict or "") and not all(map(is_named, record.names)):
+        if "unknown interface" in (fault.verdict or "") and record and not all(map(is_named, record.names)):
             why += "; --names says how they are called"
         if options.faults is not None:
             raise BadRecord(why) from None
         note(f"without rules of faults: {why}")
-        return record, []
+        return as_it_is(rates, options)
     if faults.torn:
         note(f"{faults.path}: without its last line, which is torn: `{shown(faults.torn.decode(errors='replace'))}`")
-    return named if options.other is None else record, rules
+    return record, named if options.other is None else record, rules
+
+
+def as_it_is(rates: Optional[Rates], options: argparse.Namespace) -> tuple[Record, Record, list[str]]:
+    """The same without faults."""
+    record = replayed(options.record, options.names, options.cut, rates)
+    return record, record, []
 
 
 def note(words: str) -> None:
@@ -185,7 +199,7 @@ def note(words: str) -> None:
 
 
 def title_beside(path: str, other: str) -> str:
-    """How the second of two records is called: by its folder, too, where both files have one name."""
+    """How the second of two records is called: by its folder, too, if both files have one name."""
     name = os.path.basename(other)
     return other if name == os.path.basename(path) else name
 

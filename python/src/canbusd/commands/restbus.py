@@ -77,7 +77,7 @@ def run(options: argparse.Namespace) -> None:
 def chosen_of(
     database: Database, options: argparse.Namespace, nodes: Mapping[str, str], known: Sequence[str]
 ) -> dict[str, str]:
-    """The interface of each node; where one has none, a fault says which options help."""
+    """The interface of each node; if one has none, a fault says which options help."""
     without = [name for names in options.without for name in names.split(",")]
     try:
         return interfaces_of(database, without, nodes, options.interface, known)

@@ -13,8 +13,8 @@ from canbusd.commands import above_zero, add_address
 EPILOG = """\
 TEC and REC are the transmit and the receive error count: error warning from 96, error passive from 128, bus off from
 256; a `down` interface was taken off the bus. `sent` counts the frames accepted for sending: done, waiting, or lost at
-bus off or when the interface went down. `refused` counts the frames that found the transmit queue full. On a server with
-a bit rate, `bus load` is how much of the last whole second the bus was busy.
+bus off or when the interface went down. `refused` counts the frames that found the transmit queue full. On a bus with
+a bit rate, `bus load` is how much of the last whole second it was busy.
 
   canbusd status
   canbusd status --watch can0 can1
@@ -60,10 +60,11 @@ def run(options: argparse.Namespace) -> None:
 
 
 def table_of(rows: Sequence[Row], loads: Sequence[Load]) -> list[str]:
-    """The lines of the table, which has the load of each interface's bus where there is a bit rate."""
+    """The lines of the table, which has the load of each interface's bus where a bus has a bit rate."""
     if not any(load.bitrate for load in loads):
         return table(rows)
-    return table([(*row, load_words(load.permille)) for row, load in zip(rows, loads)], (*HEADINGS, "bus load"))
+    words = [load_words(load.permille) if load.bitrate else "-" for load in loads]
+    return table([(*row, load) for row, load in zip(rows, words)], (*HEADINGS, "bus load"))
 
 
 def row_of(name: str, bus: CanbusdBus) -> Row:

@@ -107,8 +107,6 @@ def run(options: argparse.Namespace) -> int:
     if options.join:
         return join_parts(options.words)
     buses, words = parted(options.words)
-    if not worker.is_ready():
-        worker.start_anew(())
     try:
         kinds = known_kinds(options.faults.split(","))
     except ValueError as fault:
@@ -116,6 +114,9 @@ def run(options: argparse.Namespace) -> int:
     task = CommandTask(words, buses, server_options(options), given_words(options))
     test = Test(task, kinds, named(options.senders), named(options.ids.upper()), options.known)
     found = sweep_options(options)
+    # Last, so that wrong words are reported at once.
+    if not worker.is_ready():
+        worker.start_anew(())
     page = "" if found.given is not None else os.path.join(OUT, "index.html")
     telling = Telling(PlainTerminal(), page, lambda report: None)
     Sweep([test], found, telling).carry_out()

@@ -18,6 +18,7 @@ from canbusd._process.program import ProgramNotFound
 from canbusd._process.rates import Rates
 from canbusd._run.frame_times import FrameTimes
 from canbusd._session.address import parse_address
+from canbusd._session.protocol import Load
 from canbusd.bus import interfaces
 from canbusd.commands import above_zero, add_address, add_database, database_of, digits
 from canbusd.commands._capture import Watched
@@ -52,9 +53,10 @@ class Watcher:
         self.buses = [Watched(name, address=address, fd=True, receive_own_messages=True) for name in names]
         # When the counts were asked for last.
         self.asked = 0.0
-        # A server has the same bit rates on all its buses, so one is asked.
-        load = next((bus.load() for bus in self.buses), None)
-        self.wire = times_of(Rates(load.bitrate, load.data_bitrate)) if load and load.bitrate else None
+        # How long frames take on the bus of each interface: the same for those with the same bit rates.
+        rates = [rates_of(bus.load()) for bus in self.buses]
+        times = {one: times_of(one) for one in rates if one}
+        self.wires = [times[one] if one else None for one in rates]
 
     def tick(self, seconds: float) -> tuple[Json, list[Row]]:
         """Returns how the interfaces are after these seconds, and the frames that came in them."""
@@ -74,7 +76,7 @@ class Watcher:
         span, now = time.monotonic() - began if began else 0.0, time.time()
         loads = [bus.load().permille for bus in self.buses]
         for number in range(len(self.buses)):
-            # What came before the counts.
+            # The frames that came before the counts.
             self.take(number, rows, faults[number])
         ifaces = [[*bus.error_counters(), *one[3:]] for bus, one in zip(self.buses, stats)]
         missed = sum(one.dropped for one in stats)
@@ -111,19 +113,29 @@ class Watcher:
         return self.database.decode(frame) if self.database is not None else None
 
     def meaning(self, frame: Frame) -> str:
-        """What an error message frame says, or one that a file knows."""
+        """The text of an error message frame, or of one that a file knows."""
         return says(frame, self.decoded(frame))
 
     def note_times(self, rows: Iterable[Row]) -> None:
-        """Adds how many nanoseconds each frame took the wire, with the bits that follow it, where there is a bit rate."""
-        if self.wire is not None:
-            frames = list(filter(is_frame, rows))
-            for row, nanos in zip(frames, self.wire.of(row[1] for row in frames)):
+        """Adds how many nanoseconds each frame took the wire, with the bits that follow it, if there is a bit rate."""
+        by_wire: dict[FrameTimes, list[Row]] = {}
+        for row in filter(is_frame, rows):
+            # Those that have the frame are of one bus.
+            wire = self.wires[(row[2] & -row[2]).bit_length() - 1]
+            if wire is not None:
+                by_wire.setdefault(wire, []).append(row)
+        for wire, frames in by_wire.items():
+            for row, nanos in zip(frames, wire.of(row[1] for row in frames)):
                 row[5] = nanos
 
 
+def rates_of(load: Load) -> Optional[Rates]:
+    """The bit rates of a bus, if it has any."""
+    return Rates(load.bitrate, load.data_bitrate) if load.bitrate else None
+
+
 def times_of(rates: Rates) -> Optional[FrameTimes]:
-    """How long frames take at these bit rates; None, and a note, where there is no program that says it."""
+    """How long frames take at these bit rates; None, and a note, if there is no program that says it."""
     try:
         return FrameTimes(rates)
     except ProgramNotFound as fault:
@@ -132,7 +144,7 @@ def times_of(rates: Rates) -> Optional[FrameTimes]:
 
 
 def says(frame: Frame, decoded: Optional[Decoded]) -> str:
-    """What an error message frame says, or one that was decoded."""
+    """The text of an error message frame, or of one that was decoded."""
     return frame.meaning if decoded is None else str(decoded)
 
 
@@ -178,7 +190,7 @@ def run(options: argparse.Namespace) -> None:
         "names": names,
         "source": watcher.buses[0].address,
         "isDecoded": watcher.database is not None,
-        "isTimed": watcher.wire is not None,
+        "isTimed": any(watcher.wires),
         **({"messages": acts.messages()} if acts else {}),
     }
     has_path = parse_address(watcher.buses[0].address)[0] is not None

@@ -1,0 +1,1 @@
+"""libcanbusd: the library, its structs, and a socket of it."""

@@ -1,0 +1,106 @@
+"""libcanbusd, and its functions as ctypes has them. The structs are packed and unpacked as bytes, which is quicker
+than by the fields of a ctypes.Structure."""
+
+import ctypes
+import ctypes.util
+import functools
+import os
+import struct
+import subprocess
+from collections.abc import Callable
+from pathlib import Path
+
+from canbusd._process.program import SET_BY
+
+#: The version of the functions and structs that this module calls by, and the name of the library that has it.
+ABI = 0
+SONAME = f"libcanbusd.so.{ABI}"
+
+# The codes of canbusd.h that are no refusals of a bus.
+OK, NOTHING = 0, 12
+
+# The structs of canbusd.h. In results a frame is its head, which is identifier word, length and flags, and its data.
+CONFIG = struct.Struct("=7I")
+FRAME = struct.Struct("=IBBxx64s")
+HEAD = struct.Struct("=IBB")
+ITEM = struct.Struct("=6sxx64s16xQ")
+FILTER = struct.Struct("=2I")
+TRIED = struct.Struct("=6sxx64sIIQQ3I4x")
+STATUS = struct.Struct("=4I5Q")
+STATS = struct.Struct("=3Q")
+LOAD = struct.Struct("=4IQ")
+
+_POINTER, _U32, _U64, _SIZE = ctypes.c_void_p, ctypes.c_uint32, ctypes.c_uint64, ctypes.c_size_t
+_CALLS = {
+    "new": [ctypes.c_char_p, _POINTER, _POINTER],
+    "open": [_POINTER, _U32, _U32, _POINTER],
+    "close": [_POINTER, _U32, _POINTER],
+    "set_filters": [_POINTER, _U32, _POINTER, _SIZE],
+    "set_option": [_POINTER, _U32, _U32, _U32],
+    "send": [_POINTER, _U32, _POINTER, _POINTER],
+    "receive": [_POINTER, _U32, _POINTER],
+    "attempt": [_POINTER, _U64, _POINTER],
+    "run": [_POINTER, _U64, _POINTER],
+    "restart": [_POINTER, _U32, _U64],
+    "down": [_POINTER, _U32, _U64],
+    "inject": [_POINTER, ctypes.c_char_p],
+    "end_rules": [_POINTER],
+    "get_status": [_POINTER, _U32, _POINTER],
+    "get_stats": [_POINTER, _U32, _POINTER],
+    "get_load": [_POINTER, _U64, _POINTER],
+    "record": [_POINTER, _POINTER, _SIZE, _POINTER],
+}
+
+
+class LibraryNotFound(FileNotFoundError):
+    """There is no libcanbusd where it is looked for."""
+
+
+def find_library() -> str:
+    """Returns the path of libcanbusd: `$CANBUSD_LIBRARY`, else that of the package, of its clone, or of the system."""
+    given = os.environ.get("CANBUSD_LIBRARY")
+    if given:
+        if not os.path.isfile(given):
+            raise LibraryNotFound(f"{SET_BY.get('CANBUSD_LIBRARY', 'CANBUSD_LIBRARY')} names no library: {given}")
+        return os.path.abspath(given)
+    package = Path(__file__).resolve().parents[1]
+    packed, clone = package / "program" / SONAME, package.parent.parent.parent
+    if packed.is_file():
+        return str(packed)
+    script = clone / "scripts" / "library"
+    if script.is_file() and (clone / "crates.txt").is_file():
+        fitting = subprocess.run([script, "fitting"], stdout=subprocess.PIPE, text=True, check=False)
+        if fitting.returncode == 0:
+            return str(clone / fitting.stdout.strip())
+    found = ctypes.util.find_library("canbusd")
+    if found == SONAME:
+        return found
+    raise LibraryNotFound(
+        f"no {SONAME} fits this package; install the wheel, build it by scripts/library, or set CANBUSD_LIBRARY to its path"
+    )
+
+
+@functools.lru_cache(maxsize=None)
+def quick(name: str) -> Callable[..., int]:
+    """Returns a function of the library that is called with ctypes's own objects, which are passed as they are. It keeps the
+    interpreter's lock, as none waits."""
+    function: Callable[..., int] = ctypes.PyDLL(find_library())[f"canbusd_{name}"]
+    return function
+
+
+@functools.lru_cache(maxsize=None)
+def library() -> ctypes.CDLL:
+    """Returns the library, loaded once."""
+    loaded = ctypes.CDLL(find_library())
+    for name, arguments in _CALLS.items():
+        function = getattr(loaded, f"canbusd_{name}")
+        function.argtypes, function.restype = arguments, _U32
+    loaded.canbusd_free.argtypes, loaded.canbusd_free.restype = [_POINTER], None
+    loaded.canbusd_strerror.argtypes, loaded.canbusd_strerror.restype = [_U32], ctypes.c_char_p
+    return loaded
+
+
+def text_of(code: int) -> str:
+    """Returns the text of a code."""
+    text: bytes = library().canbusd_strerror(code)
+    return text.decode()

@@ -1,0 +1,90 @@
+"""The interface `canbusd` of python-can on a bus inside this process: `can.Bus(interface="canbusd", channel="can0", local=bus)`."""
+
+from typing import Any, Optional
+
+import canbusd._python_can  # noqa: F401  it says what is missing, so it comes first
+
+from can.bus import BusABC, BusState
+from can.exceptions import CanInitializationError, CanOperationError
+from can.message import Message
+
+from canbusd._session.protocol import ErrorCounters, Filters, Load, Stats
+from canbusd._session.raw_session import ERROR_CODES
+from canbusd.bus import BUS_STATES
+from canbusd.frames import frame_like
+from canbusd.local import LocalBus, LocalSocket, Refused
+
+
+class LocalCanbusdBus(BusABC):
+    """A raw socket on an interface of a LocalBus. Attempts are made as frames are sent if the bus is made so
+    (``attempts="sent"``), else by ``local.attempt()`` and ``local.run()``.
+
+    :param channel: the name of the interface
+    :param local: the bus
+    :param can_filters: see :meth:`can.BusABC.set_filters`
+    :param kwargs: the other arguments of `LocalBus.open`
+    """
+
+    def __init__(self, channel: str, can_filters: Optional[Filters] = None, *, local: LocalBus, **kwargs: Any) -> None:
+        # python-can 4.3 warns of a bus that is not shut down, also if it never came to be.
+        self._is_shutdown = True
+        self.channel, self.local = channel, local
+        self.channel_info = f"canbusd: channel '{channel}' of a bus in this process"
+        try:
+            self._socket: LocalSocket = local.open(channel, **kwargs)
+        except Refused as fault:
+            raise CanInitializationError(f"{self.channel_info}: {fault}") from None
+        super().__init__(channel=channel, can_filters=can_filters)  # type: ignore[arg-type]
+        self._is_shutdown = False
+
+    def send(self, msg: Message, timeout: Optional[float] = None) -> None:
+        """Puts a message into the transmit queue of the interface; a full one is an error at once."""
+        try:
+            self._socket.send(frame_like(msg))
+        except Refused as fault:
+            raise CanOperationError(f"{fault}", ERROR_CODES.get(f"{fault}")) from None
+
+    def _recv_internal(self, timeout: Optional[float]) -> "tuple[Optional[Message], bool]":
+        frame = self._socket.receive() if timeout == 0 else self._socket.wait(timeout)
+        return (None if frame is None else frame.message(self.channel)), True
+
+    def _apply_filters(self, filters: Optional[Filters]) -> None:
+        self._socket.set_filters(filters or None)
+
+    @property
+    def state(self) -> BusState:
+        """The state of the interface: ACTIVE up to error warning, PASSIVE, or ERROR where it is bus off or down."""
+        return BUS_STATES[self.error_counters().state]
+
+    @state.setter
+    def state(self, new_state: BusState) -> None:
+        if new_state is not BusState.ACTIVE:
+            raise NotImplementedError(f"{new_state} can't be set: there is no listen-only mode")
+        if self.error_counters().state in ("off", "down"):
+            self.restart()
+
+    def restart(self) -> None:
+        """Brings the interface back from bus off, or up."""
+        self.local.restart(self.channel)
+
+    def down(self) -> None:
+        """Takes the interface off the bus."""
+        self.local.down(self.channel)
+
+    def error_counters(self) -> ErrorCounters:
+        """Returns the state of the interface and its error counts."""
+        return self.local.status(self.channel)
+
+    def stats(self) -> Stats:
+        """Returns the counts of this socket and of its interface."""
+        return self._socket.stats()
+
+    def load(self) -> Load:
+        """Returns how busy the bus was, and its bit rates."""
+        return self.local.load()
+
+    def shutdown(self) -> None:
+        """Closes the socket; the bus stays."""
+        if not self._is_shutdown:
+            self._socket.close()
+        super().shutdown()
