@@ -1,4 +1,4 @@
-"""What the scripts of the gate share: the kit's own view of the crates, what earlier runs passed, and lanes of work.
+"""The common part of the gate's scripts: the kit's view of the crates, the results of earlier runs, and lanes of work.
 
 `rt` and its library are the kit's commands, so they are loaded from the folder that the command rt is in."""
 
@@ -13,12 +13,12 @@ from concurrent.futures import ThreadPoolExecutor
 from typing import Any, Callable, Dict, Iterable, List, Optional, Sequence, Tuple
 
 TOP = os.path.dirname(os.path.dirname(os.path.realpath(__file__)))
-# What a check takes at most of the memory, in bytes: so many run side by side.
+# The most memory of a check, in bytes: so many run side by side.
 CHECK_MEMORY = 4 << 30
 
 
 def load_rtlib() -> Any:
-    """Returns the kit's library, or ends the script where there is no kit."""
+    """Returns the kit's library, or ends the script if there is no kit."""
     rt = shutil.which("rt")
     if rt is None:
         sys.exit("canbusd: the command rt of the Rattle kit has to be on the PATH")
@@ -58,7 +58,7 @@ def kit_sum(rtlib: Any) -> str:
 
 
 class Kept:
-    """What earlier runs on this machine passed, each under the sum of all that it was made from. A verdict that is not there is
+    """Results of earlier runs on this machine, each under the sum of its parts. A verdict that is not there is
     made anew; with `anew` all are."""
 
     def __init__(self, kind: str, anew: bool):

@@ -1,4 +1,4 @@
-"""Where the functions of a formatted .rt file are, and how the check names them.
+"""The functions of a formatted .rt file: their places, and their names in the check.
 
 It goes by the layout of `rt fmt`: an item ends with the first closing brace at its own indent. What it can't name, the check names
 otherwise, and scripts/edits finds that out before it relies on it."""
@@ -135,7 +135,7 @@ def owner_name(is_trait: bool, head: str, parameters: List[str], module: str, ty
 
 
 def body_of(text: str, at: int, indent: str) -> Optional[int]:
-    """Returns where the body of the function at this line begins: the brace that is the last of its head, after its clauses. None where there is
+    """Returns where the body of the function at this line begins: the brace that is the last of its head, after its clauses. None if there is
     no body, or one on the head's own line."""
     depth = 0
     for number, line in enumerate(text[at:].split("\n")):
@@ -156,7 +156,7 @@ def body_of(text: str, at: int, indent: str) -> Optional[int]:
 def functions_of(text: str, module: str, types: Types) -> List[Function]:
     """Returns the functions of a file that have a body, in order."""
     owners, found = owners_of(text, module, types), []
-    pattern = r"(?m)^([ \t]*)(?:pub(?:\([^)]*\))?\s+)?(?:const\s+)?(?:unsafe\s+)?fn\s+(\w+)"
+    pattern = r'(?m)^([ \t]*)(?:pub(?:\([^)]*\))?\s+)?(?:const\s+)?(?:unsafe\s+)?(?:extern "C"\s+)?fn\s+(\w+)'
     for match in re.finditer(pattern, text):
         body = body_of(text, match.start(), match[1])
         owner = next((it for it in reversed(owners) if it.start < match.start() < it.end), None)

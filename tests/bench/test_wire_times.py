@@ -7,12 +7,12 @@ import pathlib
 import random
 import re
 import subprocess
-import sys
 from collections.abc import Iterable, Iterator, Sequence
 
 import pytest
 
 import random_benches
+from forked import forked
 from serving import ROOT
 from timed_benches import MICRO, bench, moment, random_frame, random_rates, rate_options, send
 from wire_model import KNOWN_LENGTHS, Frame, bit_counts, random_data
@@ -471,7 +471,7 @@ def test_replay_of_moments(program: str, rng: random.Random, tmp_path: pathlib.P
 
         def replay(nominal: int) -> tuple[int, str, str]:
             options = rate_options(Rates(nominal, rates.fast))
-            return ended(sys.executable, "-m", "canbusd", "replay", "--quiet", *options, path)
+            return forked("replay", "--quiet", *options, path)
 
         status, said, errors = replay(rates.nominal)
         assert (status, errors) == (0, "") and re.fullmatch(r"load .*\nok \d+ entries\n", said)

@@ -8,19 +8,22 @@ import subprocess
 import pytest
 
 from commands import examples
+from made_once import made_once
 from serving import ROOT
 
 pytestmark = pytest.mark.skipif(not (shutil.which("cc") and shutil.which("make")), reason="not installed: cc or make")
 
 
 @pytest.fixture(scope="module")
-def built(tmp_path_factory):
+def built(request):
     """The folder in which they are built."""
-    folder = tmp_path_factory.mktemp("benches") / "benches"
-    shutil.copytree(os.path.join(ROOT, "benches"), folder)
-    done = subprocess.run(["make", "-s", "-C", folder, "clean", "all"], capture_output=True, text=True, check=False)
-    assert (done.returncode, done.stderr) == (0, "")
-    return folder
+
+    def build(folder):
+        shutil.copytree(os.path.join(ROOT, "benches"), folder, dirs_exist_ok=True)
+        done = subprocess.run(["make", "-s", "-C", folder, "clean", "all"], capture_output=True, text=True, check=False)
+        assert (done.returncode, done.stderr) == (0, "")
+
+    return made_once(request, "benches", build)
 
 
 # The C programs have scripts, and no rules of faults and no bit rates.

@@ -28,6 +28,7 @@ sources) echo 1234 ;;
 mark*) echo "mark" >>calls ;;
 esac
 """,
+    "scripts/library": 'exit "${LIBRARY:-0}"',
     "scripts/outside": """
 program=${CANBUSD+ $(realpath --relative-to . "$CANBUSD")}
 echo "outside $2$program" >>calls
@@ -64,7 +65,7 @@ def gate(tmp_path):
 def test_early(gate):
     """on four processors the tests of the program run beside the proofs, on that of dist/, and once"""
     status, lines, calls = gate()
-    assert (status, lines[-1]) == (0, "43 passed, 0 failed, 6 skipped"), lines
+    assert (status, lines[-1]) == (0, "44 passed, 0 failed, 6 skipped"), lines
     assert calls == [ON_DIST, "mark", "outside quiet crates/canbusd/out/canbusd"]
 
 
@@ -72,17 +73,17 @@ def test_early(gate):
 def test_early_ones_fail(gate, early):
     """then they run again after the proofs, and only that counts"""
     status, lines, calls = gate(EARLY=early)
-    assert (status, lines[-1]) == (0, "43 passed, 0 failed, 6 skipped"), lines
+    assert (status, lines[-1]) == (0, "44 passed, 0 failed, 6 skipped"), lines
     assert calls[:3] == [ON_DIST, "mark", ON_PROVED] and early in lines
 
 
-@pytest.mark.parametrize("env", [{"PROCESSORS": "3"}, {"DIST": "3", "COMPARED": "3"}])
+@pytest.mark.parametrize("env", [{"PROCESSORS": "3"}, {"DIST": "3", "COMPARED": "3", "LIBRARY": "3"}])
 def test_none_early(gate, env, tmp_path):
     """with fewer processors, or another program in dist/, they run after the proofs"""
     (tmp_path / "wait").unlink()
     status, lines, calls = gate(**env)
-    skipped = 7 if "COMPARED" in env else 6
-    assert (status, lines[-1]) == (0, f"{49 - skipped} passed, 0 failed, {skipped} skipped"), lines
+    skipped = 8 if "COMPARED" in env else 6
+    assert (status, lines[-1]) == (0, f"{50 - skipped} passed, 0 failed, {skipped} skipped"), lines
     assert calls[:2] == ["mark", ON_PROVED]
 
 
@@ -99,9 +100,9 @@ def test_one_part(gate, part, last, calls):
     assert gate(part) == (0, [last], calls)
 
 
-@pytest.mark.parametrize("env", [{"PROVED": "6 passed, 1 failed"}, {"COMPARED": "1"}])
+@pytest.mark.parametrize("env", [{"PROVED": "6 passed, 1 failed"}, {"COMPARED": "1"}, {"LIBRARY": "1"}])
 def test_proofs_fail(gate, env):
     """so does the whole, and the program is not marked as the one of these sources"""
     status, lines, calls = gate(**env)
-    assert (status, lines[-1]) == (1, "42 passed, 1 failed, 6 skipped"), lines
+    assert (status, lines[-1]) == (1, "43 passed, 1 failed, 6 skipped"), lines
     assert "mark" not in calls

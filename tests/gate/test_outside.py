@@ -98,6 +98,7 @@ def test_a_run_that_breaks(outside, tmp_path, text):
 def test_nothing_runs(outside, tmp_path, monkeypatch):
     """a part without tests has failed, unless it has none for a quiet machine"""
     monkeypatch.setitem(outside.ROOMS, "bench", ("test_some.py",))
+    monkeypatch.setattr(outside, "JOBS", "2")
     empty = suite(outside, tmp_path, "")
     assert outside.side_by_side(empty, ["bench"], "") == {"pytest": "failed"}
     assert outside.one_by_one(empty, ["bench"], "") == {}

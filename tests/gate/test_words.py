@@ -14,6 +14,7 @@ from serving import ROOT
 LOADER = importlib.machinery.SourceFileLoader("words", os.path.join(ROOT, "scripts", "words"))
 words = importlib.util.module_from_spec(importlib.util.spec_from_loader("words", LOADER))
 LOADER.exec_module(words)
+PAGES = ("canbusd.1", "canbusd-run.1")
 
 
 def options_in(page):
@@ -33,7 +34,29 @@ def test_what_is_written():
     assert words.changed() == []
 
 
-@pytest.mark.parametrize("command", ["bench", "serve", "audit"])
+def test_a_version_is_written_once(monkeypatch):
+    """another one in words/version changes the program, both packages, both manual pages and the folder of the metadata"""
+    monkeypatch.setattr(words, "version_and_day", lambda: ("9.8.7", "2027-01-02"))
+    places = [*words.VERSIONS, words.metadata()]
+    assert [name for name in places if "9.8.7" not in words.written(name)] == []
+    assert set(places) <= set(words.changed())
+    assert all(
+        words.written(page).startswith(f'.TH {page[:-2].upper()} 1 2027-01-02 "canbusd 9.8.7"') for page in PAGES
+    )
+    assert words.metadata_place() == "python/src/canbusd-9.8.7.dist-info/METADATA"
+
+
+def test_releases():
+    """each has its day and its commit"""
+    with open(os.path.join(ROOT, "CHANGELOG.md"), encoding="utf-8") as file:
+        headings = re.findall(r"^## (.*)", file.read(), re.M)
+    releases = [
+        re.fullmatch(r"(\d+\.\d+\.\d+) \(\d{4}-\d\d-\d\d, commit ([0-9a-f]{8})\)", name) for name in headings[1:]
+    ]
+    assert headings[0] == "Unreleased" and all(releases) and releases[0][1] == words.version_and_day()[0]
+
+
+@pytest.mark.parametrize("command", ["bench", "serve", "audit", "bits"])
 def test_options_of_the_program(program, command):
     """each in its help, with its value, its line and its default"""
     page = subprocess.run([program, "help", command], capture_output=True, text=True, check=True).stdout
@@ -48,7 +71,12 @@ NUMBERS = [(option, command) for option in words.OF_CANBUSD if option.range[2] f
 # The options without which another is refused.
 NEEDED = {"dbitrate": ["--bitrate", "5000"], "flush": ["--record", "none"]}
 # What each command needs to end at once.
-REST = {"bench": ["can0"], "serve": ["--listen", "./none/socket", "can0"], "audit": ["--events", "none.rec"]}
+REST = {
+    "bench": ["can0"],
+    "serve": ["--listen", "./none/socket", "can0"],
+    "audit": ["--events", "none.rec"],
+    "bits": ["123#"],
+}
 
 
 @pytest.mark.parametrize("option, command", NUMBERS, ids=[f"{command}-{option.name}" for option, command in NUMBERS])

@@ -26,6 +26,7 @@ class Rule:
         found = RULE.fullmatch(text)
         assert found, text
         self.number, self.verdict = number, recorded(found["verdict"], names)
+        self.line = f"rule {number} {written(found, names)}"
         self.senders = {names.index(name) for name in found["senders"].split(",")} if found["senders"] else None
         self.identifier, self.mask = words_of(found["id"], found["mask"])
         self.skip = int(found["skip"] or 0)
@@ -52,6 +53,8 @@ class RunFaults:
         self.later: list[tuple[int, str]] = []
         #: How many attempts tried a frame.
         self.tried = 0
+        #: The lines of the rules that were taken, and of where all were ended, since they were last looked at.
+        self.told: list[str] = []
         for line in filter(None, text.split("\n")):
             later, numbered = LATER.fullmatch(line), NUMBERED.fullmatch(line)
             if later:
@@ -66,10 +69,12 @@ class RunFaults:
         if len(self.rules) < MOST_RULES:
             self.taken += 1
             self.rules.append(Rule(self.taken, rule, self.names))
+            self.told.append(self.rules[-1].line)
 
     def end(self) -> None:
         """Ends all rules that are left; lines by numbers stay."""
         self.rules.clear()
+        self.told.append("nofaults")
 
     def catch_up(self, number: int) -> None:
         """Gives and ends rules as it was done before the attempt of this number."""
@@ -79,6 +84,11 @@ class RunFaults:
                 self.end()
             else:
                 self.take(change)
+
+    def tell(self) -> list[str]:
+        """The lines of rules since the last call."""
+        told, self.told = self.told, []
+        return told
 
     def part(self, line: str) -> str:
         """The last part of the line of the next entry, which this is in the record; empty where it has none."""
@@ -138,16 +148,45 @@ def recorded(verdict: str, names: Sequence[str]) -> str:
     return f"local-{words[1]}:{hit:04X}"
 
 
+def written(found: "re.Match[str]", names: Sequence[str]) -> str:
+    """A rule in the words of the program: names by their places, and an identifier with its mask in 8 digits each."""
+    words = [f"next {int(found['count'])}" if found["count"] else "always"]
+    if found["senders"]:
+        words.append(f"from {in_places(found['senders'], names)}")
+    identifier, mask = words_of(found["id"], found["mask"])
+    if mask == EXTENDED | 0x7FF and identifier < 0x800:
+        words.append(f"id {identifier:03X}")
+    elif mask == EXTENDED | 0x1FFFFFFF and EXTENDED <= identifier < EXTENDED | 0x20000000:
+        words.append(f"id {identifier - EXTENDED:08X}")
+    elif identifier or mask:
+        words.append(f"id {identifier:08X}:{mask:08X}")
+    if int(found["skip"] or 0):
+        words.append(f"skip {int(found['skip'])}")
+    verdict, _, hit = found["verdict"].rpartition(" ")
+    local = found["verdict"].startswith("local ")
+    return " ".join([*words, f"{verdict} {in_places(hit, names)}" if local else found["verdict"]])
+
+
+def in_places(given: str, names: Sequence[str]) -> str:
+    """These names in the order of the interfaces, each once."""
+    return ",".join(name for name in names if name in given.split(","))
+
+
 def with_rules(events: str, faults: RunFaults) -> str:
-    """The text of a record's events with the rules that decided."""
+    """The text of a record's events with the rules that were taken, and those that decided."""
     return "".join(f"{line}\n" for line in ruled_lines(events.splitlines(), faults))
 
 
 def ruled_lines(lines: Sequence[str], faults: RunFaults) -> Iterator[str]:
-    """Yields the lines with their last part."""
-    for line in lines:
+    """Yields the lines with their last part, and those of rules: of the script after the second line, of a change before the
+    attempt that it came before, and all that are left before the last line."""
+    for place, line in enumerate(lines):
+        if line.startswith(("end ", "cut ")):
+            faults.catch_up(1 << 64)
         part = faults.part(line.partition(";")[0])
+        yield from faults.tell() if place > 1 else ()
         yield f"{line}; {part}" if part else line
+        yield from faults.tell() if place == 1 else ()
 
 
 def rules_of(events):

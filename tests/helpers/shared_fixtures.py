@@ -12,9 +12,9 @@ import sys
 import pytest
 
 import commands
+import kept_bytecode  # noqa: F401
 import serving
 
-sys.dont_write_bytecode = True
 # Programs that the tests start have the package of the tests.
 os.environ["PYTHONPATH"] = os.path.dirname(importlib.util.find_spec("canbusd").submodule_search_locations[0])
 os.environ["PYTHONDONTWRITEBYTECODE"] = "1"

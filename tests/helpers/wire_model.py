@@ -73,21 +73,24 @@ def crc(bits: Sequence[int], width: int, polynomial: int, start: int = 0) -> lis
 
 
 class Sender:
-    """The bits that were sent, how many at the data bit rate, and how many of them as stuff bits."""
+    """The bits that were sent, how many at the data bit rate, and how many of them as stuff bits; which are stuff bits, also fixed
+    ones."""
 
     def __init__(self) -> None:
         self.bits: list[int] = []
+        self.stuffed: list[bool] = []
         self.fast = self.stuff_bits = self.run = 0
 
-    def put(self, bit: int, fast: bool) -> None:
+    def put(self, bit: int, fast: bool, is_stuff: bool = False) -> None:
         self.run = self.run + 1 if self.bits and self.bits[-1] == bit else 1
         self.bits.append(bit)
+        self.stuffed.append(is_stuff)
         self.fast += fast
 
     def put_stuff_bit(self, fast: bool) -> None:
         """The stuff bit that is due, if one is."""
         if self.run == 5:
-            self.put(1 - self.bits[-1], fast)
+            self.put(1 - self.bits[-1], fast, True)
             self.stuff_bits += 1
 
     def send(self, bits: Sequence[int], fast: bool = False) -> None:
@@ -99,7 +102,7 @@ class Sender:
         """With a fixed stuff bit before the first of the bits and after each fourth."""
         for place, bit in enumerate(bits):
             if place % 4 == 0:
-                self.put(1 - self.bits[-1], fast)
+                self.put(1 - self.bits[-1], fast, True)
             self.put(bit, fast)
 
 

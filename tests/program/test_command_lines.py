@@ -85,6 +85,11 @@ A_JOB = [
     "bench --bitrate 1000000 --dbitrate 1000000 can0,can0",
     "serve --bitrate 5000 --dbitrate 20000000 can0,can0",
     "serve --bitrate 1000000 --dbitrate 1000000 can0,can0",
+    "bench --bitrate can1=500000 can0,can1,can1",
+    "bench --bitrate 4999999=1000000 --dbitrate 4999999=1000000 4999999,can0,can0",
+    "bench --bitrate 5000 --bitrate can0=1000000 --dbitrate can0=1000000 --dbitrate 5000 can0,can0",
+    "serve --bitrate 500000 --bitrate can2=125000 --dbitrate can3=20000000 can0 can1,can2 can3,can3",
+    "serve --bitrate can0=5000 --dbitrate can0=5000 can0 can1,can1",
     "serve --record end --limit 5 can0,can0",
     "serve --record live --out . --flush 0 can0,can0",
     "serve --record none --flush 60000 --sync can0,can0",
@@ -97,6 +102,76 @@ REFUSED = [
         "error: invalid value '499999' for '--dbitrate': not a number from 500000 to 20000000 in decimal digits\n",
     ),
     ("bench --dbitrate 500000 can0", "error: '--dbitrate' needs '--bitrate'\n"),
+    ("bench --dbitrate can0=500000 can0", "error: '--dbitrate' needs '--bitrate'\n"),
+    (
+        "bench --bitrate can1=500000 can0",
+        "error: invalid value 'can1=500000' for '--bitrate': no interface has this name\n",
+    ),
+    (
+        "bench --bitrate can=500000 can0",
+        "error: invalid value 'can=500000' for '--bitrate': no interface has this name\n",
+    ),
+    ("bench --bitrate =500000 can0", "error: invalid value '=500000' for '--bitrate': no interface has this name\n"),
+    (
+        "serve --bitrate can0=1 --bitrate none=1 can0@none",
+        "error: invalid value 'none=1' for '--bitrate': no interface has this name\n",
+    ),
+    (
+        "serve --bitrate 1 --dbitrate can2=1000000 can0,can1",
+        "error: invalid value 'can2=1000000' for '--dbitrate': no interface has this name\n",
+    ),
+    ("bench --bitrate can0=500000 --bitrate can0=500000 can0", "error: '--bitrate' gives two values for can0\n"),
+    (
+        "serve --bitrate can1=1 --bitrate 1 --bitrate can2=2 can0 can1,can2@none",
+        "error: '--bitrate' gives two values for can1,can2\n",
+    ),
+    (
+        "serve --bitrate 500000 --dbitrate can1=1 --dbitrate can0=1 can0,can1",
+        "error: '--dbitrate' gives two values for can0,can1\n",
+    ),
+    ("bench --bitrate 500000 --bitrate 500000 can0", "error: '--bitrate' gives two values for all buses\n"),
+    ("serve --bitrate 5 --bitrate 6 --bitrate can0=5 can0", "error: '--bitrate' gives two values for all buses\n"),
+    (
+        "bench --bitrate can0=4999 can0",
+        "error: invalid value '4999' for '--bitrate': not a number from 5000 to 1000000 in decimal digits\n",
+    ),
+    (
+        "bench --bitrate=can0= can0",
+        "error: invalid value '' for '--bitrate': not a number from 5000 to 1000000 in decimal digits\n",
+    ),
+    (
+        "bench --bitrate can0=5000=0 can0",
+        "error: invalid value '5000=0' for '--bitrate': not a number from 5000 to 1000000 in decimal digits\n",
+    ),
+    (
+        "bench --bitrate 4999 --bitrate can0=5000 can0",
+        "error: invalid value '4999' for '--bitrate': not a number from 5000 to 1000000 in decimal digits\n",
+    ),
+    (
+        "bench --bitrate 5000 --dbitrate can0=5000 --dbitrate 4999 can0",
+        "error: invalid value '4999' for '--dbitrate': not a number from 5000 to 20000000 in decimal digits\n",
+    ),
+    (
+        "serve --bitrate 5000 --bitrate can1=500000 --dbitrate 499999 can0 can1",
+        "error: invalid value '499999' for '--dbitrate': not a number from 500000 to 20000000 in decimal digits\n",
+    ),
+    (
+        "serve --bitrate can0=500000 --dbitrate can1=1000000 can0 can1",
+        "error: '--dbitrate' needs '--bitrate' for can1 too\n",
+    ),
+    (
+        "serve --bitrate can0=500000 --dbitrate 1000000 can0 can1,can2",
+        "error: '--dbitrate' needs '--bitrate' for can1,can2 too\n",
+    ),
+    (
+        "audit --events --bitrate can0=500000 run.rec",
+        "error: invalid value 'can0=500000' for '--bitrate': NAMES of '--faults NAMES@FILE' do not have this name\n",
+    ),
+    (
+        "audit --events --faults can0,can1@a --bitrate can2=500000 run.rec",
+        "error: invalid value 'can2=500000' for '--bitrate': NAMES of '--faults NAMES@FILE' do not have this name\n",
+    ),
+    ("audit --faults can0@a --bitrate can0=500000 run.rec", "error: '--bitrate' needs '--events'\n"),
     (
         "serve --bitrate 500000 --dbitrate 499999 can0",
         "error: invalid value '499999' for '--dbitrate': not a number from 500000 to 20000000 in decimal digits\n",
@@ -143,6 +218,7 @@ HELP = [
     ("bench -h", "Carry out the lines"),
     ("help bench", "Carry out the lines"),
     ("help audit", "Check that a record"),
+    ("help bits", "Write the bits of a frame"),
     ("serve -h", "Serve clients on buses\n"),
     ("help serve", "Serve clients on buses\n"),
 ]

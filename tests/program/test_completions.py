@@ -23,6 +23,7 @@ FILES = ["faults.script", "first.bench", "run.rec", "out.txt", "my faults.script
 # What is typed, and what the tab key adds to it.
 TYPED = [
     ("canbusd ben", "ch "),
+    ("canbusd bit", "s "),
     ("canbusd help ser", "ve "),
     ("canbusd dum", "p "),
     ("canbusd help resta", "rt "),
@@ -80,6 +81,8 @@ OPTIONS = [
     ("canbusd audit --bitr", "ate"),
     ("canbusd audit --db", "itrate"),
     ("canbusd audit --fau", "lts"),
+    ("canbusd bits --bitr", "ate"),
+    ("canbusd bits --db", "itrate"),
 ]
 
 

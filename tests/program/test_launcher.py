@@ -15,6 +15,7 @@ import subprocess
 
 import pytest
 
+from made_once import made_once
 from serving import ROOT, WAIT, come_true, plain, program, serving
 
 SOURCE = "crates/can_confine/src/counters.rt"
@@ -23,15 +24,12 @@ SOURCE = "crates/can_confine/src/counters.rt"
 class Copy:
     """A copy of the repository, without what was built."""
 
-    def __init__(self, folder):
+    def __init__(self, request, folder):
         self.folder, self.launcher = folder / "copy", folder / "copy" / "canbusd"
         self.environment = {"PATH": "/usr/bin:/bin", "HOME": str(folder), "XDG_CACHE_HOME": str(folder / "cache")}
-        without = shutil.ignore_patterns(".git", "out", "__pycache__")
-        shutil.copytree(ROOT, self.folder, symlinks=True, ignore=without)
-        shutil.copy(program(), self.folder / "dist" / "canbusd")
-        sources = subprocess.check_output([self.folder / "scripts" / "program", "sources"], text=True)
-        hashed = hashlib.sha256((self.folder / "dist" / "canbusd").read_bytes()).hexdigest()
-        (self.folder / "dist" / "BUILT").write_text(f"sources {sources}kit none\nprogram {hashed}\n")
+        self.folder.mkdir()
+        archive = made_once(request, "copy", archive_of_the_repository) / "copy.tar"
+        subprocess.run(["tar", "-xf", archive, "-C", self.folder], check=True)
 
     def run(self, *words, **how):
         """What a command does in the copy."""
@@ -52,16 +50,28 @@ def append(path, text):
         file.write(text)
 
 
+def archive_of_the_repository(folder):
+    """Makes copy.tar of the repository, with a program in dist/ that fits its sources."""
+    copy = folder / "copy"
+    shutil.copytree(ROOT, copy, symlinks=True, ignore=shutil.ignore_patterns(".git", "out", "__pycache__"))
+    shutil.copy(program(), copy / "dist" / "canbusd")
+    sources = subprocess.check_output([copy / "scripts" / "program", "sources"], text=True)
+    hashed = hashlib.sha256((copy / "dist" / "canbusd").read_bytes()).hexdigest()
+    (copy / "dist" / "BUILT").write_text(f"sources {sources}kit none\nprogram {hashed}\n")
+    subprocess.run(["tar", "-cf", folder / "copy.tar", "-C", copy, "."], check=True)
+    shutil.rmtree(copy)
+
+
 @pytest.fixture
-def copy(tmp_path):
-    return Copy(tmp_path)
+def copy(request, tmp_path):
+    return Copy(request, tmp_path)
 
 
 @pytest.fixture(scope="module")
-def launchers(tmp_path_factory):
+def launchers(request, tmp_path_factory):
     """A launcher in a copy, and one that is installed, each called through a link."""
     folder = tmp_path_factory.mktemp("launchers")
-    copy = Copy(folder)
+    copy = Copy(request, folder)
     copy.make("install", f"PREFIX={folder}/a place/y")
     (folder / "linked").symlink_to(copy.launcher)
     (folder / "installed").symlink_to(folder / "a place" / "y" / "bin" / "canbusd")
@@ -161,8 +171,8 @@ def test_file_past_its_limit(copy):
 
 # A file of a crate that the program is not made of, of a proof, and the list of crates with one more.
 OTHERS = {
-    "crates/can_reference/src/lib.rt": "// a remark\n",
-    "crates/can_reference/specs/Lib.antt": "-- a remark\n",
+    "crates/can_audit/src/lib.rt": "// a remark\n",
+    "crates/can_audit/specs/Lib.antt": "-- a remark\n",
     "crates/can_confine/proofs/Lib.antt": "-- a remark\n",
     "crates/can_confine/wrong/new.edit": "",
     "crates.txt": "# A remark.\ncan_new: can_bus canbusd\n",
@@ -196,7 +206,7 @@ def test_crates_of_the_program(copy):
     """what is listed: its own, what it stands on, and what those stand on"""
     listed = copy.run("scripts/program", "crates").stdout.split()
     assert listed[-1] == "canbusd" and {"can_frame", "can_bus", "can_server"} < set(listed)
-    assert not {"can_reference", "can_audit", "hex", "clap"} & set(listed)
+    assert not {"can_audit", "hex", "clap"} & set(listed)
 
 
 def test_damaged_program(copy):

@@ -21,6 +21,7 @@ import subprocess
 
 import pytest
 
+from made_once import made_once
 from serving import ROOT, WAIT, NotListening, Pair, Plain, come_true, plain, program, serving_alone, writes_live
 
 pytestmark = pytest.mark.skipif(not shutil.which("cc"), reason="no C compiler: cc")
@@ -41,12 +42,11 @@ TAKES_MEMORY = re.compile(r"< *(?:open|rawmode|filter)\b[^<>]*>")
 
 
 @pytest.fixture(scope="module")
-def library(tmp_path_factory):
+def library(request):
     """The library that refuses memory."""
-    path = tmp_path_factory.mktemp("library") / "refuse_memory.so"
-    source = os.path.join(ROOT, "tests", "helpers", "refuse_memory.c")
-    subprocess.run(["cc", "-O2", "-shared", "-fPIC", "-o", path, source], check=True)
-    return path
+    words = ["cc", "-O2", "-shared", "-fPIC", os.path.join(ROOT, "tests", "helpers", "refuse_memory.c"), "-o"]
+    name = "refuse_memory.so"
+    return made_once(request, "refusing", lambda folder: subprocess.run([*words, folder / name], check=True)) / name
 
 
 @pytest.fixture
@@ -102,7 +102,8 @@ class Refusing:
             check=False,
             cwd=self.folder,
             env=self.environment,
-            preexec_fn=within(most),
+            # With one Python copies itself for each run.
+            preexec_fn=None if most == resource.RLIM_INFINITY else within(most),
         )
         assert done.returncode in (0, 1, 2), f"status {done.returncode} at {first}: {done.stderr}"
         return done, self.asked()
@@ -260,6 +261,8 @@ def test_faults_without_memory(refusing):
         ["--version"],
         ["audit"],
         ["audit", "none"],
+        ["bits", "123#11", "124#"],
+        ["bits", "123"],
     ]
     for line in lines:
         ample, asked = refusing.run(line, "session 1\nsession x\n")

@@ -51,7 +51,17 @@ attempt 0.000007 good = tried 0 3 124# done 0002 0000; counts 0 12 0; rule 4
 attempt 0.000008 lastbit = tried 0 4 124# lastbit 0002 0000; counts 0 20 0
 attempt 0.000009 good = tried 0 4 124# done 0002 0000; counts 0 19 0
 """
-EVENTS = f"{FRONT.replace('record', 'events')}{ATTEMPTS}end 16\n"
+# Where the bus took the rules: the two of the script after its line, the others before the attempts that they came before.
+TOLD = {
+    "open 0 ": "rule 1 next 1 from ecu lastbit\nrule 2 always id 123 skip 1 good\n",
+    "attempt 0.000003 ": "rule 3 next 1 global form\n",
+    "attempt 0.000004 ": "nofaults\n",
+    "attempt 0.000007 ": "rule 4 next 2 good\n",
+}
+PLAIN = f"{FRONT.replace('record', 'events')}{ATTEMPTS}end 16\n"
+EVENTS = "".join(
+    "".join(told for begin, told in TOLD.items() if line.startswith(begin)) + line for line in PLAIN.splitlines(True)
+)
 RECORD = FRONT + "".join(f"{line.partition(';')[0]}\n" for line in ATTEMPTS.splitlines()) + "end 16\n"
 
 
@@ -77,15 +87,38 @@ def test_beside_time_on_the_wire(tmp_path):
 
 def test_a_record_that_is_cut_off(tmp_path):
     front = "".join(RECORD.splitlines(True)[:10])
-    wanted = "".join(EVENTS.splitlines(True)[:10]) + "cut 8\n"
+    # Four attempts were made: what came before later ones comes before the last line.
+    wanted = "".join(EVENTS.splitlines(True)[:13]) + "nofaults\nrule 4 next 2 good\ncut 8\n"
     assert audited(tmp_path, FAULTS, "--cut", record=front) == (0, wanted, "")
 
 
 def test_without_a_rule(tmp_path):
-    """nothing is said"""
-    nothing = "".join(f"{line.partition('; rule')[0]}\n" for line in EVENTS.splitlines())
-    for faults in ("", "1 global bit\n", "next 9 id 125 good\n", "always from tester good\n", "at 99 always good\n"):
+    """nothing is said of an attempt; where a rule was taken it has its line"""
+    nothing = "".join(f"{line.partition('; rule')[0]}\n" for line in PLAIN.splitlines())
+    for faults in ("", "1 global bit\n"):
         assert audited(tmp_path, faults) == (0, nothing, "")
+    for rule in ("next 9 id 125 good", "always from tester good"):
+        wanted = nothing.replace("open 0 ", f"rule 1 {rule}\nopen 0 ", 1)
+        assert audited(tmp_path, f"{rule}\n") == (0, wanted, "")
+    wanted = nothing.replace("end 16\n", "rule 1 always good\nnofaults\nend 16\n")
+    assert audited(tmp_path, "at 99 always good\nat 99 nofaults\n") == (0, wanted, "")
+
+
+@pytest.mark.parametrize(
+    "rule, words",
+    [
+        ("next 032 from tester,ecu,tester global bit", "next 32 from ecu,tester global bit"),
+        ("always id 7ff skip 0 lastbit", "always id 7FF lastbit"),
+        ("next 1 id 0000007f local stuff ecu", "next 1 id 0000007F local stuff ecu"),
+        ("next 1 id 124:7FE global form", "next 1 id 00000124:000007FE global form"),
+        ("always id 0:0 local form tester,ecu", "always local form ecu,tester"),
+    ],
+)
+def test_words_of_a_rule(tmp_path, rule, words):
+    """as few as it takes, with names in the order of the bus"""
+    status, written, errors = audited(tmp_path, rule)
+    assert (status, errors) == (0, "") and written.splitlines()[2] == f"rule 1 {words}"
+    assert audited(tmp_path, words)[1] == written
 
 
 @pytest.mark.parametrize(
@@ -193,6 +226,31 @@ def test_names_by_their_places(tmp_path):
     faults = "always from ecu good"
     assert rules_of(audited(tmp_path, faults)[1]) == ["", "", "1", "1", "1", "1", "", "1"]
     assert rules_of(audited(tmp_path, faults, names="tester,ecu")[1]) == [""] * 8
+
+
+@pytest.mark.parametrize("names", ["ecu", "ecu,tester,gateway", ",".join(f"can{i}" for i in range(16))])
+def test_names_of_another_bus(tmp_path, names):
+    """they are refused before anything is written, also where the record goes on to a fault; not before line 2 is right"""
+    count = len(names.split(","))
+    wanted = f"canbusd: names of another bus\n  names in --faults: {count}, interfaces of run.rec: 2\n"
+    for record in (RECORD, FRONT, FRONT + "x\n", RECORD.replace("idle", "tried"), RECORD + "x"):
+        for option in ([], ["--cut"]):
+            assert audited(tmp_path, "always good\n", *option, names=names, record=record) == (1, "", wanted)
+    for record, fault in (("", "bad version"), ("canbus record 1\nbus 2 never\n", "line 2: bad line")):
+        status, written, errors = audited(tmp_path, "always good\n", names=names, record=record)
+        assert (status, written) == (1, "") and errors.startswith(f"canbusd: {fault}\n")
+
+
+def test_names_of_another_bus_in_parts(tmp_path):
+    """they are refused wherever the files of the record end"""
+    (tmp_path / "run.faults").write_text("always good\n")
+    for cut in range(1, len(FRONT)):
+        (tmp_path / "one.rec").write_text(RECORD[:cut])
+        (tmp_path / "two.rec").write_text(RECORD[cut:])
+        status, written, errors = run_line("audit --events --faults ecu@run.faults one.rec two.rec", cwd=tmp_path)
+        assert (status, written) == (1, "") and errors == (
+            "canbusd: names of another bus\n  names in --faults: 1, interfaces of one.rec + two.rec: 2\n"
+        )
 
 
 # Random runs of the bench, and what their buses had for faults.

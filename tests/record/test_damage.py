@@ -12,12 +12,15 @@ import glob
 import itertools
 import os
 import re
+import shutil
 import subprocess
 
 import pytest
 
+from made_once import made_once
 from record_events import audit
 from record_text import REFUSALS
+from run_again import Again, compile_library
 from serving import ROOT, WAIT
 
 # Into how many tests the bytes of a record are divided, so that they run side by side.
@@ -30,10 +33,22 @@ SEEN = b"0123459AFRfr#= .-:\n\r\t\0x\x7f\x80\xff"
 class Tried:
     """The damaged records that were tried, and what was said of them."""
 
-    def __init__(self, programs, changes_all, rng, folder):
+    def __init__(self, programs, changes_all, rng, folder, library):
         self.program, *self.beside = programs
         self.changes_all, self.rng, self.folder = changes_all, rng, folder
         self.said = {}
+        # The program, started for audits with these options; without a compiler it is started for each.
+        self.library, self.started = library, {}
+
+    def audited(self, program, data, *options):
+        """The status, the output and the errors of an audit of this record."""
+        words = [program, "audit", *options, "/dev/stdin"]
+        if program != self.program or self.library is None:
+            done = subprocess.run(words, input=data, capture_output=True, timeout=WAIT, check=False)
+            return done.returncode, done.stdout, done.stderr
+        if options not in self.started:
+            self.started[options] = Again(self.library, *words)
+        return self.started[options].run(data)
 
     def one(self, data):
         """What canbusd and the replay say of a record: the same."""
@@ -41,32 +56,28 @@ class Tried:
         # The other program may know more versions.
         beside = self.beside if wanted != "canbusd: bad version" else []
         for program in (self.program, *beside):
-            done = subprocess.run(
-                [program, "audit", "/dev/stdin"], input=data, capture_output=True, timeout=WAIT, check=False
-            )
-            first = (done.stdout or done.stderr).decode().split("\n")[0]
-            if first != wanted or done.returncode != (0 if wanted.startswith("ok") else 1):
+            status, output, errors = self.audited(program, data)
+            first = (output or errors).decode().split("\n")[0]
+            if first != wanted or status != (0 if wanted.startswith("ok") else 1):
                 path = self.folder / "damaged.rec"
                 path.write_bytes(data)
-                pytest.fail(f"{program}: {first}, status {done.returncode}, and not {wanted}: {path}")
+                pytest.fail(f"{program}: {first}, status {status}, and not {wanted}: {path}")
         self.count(wanted)
 
     def cut(self, data):
         """The same with `--cut`, of a record that may be cut off, and of its torn end."""
         self.one(data)
         wanted = audit(data, cut=True)
-        done = subprocess.run(
-            [self.program, "audit", "--cut", "/dev/stdin"], input=data, capture_output=True, timeout=WAIT, check=False
-        )
+        status, output, errors = self.audited(self.program, data, "--cut")
         torn = len(data) - data.rfind(b"\n") - 1
         note = f"note: {torn} bytes of a line without its end were not looked at\n" if torn else ""
         if wanted.startswith("ok"):
-            said, status = (f"{wanted}\n", note), 0
+            said, right = (f"{wanted}\n", note), 0
         else:
-            said, status = ("", f"{wanted}\n"), 1
-        if not (done.stdout.decode() == said[0] and done.stderr.decode().startswith(said[1])):
-            pytest.fail(f"--cut: {done.stdout!r}, {done.stderr!r}, and not {said}: {data!r}")
-        assert done.returncode == status, f"--cut: status {done.returncode}: {data!r}"
+            said, right = ("", f"{wanted}\n"), 1
+        if not (output.decode() == said[0] and errors.decode().startswith(said[1])):
+            pytest.fail(f"--cut: {output!r}, {errors!r}, and not {said}: {data!r}")
+        assert status == right, f"--cut: status {status}: {data!r}"
         self.count(wanted)
 
     def count(self, said):
@@ -82,8 +93,12 @@ def tried(request, program, rng, tmp_path):
     """What is tried in a test, and shown in its output."""
     beside = request.config.getoption("beside")
     programs = [program, os.path.abspath(beside)] if beside else [program]
-    tried = Tried(programs, request.config.getoption("all_bytes"), rng, tmp_path)
+    folder = made_once(request, "run_again", compile_library) if shutil.which("gcc") else None
+    library = folder and folder / "run_again.so"
+    tried = Tried(programs, request.config.getoption("all_bytes"), rng, tmp_path, library)
     yield tried
+    for program in tried.started.values():
+        program.close()
 
 
 def example():

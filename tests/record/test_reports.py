@@ -11,13 +11,20 @@ import pytest
 
 from canbusd.record import read_record
 from commands import BROWSER, call, example, examples, is_clean
+from forked import forked
 from random_benches import Maker
 from serving import ROOT, program
 
+# The same as a program.
 REPORT = [sys.executable, "-m", "canbusd", "report"]
 # How many random runs are replayed.
 RUNS = 300
 STATES = ["active", "warning", "passive", "off", "down"]
+
+
+def reported(*words):
+    """What `canbusd report` does: its status, what it writes, and its faults."""
+    return forked("report", *words)
 
 
 def numbers_asked(written, sessions):
@@ -85,7 +92,7 @@ def test_record_of_another_history(tmp_path):
         other = [new if line is old else line for line in lines]
         with open(record, "w", encoding="ascii") as file:
             file.write("\n".join(other) + "\n")
-        audit, seen = call(program(), "audit", record), call(*REPORT, "--counters", record)
+        audit, seen = call(program(), "audit", record), reported("--counters", record)
         entry = re.match(r"canbusd: (entry \d+): wrong\n", audit[2])
         assert entry and f": {entry[1]}: wrong" in seen[2] and seen[0] == 1, f"{place}: {new}: {audit} {seen}"
 
@@ -122,15 +129,16 @@ def test_faults_of_records(tmp_path):
         "CRLF": text.replace(b"\n", b"\r\n"),
         "binary within": text[:300] + b"\x00\xff\x1b" + text[300:],
     }
-    for command in (REPORT, [*REPORT, "--counters"], [*REPORT, "--arbitration"]):
+    for options in ([], ["--counters"], ["--arbitration"]):
         path = os.path.join(tmp_path, "bad.rec")
         for what, damaged in texts.items():
             with open(path, "wb") as file:
                 file.write(damaged)
-            fault = call(*command, path)
+            fault = reported(*options, path)
             assert is_clean(fault) and "\x1b" not in fault[2], f"{what}: {fault}"
         for other in (os.path.join(tmp_path, "none"), tmp_path):
-            assert is_clean(call(*command, other)), other
+            assert is_clean(reported(*options, other)), other
+        command = [*REPORT, *options]
         status, _, errors = call(
             "sh", "-c", '"$@" --names can0,can1 | head -c 10; "$@" --help | head -n 1', "sh", *command, record
         )
@@ -147,7 +155,7 @@ def test_names_of_interfaces(tmp_path):
     record, _ = example("lost_arbitration", tmp_path)
 
     def winners():
-        return re.findall(r"attempt \d+: (.+) wins", call(*REPORT, "--arbitration", record)[1])
+        return re.findall(r"attempt \d+: (.+) wins", reported("--arbitration", record)[1])
 
     assert winners() == ["interface 1", "interface 2"], f"{winners()}"
     log = os.path.join(tmp_path, "lost_arbitration.log")
@@ -166,10 +174,10 @@ def test_names_of_interfaces(tmp_path):
             file.writelines(written)
         assert winners() == wanted, f"{winners()}, not {wanted}"
     for names in ("a,b", "a,b,b", "a,,c", "a,b,c,d", "a,b,<c>"):
-        assert is_clean(call(*REPORT, "--arbitration", "--names", names, record)), names
+        assert is_clean(reported("--arbitration", "--names", names, record)), names
     with open(log, "w", encoding="ascii") as file:
         file.writelines(lines)
-    given = call(*REPORT, "--arbitration", "--names", "x,y,z", record)[1]
+    given = reported("--arbitration", "--names", "x,y,z", record)[1]
     assert "y wins" in given and "body" not in given, given
 
 
@@ -181,7 +189,7 @@ def test_drawings(tmp_path):
     for name in examples():
         record, names = example(name, tmp_path)
         for drawing in ("arbitration", "counters"):
-            drawn = call(*REPORT, f"--{drawing}", "--names", names, record)[1].rstrip("\n").splitlines()
+            drawn = reported(f"--{drawing}", "--names", names, record)[1].rstrip("\n").splitlines()
             widest = max([widest, *map(len, drawn)])
             # The guide shows the first attempt of three nodes.
             if (name, drawing) == ("lost_arbitration", "arbitration"):
@@ -207,9 +215,7 @@ def width_of_sixteen(folder):
         check=False,
     )
     assert done.returncode == 0, done.stderr
-    drawn = "".join(
-        call(*REPORT, f"--{drawing}", "--names", long, record)[1] for drawing in ("arbitration", "counters")
-    )
+    drawn = "".join(reported(f"--{drawing}", "--names", long, record)[1] for drawing in ("arbitration", "counters"))
     return max(map(len, drawn.splitlines()))
 
 
@@ -265,7 +271,7 @@ SHOWN = [
 def test_page(name, tmp_path):
     """a page of each example: one file without a link"""
     record, names = example(name, tmp_path)
-    status, page, errors = call(*REPORT, "--names", names, record)
+    status, page, errors = reported("--names", names, record)
     assert (status, errors) == (0, "") and page.endswith("</html>\n"), errors
     # The icon is in the page, so that no browser asks for one.
     assert not re.search(r"https?:|\bsrc=|\bhref=(?!\"data:)|@import|url\(", page), "a link"
@@ -277,7 +283,7 @@ def test_page_in_a_browser(name, step, texts, tmp_path):
     """it shows the chosen attempt"""
     record, names = example(name, tmp_path)
     path = tmp_path / f"{name}.html"
-    path.write_text(call(*REPORT, "--names", names, record)[1], encoding="utf-8")
+    path.write_text(reported("--names", names, record)[1], encoding="utf-8")
     shown = page_in_browser(path, step)
     for text in texts:
         assert text in shown, f"no `{text}` in {shown[:1500]}"
@@ -302,7 +308,7 @@ def test_page_of_a_long_run(tmp_path):
         check=False,
     )
     assert done.returncode == 0, done.stderr
-    status, page, errors = call(*REPORT, record)
+    status, page, errors = reported(record)
     assert status == 0, errors
     with open(path, "w", encoding="utf-8") as file:
         file.write(page)

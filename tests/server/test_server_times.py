@@ -70,9 +70,9 @@ def replayed(path: str, rates: Rates) -> str:
     return done.stdout
 
 
-def attempts(server: Server) -> list[tuple[int, str]]:
-    """The moments of the attempts in the record of can0, in microseconds, and their lines."""
-    with open(server.path("can0.rec"), encoding="utf-8") as record:
+def attempts(server: Server, name: str = "can0") -> list[tuple[int, str]]:
+    """The moments of the attempts in the record of a bus, in microseconds, and their lines."""
+    with open(server.path(f"{name}.rec"), encoding="utf-8") as record:
         lines = [line for line in record if line.startswith("attempt ")]
     return [(micros(line.split(" ")[1]), line) for line in lines]
 
@@ -121,6 +121,47 @@ def test_moments_are_those_of_the_bench(nominal: int, rng: random.Random) -> Non
     assert moments == made == [micros(text) for text in written]
     # All of the time but the last intermission, and what the rounding of moments leaves open.
     assert re.match(r"load (?:100\.0|99\.\d) %: ", said), said
+
+
+@patiently
+def test_each_bus_has_bit_rates_of_its_own(rng: random.Random) -> None:
+    """By any of its names: a value is of one bus, and the one without a name of those that have none of their own."""
+    buses = {"can0": Rates(500_000, 2_000_000), "body0": Rates(125_000, 2_000_000), "fd0": Rates(500_000, 8_000_000)}
+    words = "--bitrate 500000 --dbitrate fd1=8000000 --bitrate body1=125000 --dbitrate 2000000 --txqueue 1024".split()
+    frames = [random_frame(rng) for _ in range(12)]
+    with serving(*words, "can0,can1", "body0,body1", "fd0,fd1") as server:
+        moments = {}
+        for name, rates in buses.items():
+            sender, receiver = raw(server, name), raw(server, f"{name[:-1]}1")
+            assert sender.answer("< load >").endswith(f" {rates.nominal} {rates.fast} >")
+            sender.write("".join(map(send, frames)))
+            moments[name] = [received(receiver) for _ in frames]
+        end_in_time(server)
+        for name, rates in buses.items():
+            assert moments[name] == [when for when, _ in attempts(server, name)]
+            replayed(server.path(f"{name}.rec"), rates)
+    for name, rates in buses.items():
+        # Each frame begins where the attempt before it is over.
+        nanos = [rates.frame_nanos(frames[0])]
+        for before, frame in itertools.pairwise(frames):
+            nanos.append(nanos[-1] + rates.attempt_nanos(before) - rates.frame_nanos(before) + rates.frame_nanos(frame))
+        steps = [(when - moments[name][0]) * MICRO - (end - nanos[0]) for when, end in zip(moments[name], nanos)]
+        assert all(abs(step) <= MICRO for step in steps), (name, steps)
+
+
+@patiently
+def test_a_bus_without_bit_rate_is_beside_one_with_it() -> None:
+    """It goes on by --pace, and its load is 0."""
+    with serving("--bitrate", "body0=5000", "can0,can1", "body0,body1") as server:
+        can0, can1, body0 = plain(server, "can0"), plain(server, "can1"), plain(server, "body0")
+        assert [one.answer("< load >") for one in (can0, body0)] == ["< load 0 0 0 0 >", "< load 0 0 5000 5000 >"]
+        begun = time.monotonic()
+        can0.write(10 * send(EIGHT_BYTES))
+        for _ in range(10):
+            received(can1)
+        # Ten frames would take 222 ms and more at 5,000 bit/s.
+        assert time.monotonic() - begun < 10 * Rates(5_000).frame_nanos(EIGHT_BYTES) / SECOND
+        end_in_time(server)
 
 
 @patiently
