@@ -1,5 +1,6 @@
 # make              proves and builds the program, and builds canbusd-run where there is a gcc
 # make run          builds canbusd-run only (canrun/)
+# make library       proves and builds libcanbusd: libcanbusd/out/
 # make check        all that needs no kit: tests of the program, of canbusd-run and of the Python package, examples, types, form
 #                   and linters. Slow tests are left out, and what else is skipped is listed with what it lacks. PART=bench runs
 #                   one part of it; `scripts/outside --list` prints them
@@ -7,6 +8,7 @@
 #                   Rattle needs in between, scripts/test says which parts there are; `scripts/setup` installs what it needs
 # make dist         puts the proved program into dist/, with what it was built from
 # make dist-run     puts canbusd-run into dist/, with what it was built from
+# make dist-library puts the proved libcanbusd into dist/, with what it was built from
 # make verify-dist  proves and builds it again from scratch, and compares it with dist/ byte for byte
 # make install      puts the program with its launcher, the Python package, tools, manual page, completions, unit of systemd,
 #                   documents and examples under PREFIX (after DESTDIR); PYTHONDIR is where the package goes, as it is the
@@ -62,6 +64,9 @@ dist:
 
 dist-run:
 	./scripts/run-program dist
+
+dist-library:
+	./scripts/library dist
 
 verify-dist:
 	./scripts/program verify
@@ -137,6 +142,27 @@ uninstall-run:
 	rm -f "$(BINDIR)/canbusd-run" "$(MANDIR)/canbusd-run.1" "$(COMPLETIONS)/canbusd-run" "$(ZSH)/_canbusd-run" \
 		"$(FISH)/canbusd-run.fish"
 
+# libcanbusd, where there is one that fits the sources, built here or of dist/.
+LIBDIR ?= $(PREFIX)/lib
+install: install-library
+install-library:
+	if ./scripts/library fitting >/dev/null; then \
+		DESTDIR="$(DESTDIR)" ./scripts/library install "$(PREFIX)" "$(LIBDIR)" && install -d "$(LIBEXECDIR)" && \
+		for file in "$(DESTDIR)$(LIBDIR)"/libcanbusd.so.*; do \
+			place=$$(realpath -m --relative-to="$(PREFIX)/libexec/canbusd" "$(LIBDIR)") && \
+			ln -sfn "$$place/$${file##*/}" "$(LIBEXECDIR)/$${file##*/}" || exit; \
+		done; \
+	fi
+
+uninstall: uninstall-library
+uninstall-library:
+	rm -f "$(DESTDIR)$(PREFIX)/include/canbusd.h" "$(DESTDIR)$(LIBDIR)/pkgconfig/canbusd.pc" \
+		"$(DESTDIR)$(LIBDIR)"/libcanbusd.so "$(DESTDIR)$(LIBDIR)"/libcanbusd.so.* "$(DESTDIR)$(LIBDIR)/libcanbusd.a"
+	rm -rf "$(DESTDIR)$(LIBDIR)/cmake/canbusd"
+
+library:
+	./scripts/library build
+
 deb:
 	./scripts/deb
 
@@ -144,7 +170,8 @@ wheel:
 	./scripts/python-package wheel "$(CURDIR)"
 
 clean:
-	rm -rf crates/*/out canrun/out python/build python/src/canbusd.egg-info
+	rm -rf crates/*/out canrun/out libcanbusd/out python/build python/src/canbusd.egg-info
 
+.PHONY: library dist-library install-library uninstall-library
 .PHONY: all run test check dist dist-run verify-dist install install-extras install-run uninstall \
 	uninstall-extras uninstall-run deb wheel clean

@@ -4,9 +4,11 @@ _canbusd() {
     COMPREPLY=()
     # The value of an option follows a blank or `=`, at which bash parts words unless COMP_WORDBREAKS lacks it.
     [ "$before" != = ] || before=${COMP_WORDS[COMP_CWORD - 2]}
+    # So does the number of `--bitrate NAME=`.
+    case ${COMP_WORDS[COMP_CWORD - 1]},${COMP_WORDS[COMP_CWORD - 3]} in =,--bitrate | =,--dbitrate) before=--bitrate ;; esac
     case $text in --*=*) before=${text%%=*} ;; esac
     # words: bash commands
-    local commands="serve bench audit dump send status watch fault restart down up restbus convert extcap sweep report replay"
+    local commands="serve bench audit bits dump send status watch fault restart down up restbus convert extcap sweep report replay"
     # end of words
     case $COMP_CWORD,$before,${COMP_WORDS[1]} in
     # A file follows a redirection.
@@ -29,6 +31,7 @@ _canbusd() {
     bench,*,*) _canbusd_offer "--ack --report --txqueue --rxqueue --limit --auto-restart --bitrate --dbitrate --record --log \
         --strict --show-faults --help" ;;
     audit,*,-*) _canbusd_offer "--bitrate --dbitrate --cut --events --faults --help" ;;
+    bits,*,*) _canbusd_offer "--bitrate --dbitrate --help" ;;
     dump,*,*) _canbusd_offer "--pcapng --dbc --address --help" ;;
     extcap,*,*) _canbusd_offer "--install --address --help" ;;
     audit,* | restbus,* | convert,* | sweep,* | report,* | replay,*) compopt -o default ;;

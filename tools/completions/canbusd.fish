@@ -13,11 +13,12 @@ end
 complete -c canbusd --no-files
 complete -c canbusd -l help -d "Show the help"
 # words: fish
-set -l commands serve bench audit dump send status watch fault restart down up restbus convert extcap sweep report replay
+set -l commands serve bench audit bits dump send status watch fault restart down up restbus convert extcap sweep report replay
 set -l first "not __fish_seen_subcommand_from $commands help"
 complete -c canbusd -n $first -a serve -d 'serve buses to clients'
 complete -c canbusd -n $first -a bench -d 'run a script of sessions and attempts, the same at each run'
 complete -c canbusd -n $first -a audit -d 'check a record'
+complete -c canbusd -n $first -a bits -d 'print the bits of a frame on the wire'
 complete -c canbusd -n $first -a dump -d 'print frames as they come'
 complete -c canbusd -n $first -a send -d 'send frames'
 complete -c canbusd -n $first -a status -d 'print the state and the counts of interfaces'
@@ -41,7 +42,9 @@ complete -c canbusd -n "__fish_seen_subcommand_from bench serve" -x -l limit -d 
 complete -c canbusd -n "__fish_seen_subcommand_from bench serve" -x -l auto-restart -d 'Restart an interface in the Nth attempt after it went bus off, 1 to 1000000, or never (0)'
 complete -c canbusd -n "__fish_seen_subcommand_from bench serve" -x -l bitrate -d 'Bits a second, 5000 to 1000000: attempts take the time of their bits'
 complete -c canbusd -n "__fish_seen_subcommand_from audit" -x -l bitrate -d 'Bits a second, 5000 to 1000000: write how long each attempt is on the wire'
+complete -c canbusd -n "__fish_seen_subcommand_from bits" -x -l bitrate -d 'Bits a second, 5000 to 1000000: write how long the frame is on the wire'
 complete -c canbusd -n "__fish_seen_subcommand_from bench serve audit" -x -l dbitrate -d 'Bits a second of the data phase of FD frames, to 20000000'
+complete -c canbusd -n "__fish_seen_subcommand_from bits" -x -l dbitrate -d 'Bits a second of the data phase of FD frames, to 20000000'
 complete -c canbusd -n "__fish_seen_subcommand_from audit" -f -l cut -d 'Audit a record that is cut off, as far as it reaches'
 complete -c canbusd -n "__fish_seen_subcommand_from audit" -f -l events -d 'Write each legal entry with what it brought about'
 complete -c canbusd -n "__fish_seen_subcommand_from audit" -x -a "(__canbusd_scripts)" -l faults -d 'Names and script of faults of the run: write which rule gave each attempt its verdict'

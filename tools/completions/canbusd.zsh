@@ -14,6 +14,7 @@ _canbusd() {
         'serve:serve buses to clients'
         'bench:run a script of sessions and attempts, the same at each run'
         'audit:check a record'
+        'bits:print the bits of a frame on the wire'
         'dump:print frames as they come'
         'send:send frames'
         'status:print the state and the counts of interfaces'
@@ -43,8 +44,8 @@ _canbusd() {
         '--rxqueue=[Frames that a socket keeps to be received, 1 to 65536]:N:' \
         '--limit=[Calls and attempts of the run, 1 to 16777216, of 32 bytes of memory each, 108 with an FD frame]:N:' \
         '--auto-restart=[Restart an interface in the Nth attempt after it went bus off, 1 to 1000000, or never (0)]:N:' \
-        '--bitrate=[Bits a second, 5000 to 1000000: attempts take the time of their bits]:N:' \
-        '--dbitrate=[Bits a second of the data phase of FD frames, to 20000000]:M:' \
+        '*--bitrate=[Bits a second, 5000 to 1000000: attempts take the time of their bits]:[NAME=]N:' \
+        '*--dbitrate=[Bits a second of the data phase of FD frames, to 20000000]:[NAME=]M:' \
         '--listen=[Host and port, or a Unix path that begins with / or .]:ADDR:_files' \
         '--sessions=[Sessions to serve]:N:' \
         '--pace=[Milliseconds after each attempt of a bus without --bitrate, 0 to 60000]:MS:' \
@@ -63,20 +64,23 @@ _canbusd() {
         '--rxqueue=[Frames that a socket keeps to be received, 1 to 65536]:N:' \
         '--limit=[Calls and attempts of the run, 1 to 16777216, of 32 bytes of memory each, 108 with an FD frame]:N:' \
         '--auto-restart=[Restart an interface in the Nth attempt after it went bus off, 1 to 1000000, or never (0)]:N:' \
-        '--bitrate=[Bits a second, 5000 to 1000000: attempts take the time of their bits]:N:' \
-        '--dbitrate=[Bits a second of the data phase of FD frames, to 20000000]:M:' \
+        '*--bitrate=[Bits a second, 5000 to 1000000: attempts take the time of their bits]:[NAME=]N:' \
+        '*--dbitrate=[Bits a second of the data phase of FD frames, to 20000000]:[NAME=]M:' \
         '--record=[Write the record of the run to FILE once the input has ended]:FILE:_files' \
         '--log=[Write the frames of the run to FILE once the input has ended, as candump logs them]:FILE:_files' \
         '--strict[End with status 1 if a message of a session was refused]' \
         '--show-faults[End the lines of attempts with their faults, and the rules that gave them]' \
         '1:bus:_canbusd_bus' ;;
     audit) _arguments '(- *)--help[show the help]' \
-        '--bitrate=[Bits a second, 5000 to 1000000: write how long each attempt is on the wire]:N:' \
-        '--dbitrate=[Bits a second of the data phase of FD frames, to 20000000]:M:' \
+        '*--bitrate=[Bits a second, 5000 to 1000000: write how long each attempt is on the wire]:[NAME=]N:' \
+        '*--dbitrate=[Bits a second of the data phase of FD frames, to 20000000]:[NAME=]M:' \
         '--cut[Audit a record that is cut off, as far as it reaches]' \
         '--events[Write each legal entry with what it brought about]' \
         '--faults=[Names and script of faults of the run: write which rule gave each attempt its verdict]:NAMES@FILE:_canbusd_bus' \
         '*:file:_files' ;;
+    bits) _arguments '(- *)--help[show the help]' \
+        '--bitrate=[Bits a second, 5000 to 1000000: write how long the frame is on the wire]:N:' \
+        '--dbitrate=[Bits a second of the data phase of FD frames, to 20000000]:M:' ;;
     dump) _arguments '(- *)--help[show the help]' \
         '--pcapng=[write a capture for Wireshark]:FILE:_files' \
         '--dbc=[names of messages and signals]:FILE:_files' \
@@ -86,7 +90,7 @@ _canbusd() {
     extcap) _arguments '(- *)--help[show the help]' \
         '--install[install it for this user]' \
         '--address=[HOST:PORT of the server, or its Unix path]:ADDR:_files' ;;
-    help) _arguments '1:command:(serve bench audit dump send status watch fault restart down up restbus convert extcap sweep report replay)' ;;
+    help) _arguments '1:command:(serve bench audit bits dump send status watch fault restart down up restbus convert extcap sweep report replay)' ;;
     # end of words
     esac
 }
