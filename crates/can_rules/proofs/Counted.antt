@@ -3,19 +3,19 @@ use Rattle.std.proofs.lemmas.Bool.Decides.{nat_tests}
 use Rattle.can_rules.specs.Rules.{Head, chosen, after_chosen, asked_rule, gives, is_rule_due, is_used_up, is_spent, one_less, rule_matches, gives_at, times_given}
 use Rattle.can_rules.specs.declared.rule.Rule.{Rule}
 
--- How often a rule gives its verdict.
+-- How many times a rule gives its verdict.
 
--- 1 where a test is met
+-- 1 if the test is met, or else 0.
 abbrev pub once : Bool → ℕ
 once b = if b then 1 else 0
 
--- a rule at the place, with so many verdicts left
+-- The rule at this place has `n` verdicts left.
 pub record HasLeft (rules : List Rule) (place n : ℕ) : Type 0 where
   pub rule : Rule
   pub there : slice_get rules place ≡ Some rule
   pub left : rule.left ≡ Some n
 
--- the rule that an attempt leaves behind: what it gave and what it has left are together what it had left
+-- The rule at this place after an attempt: the verdicts given and left add up to the verdicts left before.
 pub record Spends (after : List Rule) (place n : ℕ) (gave : Bool) : Type 0 where
   pub rest : ℕ
   pub has : HasLeft after place rest
@@ -31,7 +31,7 @@ some_left n h = grind (arith, nat_tests)
 same_rule : (one other : Rule) → Some one ≡ Some other → one ≡ other
 same_rule one other same = cc
 
--- one attempt, at the first rule
+-- One attempt at the first rule.
 asked-left : (rule : Rule) (head : Head) (rules : List Rule) (n : ℕ) → rule.left ≡ Some n → Spends (asked_rule rule head ∷ rules) 0 n (gives rule head)
 asked-left rule head rules n has =
     let counted : Rule = record rule { left = one_less rule.left } in
@@ -46,7 +46,7 @@ asked-left rule head rules n has =
       | false ↦ λ idle. record { rest = n; has = record { rule = rule; there = refl; left = has }; together = omega arith }
     ] refl
 
--- one attempt, at any rule
+-- One attempt at any rule.
 pub spends : (rules : List Rule) (head : Head) (place n : ℕ) → HasLeft rules place n → Spends (after_chosen rules head) place n (gives_at place rules head)
 spends [] head place n had = absurd (cc had.there)
 spends (rule ∷ rules) head zero n had = asked-left rule head (if gives rule head then rules else after_chosen rules head) n (ap (λ (r : Rule). r.left) (same_rule rule had.rule had.there) ∙ had.left)
@@ -58,7 +58,7 @@ spends (rule ∷ rules) head (suc place) n had =
           record { rest = later.rest; has = record { rule = later.has.rule; there = later.has.there; left = later.has.left }; together = later.together }
     ]
 
--- attempts one after another
+-- Successive attempts.
 pub times_given-most : (heads : List Head) (rules : List Rule) (place n : ℕ) → HasLeft rules place n → times_given place rules heads ≤ n
 times_given-most [] rules place n had = omega arith
 times_given-most (head ∷ heads) rules place n had =
@@ -67,7 +67,7 @@ times_given-most (head ∷ heads) rules place n had =
     let together : once (gives_at place rules head) + now.rest ≡ n = now.together in
     omega arith
 
--- the rule at the place gives its own verdict
+-- The rule at this place gives its own verdict.
 pub chosen-gives_at : (rules : List Rule) (head : Head) (place : ℕ) (rule : Rule) → slice_get rules place ≡ Some rule → gives_at place rules head ≡ true → chosen rules head ≡ Some rule.verdict
 chosen-gives_at [] head place rule there gave = absurd (cc there)
 chosen-gives_at (first ∷ rules) head zero rule there gave = ap (λ b. if b then Some first.verdict else chosen rules head) gave ∙ ap (λ (r : Rule). Some r.verdict) (same_rule first rule there)

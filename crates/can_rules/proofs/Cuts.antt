@@ -9,7 +9,7 @@ use Rattle.can_fault.specs.Scripts.{word, after}
 
 -- Texts that are cut at a byte.
 
--- no byte is this one
+-- The text does not contain this byte.
 abbrev pub Lacks : ℕ → List ℕ → Type 0
 Lacks c [] = Unit {0}
 Lacks c (b ∷ bs) = ((b == c) ≡ false) × Lacks c bs
@@ -31,7 +31,7 @@ lacks-decimal c n low small =
     (λ n ds le before. lacks-push c ds (48 + n % 10) before (other-byte (48 + n % 10) c (omega (arith, low))))
     n small
 
--- digits are no spaces, and no colons
+-- Digits are neither spaces nor colons.
 no-space : (v : ℕ) → (digit_of v == 32) ≡ false
 no-space v = grind (arith, nat_tests)
 
@@ -48,7 +48,7 @@ spaceless-digits base count n = lacks-digits 32 base count n no-space
 pub colonless-digits : (base count n : ℕ) → Lacks 58 (digits base count n)
 colonless-digits base count n = lacks-digits 58 base count n no-colon
 
--- a text before such a byte, and what follows it
+-- The text before the first such byte, and the text after it.
 byte-at : (c : ℕ) (w rest : List ℕ) → (c == c) ≡ true → Lacks c w → position_or_len (λ b. b == c) (w ++ c ∷ rest) ≡ length w
 byte-at c [] rest same h = rw same refl
 byte-at c (b ∷ bs) rest same h = rw (h.0, byte-at c bs rest same h.1) (omega arith)
@@ -61,7 +61,7 @@ rest-cut c w rest same h =
     ap (λ (n : ℕ). drop (n + 1) (w ++ c ∷ rest)) (byte-at c w rest same h)
     ∙ ap (drop (length w + 1)) (sym (append_assoc w (c ∷ []) rest)) ∙ drop_at (w ++ c ∷ []) rest (length w + 1) (length_push w c)
 
--- nothing follows where there is none
+-- A text without such a byte is not cut.
 none-at : (c : ℕ) (w : List ℕ) → Lacks c w → position_or_len (λ b. b == c) w ≡ length w
 none-at c [] h = refl
 none-at c (b ∷ bs) h = rw (h.0, none-at c bs h.1) (omega arith)
@@ -69,7 +69,7 @@ none-at c (b ∷ bs) h = rw (h.0, none-at c bs h.1) (omega arith)
 pub none-cut : (c : ℕ) (w : List ℕ) → Lacks c w → after_first (λ b. b == c) w ≡ []
 none-cut c w h = ap (λ (n : ℕ). drop (n + 1) w) (none-at c w h) ∙ drop_all (length w + 1) w (omega arith)
 
--- words
+-- Words.
 pub word-cut : (w rest : List ℕ) → Lacks 32 w → word (w ++ 32 ∷ rest) ≡ w
 word-cut w rest h = front-cut 32 w rest refl h
 

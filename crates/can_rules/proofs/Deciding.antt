@@ -5,9 +5,9 @@ use Rattle.can_rules.specs.Plans.{ruled, decided}
 use Rattle.can_rules.specs.declared.rule.Rule.{Rule}
 use Rattle.can_fault.specs.declared.verdict.Verdict.TheVariants.{Good}
 
--- Which rule gives a verdict.
+-- The rule that gives a verdict.
 
--- the verdict is that rule's
+-- The verdict is that of the deciding rule.
 pub chosen-deciding : (rules : List Rule) (head : Head) → chosen rules head ≡ option_map (λ (rule : Rule). rule.verdict) (deciding rules head)
 chosen-deciding [] head = refl
 chosen-deciding (rule ∷ rules) head =
@@ -16,14 +16,14 @@ chosen-deciding (rule ∷ rules) head =
       | false ↦ chosen-deciding rules head
     ]
 
--- a decision has the verdict that the rules give
+-- A decision has the verdict that the rules give.
 pub ruled-decided : (rules : List Rule) (head : Option Head) → (decided rules head).verdict ≡ ruled rules head
 ruled-decided rules None = refl
 ruled-decided rules (Some head) =
     (elim (deciding rules head) as (λ r. (decision_by r).verdict ≡ unwrap_or (option_map (λ (rule : Rule). rule.verdict) r) Good) [ None ↦ refl | Some rule ↦ refl ])
     ∙ ap (λ v. unwrap_or v Good) (sym (chosen-deciding rules head))
 
--- the rule that decides has a place, where it gives
+-- The deciding rule has a place, and gives the verdict there.
 pub record IsAt (rules : List Rule) (head : Head) (rule : Rule) : Type 0 where
   pub place : ℕ
   pub there : slice_get rules place ≡ Some rule

@@ -15,7 +15,7 @@ use Rattle.can_rules.specs.RuleWords.{◌>>=◌, second, beyond, as_word, small_
 use Rattle.can_rules.proofs.GoodVerdicts.{IsNamed, IsVerdict, set-good, verdict-good}
 use Rattle.can_rules.proofs.RuleOneLine.{bound, some-read, word-read}
 
--- What is known of a rule that some text spells.
+-- Facts about a rule that some text spells.
 
 abbrev pub AreSenders : List (List ℕ) → Option IfaceSet → Type 0
 AreSenders names None = Unit {0}
@@ -25,7 +25,7 @@ abbrev pub IsCount : Option ℕ → Type 0
 IsCount None = Unit {0}
 IsCount (Some n) = (0 < n) × (n < 10 ^ 8)
 
--- a filter of an 11-bit identifier, of one with 29 bits, and of a word and a mask
+-- The filters for an 11-bit identifier, for a 29-bit identifier, and for a word and a mask.
 abbrev pub standard_of : ℕ → CanFilter
 standard_of n = record { id = n; mask = 2147485695 }
 
@@ -48,7 +48,7 @@ pub record IsGood (names : List (List ℕ)) (rule : Rule) : Type 0 where
   pub skip : rule.skip < 10 ^ 8
   pub verdict : IsVerdict names rule.verdict
 
--- numbers
+-- Numbers.
 digit-below : (base : ℕ) (o : Option ℕ) (v : ℕ) → in_base base o ≡ Some v → v < base
 digit-below base None v e = absurd (cc e)
 digit-below base (Some d) v e = by_test (nat_lt d base) refl e
@@ -57,7 +57,7 @@ digit-below base (Some d) v e = by_test (nat_lt d base) refl e
     by_test true is e = let same : d ≡ v = cc in grind (arith, nat_tests)
     by_test false is e = absurd (cc e)
 
--- so many digits more
+-- The bound after `k` more digits.
 abbrev scaled : ℕ → ℕ → ℕ → ℕ
 scaled base zero most = most
 scaled base (suc k) most = scaled base k (most * base)
@@ -116,7 +116,7 @@ count-good text n e =
     let few = decimal-below text m read in
     (parts.0, omega (arith, few, parts.1))
 
--- filters
+-- Filters.
 standard-good : (n : ℕ) (f : CanFilter) → of_standard n ≡ Some f → IsFilter f
 standard-good n f e = by_test (nat_lt n (2 ^ 11)) refl e
   where
@@ -166,7 +166,7 @@ id-good text f e = by_test (length (mask_in text) == 0) e
     by_test true e = plain-good text f e
     by_test false e = masked-good (before_colon text) (mask_in text) f e
 
--- the parts of a rule
+-- The parts of a rule.
 part-good : {A : Type 0} (names : List (List ℕ)) (b : Bool) (read : Result A WrongWord) (on : A → Result Rule WrongWord) (other : Result Rule WrongWord) (rule : Rule)
     → ((a : A) → read ≡ Ok a → on a ≡ Ok rule → IsGood names rule) → (other ≡ Ok rule → IsGood names rule) → (if b then (read >>= on) else other) ≡ Ok rule → IsGood names rule
 part-good names true read on other rule with without e = let (a, first, rest) = bound read on rule e in with a first rest

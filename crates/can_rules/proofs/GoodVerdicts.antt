@@ -13,9 +13,9 @@ use Rattle.can_fault.specs.declared.verdict.LocalKind.{LocalKind}
 use Rattle.can_fault.specs.declared.verdict.Verdict.{Verdict}
 use Rattle.can_fault.specs.declared.verdict.Verdict.TheVariants.{Good, Global, Local, LastBit}
 
--- What is known of a set and of a verdict that some text spells.
+-- Facts about a set and a verdict that some text spells.
 
--- a set that names of the bus give
+-- The set is given by names of the bus.
 abbrev pub IsNamed : List (List ℕ) → IfaceSet → Type 0
 IsNamed names set = (pieces : List (List ℕ)) × (0 < length pieces) × (are_known names pieces ≡ true) × (set ≡ set_named names pieces)
 

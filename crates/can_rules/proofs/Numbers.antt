@@ -9,17 +9,17 @@ use Rattle.can_rules.specs.declared.rule.Rule.{Rule}
 
 -- The numbers of rules.
 
--- what grows from above a number grows from above a smaller one
+-- Numbers that increase from above a bound also increase from above a smaller bound.
 grow-lower : (rules : List Rule) (low mid high : ℕ) → low ≤ mid → NumbersGrow mid rules high → NumbersGrow low rules high
 grow-lower [] low mid high below h = omega (arith, below, h)
 grow-lower (rule ∷ rules) low mid high below h = (omega (arith, below, h.0), h.1)
 
--- one number more
+-- The numbers still increase with one more rule at the end.
 grow-push : (rules : List Rule) (rule : Rule) (low high n : ℕ) → high < n → NumbersGrow low rules high → NumbersGrow low (rules ++ numbered n rule ∷ []) n
 grow-push [] rule low high n above h = (omega (arith, above, h), omega arith)
 grow-push (first ∷ rules) rule low high n above h = (h.0, grow-push rules rule first.number high n above h.1)
 
--- asking keeps numbers
+-- Asking a rule does not change its number.
 asked-number : (rule : Rule) (head : Head) → (asked_rule rule head).number ≡ rule.number
 asked-number rule head =
     elim (is_rule_due rule head) as (λ b. (if b then (if rule.skip == 0 then record rule { left = one_less rule.left } else record rule { skip = rule.skip - 1 }) else rule).number ≡ rule.number) [
@@ -37,7 +37,7 @@ grow-asked (rule ∷ rules) head low high h =
     ]) in
     subst (λ (n : ℕ). (low < n) × NumbersGrow n rest high) (sym (asked-number rule head)) (h.0, grown)
 
--- and so does leaving out those that are used up
+-- The numbers still increase after used-up rules are removed.
 grow-unused : (rules : List Rule) (low high : ℕ) → NumbersGrow low rules high → NumbersGrow low (usable rules) high
 grow-unused [] low high h = h
 grow-unused (rule ∷ rules) low high h =

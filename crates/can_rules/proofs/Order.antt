@@ -2,9 +2,9 @@ use Rattle.std.proofs.Common.{◌≡◌, Bool, true, false, not, ◌&&◌, List,
 use Rattle.can_rules.specs.Rules.{Head, chosen, after_chosen, asked_rule, gives, is_rule_due, is_used_up, one_less, rule_matches, verdicts, AreSwapped}
 use Rattle.can_rules.specs.declared.rule.Rule.{Rule}
 
--- Two neighbours change places.
+-- Two neighbouring rules are swapped.
 
--- counting does not change what matches
+-- Asking a rule does not change which attempts it matches.
 matches-asked : (rule : Rule) (now head : Head) → rule_matches (asked_rule rule now) head ≡ rule_matches rule head
 matches-asked rule now head =
     elim (is_rule_due rule now) as (λ b. rule_matches (if b then (if rule.skip == 0 then record rule { left = one_less rule.left } else record rule { skip = rule.skip - 1 }) else rule) head ≡ rule_matches rule head) [
@@ -12,7 +12,7 @@ matches-asked rule now head =
       | false ↦ refl
     ]
 
--- of a rule that gives, the attempt is
+-- A rule matches each attempt to which it gives a verdict.
 gives-matches : (rule : Rule) (head : Head) → gives rule head ≡ true → rule_matches rule head ≡ true
 gives-matches rule head gave = parts (not (is_used_up rule)) (rule_matches rule head) (rule.skip == 0) gave where
   parts : (a b c : Bool) → (a && b && c) ≡ true → b ≡ true
@@ -20,7 +20,7 @@ gives-matches rule head gave = parts (not (is_used_up rule)) (rule_matches rule 
   parts true false c h = cc
   parts false b c h = cc
 
--- a rule that does not match stays as it is, and gives nothing
+-- A rule that does not match gives no verdict and does not change.
 asked-other : (rule : Rule) (head : Head) → rule_matches rule head ≡ false → asked_rule rule head ≡ rule
 asked-other rule head other =
     ap (λ b. if b then (if rule.skip == 0 then record rule { left = one_less rule.left } else record rule { skip = rule.skip - 1 }) else rule) (never (not (is_used_up rule)) (rule_matches rule head) other) where
@@ -35,7 +35,7 @@ gives-other rule head other = never (not (is_used_up rule)) (rule_matches rule h
   never true false c h = refl
   never false b c h = refl
 
--- the first of some rules gives the verdict, or not
+-- The first rule gives the verdict, or the rest decide.
 chosen-gives : (rule : Rule) (rules : List Rule) (head : Head) → gives rule head ≡ true → chosen (rule ∷ rules) head ≡ Some rule.verdict
 chosen-gives rule rules head gave = ap (λ b. if b then Some rule.verdict else chosen rules head) gave
 
@@ -48,7 +48,7 @@ after-gives rule rules head gave = ap (λ b. asked_rule rule head ∷ (if b then
 after-past : (rule : Rule) (rules : List Rule) (head : Head) → gives rule head ≡ false → after_chosen (rule ∷ rules) head ≡ asked_rule rule head ∷ after_chosen rules head
 after-past rule rules head past = ap (λ b. asked_rule rule head ∷ (if b then rules else after_chosen rules head)) past
 
--- no attempt is of the kind of both
+-- No attempt matches both rules.
 abbrev pub AreApart : Rule → Rule → Type 0
 AreApart first second = (head : Head) → (rule_matches first head && rule_matches second head) ≡ false
 
@@ -60,11 +60,11 @@ apart-back first second apart = λ head. turned (rule_matches first head) (rule_
   turned false true h = refl
   turned false false h = refl
 
--- of two apart, the other does not match where one gives
+-- If one of two such rules gives a verdict, the other does not match.
 other-apart : (first second : Rule) (head : Head) → AreApart first second → gives first head ≡ true → rule_matches second head ≡ false
 other-apart first second head apart gave = ap (λ b. b && rule_matches second head) (sym (gives-matches first head gave)) ∙ apart head
 
--- two neighbours at the front
+-- Two neighbours at the front.
 front_chosen : (first second : Rule) (back : List Rule) (head : Head) → AreApart first second → chosen (first ∷ second ∷ back) head ≡ chosen (second ∷ first ∷ back) head
 front_chosen first second back head apart = elim (gives first head) as (λ b. gives first head ≡ b → chosen (first ∷ second ∷ back) head ≡ chosen (second ∷ first ∷ back) head) [
   | true ↦ λ gave.
@@ -113,7 +113,7 @@ front_after first second back head apart =
       ] refl
     ] refl
 
--- two neighbours anywhere
+-- Two neighbours anywhere.
 place_chosen : (front : List Rule) (first second : Rule) (back : List Rule) (head : Head) → AreApart first second → chosen (front ++ first ∷ second ∷ back) head ≡ chosen (front ++ second ∷ first ∷ back) head
 place_chosen [] first second back head apart = front_chosen first second back head apart
 place_chosen (rule ∷ front) first second back head apart = ap (λ given. if gives rule head then Some rule.verdict else given) (place_chosen front first second back head apart)

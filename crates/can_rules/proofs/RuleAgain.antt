@@ -25,7 +25,7 @@ use Rattle.can_rules.proofs.Reading.{number-again}
 use Rattle.can_rules.proofs.SetAgain.{set-again}
 use Rattle.can_rules.proofs.VerdictAgain.{IsLast, verdict-again}
 
--- The words that are written of a rule are read as that rule. Each part is written with a space before it.
+-- The words written for a rule are read back as that rule. Each part is written with a space before it.
 
 ended-again : (names : List (List ℕ)) (known : Rule) (verdict : Verdict) (text : List ℕ) → verdict_spelling names text ≡ Ok verdict → ended names known text ≡ Ok (record known { verdict = verdict })
 unfolding ended
@@ -33,7 +33,7 @@ ended-again names known verdict text read = ap (λ (r : Result Verdict LineFault
 
 -- ---- how many attempts a rule skips
 
--- the words from there on, after their space
+-- The words from `skip` on, after their space.
 pub record SkipText (names : List (List ℕ)) (k : ℕ) (rest : List ℕ) : Type 0 where
   pub text : List ℕ
   pub written : skip_words k ++ 32 ∷ rest ≡ 32 ∷ text
@@ -88,7 +88,7 @@ lt-from a b h = grind (arith, nat_tests)
 le-from : (a b : ℕ) → nat_le a b ≡ true → a ≤ b
 le-from a b h = grind (arith, nat_tests)
 
--- a number of digits, without a mask
+-- Digits without a mask.
 plain-read : (text : List ℕ) → Lacks 58 text → id_spelling text ≡ plain_spelling text
 plain-read text lacks = ap (λ (t : List ℕ). if length t == 0 then plain_spelling text else masked_spelling (before_colon text) t) (none-cut 58 text lacks)
 
@@ -104,7 +104,7 @@ eight-read n h =
     let read : number_in 16 8 (digits 16 8 n) ≡ Some n = value-digits 16 8 n (omega arith) (omega arith) (omega (arith, h)) in
     ap (option_and_then of_extended) read ∙ ap (λ (b : Bool). if b then Some (extended_of n) else None) (lt-true n (2 ^ 29) h)
 
--- digits with a mask
+-- Digits with a mask.
 number-read : (n : ℕ) → n < 2 ^ 32 → number_in 16 8 (digits 16 8 n) ≡ Some n
 number-read n h = value-digits 16 8 n (omega arith) (omega arith) (omega (arith, h))
 
@@ -123,7 +123,7 @@ masked-read id mask lacks some =
     ∙ ap (λ (b : Bool). if b then plain_spelling text else masked_spelling (before_colon text) mask) some
     ∙ ap (λ (t : List ℕ). masked_spelling t mask) (front-cut 58 id mask refl lacks)
 
--- the words of a filter
+-- The words of a filter.
 filter-read : (f : CanFilter) → IsFilter f → id_spelling (filter_words f) ≡ Some f
 unfolding filter_words
 filter-read f g = by_kind (is_standard f) (is_one_extended_id f) refl refl
@@ -256,7 +256,7 @@ start-read names (Some n) rest count =
 
 -- ---- a rule
 
--- four texts after one another, each with the rest
+-- Four texts, each followed by the rest.
 rest-joined : (a b c d e t1 t2 t3 t4 : List ℕ) → e ≡ 32 ∷ t1 → d ++ 32 ∷ t1 ≡ 32 ∷ t2 → c ++ 32 ∷ t2 ≡ 32 ∷ t3 → b ++ 32 ∷ t3 ≡ 32 ∷ t4 → a ++ b ++ c ++ d ++ e ≡ a ++ 32 ∷ t4
 rest-joined a b c d e t1 t2 t3 t4 e1 e2 e3 e4 =
     ap (λ (x : List ℕ). a ++ b ++ c ++ d ++ x) e1

@@ -14,9 +14,9 @@ use Rattle.can_rules.specs.declared.rule_words.WrongWord.TheVariants as wrong
 use Rattle.can_rules.specs.RuleWords.{◌>>=◌, second, beyond, as_word, small_spelling, some_of, count_spelling, of_standard, of_extended, of_words, masked_spelling, plain_spelling, before_colon, mask_in, id_spelling, ended, skipping, with_id, with_senders, rule_of, rule_spelling}
 use Rattle.can_rules.proofs.OneLine.{has_feed, feed-cut, feed-words, then-some, number-one-line, set-one-line, verdict-one-line}
 
--- What spells a rule has no line feed.
+-- The words of a rule contain no line feed.
 
--- what was read
+-- The value that was read.
 pub bound : {A B : Type 0} (r : Result A WrongWord) (f : A → Result B WrongWord) (x : B) → (r >>= f) ≡ Ok x → (a : A) × (r ≡ Ok a) × (f a ≡ Ok x)
 bound (Ok a) f x h = (a, refl, h)
 bound (Err e) f x h = absurd (cc h)
@@ -32,7 +32,7 @@ word-read which (Err fault) a h = absurd (cc h)
 count-one-line : (text : List ℕ) (n : ℕ) → count_spelling text ≡ Some n → has_feed text ≡ false
 count-one-line text n h = let (m, read) = then-some some_of (small_spelling text) n h in number-one-line 10 8 text m read
 
--- identifiers
+-- Identifiers.
 plain-one-line : (text : List ℕ) (f : CanFilter) → plain_spelling text ≡ Some f → has_feed text ≡ false
 unfolding plain_spelling
 plain-one-line text f h = by_length (length text == 3) (length text == 8) h
@@ -60,7 +60,7 @@ id-one-line text f h = by_test (length (mask_in text) == 0) h
     by_test true e = plain-one-line text f e
     by_test false e = let parts = masked-one-line (before_colon text) (mask_in text) f e in feed-cut 58 text refl parts.0 parts.1
 
--- the parts of a rule, each with its word, if it is there
+-- The parts of a rule; each has its keyword, if the part is there.
 part : {A : Type 0} (text key : List ℕ) (read : Result A WrongWord) (on : A → Result Rule WrongWord) (other : Result Rule WrongWord) (rule : Rule) → has_feed key ≡ false
     → ((a : A) → read ≡ Ok a → has_feed (second text) ≡ false) → ((a : A) → on a ≡ Ok rule → has_feed (beyond text) ≡ false) → (other ≡ Ok rule → has_feed text ≡ false)
     → (if bytes_eq (word text) key then (read >>= on) else other) ≡ Ok rule → has_feed text ≡ false

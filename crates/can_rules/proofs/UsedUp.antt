@@ -2,24 +2,24 @@ use Rattle.std.proofs.Common.{◌≡◌, Bool, true, false, not, ◌&&◌, List,
 use Rattle.can_rules.specs.Rules.{Head, chosen, after_chosen, asked_rule, gives, is_used_up, rule_matches, usable, verdicts}
 use Rattle.can_rules.specs.declared.rule.Rule.{Rule}
 
--- Rules that are used up.
+-- Used-up rules.
 
--- it gives nothing
+-- A used-up rule gives no verdict.
 pub gives-used_up : (rule : Rule) (head : Head) → is_used_up rule ≡ true → gives rule head ≡ false
 gives-used_up rule head spent = ap (λ b. (not b && rule_matches rule head) && (rule.skip == 0)) spent
 
--- it stays as it is
+-- A used-up rule does not change.
 pub asked-used_up : (rule : Rule) (head : Head) → is_used_up rule ≡ true → asked_rule rule head ≡ rule
 asked-used_up rule head spent = rw spent refl
 
--- the head of a list that is left out or not, by its test
+-- Removing used-up rules drops a first rule that is used up, and keeps any other.
 pub unused-used_up : (rule : Rule) (rules : List Rule) → is_used_up rule ≡ true → usable (rule ∷ rules) ≡ usable rules
 unused-used_up rule rules spent = ap (λ b. if not b then rule ∷ usable rules else usable rules) spent
 
 pub unused-fresh : (rule : Rule) (rules : List Rule) → is_used_up rule ≡ false → usable (rule ∷ rules) ≡ rule ∷ usable rules
 unused-fresh rule rules fresh = ap (λ b. if not b then rule ∷ usable rules else usable rules) fresh
 
--- leaving them out once more leaves nothing out
+-- Removing used-up rules twice is the same as once.
 pub unused-unused : (rules : List Rule) → usable (usable rules) ≡ usable rules
 unused-unused [] = refl
 unused-unused (rule ∷ rules) =
@@ -28,7 +28,7 @@ unused-unused (rule ∷ rules) =
       | false ↦ λ fresh. ap usable (unused-fresh rule rules fresh) ∙ unused-fresh rule (usable rules) fresh ∙ ap (λ rs. rule ∷ rs) (unused-unused rules) ∙ sym (unused-fresh rule rules fresh)
     ] refl
 
--- without them the verdict is the same
+-- Without the used-up rules the verdict is the same.
 pub chosen-unused : (rules : List Rule) (head : Head) → chosen (usable rules) head ≡ chosen rules head
 chosen-unused [] head = refl
 chosen-unused (rule ∷ rules) head =
@@ -37,11 +37,11 @@ chosen-unused (rule ∷ rules) head =
       | false ↦ λ fresh. ap (λ rs. chosen rs head) (unused-fresh rule rules fresh) ∙ ap (λ given. if gives rule head then Some rule.verdict else given) (chosen-unused rules head)
     ] refl
 
--- the same rule in front of lists that are the same without those that are used up
+-- Two lists that agree apart from used-up rules still agree with the same rule in front.
 same-front : (rule : Rule) (one other : List Rule) → usable one ≡ usable other → usable (rule ∷ one) ≡ usable (rule ∷ other)
 same-front rule one other same = ap (λ rs. if not (is_used_up rule) then rule ∷ rs else rs) same
 
--- and so are the rules that are left
+-- The remaining rules are the same too.
 pub after_chosen-unused : (rules : List Rule) (head : Head) → usable (after_chosen (usable rules) head) ≡ usable (after_chosen rules head)
 after_chosen-unused [] head = refl
 after_chosen-unused (rule ∷ rules) head =
@@ -61,7 +61,7 @@ after_chosen-unused (rule ∷ rules) head =
           ])
     ] refl
 
--- lists that are the same without those that are used up give the same verdicts
+-- Two lists that agree apart from used-up rules give the same verdicts.
 same_verdicts : (heads : List Head) (one other : List Rule) → usable one ≡ usable other → verdicts one heads ≡ verdicts other heads
 same_verdicts [] one other same = refl
 same_verdicts (head ∷ heads) one other same =

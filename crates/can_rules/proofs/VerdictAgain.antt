@@ -13,15 +13,15 @@ use Rattle.can_rules.specs.RuleText.{local_words, verdict_words}
 use Rattle.can_rules.proofs.GoodVerdicts.{IsVerdict}
 use Rattle.can_rules.proofs.SetAgain.{set-again}
 
--- The words that are written of a verdict are read as that verdict.
+-- The words written for a verdict are read back as that verdict.
 
--- words that begin none of a rule's parts
+-- Words that begin no other part of a rule.
 pub record IsLast (text : List ℕ) : Type 0 where
   pub from : bytes_eq (word text) (codes "from") ≡ false
   pub id : bytes_eq (word text) (codes "id") ≡ false
   pub skip : bytes_eq (word text) (codes "skip") ≡ false
 
--- a verdict's words after their space
+-- The words of a verdict after their space.
 pub record VerdictText (names : List (List ℕ)) (verdict : Verdict) : Type 0 where
   pub text : List ℕ
   pub written : verdict_words names verdict ≡ 32 ∷ text

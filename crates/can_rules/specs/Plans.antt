@@ -21,119 +21,119 @@ use Rattle.can_rules.specs.declared.plan.PlanError.TheVariants as plan
 use Rattle.can_rules.specs.Rules.{Head, won_by, chosen, deciding, decision_by, without_rule, after_chosen, usable}
 use Rattle.can_rules.specs.RuleWords.{is_rule, rule_spelling}
 
--- The plan of a bus: the lines of a script, and rules (own choice).
+-- The plan of a bus: script lines and rules (own choice).
 
--- the verdicts that lines give by the numbers of attempts, the rules, of which none is used up, and how many rules were
--- taken so far
+-- A plan: the verdicts of script lines by attempt number, the rules that are not used up, and the number of rules taken
+-- so far.
 pub record PlanSeen : Type 0 where
   pub lines : VerdictMap
   pub rules : List Rule
   pub taken : ℕ
 
--- no line, no rule
+-- The plan without lines and rules.
 abbrev pub no_plan : PlanSeen
 no_plan = record { lines = no_verdicts; rules = []; taken = 0 }
 
--- one more, as far as a count of 64 bits goes
+-- The next number, at most 2^64 - 1.
 abbrev pub counted_up : ℕ → ℕ
 counted_up n = min (n + 1) (2 ^ 64 - 1)
 
--- a rule with this number
+-- The rule with this number.
 abbrev pub numbered : ℕ → Rule → Rule
 numbered number rule = record rule { number = number }
 
--- one rule more, after the others, with its number among all that were taken
+-- The plan with one more rule after the others; its number counts all rules taken.
 abbrev pub with_rule : Rule → PlanSeen → PlanSeen
 with_rule rule plan = record plan {
   rules = plan.rules ++ numbered (counted_up plan.taken) rule ∷ [];
   taken = counted_up plan.taken;
 }
 
--- the numbers of rules grow, from above the one up to the other
+-- The numbers of rules increase from above `low` up to `high`.
 abbrev pub NumbersGrow : ℕ → List Rule → ℕ → Type 0
 NumbersGrow low [] high = low ≤ high
 NumbersGrow low (rule ∷ rules) high = (low < rule.number) × NumbersGrow rule.number rules high
 
--- each rule has a number of its own, and none has one that is still to come
+-- Each rule has its own number, and no rule has a number above the count of taken rules.
 abbrev pub HasOwnNumbers : PlanSeen → Type 0
 HasOwnNumbers plan = NumbersGrow 0 plan.rules plan.taken
 
--- the lines with these rules
+-- The plan with these rules.
 abbrev pub with_rules : List Rule → PlanSeen → PlanSeen
 with_rules rules plan = record plan { rules = rules }
 
--- the lines without the rules
+-- The plan without its rules.
 abbrev pub without_rules : PlanSeen → PlanSeen
 without_rules plan = record plan { rules = [] }
 
--- what the next attempt tries, as rules see it: nothing where it is idle
+-- The next attempt as rules see it: `None` if the attempt is idle.
 abbrev pub head_in : Option (ℕ × CanFrame) → Option Head
 head_in None = None
 head_in (Some p) = Some (won_by p.0 (word_of p.1))
 
--- the verdict that rules give an attempt, where it tries a frame; else good
+-- The verdict of the rules for an attempt that tries a frame, or good.
 abbrev pub ruled : List Rule → Option Head → Verdict
 ruled rules None = Good
 ruled rules (Some head) = unwrap_or (chosen rules head) Good
 
--- the same with the number of the rule that gives it
+-- The same verdict, with the number of the rule that gives it.
 abbrev pub decided : List Rule → Option Head → Decision
 decided rules None = without_rule Good
 decided rules (Some head) = decision_by (deciding rules head)
 
--- the rules after it: they are not asked of an idle attempt, and those that are used up go
+-- The rules after an attempt: an idle attempt asks no rule, and used-up rules are removed.
 abbrev pub after_ruled : List Rule → Option Head → List Rule
 after_ruled rules None = rules
 after_ruled rules (Some head) = usable (after_chosen rules head)
 
--- the verdict of an attempt for which a script has a line, or none: the line's, also a good one; else that of the rules
+-- The verdict of a script line, even if it is good, or else the verdict of the rules.
 abbrev pub planned : Option Verdict → List Rule → Option Head → Verdict
 planned (Some verdict) rules head = verdict
 planned None rules head = ruled rules head
 
--- the same with the number of the rule that gives it
+-- The same verdict, with the number of the rule that gives it.
 abbrev pub decided_with : Option Verdict → List Rule → Option Head → Decision
 decided_with (Some verdict) rules head = without_rule verdict
 decided_with None rules head = decided rules head
 
--- the rules after it: they are not asked where the script has a line
+-- The rules after an attempt: if the script has a line for it, no rule is asked.
 abbrev pub after_planned : Option Verdict → List Rule → Option Head → List Rule
 after_planned (Some verdict) rules head = rules
 after_planned None rules head = after_ruled rules head
 
--- the verdict of an attempt with a number, under a source and a plan: the source's, if it is a fault, else the plan's
+-- The verdict of an attempt: the source's if it is a fault, or else the plan's.
 abbrev pub given : Verdict → PlanSeen → ℕ → Option (ℕ × CanFrame) → Verdict
 given Good plan attempt head = planned (get plan.lines attempt) plan.rules (head_in head)
 given fault plan attempt head = fault
 
--- the same with the number of the rule that gives it
+-- The same verdict, with the number of the rule that gives it.
 abbrev pub decided_for : Verdict → PlanSeen → ℕ → Option (ℕ × CanFrame) → Decision
 decided_for Good plan attempt head = decided_with (get plan.lines attempt) plan.rules (head_in head)
 decided_for fault plan attempt head = without_rule fault
 
--- the plan after it: a fault of the source counts for no rule
+-- The plan after an attempt: a fault of the source counts for no rule.
 abbrev pub plan_after : Verdict → PlanSeen → ℕ → Option (ℕ × CanFrame) → PlanSeen
 plan_after Good plan attempt head = record plan {
   rules = after_planned (get plan.lines attempt) plan.rules (head_in head);
 }
 plan_after fault plan attempt head = plan
 
--- the verdict of an attempt with a number, under a plan, with the number of the rule that gives it
+-- The decision of a plan about the attempt with this number.
 abbrev pub decided_at : PlanSeen → ℕ → Head → Decision
 decided_at plan attempt head = decided_with (get plan.lines attempt) plan.rules (Some head)
 
--- the plan after it
+-- The plan after that attempt.
 abbrev pub plan_asked : PlanSeen → ℕ → Head → PlanSeen
 plan_asked plan attempt head = with_rules (after_planned (get plan.lines attempt) plan.rules (Some head)) plan
 
--- whatever an attempt tries, it has this verdict, no rule is asked, and so none gives it
+-- The attempt has this verdict for every head, and asks no rule.
 abbrev pub IsSettled : Verdict → PlanSeen → ℕ → Verdict → Type 0
 IsSettled source plan attempt verdict =
     (head : Option (ℕ × CanFrame))
     → (given source plan attempt head ≡ verdict) × (plan_after source plan attempt head ≡ plan)
     × (decided_for source plan attempt head ≡ without_rule verdict)
 
--- there are rules, and they decide the verdict of an attempt, by what it tries
+-- There are rules, and they decide the verdict of the attempt by its head.
 abbrev pub IsUpToRules : Verdict → PlanSeen → ℕ → Type 0
 IsUpToRules source plan attempt =
     (0 < length plan.rules)
@@ -141,27 +141,26 @@ IsUpToRules source plan attempt =
     × (plan_after source plan attempt head ≡ with_rules (after_ruled plan.rules (head_in head)) plan)
     × (decided_for source plan attempt head ≡ decided plan.rules (head_in head)))
 
--- a rule is given to a plan, which takes it after the others, where there are not 64
+-- A plan takes a rule after the others, if it has fewer than 64.
 abbrev pub GivesRule : Rule → PlanSeen → Result (Unit {0}) RuleRefusal → PlanSeen → Type 0
 GivesRule rule old (Ok done) new = (length old.rules < 64) × (new ≡ with_rule rule old)
 GivesRule rule old (Err refusal.TooManyRules) new = (64 ≤ length old.rules) × (new ≡ old)
 GivesRule rule old (Err refusal.NoMemory) new = (length old.rules < 64) × (new ≡ old)
 GivesRule rule old (Err why) new = ⊥
 
--- how a rule that is none is refused
+-- The refusal for each wrong word of a rule.
 abbrev pub refusal_of : WrongWord → RuleRefusal
 refusal_of wrong.UnknownInterface = refusal.UnknownInterface
 refusal_of _ = refusal.BadRule
 
--- the rule that bytes spell, or why they spell none; a rule is UTF-8
+-- The bytes spell this rule, or this is the reason why they spell none; a rule is UTF-8.
 abbrev pub SpellsRule : List (List ℕ) → List ℕ → Result Rule RuleRefusal → Type 0
 SpellsRule names bytes (Ok rule) = rule_spelling names bytes ≡ Ok rule
 SpellsRule names bytes (Err why) =
     ((why ≡ refusal.BadRule) × ¬ (IsUtf8 bytes))
     ⊎ ((which : WrongWord) × (rule_spelling names bytes ≡ Err which) × (why ≡ refusal_of which))
 
--- bytes are given to a plan as one rule more: a text that spells no rule is refused first, then a rule where
--- there are 64
+-- Bytes are given to a plan as one more rule. Bytes that spell no rule are refused first, then a rule if there are 64.
 abbrev pub Injected : List (List ℕ) → List ℕ → PlanSeen → Result (Unit {0}) RuleRefusal → PlanSeen → Type 0
 Injected names bytes old (Ok done) new =
     (rule : Rule) × SpellsRule names bytes (Ok rule) × (length old.rules < 64) × (new ≡ with_rule rule old)
@@ -171,55 +170,55 @@ Injected names bytes old (Err refusal.NoMemory) new =
     (rule : Rule) × SpellsRule names bytes (Ok rule) × (length old.rules < 64) × (new ≡ old)
 Injected names bytes old (Err why) new = SpellsRule names bytes (Err why) × (new ≡ old)
 
--- Plans as texts: the lines of a script, and lines that are rules.
+-- Plans as texts: script lines and rule lines.
 
--- how the line with this number is refused, where it is a rule with a wrong word
+-- The error for this wrong word in the line with this number.
 abbrev pub at_word : ℕ → WrongWord → PlanError
 at_word n wrong.UnknownInterface = plan.Script (script.UnknownInterface n)
 at_word n _ = plan.Script (script.BadLine n)
 
--- a plan with these lines, or the script's fault
+-- The plan with these lines, or the script's fault.
 abbrev pub with_lines : PlanSeen → Result VerdictMap ScriptError → Result PlanSeen PlanError
 with_lines known (Ok lines) = Ok (record known { lines = lines })
 with_lines known (Err why) = Err (plan.Script why)
 
--- a plan with one rule more, or the fault of the line with this number
+-- The plan with one more rule, or the fault of the line with this number.
 abbrev pub with_rule_line : PlanSeen → ℕ → Result Rule WrongWord → Result PlanSeen PlanError
 with_rule_line known n (Ok rule) =
     if nat_le 64 (length known.rules) then Err (plan.TooManyRules n) else Ok (with_rule rule known)
 with_rule_line known n (Err which) = Err (at_word n which)
 
--- the plan after a line with this number, where the lines before it gave `known`
+-- The plan after a line with this number, where `known` is the plan before it.
 abbrev pub line_taken : List (List ℕ) → PlanSeen → ℕ → List ℕ → Result PlanSeen PlanError
 line_taken names known n line =
     if is_rule line then with_rule_line known n (rule_spelling names line)
     else with_lines known (line_after known.lines n (line_spelling names line))
 
--- what is gone on with, or a fault
+-- The result of `f` for a good value, or the fault.
 abbrev pub gone_on : {A B : Type 0} → Result A PlanError → (A → Result B PlanError) → Result B PlanError
 gone_on (Ok known) f = f known
 gone_on (Err why) f = Err why
 
--- the plan after lines, the first of them with this number
+-- The plan after lines; the first of them has this number.
 abbrev pub lines_taken : List (List ℕ) → PlanSeen → ℕ → List (List ℕ) → Result PlanSeen PlanError
 lines_taken names known n [] = Ok known
 lines_taken names known n (line ∷ more) =
     gone_on (line_taken names known n line) (λ next. lines_taken names next (n + 1) more)
 
--- the plan that a text spells, or its first fault
+-- The plan that a text spells, or the first fault of the text.
 abbrev pub plan_spelling : List (List ℕ) → List ℕ → Result PlanSeen PlanError
 plan_spelling names text = lines_taken names no_plan 1 (lines_in text)
 
--- a line that is not empty
+-- The line is not empty.
 abbrev pub has_bytes : List ℕ → Bool
 has_bytes line = not (length line == 0)
 
--- what reading a text returns: what the text spells, or NoMemory, where it has a line
+-- Reading a text returns the plan that it spells, or NoMemory if a line is not empty.
 abbrev pub ReadsPlan : List (List ℕ) → List ℕ → Result PlanSeen PlanError → Type 0
 ReadsPlan names text (Err (plan.Script script.NoMemory)) = IsTrue (list_any has_bytes (lines_in text))
 ReadsPlan names text answer = plan_spelling names text ≡ answer
 
--- taking a line with this number: the plan after it, or its fault, or NoMemory, where it is not empty
+-- Taking a line with this number results in the plan after it, its fault, or NoMemory if it is not empty.
 abbrev pub TakesPlanLine : List (List ℕ) → List ℕ → ℕ → PlanSeen → Result (Unit {0}) PlanError → PlanSeen → Type 0
 TakesPlanLine names line n known (Ok done) new = line_taken names known n line ≡ Ok new
 TakesPlanLine names line n known (Err (plan.Script script.NoMemory)) new = IsTrue (has_bytes line)

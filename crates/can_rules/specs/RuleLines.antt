@@ -3,68 +3,68 @@ use Rattle.std.specs.Prelude.{codes, decimal}
 use Rattle.can_rules.specs.declared.run_faults.Later.{Later}
 use Rattle.can_rules.specs.RunFaults.{RunSeen}
 
--- What becomes of the rules of a bus while its run goes on, as lines of the faults of a run (own choice).
+-- Changes to the rules of a running bus, as lines of the faults of a run (own choice).
 
--- lines that wait to be taken, before which attempt all rules ended after them, if they did, and whether lines are kept
--- at all
+-- The waiting lines, the attempt before which all rules ended after these lines, if they ended, and whether lines are
+-- kept.
 pub record LinesSeen : Type 0 where
   pub text : List ℕ
   pub ended : Option ℕ
   pub kept : Bool
 
--- no line so far
+-- No lines yet.
 abbrev pub no_lines : LinesSeen
 no_lines = record { text = []; ended = None; kept = true }
 
--- no line, now and later
+-- No lines, and none are kept later.
 abbrev pub never_lines : LinesSeen
 never_lines = record { text = []; ended = None; kept = false }
 
--- the line of a rule in these words, given before the attempt with this number, without its line feed
+-- The line of a rule in these words, given before the attempt with this number, without its line feed.
 abbrev pub given_words : ℕ → List ℕ → List ℕ
 given_words attempt words = codes "at " ++ decimal attempt ++ codes " " ++ words
 
--- the same with its line feed
+-- The same line with its line feed.
 abbrev pub given_line : ℕ → List ℕ → List ℕ
 given_line attempt words = given_words attempt words ++ 10 ∷ []
 
--- the line of an end of all rules before the attempt with this number, without its line feed
+-- The line for the end of all rules before the attempt with this number, without its line feed.
 abbrev pub nofaults_words : ℕ → List ℕ
 nofaults_words attempt = codes "at " ++ decimal attempt ++ codes " nofaults"
 
--- the line of an end of all rules before an attempt, if they end
+-- The line for the end of all rules before an attempt, if they ended.
 abbrev pub nofaults_line : Option ℕ → List ℕ
 nofaults_line None = []
 nofaults_line (Some attempt) = nofaults_words attempt ++ 10 ∷ []
 
--- the text of all lines
+-- The text of all lines.
 abbrev pub text_of_lines : LinesSeen → List ℕ
 text_of_lines known = known.text ++ nofaults_line known.ended
 
--- the lines with that of a rule after them, where lines are kept
+-- The lines with the line of one more rule, if lines are kept.
 abbrev pub with_given : ℕ → List ℕ → LinesSeen → LinesSeen
 with_given attempt words known =
     if known.kept then record known { text = text_of_lines known ++ given_line attempt words; ended = None } else known
 
--- before which attempt all rules ended, where they end before this one: earlier, if they had and none was given since
+-- The attempt before which all rules ended: an earlier one, if they had ended and no rule was given since.
 abbrev pub first_end : Option ℕ → ℕ → ℕ
 first_end None attempt = attempt
 first_end (Some earlier) attempt = earlier
 
--- the lines with an end of all rules after them, where lines are kept
+-- The lines with the end of all rules after them, if lines are kept.
 abbrev pub with_end : ℕ → LinesSeen → LinesSeen
 with_end attempt known = if known.kept then record known { ended = Some (first_end known.ended attempt) } else known
 
--- what waits once all lines are taken
+-- The value after all lines are taken.
 abbrev pub with_none_left : LinesSeen → LinesSeen
 with_none_left known = record known { text = []; ended = None }
 
--- How such lines are read: texts of whole lines.
+-- Texts of whole lines, and how they are read.
 
--- a text is empty or ends in a line feed
+-- The text is empty or ends in a line feed.
 abbrev pub IsOfLines : List ℕ → Type 0
 IsOfLines text = (text ≡ []) ⊎ ((front : List ℕ) × (text ≡ front ++ 10 ∷ []))
 
--- a run with one change more to come, after the others
+-- The run with one more change to come, after the others.
 abbrev pub with_change : Later → RunSeen → RunSeen
 with_change next run = record run { later = run.later ++ next ∷ [] }

@@ -13,79 +13,79 @@ use Rattle.can_fault.specs.declared.verdict.Verdict.TheVariants.{Good, Global, L
 use Rattle.can_rules.specs.declared.rule.Rule.{Rule}
 use Rattle.can_rules.specs.RuleWords.{standard_bits, extended_bits}
 
--- How a rule is written: in words that are read as that rule (own choice).
+-- Rules as words that are read back as the same rule (own choice).
 
--- the names of a set's interfaces, among these names, of which the first is the one of interface i
+-- The names of the interfaces in a set, from these names; the first name belongs to interface i.
 abbrev pub members : ℕ → List (List ℕ) → IfaceSet → List (List ℕ)
 members i [] set = []
 members i (name ∷ names) set =
     if is_in i set then name ∷ members (i + 1) names set else members (i + 1) names set
 
--- names, this byte before the first of them and a comma before each other
+-- Names, with this byte before the first and a comma before each other name.
 abbrev pub names_after_mark : ℕ → List (List ℕ) → List ℕ
 names_after_mark mark [] = []
 names_after_mark mark (name ∷ names) = mark ∷ name ++ names_after_mark 44 names
 
--- a space, and the names of a set's interfaces with commas between them
+-- A space, and the names of a set's interfaces with commas between them.
 unfoldable pub set_words : List (List ℕ) → IfaceSet → List ℕ
 set_words names set = names_after_mark 32 (members 0 names set)
 
--- how many verdicts a rule gives
+-- The words for the number of verdicts of a rule.
 unfoldable pub count_words : Option ℕ → List ℕ
 count_words None = codes "always"
 count_words (Some n) = codes "next " ++ decimal n
 
--- whose attempts it is for
+-- The words for the senders of a rule.
 unfoldable pub senders_words : List (List ℕ) → Option IfaceSet → List ℕ
 senders_words names None = []
 senders_words names (Some set) = codes " from" ++ set_words names set
 
--- a filter that every identifier word passes
+-- The filter passes every identifier word.
 abbrev pub is_open_filter : CanFilter → Bool
 is_open_filter f = (f.id == 0) && (f.mask == 0)
 
--- a filter of one 11-bit identifier: 0x800007FF
+-- The filter passes one 11-bit identifier only; its mask is 0x800007FF.
 abbrev pub is_standard : CanFilter → Bool
 is_standard f = (f.mask == standard_bits) && nat_lt f.id (2 ^ 11)
 
--- a filter of one 29-bit identifier: 0x9FFFFFFF
+-- The filter passes one 29-bit identifier only; its mask is 0x9FFFFFFF.
 abbrev pub is_one_extended_id : CanFilter → Bool
 is_one_extended_id f = (f.mask == extended_bits) && nat_le (2 ^ 31) f.id && nat_lt f.id (2 ^ 31 + 2 ^ 29)
 
--- the words for identifiers: 3 digits, or 8, or 8 and a mask of 8
+-- The words for identifiers: 3 digits, or 8, or 8 and a mask of 8.
 unfoldable pub filter_words : CanFilter → List ℕ
 filter_words f =
     if is_standard f then digits 16 3 f.id
     else if is_one_extended_id f then digits 16 8 (f.id - 2 ^ 31)
     else digits 16 8 f.id ++ 58 ∷ digits 16 8 f.mask
 
--- the identifiers that it is for
+-- The words for the identifiers of a rule.
 unfoldable pub id_words : CanFilter → List ℕ
 id_words f = if is_open_filter f then [] else codes " id " ++ filter_words f
 
--- how many attempts it leaves to the rules after it
+-- The words for the number of attempts that a rule skips.
 unfoldable pub skip_words : ℕ → List ℕ
 skip_words k = if k == 0 then [] else codes " skip " ++ decimal k
 
--- a fault that every interface sees
+-- The words for a fault that every interface sees.
 abbrev pub global_words : GlobalKind → List ℕ
 global_words global.Bit = codes " global bit"
 global_words global.Form = codes " global form"
 
--- a fault that some interfaces see
+-- The words for a fault that some interfaces see.
 abbrev pub local_words : LocalKind → List ℕ
 local_words local.Stuff = codes " local stuff"
 local_words local.Crc = codes " local crc"
 local_words local.Form = codes " local form"
 
--- what it gives
+-- The words for a verdict.
 unfoldable pub verdict_words : List (List ℕ) → Verdict → List ℕ
 verdict_words names Good = codes " good"
 verdict_words names LastBit = codes " lastbit"
 verdict_words names (Global kind) = global_words kind
 verdict_words names (Local set kind) = local_words kind ++ set_words names set
 
--- the words of a rule, for a bus with these names
+-- The words of a rule, for a bus with these names.
 unfoldable pub rule_words : List (List ℕ) → Rule → List ℕ
 rule_words names rule =
     count_words rule.left ++ senders_words names rule.senders ++ id_words rule.filter ++ skip_words rule.skip

@@ -11,105 +11,105 @@ use Rattle.can_rules.specs.declared.rules.RuleRefusal.TheVariants.{TooManyRules,
 use Rattle.can_fault.specs.declared.verdict.Verdict.{Verdict}
 use Rattle.can_fault.specs.declared.verdict.Verdict.TheVariants.{Good}
 
--- Rules for the verdicts of attempts (own choice).
+-- Rules that give attempts their verdicts (own choice).
 
--- an attempt, as rules see it: the interface that wins it, and the identifier word of its frame
+-- An attempt as rules see it: the interface that wins it, and the identifier word of its frame.
 pub record Head : Type 0 where
   pub winner : ℕ
   pub word : ℕ
 
--- an attempt that this interface wins, with a frame of this identifier word
+-- An attempt that this interface wins with a frame of this identifier word.
 abbrev pub won_by : ℕ → ℕ → Head
 won_by winner word = record { winner = winner; word = word }
 
--- the interface that wins is one of these; where none are named, any
+-- One of these interfaces wins the attempt; if no senders are named, any interface may win it.
 abbrev pub is_won_by : Option IfaceSet → Head → Bool
 is_won_by None head = true
 is_won_by (Some senders) head = is_in head.winner senders
 
--- an attempt of the rule's kind: by its sender, and by its frame's identifier word, as a filter of linux/can.h sees it
+-- The attempt matches the rule by its sender and by its identifier word, as a filter of linux/can.h does.
 abbrev pub rule_matches : Rule → Head → Bool
 rule_matches rule head = is_won_by rule.senders head && fits rule.filter head.word
 
--- no verdict is left
+-- No verdict is left.
 abbrev pub is_spent : Option ℕ → Bool
 is_spent None = false
 is_spent (Some left) = left == 0
 
--- a rule that gives no verdict any more
+-- The rule gives no more verdicts.
 abbrev pub is_used_up : Rule → Bool
 is_used_up rule = is_spent rule.left
 
--- one verdict fewer, where they are counted
+-- One verdict fewer, if the rule counts them.
 abbrev pub one_less : Option ℕ → Option ℕ
 one_less None = None
 one_less (Some left) = Some (left - 1)
 
--- it matches, and is not used up: it gives the verdict, or skips
+-- The rule matches the attempt and is not used up: it gives its verdict, or skips the attempt.
 abbrev pub is_rule_due : Rule → Head → Bool
 is_rule_due rule head = not (is_used_up rule) && rule_matches rule head
 
--- it gives the verdict
+-- The rule gives the attempt its verdict.
 abbrev pub gives : Rule → Head → Bool
 gives rule head = is_rule_due rule head && (rule.skip == 0)
 
--- what it gives
+-- The verdict that the rule gives the attempt, if it does.
 abbrev pub verdict_by_rule : Rule → Head → Option Verdict
 verdict_by_rule rule head = if gives rule head then Some rule.verdict else None
 
--- the rule after it was looked at: one that does not match, or is used up, is as before; one that still skips
--- counts that; any other counts the verdict that it gives
+-- The rule after it was asked. A rule that does not match, or is used up, does not change; a rule that skips counts the
+-- attempt as skipped; any other rule counts its verdict.
 abbrev pub asked_rule : Rule → Head → Rule
 asked_rule rule head =
     if is_rule_due rule head
     then (if rule.skip == 0 then record rule { left = one_less rule.left } else record rule { skip = rule.skip - 1 })
     else rule
 
--- the verdict of an attempt: the rules are looked at in their order, up to the first that gives one
+-- The verdict of an attempt: the rules are asked in order, up to the first that gives a verdict.
 abbrev pub chosen : List Rule → Head → Option Verdict
 chosen [] head = None
 chosen (rule ∷ rules) head = if gives rule head then Some rule.verdict else chosen rules head
 
--- the rule that gives it, as it is before it is asked
+-- The rule that decides the attempt, as it is before it is asked.
 abbrev pub deciding : List Rule → Head → Option Rule
 deciding [] head = None
 deciding (rule ∷ rules) head = if gives rule head then Some rule else deciding rules head
 
--- a verdict that no rule gives
+-- The decision with this verdict, which no rule gives.
 abbrev pub without_rule : Verdict → Decision
 without_rule verdict = record { verdict = verdict; rule = None }
 
--- a rule's verdict, and the rule's number; good where no rule gives one
+-- The verdict and number of a rule, or a good verdict if no rule decides.
 abbrev pub decision_by : Option Rule → Decision
 decision_by None = without_rule Good
 decision_by (Some rule) = record { verdict = rule.verdict; rule = Some rule.number }
 
--- the rules after that: those after the one that gives are not looked at
+-- The rules after the attempt; the rules after the deciding one are not asked.
 abbrev pub after_chosen : List Rule → Head → List Rule
 after_chosen [] head = []
 after_chosen (rule ∷ rules) head = asked_rule rule head ∷ (if gives rule head then rules else after_chosen rules head)
 
--- those that are not used up
+-- The rules that are not used up.
 abbrev pub usable : List Rule → List Rule
 usable rules = filter (λ rule. not (is_used_up rule)) rules
 
--- the verdicts of attempts, one after another
+-- The verdicts of successive attempts.
 abbrev pub verdicts : List Rule → List Head → List (Option Verdict)
 verdicts rules [] = []
 verdicts rules (head ∷ heads) = chosen rules head ∷ verdicts (after_chosen rules head) heads
 
--- the rules after attempts
+-- The rules after successive attempts.
 abbrev pub rules_after : List Rule → List Head → List Rule
 rules_after rules [] = rules
 rules_after rules (head ∷ heads) = rules_after (after_chosen rules head) heads
 
--- the rule at a place gives the verdict of an attempt
+-- The rule at this place gives the attempt its verdict.
 abbrev pub gives_at : ℕ → List Rule → Head → Bool
 gives_at place [] head = false
 gives_at zero (rule ∷ rules) head = gives rule head
 gives_at (suc place) (rule ∷ rules) head = not (gives rule head) && gives_at place rules head
 
--- a rule with this number gives an attempt this verdict
+-- A rule with this number gives the attempt this verdict.
 pub record GivesAs (rules : List Rule) (head : Head) (verdict : Verdict) (number : ℕ) : Type 0 where
   pub place : ℕ
   pub rule : Rule
@@ -118,13 +118,13 @@ pub record GivesAs (rules : List Rule) (head : Head) (verdict : Verdict) (number
   pub number_is : rule.number ≡ number
   pub verdict_is : rule.verdict ≡ verdict
 
--- how many of these attempts, one after another, it gives the verdict
+-- The number of these successive attempts to which the rule gives the verdict.
 abbrev pub times_given : ℕ → List Rule → List Head → ℕ
 times_given place rules [] = 0
 times_given place rules (head ∷ heads) =
     (if gives_at place rules head then 1 else 0) + times_given place (after_chosen rules head) heads
 
--- two lists that differ by two neighbours, no attempt being of the kind of both
+-- The lists differ in two swapped neighbours, and no attempt matches both of them.
 pub record AreSwapped (one other : List Rule) : Type 0 where
   pub front : List Rule
   pub first : Rule
@@ -134,7 +134,7 @@ pub record AreSwapped (one other : List Rule) : Type 0 where
   pub other_is : other ≡ front ++ second ∷ first ∷ back
   pub apart : (head : Head) → (rule_matches first head && rule_matches second head) ≡ false
 
--- a rule is added after the others, or refused where there are 64, or where memory is
+-- The rule is added after the others, or refused if there are 64 rules or memory is refused.
 abbrev pub AddsRule : Rule → List Rule → Result (Unit {0}) RuleRefusal → List Rule → Type 0
 AddsRule rule old (Ok done) new = (length old < 64) × (new ≡ old ++ rule ∷ [])
 AddsRule rule old (Err TooManyRules) new = (64 ≤ length old) × (new ≡ old)

@@ -16,13 +16,13 @@ ghost use Rattle.can_rules.specs.declared.run_faults.Change.TheVariants as chang
 ghost use Rattle.can_fault.specs.declared.verdict.Verdict.{Verdict};
 ghost use Rattle.can_fault.specs.declared.verdict.Verdict.TheVariants.{Good};
 
-/// Without rules no attempt is given a verdict, and nothing changes.
+/// A plan without rules gives no verdict, and attempts do not change it.
 pub fn without_rules_nothing_is_given()
     ensures verdict { (head : Head) → chosen [] head ≡ None }
     ensures counts { (head : Head) → after_chosen [] head ≡ [] }
 {}
 
-/// A plan without rules gives what its lines give, and stays.
+/// Without rules, a plan gives the verdicts of its script lines, and attempts do not change it.
 pub fn a_plan_without_rules_gives_what_its_lines_give()
     ensures verdict { (plan : PlanSeen) (attempt : ℕ) (head : Option (ℕ × CanFrame)) →
         plan.rules ≡ [] → given Good plan attempt head ≡ verdict_in plan.lines attempt }
@@ -31,7 +31,7 @@ pub fn a_plan_without_rules_gives_what_its_lines_give()
         plan.rules ≡ [] → plan_after source plan attempt head ≡ plan }
 {}
 
-/// A rule that is used up changes nothing: without it the verdicts are the same.
+/// A used-up rule has no effect: the verdicts are the same without it.
 pub fn a_used_up_rule_changes_nothing()
     ensures verdict { (rules : List Rule) (head : Head) →
         chosen (usable rules) head ≡ chosen rules head }
@@ -41,21 +41,21 @@ pub fn a_used_up_rule_changes_nothing()
         verdicts (usable rules) heads ≡ verdicts rules heads }
 {}
 
-/// The rule at the place that gives an attempt its verdict gives its own.
+/// If the rule at a place decides an attempt, the attempt gets that rule's verdict.
 pub fn the_rule_that_gives_gives_its_own()
     ensures { (rules : List Rule) (head : Head) (place : ℕ) (rule : Rule) →
         slice_get rules place ≡ Some rule → gives_at place rules head ≡ true →
         chosen rules head ≡ Some rule.verdict }
 {}
 
-/// A rule for the next `n` attempts gives at most `n` verdicts, whatever is tried.
+/// A rule for the next `n` attempts gives at most `n` verdicts, in any sequence of attempts.
 pub fn a_rule_gives_at_most_its_number()
     ensures { (rules : List Rule) (heads : List Head) (place n : ℕ) (rule : Rule) →
         slice_get rules place ≡ Some rule → rule.left ≡ Some n →
         times_given place rules heads ≤ n }
 {}
 
-/// The order of two neighbours matters only where an attempt is of the kind of both.
+/// The order of two neighbouring rules matters only for an attempt that matches both.
 pub fn order_matters_only_where_two_match()
     ensures verdict { (one other : List Rule) (head : Head) → AreSwapped one other →
         chosen one head ≡ chosen other head }
@@ -65,13 +65,14 @@ pub fn order_matters_only_where_two_match()
         verdicts one heads ≡ verdicts other heads }
 {}
 
-/// The verdict that is chosen is that of the rule that decides.
+/// The verdict of an attempt is the verdict of the rule that decides it.
 pub fn the_rule_that_decides_gives_the_verdict()
     ensures { (rules : List Rule) (head : Head) →
         chosen rules head ≡ option_map (λ (rule : Rule). rule.verdict) (deciding rules head) }
 {}
 
-/// Each rule has a number of its own: whatever is given, asked or ended, no number is used again.
+/// Each rule has its own number, and no number is used twice. This holds after a rule is given, an
+/// attempt is asked, or all rules end.
 pub fn numbers_are_not_used_again()
     ensures none { HasOwnNumbers no_plan }
     ensures given { (rule : Rule) (plan : PlanSeen) →
@@ -82,14 +83,16 @@ pub fn numbers_are_not_used_again()
     ensures ended { (plan : PlanSeen) → HasOwnNumbers plan → HasOwnNumbers (without_rules plan) }
 {}
 
-/// The rule that is named gave the attempt its verdict: among the rules that there were then, it is the first to give one.
+/// The rule with the reported number gave the attempt its verdict: it is the first of the current
+/// rules that gives one.
 pub fn the_rule_that_is_named_gave_the_verdict()
     ensures { (run : RunSeen) (head : Head) (verdict : Verdict) (number : ℕ) →
         rule_given run head verdict ≡ Some number →
         GivesAs (made_ready run).plan.rules head verdict number }
 {}
 
-/// A run with nothing to come asks exactly as its plan, and names the rule that the plan asks.
+/// A run without pending changes decides exactly as its plan does, and reports the same rule
+/// number.
 pub fn a_run_without_changes_asks_as_its_plan()
     ensures after { (run : RunSeen) (winner : ℕ) (frame : CanFrame) → run.later ≡ [] →
         (asked_run run (won_by winner (word_of frame))).plan
@@ -100,14 +103,15 @@ pub fn a_run_without_changes_asks_as_its_plan()
         ≡ (decided_at run.plan run.tried (won_by winner (word_of frame))).rule }
 {}
 
-/// A text without changes spells the run that its plan is.
+/// A text without change lines is read as a run with the plan that the text spells.
 pub fn a_text_without_changes_spells_its_plan()
     ensures { (names : List (List ℕ)) (text : List ℕ) →
         list_any is_later (lines_in text) ≡ false →
         run_spelling names text ≡ run_with_plan (no_run names) (plan_spelling names text) }
 {}
 
-/// The line of a rule is read as that rule, given before its attempt, and the line of an end as an end of all rules.
+/// The line of a rule is read as that rule, given before its attempt. A `nofaults` line is read as
+/// the end of all rules.
 pub fn lines_are_read_as_what_they_are_of()
     ensures given { (names : List (List ℕ)) (words : List ℕ) (rule : Rule) (attempt : ℕ) →
         attempt < 10 ^ 10 → rule_spelling names words ≡ Ok rule →
@@ -118,14 +122,14 @@ pub fn lines_are_read_as_what_they_are_of()
         ≡ Ok (record { attempt = attempt; change = change.End }) }
 {}
 
-/// What spells a rule is one line: it has no line feed.
+/// The words of a rule are one line: they contain no line feed.
 pub fn what_spells_a_rule_is_one_line()
     ensures { (names : List (List ℕ)) (words : List ℕ) (rule : Rule) →
         rule_spelling names words ≡ Ok rule → lines_in words ≡ words ∷ [] }
 {}
 
-/// The words that are written of a rule, which has a number, are read as that rule, and are one line: whatever words it was
-/// given in.
+/// The words written for a numbered rule are read back as that rule, and are one line. This holds
+/// for any words from which the rule was first read.
 pub fn a_written_rule_is_read_again()
     ensures again { (names : List (List ℕ)) (given : List ℕ) (rule : Rule) (number : ℕ) →
         AreNames names → rule_spelling names given ≡ Ok rule →
@@ -136,8 +140,8 @@ pub fn a_written_rule_is_read_again()
         rule_words names (numbered number rule) ∷ [] }
 {}
 
-/// After a text of whole lines, the line of a rule is that rule, given after the changes of the text, and the line of an
-/// end is an end of all rules after them.
+/// A rule line that follows a text of whole lines adds that rule after the changes of the text. A
+/// `nofaults` line adds the end of all rules in the same way.
 pub fn lines_after_a_text_are_read_after_it()
     ensures given { (names : List (List ℕ)) (text words : List ℕ) (run : RunSeen) (rule : Rule)
         (attempt : ℕ) →

@@ -1,7 +1,9 @@
-//! Rules of faults: verdicts by who sends what, and the plan of a bus, which is a script's lines and rules.
+//! Fault rules: they choose verdicts by sender and identifier. The plan of a bus has script lines
+//! and rules.
 //!
-//! A rule gives a verdict to the next attempts, or to all, of some senders or with some identifiers. A plan is asked once
-//! for each attempt that tries a frame, and counts what its rules give. What is written of a rule is read as that rule.
+//! A rule gives a verdict to the next attempts, or to all, of some senders or with some
+//! identifiers. A bus asks its plan once for each attempt that tries a frame, and the plan counts
+//! the verdicts of its rules. The text written for a rule is read back as that rule.
 #![tactic(auto)]
 
 pub mod laws;

@@ -13,23 +13,23 @@ use std::marker::Model;
 use std::str;
 use thiserror::Error;
 
-/// Why a text is no plan. Lines are numbered from 1.
+/// Why a text does not spell a plan. Lines are numbered from 1.
 #[derive(Debug, Clone, Copy, PartialEq, Eq, Error)]
 pub enum PlanError {
-    /// A line is none that a script or a rule has, or memory was refused.
+    /// A line fits neither a script nor a rule, or memory was refused.
     #[error("{0}")]
     Script(ScriptError),
-    /// The line of this number is a rule after 64 others.
+    /// The line with this number is a rule, and 64 rules come before it.
     #[error("script line {0}: too many rules")]
     TooManyRules(usize),
 }
 
-/// The faults that a bus is to have: the verdicts of attempts by their numbers, as the lines of a script, and rules.
+/// The planned faults of a bus: script lines, which give verdicts by attempt number, and rules.
 #[derive(Drop)]
 pub struct Plan {
     script: Script,
     rules: Rules,
-    // How many rules it took.
+    // The number of rules taken so far.
     taken: u64,
 }
 
@@ -46,7 +46,7 @@ impl Model for Plan {
 }
 
 impl Plan {
-    /// The plan without lines and rules: each attempt is good.
+    /// Returns the plan without lines and rules: each attempt is good.
     pub fn new(alloc: Global) -> Plan
         ensures { result ≡ no_plan }
     {
@@ -57,8 +57,8 @@ impl Plan {
         }
     }
 
-    /// The plan that a text spells, for a bus with these names, or the first fault of the text: each line is one of
-    /// a script, or a rule. Time as `Script::read`.
+    /// Reads a plan from a text, for a bus with these names, or returns the first fault of the
+    /// text. Each line is a script line or a rule. The time is that of `Script::read`.
     pub fn read(alloc: Global, text: &str, names: &Names) -> Result<Plan, PlanError>
         ensures { ReadsPlan names.now text.now result }
     {
@@ -73,7 +73,7 @@ impl Plan {
         Ok(plan)
     }
 
-    /// Takes what a line says, which has this number in its text. After an error the plan is not meant to be used.
+    /// Takes a line that has this number in its text. After an error, do not use the plan.
     pub(crate) fn take_line(
         &mut self,
         line: &str,
@@ -91,7 +91,7 @@ impl Plan {
         }
     }
 
-    // Takes the rule that a line with this number is.
+    // Takes a line that is a rule and has this number.
     fn take_rule(&mut self, line: &str, number: usize, names: &Names) -> Result<(), PlanError>
         requires { is_rule line.now ≡ true }
         ensures { TakesPlanLine names.now line.now number self.old result self.new }
@@ -107,8 +107,8 @@ impl Plan {
         }
     }
 
-    /// One rule more, after the others, with its number. `TooManyRules` exactly where there are 64. A refusal changes
-    /// nothing.
+    /// Adds a rule after the others and numbers it. Returns `TooManyRules` exactly if there are 64
+    /// rules. A refusal changes nothing.
     pub fn give(&mut self, mut rule: Rule) -> Result<(), RuleRefusal>
         ensures { GivesRule rule self.old result self.new }
     {
@@ -119,9 +119,9 @@ impl Plan {
         Ok(())
     }
 
-    /// The verdict of the attempt with this number, for which a source has its own, where no rule is asked: the source's,
-    /// if it is a fault; else that of the script's line, also a good one; else `Good`, where there are no rules. `None`
-    /// where the rules decide.
+    /// Returns the verdict of an attempt if it depends on no rule. A fault of the source comes
+    /// first, then the verdict of the script line, even if it is good. Without a line and without
+    /// rules the verdict is `Good`. Returns `None` if the rules decide.
     pub fn verdict_without_rules(&self, source: Verdict, attempt: u64) -> Option<Verdict>
         ensures settled { IfSome result (λ v. IsSettled source self.now attempt v) }
         ensures open { IfNone result (IsUpToRules source self.now attempt) }
@@ -132,7 +132,7 @@ impl Plan {
         }
     }
 
-    // The same, where the source has no fault.
+    // The same, for a source without a fault.
     fn line_or_good(&self, attempt: u64) -> Option<Verdict>
         ensures settled { IfSome result (λ v. IsSettled Verdict.Good self.now attempt v) }
         ensures open { IfNone result (IsUpToRules Verdict.Good self.now attempt) }
@@ -144,7 +144,8 @@ impl Plan {
         line
     }
 
-    /// The verdict that the first rule to give one gives an attempt that tries this, or `Good`. Asks each rule at most once.
+    /// Returns the verdict of the first rule that gives one to an attempt with this head, or
+    /// `Good`. It asks each rule at most once.
     pub fn verdict_of_rules(&mut self, head: Option<(Iface, Frame)>) -> Verdict
         ensures verdict { result ≡ ruled self.old.rules (head_in head) }
         ensures after { self.new ≡ with_rules (after_ruled self.old.rules (head_in head)) self.old }
@@ -152,7 +153,7 @@ impl Plan {
         self.decision_of_rules(head).verdict
     }
 
-    /// The same verdict, with the number of the rule that gives it.
+    /// Returns the same verdict, with the number of the rule that gives it.
     pub fn decision_of_rules(&mut self, head: Option<(Iface, Frame)>) -> Decision
         ensures decision { result ≡ decided self.old.rules (head_in head) }
         ensures after { self.new ≡ with_rules (after_ruled self.old.rules (head_in head)) self.old }
@@ -163,8 +164,9 @@ impl Plan {
         }
     }
 
-    /// The verdict of the attempt with this number, which this interface wins with a frame of this identifier word, where no
-    /// source has a fault: that of the script's line, else that of the rules.
+    /// Returns the decision for the attempt with this number, if no source has a fault. This
+    /// interface wins it with a frame of this identifier word. A script line comes before the
+    /// rules.
     pub(crate) fn decision(&mut self, attempt: u64, winner: Iface, word: u32) -> Decision
         ensures decision { result ≡ decided_at self.old attempt (won_by winner word) }
         ensures after { self.new ≡ plan_asked self.old attempt (won_by winner word) }
@@ -175,8 +177,9 @@ impl Plan {
         }
     }
 
-    /// One rule more, after the others, from the bytes of a text, for a bus with these names. Refusals, in this order, which
-    /// change nothing: `BadRule` or `UnknownInterface`, by the first word that is wrong, `TooManyRules` where there are 64,
+    /// Reads a rule from the bytes of a text, for a bus with these names, and adds it after the
+    /// others. A refusal changes nothing. The refusals, in this order: `BadRule` or
+    /// `UnknownInterface`, by the first wrong word; `TooManyRules`, if there are 64 rules;
     /// `NoMemory`.
     pub fn inject(&mut self, text: &[u8], names: &Names) -> Result<(), RuleRefusal>
         ensures { Injected names.now text.now self.old result self.new }
@@ -185,7 +188,7 @@ impl Plan {
         self.give(rule)
     }
 
-    /// How many rules are left.
+    /// Returns the number of rules that are left.
     pub fn rules(&self) -> usize
         ensures rules { result ≡ length self.now.rules }
         ensures few { result ≤ 64 }
@@ -193,21 +196,21 @@ impl Plan {
         self.rules.len()
     }
 
-    /// The rules that are left, in their order.
+    /// Returns the rules that are left, in their order.
     pub(crate) fn rules_left(&self) -> &[Rule]
         ensures { result.now ≡ self.now.rules }
     {
         self.rules.as_slice()
     }
 
-    /// How many rules it took: the number of the last one.
+    /// Returns the number of rules taken so far, which is the number of the last rule.
     pub(crate) fn taken(&self) -> u64
         ensures { result ≡ self.now.taken }
     {
         self.taken
     }
 
-    /// Ends all rules. The lines stay.
+    /// Ends all rules. The script lines remain.
     pub fn end_rules(&mut self)
         ensures { self.new ≡ without_rules self.old }
     {
@@ -215,8 +218,8 @@ impl Plan {
     }
 }
 
-/// The rule that the bytes of a text spell, for a bus with these names. `BadRule` or `UnknownInterface`, by the first word
-/// that is wrong.
+/// Reads a rule from the bytes of a text, for a bus with these names. Returns `BadRule` or
+/// `UnknownInterface` by the first wrong word.
 pub fn spelled_rule(text: &[u8], names: &Names) -> Result<Rule, RuleRefusal>
     ensures { SpellsRule names.now text.now result }
 {
@@ -230,7 +233,7 @@ pub fn spelled_rule(text: &[u8], names: &Names) -> Result<Rule, RuleRefusal>
 }
 
 impl WrongWord {
-    // How it is refused.
+    // Returns the refusal for this wrong word.
     fn refusal(self) -> RuleRefusal
         ensures { result ≡ refusal_of self }
     {
@@ -240,7 +243,7 @@ impl WrongWord {
         }
     }
 
-    /// How it is refused in the line of this number.
+    /// Returns the error for this wrong word in the line with this number.
     pub(crate) fn at(self, number: usize) -> PlanError
         ensures { result ≡ at_word number self }
     {

@@ -2,29 +2,29 @@ use can_fault::Verdict;
 use can_filter::Filter;
 use can_frame::{Iface, IfaceSet};
 
-/// A rule, with what is left of its counts.
+/// A fault rule, with the counts that are left.
 #[derive(Debug, Clone, Copy, PartialEq, Eq)]
 pub struct Rule {
-    /// The interfaces whose attempts it is for, or `None` for those of all.
+    /// The senders whose attempts match, or `None` if all senders match.
     pub senders: Option<IfaceSet>,
-    /// What the frame's identifier word has to match.
+    /// The filter that the identifier word of the frame has to pass.
     pub filter: Filter,
-    /// How many more such attempts it leaves to the rules after it.
+    /// The number of matching attempts that the rule still skips.
     pub skip: u32,
-    /// How many verdicts it still gives, or `None` where it is never used up.
+    /// The number of verdicts that the rule still gives, or `None` if it is never used up.
     pub left: Option<u32>,
-    /// What it gives.
+    /// The verdict that the rule gives.
     pub verdict: Verdict,
-    /// Its number among all that its plan took, from 1; 0 before it was taken.
+    /// The number of the rule in its plan, from 1; 0 before the plan takes the rule.
     pub number: u64,
 }
 
-/// What rules give an attempt.
+/// The decision of the rules about an attempt.
 #[derive(Debug, Clone, Copy, PartialEq, Eq)]
 pub struct Decision {
-    /// The verdict: `Good` where no rule gives one.
+    /// The verdict: `Good` if no rule gives one.
     pub verdict: Verdict,
-    /// The number of the rule that gives it, if one does.
+    /// The number of the rule that gives the verdict, if a rule does.
     pub rule: Option<u64>,
 }
 
@@ -32,14 +32,14 @@ impl Decision {
     ghost use Rattle.std.specs.Prelude.{◌≡◌, None};
     ghost use Rattle.can_rules.specs.Rules.{decision_by, without_rule};
 
-    /// No rule gives a verdict.
+    /// Returns the decision if no rule gives a verdict.
     pub(crate) fn good() -> Decision
         ensures { result ≡ decision_by None }
     {
         Decision::without_rule(Verdict::Good)
     }
 
-    /// This verdict, and no rule gives it.
+    /// Returns the decision with this verdict, which no rule gives.
     pub(crate) fn without_rule(verdict: Verdict) -> Decision
         ensures { result ≡ without_rule verdict }
     {
@@ -54,7 +54,7 @@ impl Rule {
     ghost use Rattle.std.specs.Prelude.{◌≡◌};
     ghost use Rattle.can_rules.specs.Rules.{is_used_up, rule_matches, verdict_by_rule, asked_rule, won_by};
 
-    /// Whether it gives no more verdicts.
+    /// Returns whether the rule gives no more verdicts.
     pub fn is_used_up(&self) -> bool
         ensures { result ≡ is_used_up self.now }
     {
@@ -64,7 +64,7 @@ impl Rule {
         }
     }
 
-    // Whether it is for an attempt at a frame with this identifier word.
+    // Returns whether the rule matches an attempt at a frame with this identifier word.
     fn matches(&self, winner: Iface, word: u32) -> bool
         ensures { result ≡ rule_matches self.now (won_by winner word) }
     {
@@ -75,7 +75,7 @@ impl Rule {
         is_from && self.filter.matches(word)
     }
 
-    /// Asks the rule for the verdict of an attempt, and counts.
+    /// Asks the rule for the verdict of an attempt, and counts the attempt.
     pub(crate) fn ask(&mut self, winner: Iface, word: u32) -> Option<Verdict>
         ensures verdict { result ≡ verdict_by_rule self.old (won_by winner word) }
         ensures counts { self.new ≡ asked_rule self.old (won_by winner word) }

@@ -1,4 +1,4 @@
-//! What becomes of the rules of a bus while its run goes on, as the lines that [`RunFaults`](crate::RunFaults) reads.
+//! Changes to the rules of a running bus, as lines that [`RunFaults`](crate::RunFaults) reads.
 ghost use Rattle.std.specs.Prelude.{◌≡◌, ◌++◌, Some, IfOk, OnErr, OnOk};
 ghost use Rattle.can_rules.specs.Plans.{GivesRule};
 ghost use Rattle.can_rules.specs.RuleLines.{never_lines, no_lines, nofaults_line, given_line, text_of_lines, with_end, with_given, with_none_left};
@@ -11,15 +11,16 @@ use std::io::Write;
 use std::marker::Model;
 use std::mem;
 
-/// How many bytes of lines wait at most to be taken.
+/// The most bytes of lines that may wait.
 const MOST_BYTES: usize = 1 << 26;
 
-/// The lines of rules that were given while a run went on, and of where all rules were ended, which wait to be taken. Where
-/// nobody takes them, none are kept.
+/// Lines about rules that were given or ended during a run. They wait here until a caller takes
+/// them. If no caller takes lines, none are kept.
 #[derive(Drop)]
 pub struct RuleLines {
     text: Vec<u8>,
-    // Before which attempt all rules ended, where none was given since. So an end takes no memory.
+    // The attempt before which all rules ended, if no rule was given since. With this field an end
+    // needs no memory.
     ended: Option<u64>,
     kept: bool,
 }
@@ -33,7 +34,7 @@ impl Model for RuleLines {
 }
 
 impl RuleLines {
-    /// No line.
+    /// Returns a value without lines.
     pub fn new(alloc: Global) -> RuleLines
         ensures { result ≡ no_lines }
     {
@@ -44,7 +45,7 @@ impl RuleLines {
         }
     }
 
-    /// Lets go of the lines, and keeps none from now on.
+    /// Drops the lines, and keeps none from now on.
     pub fn keep_none(&mut self)
         ensures { self.new ≡ never_lines }
     {
@@ -54,9 +55,10 @@ impl RuleLines {
         self.kept = false;
     }
 
-    /// Gives a plan a rule, after the others, and adds its line, if lines are kept: it came in these words, before the attempt
-    /// with this number among those that try a frame. Refusals, in this order, which change nothing: `TooManyRules` where there
-    /// are 64, `NoMemory`, also where 64 MiB of lines wait.
+    /// Adds a rule to a plan, after the others. If lines are kept, it also adds the line of the
+    /// rule: the rule came in these words, before the attempt with this number. Attempts count if
+    /// they try a frame. A refusal changes nothing. The refusals, in this order: `TooManyRules`, if
+    /// there are 64 rules; `NoMemory`, also if 64 MiB of lines wait.
     pub fn give(
         &mut self,
         plan: &mut Plan,
@@ -88,7 +90,7 @@ impl RuleLines {
         Ok(())
     }
 
-    // The line of an end that has none yet, and that of a rule after it.
+    // The pending end line, if there is one, and the line of this rule after it.
     fn with_line(&self, attempt: u64, words: &[u8]) -> Result<Vec<u8>, AllocError>
         ensures { IfOk result (λ lines.
             lines.items ≡ nofaults_line self.now.ended ++ given_line attempt words.now) }
@@ -103,8 +105,8 @@ impl RuleLines {
         Ok(lines)
     }
 
-    /// All rules end before the attempt with this number. It changes nothing where they have ended before, and none was
-    /// given since, or where no lines are kept.
+    /// Ends all rules before the attempt with this number. Nothing changes if no lines are kept, or
+    /// if all rules have ended and none was given since.
     pub fn end(&mut self, attempt: u64)
         ensures { self.new ≡ with_end attempt self.old }
     {
@@ -113,7 +115,7 @@ impl RuleLines {
         }
     }
 
-    /// Takes the lines out. `AllocError` where memory is refused: then they stay.
+    /// Takes the lines out. Returns `AllocError` if memory is refused; then the lines remain.
     pub fn take(&mut self) -> Result<Vec<u8>, AllocError>
         ensures taken { IfOk result (λ lines. lines.items ≡ text_of_lines self.old) }
         ensures after { OnOk result (self.new ≡ with_none_left self.old) }
@@ -127,7 +129,7 @@ impl RuleLines {
     }
 }
 
-// The line of an end of all rules, if there is one.
+// The line for the end of all rules, if they ended.
 fn end_of(alloc: Global, ended: Option<u64>) -> Result<Vec<u8>, AllocError>
     ensures { IfOk result (λ line. line.items ≡ nofaults_line ended) }
 {
@@ -137,7 +139,7 @@ fn end_of(alloc: Global, ended: Option<u64>) -> Result<Vec<u8>, AllocError>
     }
 }
 
-// The line of an end before this attempt.
+// The line for the end of all rules before this attempt.
 fn end_before(alloc: Global, attempt: u64) -> Result<Vec<u8>, AllocError>
     ensures { IfOk result (λ line. line.items ≡ nofaults_line (Some attempt)) }
 {

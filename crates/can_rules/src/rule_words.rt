@@ -8,36 +8,37 @@ use can_filter::Filter;
 use can_frame::{Names, read_decimal, read_hexadecimal};
 use thiserror::Error;
 
-/// Which word of a rule, or before it, is wrong: its text is the form that the word has.
+/// The first wrong word of a rule, or of its `at` line. The text of each error is the form of that
+/// word.
 #[derive(Debug, Clone, Copy, PartialEq, Eq, Error)]
 pub enum WrongWord {
-    /// It begins with neither `next` nor `always`.
+    /// The text begins with neither `next` nor `always`.
     #[error("a rule begins with next N or always, as next 32 from can0 global bit")]
     Beginning,
-    /// The number after `next` is none, or 0.
+    /// The word after `next` is not a number, or is 0.
     #[error("next N: N has 1 to 8 digits and is not 0")]
     Count,
-    /// The names after `from` are no names.
+    /// The word after `from` is not a list of names.
     #[error("from NAMES: names of 1 to 15 bytes are joined by commas, without spaces")]
     Senders,
-    /// A name is of no interface of the bus.
+    /// A name belongs to no interface of the bus.
     #[error("NAMES: each is an interface of the bus")]
     UnknownInterface,
-    /// The identifier after `id` is none.
+    /// The word after `id` is not an identifier.
     #[error("id ID: 3 hexadecimal digits up to 7FF or 8 up to 1FFFFFFF; or ID:MASK, 1 to 8 digits each, without bit 29 in MASK")]
     Identifier,
-    /// The number after `at` is none.
+    /// The word after `at` is not a number.
     #[error("at N: N has 1 to 10 digits")]
     Attempt,
-    /// The number after `skip` is none.
+    /// The word after `skip` is not a number.
     #[error("skip K: K has 1 to 8 digits")]
     Skip,
-    /// What is left is no verdict.
+    /// The rest of the rule is not a verdict.
     #[error("after next N or always come from NAMES, id ID and skip K, in this order, each or none, and then VERDICT, with one space between words: good, lastbit, global bit, global form, local stuff NAMES, local crc NAMES or local form NAMES")]
     Verdict,
 }
 
-/// Whether a line begins as a rule does.
+/// Returns whether a line begins as a rule does.
 pub fn begins_as_rule(line: &str) -> bool
     ensures { result ≡ is_rule line.now }
 {
@@ -45,11 +46,12 @@ pub fn begins_as_rule(line: &str) -> bool
     first == "next" || first == "always"
 }
 
-/// The rule that a text spells, for a bus with these names.
+/// Reads a rule from a text, for a bus with these names.
 ///
-/// A rule is `next N` or `always`, then `from NAMES`, `id ID` and `skip K`, each or none, and a verdict as in a
-/// script, with one space between words. `ID` is 3 hexadecimal digits, 8 of them, or 1 to 8 with a colon and a mask of
-/// 1 to 8, as the words of `filter`.
+/// A rule begins with `next N` or `always`. The parts `from NAMES`, `id ID` and `skip K` may follow
+/// in this order. A verdict as in a script ends the rule. One space separates words. `ID` has 3
+/// hexadecimal digits, or 8. With a colon and a mask, `ID` and mask have 1 to 8 digits each, as the
+/// words of `filter`.
 #[tactic(auto, unfolding(crate::specs::RuleWords::rule_spelling))]
 pub fn read_rule(text: &str, names: &Names) -> Result<Rule, WrongWord>
     ensures { result ≡ rule_spelling names.now text.now }
@@ -138,7 +140,7 @@ fn read_end(mut rule: Rule, text: &str, names: &Names) -> Result<Rule, WrongWord
     }
 }
 
-// Which word is wrong, where a part has a fault.
+// Returns the wrong word for a fault in this part.
 fn wrong_word(which: WrongWord, fault: LineFault) -> WrongWord
     ensures { result ≡ wrong_word_of which fault }
 {
@@ -148,7 +150,7 @@ fn wrong_word(which: WrongWord, fault: LineFault) -> WrongWord
     }
 }
 
-// 1 to 8 decimal digits.
+// Reads 1 to 8 decimal digits.
 fn read_small(text: &str) -> Option<u32>
     ensures { result ≡ small_spelling text.now }
 {
@@ -158,7 +160,7 @@ fn read_small(text: &str) -> Option<u32>
     }
 }
 
-// Such a number, and not 0.
+// Reads 1 to 8 decimal digits, and refuses 0.
 fn read_count(text: &str) -> Option<u32>
     ensures { result ≡ count_spelling text.now }
 {
@@ -179,7 +181,7 @@ fn read_filter(text: &str) -> Option<Filter>
     }
 }
 
-// The text before the first colon, and the text after it; the whole and nothing where there is no colon.
+// Splits a text at its first colon. Without a colon, the second part is empty.
 fn cut_colon(text: &str) -> (&str, &str)
     ensures id { result.0.now ≡ before_colon text.now }
     ensures mask { result.1.now ≡ mask_in text.now }
@@ -187,7 +189,7 @@ fn cut_colon(text: &str) -> (&str, &str)
     text.split_once(':').unwrap_or((text, ""))
 }
 
-// 3 hexadecimal digits, or 8.
+// Reads 3 hexadecimal digits, or 8.
 #[tactic(auto, unfolding(crate::specs::RuleWords::plain_spelling))]
 fn read_plain(text: &str) -> Option<Filter>
     ensures { result ≡ plain_spelling text.now }
@@ -207,7 +209,7 @@ fn read_plain(text: &str) -> Option<Filter>
     }
 }
 
-// The words with an 11-bit identifier.
+// Returns the filter for this 11-bit identifier.
 fn standard(number: u32) -> Option<Filter>
     ensures { result ≡ of_standard number }
 {
@@ -218,7 +220,7 @@ fn standard(number: u32) -> Option<Filter>
     }
 }
 
-// The words with a 29-bit identifier.
+// Returns the filter for this 29-bit identifier.
 fn extended(number: u32) -> Option<Filter>
     ensures { result ≡ of_extended number }
 {

@@ -7,26 +7,26 @@ use std::alloc::Global;
 use std::marker::Model;
 use thiserror::Error;
 
-/// The most rules of a bus.
+/// The largest number of rules of a bus.
 pub const MAX_RULES: usize = 64;
 
 /// Why a rule was not taken.
 #[derive(Debug, Clone, Copy, PartialEq, Eq, Error)]
 pub enum RuleRefusal {
-    /// The text spells no rule.
+    /// The text is not a rule.
     #[error("bad rule")]
     BadRule,
-    /// The text names an interface that the bus does not have, and is a rule otherwise so far.
+    /// The text names an interface that the bus does not have, and is a valid rule up to this name.
     #[error("no such interface")]
     UnknownInterface,
-    /// There are 64 rules.
+    /// There are already 64 rules.
     #[error("too many rules")]
     TooManyRules,
     #[error("no memory")]
     NoMemory,
 }
 
-/// Rules in the order in which they were given: at most 64. None is used up.
+/// At most 64 rules, in the order in which they were given. No used-up rule is kept.
 #[derive(Drop)]
 pub struct Rules {
     rules: Vec<Rule>,
@@ -44,7 +44,7 @@ impl Model for Rules {
 }
 
 impl Rules {
-    /// No rule.
+    /// Returns a value without rules.
     pub fn new(alloc: Global) -> Rules
         ensures { result ≡ [] }
     {
@@ -53,7 +53,8 @@ impl Rules {
         }
     }
 
-    /// What the rules give an attempt. A rule that is used up by it goes.
+    /// Returns the decision of the rules about an attempt. A rule that this attempt uses up is
+    /// removed.
     pub fn decision(&mut self, winner: Iface, word: u32) -> Decision
         ensures decision { result ≡ decision_by (deciding self.old (won_by winner word)) }
         ensures counts { self.new ≡ usable (after_chosen self.old (won_by winner word)) }
@@ -63,7 +64,7 @@ impl Rules {
         given
     }
 
-    /// One rule more, after the others. `TooManyRules` exactly where there are 64.
+    /// Adds a rule after the others. Returns `TooManyRules` exactly if there are 64 rules.
     pub fn add(&mut self, rule: Rule) -> Result<(), RuleRefusal>
         ensures { AddsRule rule self.old result self.new }
     {
@@ -76,7 +77,7 @@ impl Rules {
         }
     }
 
-    /// How many there are.
+    /// Returns the number of rules.
     pub fn len(&self) -> usize
         ensures len { result ≡ length self.now }
         ensures few { result ≤ 64 }
@@ -84,14 +85,14 @@ impl Rules {
         self.rules.len()
     }
 
-    /// All of them, in their order.
+    /// Returns all rules in their order.
     pub fn as_slice(&self) -> &[Rule]
         ensures { result.now ≡ self.now }
     {
         &self.rules
     }
 
-    /// Whether there are none.
+    /// Returns whether there are no rules.
     pub fn is_empty(&self) -> bool
         ensures { result ≡ (length self.now == 0) }
     {
@@ -106,7 +107,7 @@ impl Rules {
     }
 }
 
-// What the first of the rules to give a verdict gives an attempt.
+// Returns the decision of the first rule that gives a verdict to an attempt.
 fn decision_among(rules: &mut [Rule], winner: Iface, word: u32) -> Decision
     ensures decision { result ≡ decision_by (deciding rules.old (won_by winner word)) }
     ensures counts { rules.new ≡ after_chosen rules.old (won_by winner word) }
@@ -123,7 +124,7 @@ fn decision_among(rules: &mut [Rule], winner: Iface, word: u32) -> Decision
     Decision::good()
 }
 
-// Lets those go that are used up.
+// Removes the used-up rules.
 fn keep_unused(rules: &mut Vec<Rule>)
     ensures unused { rules.new.items ≡ usable rules.old.items }
     ensures few { length rules.new.items ≤ length rules.old.items }

@@ -13,46 +13,46 @@ use can_frame::{Frame, Iface, Names, read_decimal};
 use std::alloc::{AllocError, Global};
 use std::marker::Model;
 
-/// What became of a plan while its run went on.
+/// A change to the rules of a plan during its run.
 #[derive(Debug, Clone, Copy, PartialEq, Eq)]
 pub enum Change {
     /// This rule was given.
     Give(Rule),
-    /// All rules were ended.
+    /// All rules ended.
     End,
 }
 
 /// A change, with its place in the run.
 #[derive(Debug, Clone, Copy, PartialEq, Eq)]
 pub struct Later {
-    /// The attempt that it came before: its number among those that tried a frame, from 0.
+    /// The number of the attempt that follows the change. Attempts that try a frame count, from 0.
     pub attempt: u64,
     /// The change.
     pub change: Change,
 }
 
-/// What became of a change when the run came to it.
+/// The result of a change in a run.
 #[derive(Debug, Clone, Copy, PartialEq, Eq)]
 pub enum Made {
-    /// The bus took this rule, which has its number.
+    /// The bus took this rule, which now has its number.
     Taken(Rule),
-    /// The rule was not taken, since 64 were left.
+    /// The bus did not take the rule, since 64 rules were left.
     Refused,
-    /// All rules were ended.
+    /// All rules ended.
     Ended,
 }
 
-/// The faults of a run that is over: its plan, and what was given or ended while it went on. It makes these changes in their
-/// turn, and finds which rule gave an attempt its verdict.
+/// The faults of a finished run: its plan, and the rules that were given or ended during the run.
+/// It repeats these changes in order, and finds which rule gave an attempt its verdict.
 #[derive(Drop)]
 pub struct RunFaults {
     names: Names,
     plan: Plan,
-    // In the order in which they came.
+    // The changes, in the order in which they came.
     changes: Vec<Later>,
-    // How many of them were made.
+    // The number of changes made so far.
     made: usize,
-    // How many attempts tried a frame.
+    // The number of attempts so far that tried a frame.
     tried: u64,
 }
 
@@ -77,7 +77,7 @@ impl Model for RunFaults {
 }
 
 impl RunFaults {
-    /// No line, no rule, nothing to come, for a bus with these names.
+    /// Returns a run without lines, rules and changes, for a bus with these names.
     pub fn new(alloc: Global, names: Names) -> RunFaults
         ensures { result ≡ no_run names }
     {
@@ -90,10 +90,10 @@ impl RunFaults {
         }
     }
 
-    /// The faults that a text spells, for a bus with these names, or the first fault of the text. A line is one of a plan,
-    /// or `at N RULE` or `at N nofaults`: the rule was given, or all rules were ended, before the attempt with this number
-    /// among those that tried a frame, from 0. `N` is 1 to 10 decimal digits, and does not decrease. Time as
-    /// `Script::read`.
+    /// Reads the faults of a run from a text, for a bus with these names, or returns the first
+    /// fault of the text. A line is a plan line, `at N RULE` or `at N nofaults`. The rule was
+    /// given, or all rules ended, before attempt `N`; attempts that try a frame count, from 0. `N`
+    /// has 1 to 10 decimal digits, and does not decrease. The time is that of `Script::read`.
     pub fn read(alloc: Global, text: &str, names: Names) -> Result<RunFaults, PlanError>
         ensures { ReadsRunFaults names text.now result }
     {
@@ -108,7 +108,7 @@ impl RunFaults {
         Ok(faults)
     }
 
-    // Takes what a line says, which has this number in its text.
+    // Takes a line that has this number in its text.
     fn take_line(&mut self, line: &str, number: usize) -> Result<(), PlanError>
         ensures taken { TakesRunLine self.old.names line.now number self.old result self.new }
         ensures names { self.new.names ≡ self.old.names }
@@ -120,7 +120,7 @@ impl RunFaults {
         }
     }
 
-    // Takes the change that a line with this number is.
+    // Takes a line that is a change and has this number.
     fn take_later(&mut self, line: &str, number: usize) -> Result<(), PlanError>
         requires { is_later line.now ≡ true }
         ensures taken { TakesRunLine self.old.names line.now number self.old result self.new }
@@ -139,29 +139,31 @@ impl RunFaults {
         }
     }
 
-    /// The names of the bus.
+    /// Returns the names of the bus.
     pub fn names(&self) -> &Names
         ensures { result.now ≡ self.now.names }
     {
         &self.names
     }
 
-    /// The rules that are left, in their order: before anything is asked or made those of the script.
+    /// Returns the rules that are left, in their order. Before the first attempt and change these
+    /// are the rules of the plan.
     pub fn rules_left(&self) -> &[Rule]
         ensures { result.now ≡ self.now.plan.rules }
     {
         self.plan.rules_left()
     }
 
-    /// How many attempts tried a frame so far: the number of the next one that does.
+    /// Returns the number of attempts so far that tried a frame, which is the number of the next
+    /// one.
     pub fn tried(&self) -> u64
         ensures { result ≡ self.now.tried }
     {
         self.tried
     }
 
-    /// Makes the next change, if it came before the attempt with this number, and returns what became of it. After an error it
-    /// is not meant to be used.
+    /// Makes the next change if it comes before the attempt with this number, and returns its
+    /// result. After an error, do not use the value.
     pub fn make_next(&mut self, attempt: u64) -> Result<Option<Made>, AllocError>
         ensures made { IfOk result (λ made.
             made ≡ next_made attempt self.old.plan self.old.later) }
@@ -175,8 +177,9 @@ impl RunFaults {
         Ok(Some(made))
     }
 
-    /// The number of the rule that gave the next attempt that tried a frame this verdict, if one did. To be asked of each such
-    /// attempt, in their order, once the changes before it are made.
+    /// Returns the number of the rule that gave the next attempt this verdict, if a rule did. Call
+    /// it for each attempt that tried a frame, in order, after the changes before that attempt are
+    /// made.
     pub fn rule_of(&mut self, winner: Iface, frame: &Frame, verdict: Verdict) -> Option<u64>
         ensures rule { result ≡ rule_now self.old (won_by winner (word_of frame.now)) verdict }
         ensures after { self.new ≡ asked_now self.old (won_by winner (word_of frame.now)) }
@@ -191,7 +194,7 @@ impl RunFaults {
     }
 }
 
-// The first of these changes, if it comes before the attempt with this number.
+// Returns the first of these changes, if it comes before the attempt with this number.
 fn due(later: &[Later], attempt: u64) -> Option<Later>
     ensures { result ≡ due_of attempt later.now }
 {
@@ -202,7 +205,7 @@ fn due(later: &[Later], attempt: u64) -> Option<Later>
 }
 
 impl Change {
-    // Changes a plan, and returns what became of the change.
+    // Makes the change in a plan, and returns its result.
     fn make(self, plan: &mut Plan) -> Result<Made, AllocError>
         ensures made { IfOk result (λ made. made ≡ made_of self plan.old) }
         ensures after { OnOk result (plan.new ≡ after_change self plan.old) }
@@ -217,7 +220,7 @@ impl Change {
     }
 }
 
-// Gives a rule, which is not taken where 64 are left.
+// Gives a rule to a plan, which refuses it if 64 rules are left.
 fn give(plan: &mut Plan, rule: &Rule) -> Result<Made, AllocError>
     ensures made { IfOk result (λ made. made ≡ made_of (Change.Give rule.now) plan.old) }
     ensures after { OnOk result (plan.new ≡ after_change (Change.Give rule.now) plan.old) }
@@ -233,7 +236,7 @@ fn give(plan: &mut Plan, rule: &Rule) -> Result<Made, AllocError>
     }
 }
 
-/// Whether a line begins as one of what was given or ended while the run went on does.
+/// Returns whether a line begins with `at`, as the line of a change does.
 pub fn begins_as_later(line: &str) -> bool
     ensures { result ≡ is_later line.now }
 {
@@ -241,7 +244,7 @@ pub fn begins_as_later(line: &str) -> bool
     first == "at"
 }
 
-/// What such a line says: after `at` come a number and a rule, or a number and `nofaults`.
+/// Reads the line of a change: `at`, a number, and a rule or `nofaults`.
 #[tactic(auto, unfolding(crate::specs::RunFaults::later_spelling))]
 pub fn read_later(line: &str, names: &Names) -> Result<Later, WrongWord>
     ensures { result ≡ later_spelling names.now line.now }
@@ -253,7 +256,7 @@ pub fn read_later(line: &str, names: &Names) -> Result<Later, WrongWord>
     Ok(Later { attempt, change })
 }
 
-// 1 to 10 decimal digits.
+// Reads 1 to 10 decimal digits.
 fn read_attempt(text: &str) -> Option<u64>
     ensures { result ≡ attempt_spelling text.now }
 {
@@ -272,7 +275,7 @@ fn read_change(text: &str, names: &Names) -> Result<Change, WrongWord>
     }
 }
 
-// Whether a change before this attempt may come after these.
+// Returns whether a change before this attempt may follow these changes.
 fn may_come(later: &[Later], attempt: u64) -> bool
     ensures { result ≡ may_come later.now attempt }
 {
@@ -282,7 +285,7 @@ fn may_come(later: &[Later], attempt: u64) -> bool
     }
 }
 
-// Whether two verdicts are the same.
+// Returns whether two verdicts are the same.
 fn same_verdict(one: Verdict, other: Verdict) -> bool
     ensures { result ≡ same_verdict one other }
 {
