@@ -4,10 +4,10 @@ use Rattle.can_wire.specs.FrameBits.{fd_generator}
 use Rattle.can_bits.specs.declared.bit.Field.{Field}
 use Rattle.can_bits.specs.declared.bit.Field.TheVariants as field
 
--- The fields of frames, the first sent first, each as often as it has bits (Bosch CAN Specification 2.0, section 3.1;
--- of FD frames ISO 11898-1:2015). Stuff bits are not among them, and the bits themselves are those of can_wire.
+-- The fields of a frame in the order of sending, each repeated once per bit, without stuff bits (Bosch CAN
+-- Specification 2.0, section 3.2.1; for FD frames ISO 11898-1:2015). can_wire defines the values of the bits.
 
--- start of frame and the fields by which a frame competes, of which the last with 29 bits of identifier is RTR or RRS
+-- start of frame and the fields of the arbitration bits; with 29 bits of identifier the last of them is RTR or RRS
 abbrev pub first_fields : Bool → Field → List Field
 first_fields extended remote =
     if extended
@@ -19,39 +19,39 @@ first_fields extended remote =
 abbrev pub reserved_fields : Bool → List Field
 reserved_fields extended = if extended then field.Reserved ∷ field.Reserved ∷ [] else field.Reserved ∷ []
 
--- the bytes of a frame
+-- the data field of a frame
 abbrev pub data_fields : CanFrame → List Field
 data_fields f = replicate (8 * length (payload_bytes f.payload)) field.Data
 
--- a classic frame to its last data bit
+-- a classic frame from start of frame to its last data bit
 abbrev pub covered_fields : CanFrame → List Field
 covered_fields f =
     first_fields f.id.extended field.RemoteRequest ++ reserved_fields f.id.extended ++ replicate 4 field.LengthCode
     ++ data_fields f
 
--- and to the end of its CRC
+-- a classic frame from start of frame to the end of its CRC
 abbrev pub classic_fields : CanFrame → List Field
 classic_fields f = covered_fields f ++ replicate 15 field.Crc
 
--- an FD frame to BRS
+-- an FD frame from start of frame to BRS
 abbrev pub fd_head_fields : CanFrame → List Field
 fd_head_fields f =
     first_fields f.id.extended field.RemoteSubstitution
     ++ field.FdFormat ∷ field.FdReserved ∷ field.BitRateSwitch ∷ []
 
--- the rest of it to its last data bit
+-- an FD frame from ESI to its last data bit
 abbrev pub fd_rest_fields : CanFrame → List Field
 fd_rest_fields f = field.ErrorState ∷ replicate 4 field.LengthCode ++ data_fields f
 
--- and what follows to the end of a CRC with this generator
+-- the stuff count, and a CRC with this generator
 abbrev pub check_fields : List ℕ → List Field
 check_fields generator = replicate 4 field.StuffCount ++ replicate (length generator) field.Crc
 
--- and of its CRC
+-- the stuff count and the CRC of an FD frame
 abbrev pub fd_check_fields : CanFrame → List Field
 fd_check_fields f = check_fields (fd_generator (payload_len f.payload))
 
--- what follows the CRC of any frame, with what is between frames
+-- the fields of any frame after the CRC, up to the end of intermission
 abbrev pub end_fields : List Field
 end_fields =
     field.CrcDelimiter ∷ field.AckSlot ∷ field.AckDelimiter ∷ replicate 7 field.EndOfFrame

@@ -12,8 +12,8 @@ use Rattle.can_bits.specs.declared.bit.Field.{Field}
 use Rattle.can_bits.specs.declared.bit.Field.TheVariants as field
 use Rattle.can_bits.specs.Sent.{AreBitsOf}
 
--- The text of a frame's bits (own choice): a line for each field, its stuff bits in parentheses; how many bits there
--- are; and where others that lost arbitration to the frame fell silent.
+-- The text of a frame's bits (own choice): a line for each field, with stuff bits in parentheses; the counts of bits;
+-- and the bit at which each sender that loses arbitration falls silent.
 
 -- the name of a field, in 15 columns
 abbrev pub name_of : Field → List ℕ
@@ -39,7 +39,7 @@ name_of field.AckDelimiter = codes "ACK delimiter  "
 name_of field.EndOfFrame = codes "EOF            "
 name_of field.Intermission = codes "intermission   "
 
--- fields by their order
+-- the number of a field in the order of declaration
 abbrev pub field_place : Field → ℕ
 field_place field.StartOfFrame = 0
 field_place field.Identifier = 1
@@ -63,37 +63,37 @@ field_place field.AckDelimiter = 18
 field_place field.EndOfFrame = 19
 field_place field.Intermission = 20
 
--- whether two are the same
+-- whether two fields are the same
 abbrev pub is_same_field : Field → Field → Bool
 is_same_field f g = field_place f == field_place g
 
 -- ---- a line for each field
 
--- what comes before a bit, after one of this field: a new line, where its field is another
+-- the start of a bit's text: a new line, if the bit before it has another field
 abbrev pub line_start : Option Field → Field → List ℕ
 line_start None f = name_of f
 line_start (Some before) f = if is_same_field before f then [] else 10 ∷ name_of f
 
--- a bit: a digit, of a stuff bit in parentheses
+-- a bit as a digit, with parentheses around a stuff bit
 abbrev pub bit_text : Bit → List ℕ
 bit_text b =
     if b.is_stuff then 40 ∷ (48 + bit_of b.is_recessive) ∷ 41 ∷ [] else (48 + bit_of b.is_recessive) ∷ []
 
--- the lines of bits, after one of this field
+-- the lines of bits that follow a bit of this field
 abbrev pub lines_after : Option Field → List Bit → List ℕ
 lines_after before [] = []
 lines_after before (b ∷ bits) = line_start before b.field ++ (bit_text b ++ lines_after (Some b.field) bits)
 
--- ---- how many there are
+-- ---- counts of bits
 
--- how many stuff bits, and how many bits at the data bit rate
+-- the number of stuff bits, and below it the number of bits at the data bit rate
 abbrev pub stuff_bits : List Bit → ℕ
 stuff_bits bits = length (filter (λ b. b.is_stuff) bits)
 
 abbrev pub fast_bits : List Bit → ℕ
 fast_bits bits = length (filter (λ b. b.is_fast) bits)
 
--- the line with these numbers
+-- the line with these counts
 abbrev pub counts_line : ℕ → ℕ → ℕ → List ℕ
 counts_line all stuffs fast =
     codes "total          " ++ decimal all ++ codes " bits, " ++ decimal stuffs ++ codes " of them stuff bits, "
@@ -102,7 +102,7 @@ counts_line all stuffs fast =
 abbrev pub total_line : List Bit → List ℕ
 total_line bits = counts_line (length bits) (stuff_bits bits) (fast_bits bits)
 
--- and the one with the time of the frame, where the bus has bit rates
+-- the line with the time of the frame, and below it that line only if the bus has bit rates
 abbrev pub nanos_line : ℕ → List ℕ
 nanos_line nanos = codes "time           " ++ decimal nanos ++ codes " ns to end of frame" ++ 10 ∷ []
 
@@ -110,15 +110,15 @@ abbrev pub time_line : Option BusTiming → CanFrame → List ℕ
 time_line None f = []
 time_line (Some t) f = nanos_line (frame_nanos_of t f)
 
--- ---- who falls silent
+-- ---- senders that fall silent
 
 -- the bits of a frame, to the end of intermission
 abbrev pub sent_values : CanFrame → List ℕ
 sent_values f = wire_of f ++ replicate intermission 1
 
--- where one who sends these bits falls silent, while others are on the bus of which this many came before: at the first
--- that differs, if it sends a one there (Bosch CAN Specification 2.0, section 2: a recessive bit is sent and a
--- dominant one is seen)
+-- the bit at which the sender of `values` falls silent, after `k` equal bits: the first bit that differs, if that
+-- sender sends a recessive bit there (Bosch CAN Specification 2.0, section 2: it sends a recessive bit and sees a
+-- dominant one)
 abbrev pub silence_after : ℕ → List Bit → List ℕ → Option (ℕ × Field)
 silence_after k [] values = None
 silence_after k (b ∷ bits) [] = None
@@ -126,11 +126,11 @@ silence_after k (b ∷ bits) (v ∷ values) =
     if bit_of b.is_recessive == v then silence_after (k + 1) bits values
     else if b.is_recessive then None else Some (k, b.field)
 
--- where the sender of another frame falls silent, if that loses arbitration to the one with these bits
+-- the bit at which the sender of another frame falls silent, if it loses arbitration to the frame with these bits
 abbrev pub silence : CanFrame → List Bit → CanFrame → Option (ℕ × Field)
 silence f bits other = if nat_lt (key_of f) (key_of other) then silence_after 0 bits (sent_values other) else None
 
--- the line of another frame
+-- the start of the line of one other frame
 abbrev pub silence_text : Option (ℕ × Field) → List ℕ
 silence_text None = codes "not silent     "
 silence_text (Some p) = codes "silent         " ++ name_of p.1 ++ codes "bit " ++ decimal p.0 ++ codes ", "
@@ -138,7 +138,7 @@ silence_text (Some p) = codes "silent         " ++ name_of p.1 ++ codes "bit " +
 abbrev pub silence_line : CanFrame → List Bit → CanFrame → List ℕ
 silence_line f bits other = silence_text (silence f bits other) ++ frame_spelling (item.Data other) ++ 10 ∷ []
 
--- those of several
+-- the lines of all other frames
 abbrev pub silence_lines : CanFrame → List Bit → List CanFrame → List ℕ
 silence_lines f bits [] = []
 silence_lines f bits (other ∷ others) = silence_line f bits other ++ silence_lines f bits others
@@ -150,7 +150,7 @@ abbrev pub text_of_bits : CanFrame → List CanFrame → Option BusTiming → Li
 text_of_bits f others timing bits =
     lines_after None bits ++ 10 ∷ [] ++ total_line bits ++ time_line timing f ++ silence_lines f bits others
 
--- a text is that of a frame's bits, and of others that compete with it
+-- the text shows the bits of a frame, and the other frames that compete with it
 pub record IsBitsText (f : CanFrame) (others : List CanFrame) (timing : Option BusTiming) (text : List ℕ) : Type 0 where
   pub bits : List Bit
   pub are : AreBitsOf f bits

@@ -1,60 +1,60 @@
-/// A field of a frame, in the words of the Bosch CAN Specification 2.0 and ISO 11898-1.
+/// A field of a frame, named as in the Bosch CAN Specification 2.0 and ISO 11898-1.
 #[derive(Debug, Clone, Copy, PartialEq, Eq)]
 pub enum Field {
     /// Start of frame, SOF.
     StartOfFrame,
-    /// The identifier's 11 bits, or of 29 the upper 11.
+    /// The 11 bits of the identifier, or the upper 11 bits of an extended identifier.
     Identifier,
-    /// The recessive bit in the place of RTR, where 29 bits of identifier follow: SRR.
+    /// The recessive SRR bit of an extended frame, sent in place of RTR.
     SubstituteRemote,
-    /// Whether 29 bits of identifier are sent: IDE.
+    /// The IDE bit: recessive if the identifier has 29 bits.
     IdentifierExtension,
-    /// The lower 18 bits of an identifier of 29.
+    /// The lower 18 bits of an extended identifier.
     ExtendedIdentifier,
-    /// Whether a classic frame is a remote frame: RTR.
+    /// The RTR bit: recessive in a classic remote frame.
     RemoteRequest,
-    /// The bit of an FD frame in the place of RTR: RRS.
+    /// The RRS bit of an FD frame, sent in place of RTR.
     RemoteSubstitution,
-    /// The reserved bits of a classic frame, r1 and r0, or only r0.
+    /// The reserved bits of a classic frame: r1 and r0, or r0 only.
     Reserved,
-    /// The recessive bit by which a frame is an FD frame: FDF.
+    /// The FDF bit, recessive in an FD frame.
     FdFormat,
-    /// The reserved bit of an FD frame: res.
+    /// The reserved bit of an FD frame, res.
     FdReserved,
-    /// Whether an FD frame switches to the data bit rate: BRS.
+    /// The BRS bit: recessive if an FD frame switches to the data bit rate.
     BitRateSwitch,
-    /// Whether the sender of an FD frame is error passive: ESI.
+    /// The ESI bit: recessive if the sender of an FD frame is error passive.
     ErrorState,
-    /// The data length code: DLC.
+    /// The data length code, DLC.
     LengthCode,
-    /// The bytes.
+    /// The data bytes.
     Data,
-    /// The number of stuff bits of an FD frame, with its parity.
+    /// The stuff count of an FD frame, with its parity bit.
     StuffCount,
     /// The CRC sequence.
     Crc,
-    /// The recessive bit after it.
+    /// The recessive bit after the CRC sequence.
     CrcDelimiter,
-    /// The bit that receivers make dominant.
+    /// The bit in which receivers acknowledge the frame with a dominant level.
     AckSlot,
-    /// The recessive bit after it.
+    /// The recessive bit after the ACK slot.
     AckDelimiter,
-    /// End of frame: EOF.
+    /// End of frame, EOF.
     EndOfFrame,
-    /// What is between frames.
+    /// The recessive bits between two frames.
     Intermission,
 }
 
-/// A bit as it is sent.
+/// A bit that the sender of a frame sends.
 #[derive(Debug, Clone, Copy, PartialEq, Eq)]
 pub struct Bit {
-    /// The field that it belongs to. A stuff bit belongs to that of the bit before it, and a fixed one to that of the bit
+    /// The field of the bit. A stuff bit has the field of the bit before it, a fixed stuff bit the field of the bit
     /// after it.
     pub field: Field,
-    /// Whether it is 1, which a dominant bit, 0, overwrites.
+    /// True for a recessive bit (1), which a dominant bit (0) overwrites.
     pub is_recessive: bool,
-    /// Whether it is a stuff bit.
+    /// True for a stuff bit.
     pub is_stuff: bool,
-    /// Whether it goes at the bit rate for data, and not at the nominal one.
+    /// True if the bit is sent at the data bit rate, false at the nominal bit rate.
     pub is_fast: bool,
 }

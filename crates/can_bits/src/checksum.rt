@@ -7,33 +7,33 @@ ghost use Rattle.can_bits.specs.inner.Checking.{IsGenerator, terms_of};
 
 use crate::bit::Bit;
 
-/// A generator polynomial: how many terms follow its first, and which of them are there.
+/// A generator polynomial: the number of terms after the first, and the mask of those terms.
 #[derive(Debug, Clone, Copy)]
 pub(crate) struct Generator {
     pub width: u32,
     pub terms: u32,
 }
 
-/// That of classic frames, x^15 + x^14 + x^10 + x^8 + x^7 + x^4 + x^3 + 1.
+/// The generator of classic frames, x^15 + x^14 + x^10 + x^8 + x^7 + x^4 + x^3 + 1.
 pub(crate) const CRC_15: Generator = Generator {
     width: 15,
     terms: 0x4599,
 };
 
-/// That of FD frames of at most 16 bytes, x^17 + x^16 + x^14 + x^13 + x^11 + x^6 + x^4 + x^3 + x + 1.
+/// The generator of FD frames up to 16 bytes, x^17 + x^16 + x^14 + x^13 + x^11 + x^6 + x^4 + x^3 + x + 1.
 pub(crate) const CRC_17: Generator = Generator {
     width: 17,
     terms: 0x1_685B,
 };
 
-/// That of longer ones, x^21 + x^20 + x^13 + x^11 + x^7 + x^4 + x^3 + 1.
+/// The generator of longer FD frames, x^21 + x^20 + x^13 + x^11 + x^7 + x^4 + x^3 + 1.
 pub(crate) const CRC_21: Generator = Generator {
     width: 21,
     terms: 0x10_2899,
 };
 
 impl Generator {
-    /// A shift register that holds a one, and after it zeros.
+    /// Returns a shift register that holds a one followed by zeros.
     pub fn one(self) -> u32
         requires { IsGenerator self }
         ensures { low_bits self.width result ≡ 1 ∷ replicate (self.width - 1) 0 }
@@ -41,7 +41,7 @@ impl Generator {
         1 << (self.width - 1)
     }
 
-    /// What a shift register holds after one more bit.
+    /// Returns the shift register after one more bit.
     fn after_bit(self, register: u32, is_one: bool) -> u32
         requires { IsGenerator self }
         ensures { low_bits self.width result
@@ -56,7 +56,7 @@ impl Generator {
         }
     }
 
-    /// What it holds after bits.
+    /// Returns the shift register after these bits.
     pub fn after(self, register: u32, bits: &[Bit]) -> u32
         requires { IsGenerator self }
         ensures { low_bits self.width result

@@ -13,7 +13,7 @@ use crate::checksum::{CRC_15, CRC_17, CRC_21, Generator};
 use can_frame::Frame;
 use std::alloc::{AllocError, Global};
 
-/// Adds the bits of a field, the lowest of a number, the highest of them first.
+/// Adds a field: the lowest `count` bits of a number, the highest bit first.
 fn push_field(bits: &mut Vec<Bit>, field: Field, count: u32, number: u32) -> Result<(), AllocError>
     requires { count ≤ 32 }
     ensures { OnOk result (bits.new.items
@@ -30,7 +30,7 @@ fn push_field(bits: &mut Vec<Bit>, field: Field, count: u32, number: u32) -> Res
     Ok(())
 }
 
-/// Adds the bits of bytes.
+/// Adds data bytes.
 fn push_bytes(bits: &mut Vec<Bit>, bytes: &[u8]) -> Result<(), AllocError>
     ensures { OnOk result (bits.new.items ≡ bits.old.items ++ in_field Data (byte_bits bytes.now)) }
 {
@@ -40,7 +40,7 @@ fn push_bytes(bits: &mut Vec<Bit>, bytes: &[u8]) -> Result<(), AllocError>
     Ok(())
 }
 
-/// Adds start of frame and the bits by which a frame competes whose identifier has 11 bits.
+/// Adds start of frame and the arbitration bits of a frame with 11 bits of identifier.
 fn push_standard(
     bits: &mut Vec<Bit>,
     number: u32,
@@ -57,7 +57,7 @@ fn push_standard(
     push_field(bits, Field::IdentifierExtension, 1, 0)
 }
 
-/// The same with 29 bits.
+/// Adds start of frame and the arbitration bits of a frame with 29 bits of identifier.
 fn push_extended(
     bits: &mut Vec<Bit>,
     number: u32,
@@ -76,8 +76,7 @@ fn push_extended(
     push_field(bits, remote, 1, rtr)
 }
 
-/// Adds start of frame and the bits by which a frame competes. The field of the one that says whether it is a remote
-/// frame is this one.
+/// Adds start of frame and the arbitration bits of a frame. `remote` is the field of its RTR or RRS bit.
 #[tactic(auto, unfolding(can_frame::specs::Arbitration::arbitration_bits))]
 fn push_first(bits: &mut Vec<Bit>, frame: &Frame, remote: Field) -> Result<(), AllocError>
     ensures { OnOk result (Adds bits.old.items bits.new.items
@@ -92,7 +91,7 @@ fn push_first(bits: &mut Vec<Bit>, frame: &Frame, remote: Field) -> Result<(), A
     }
 }
 
-/// A flag as a bit.
+/// Returns a flag as a bit.
 fn bit(flag: bool) -> u32
     ensures value { result ≡ bit_of flag }
     ensures below { result < 2 }
@@ -100,7 +99,7 @@ fn bit(flag: bool) -> u32
     u32::from(flag)
 }
 
-/// A classic frame to the end of its CRC, which covers the bits before it, without stuff bits.
+/// Returns the bits of a classic frame from start of frame to its CRC, without stuff bits.
 pub(crate) fn classic_fields(alloc: Global, frame: &Frame) -> Result<Vec<Bit>, AllocError>
     ensures { IfOk result (λ bits. AreFields bits.items
         (classic_fields frame.now) (checked_bits frame.now)) }
@@ -111,7 +110,7 @@ pub(crate) fn classic_fields(alloc: Global, frame: &Frame) -> Result<Vec<Bit>, A
     Ok(bits)
 }
 
-/// A classic frame to its last data bit.
+/// Returns the bits of a classic frame from start of frame to its last data bit.
 fn covered_fields(alloc: Global, frame: &Frame) -> Result<Vec<Bit>, AllocError>
     ensures { IfOk result (λ bits. AreFields bits.items
         (covered_fields frame.now) (covered_bits frame.now)) }
@@ -125,7 +124,7 @@ fn covered_fields(alloc: Global, frame: &Frame) -> Result<Vec<Bit>, AllocError>
     Ok(bits)
 }
 
-/// An FD frame to the bit that says whether it switches to the data bit rate.
+/// Returns the bits of an FD frame from start of frame to BRS.
 pub(crate) fn fd_head(alloc: Global, frame: &Frame) -> Result<Vec<Bit>, AllocError>
     ensures { IfOk result (λ bits. AreFields bits.items
         (fd_head_fields frame.now) (fd_head frame.now)) }
@@ -138,7 +137,7 @@ pub(crate) fn fd_head(alloc: Global, frame: &Frame) -> Result<Vec<Bit>, AllocErr
     Ok(bits)
 }
 
-/// The rest of it to its last data bit.
+/// Returns the bits of an FD frame from ESI to its last data bit.
 pub(crate) fn fd_rest(alloc: Global, frame: &Frame) -> Result<Vec<Bit>, AllocError>
     ensures { IfOk result (λ bits. AreFields bits.items
         (fd_rest_fields frame.now) (fd_rest frame.now)) }
@@ -150,7 +149,7 @@ pub(crate) fn fd_rest(alloc: Global, frame: &Frame) -> Result<Vec<Bit>, AllocErr
     Ok(bits)
 }
 
-/// The data length code of an FD frame.
+/// Returns the data length code of an FD frame.
 fn fd_code(len: u8) -> u32
     ensures { result ≡ fd_code len }
 {
@@ -166,8 +165,8 @@ fn fd_code(len: u8) -> u32
     }
 }
 
-/// What follows the data of an FD frame to the end of its CRC, without fixed stuff bits: the number of its stuff bits,
-/// and the CRC of the bits that were sent, and of this number.
+/// Returns the stuff count and the CRC of an FD frame, without fixed stuff bits. The CRC covers the bits sent so far
+/// and the stuff count.
 pub(crate) fn fd_check(
     alloc: Global,
     len: u8,
@@ -188,7 +187,7 @@ pub(crate) fn fd_check(
     Ok(bits)
 }
 
-/// A number of stuff bits, modulo 8 in Gray code, and its parity.
+/// Returns the stuff count, modulo 8 in Gray code, and its parity bit.
 fn stuff_count(alloc: Global, stuff_bits: usize) -> Result<Vec<Bit>, AllocError>
     ensures { IfOk result (λ bits. AreFields bits.items
         (replicate 4 StuffCount) (stuff_count stuff_bits)) }
@@ -200,7 +199,7 @@ fn stuff_count(alloc: Global, stuff_bits: usize) -> Result<Vec<Bit>, AllocError>
     Ok(bits)
 }
 
-/// The generator of the CRC of an FD frame of this many bytes.
+/// Returns the CRC generator of an FD frame with this many bytes.
 #[tactic(auto, unfolding(can_wire::specs::Division::generator_17, can_wire::specs::Division::generator_21))]
 fn fd_generator(len: u8) -> Generator
     ensures terms { terms_of result ≡ fd_generator len }
@@ -209,7 +208,7 @@ fn fd_generator(len: u8) -> Generator
     if len <= 16 { CRC_17 } else { CRC_21 }
 }
 
-/// Adds what follows the CRC, with what is between frames.
+/// Adds the bits after the CRC of any frame, up to the end of intermission.
 pub(crate) fn push_end(bits: &mut Vec<Bit>) -> Result<(), AllocError>
     ensures { OnOk result (bits.new.items ≡ bits.old.items ++ end_sent) }
 {

@@ -1,9 +1,9 @@
-//! The bits of a frame on the wire, one after another: each with its field, whether it is a stuff bit, and the bit rate
-//! at which it goes.
+//! The bits of a frame on the wire: the field of each bit, whether it is a stuff bit, and the bit rate at which it is
+//! sent.
 //!
-//! `frame_bits` returns them. They are those of can_wire's definition, which the Bosch CAN Specification 2.0 and ISO
-//! 11898-1 give: nothing of a frame's bits, of stuffing or of a CRC is defined here again. Specs/Fields says which fields
-//! a frame has, and specs/Marks finds them among the bits as a receiver does.
+//! `frame_bits` returns these bits. Their values are those that can_wire defines, after the Bosch CAN Specification 2.0
+//! and ISO 11898-1: this crate defines neither the CRC nor the stuffed values again. specs/Fields defines the fields of
+//! a frame. specs/Marks defines which bits are stuff bits: it counts equal bits, as a receiver does.
 #![tactic(auto)]
 
 mod bit;

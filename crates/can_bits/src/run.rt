@@ -4,10 +4,10 @@ ghost use Rattle.can_bits.specs.inner.Sending.{added, flushed, nothing_sent, stu
 use crate::bit::{Bit, Field};
 use std::marker::Model;
 
-/// How many bits of one value are followed by a stuff bit.
+/// The number of equal bits after which a stuff bit follows.
 const LONGEST: u8 = 5;
 
-/// What was sent last: the field and the value of the last bit, and how many bits of this value it is one of.
+/// The run of equal bits that was sent last: the field and the value of the last bit, and the length of the run.
 #[derive(Debug, Clone, Copy)]
 pub(crate) struct Run {
     field: Field,
@@ -37,7 +37,7 @@ impl Model for Run {
 }
 
 impl Run {
-    /// Nothing was sent.
+    /// Returns the run before the first bit.
     pub fn new() -> Run
         ensures { result ≡ nothing_sent }
     {
@@ -48,7 +48,7 @@ impl Run {
         }
     }
 
-    /// Whether a stuff bit is due.
+    /// Returns true if a stuff bit is due.
     pub fn is_full(self) -> bool
         ensures full { IsTrue result ↔ (self.count ≡ 5) }
         ensures within { self.count ≤ 5 }
@@ -56,21 +56,21 @@ impl Run {
         self.count == LONGEST
     }
 
-    /// The value of the last bit.
+    /// Returns the value of the last bit.
     pub fn is_recessive(self) -> bool
         ensures { result ≡ self.is_recessive }
     {
         self.is_recessive
     }
 
-    /// A stuff bit of the last bit's field.
+    /// Returns the stuff bit after this run, in the field of the last bit.
     pub fn stuff_bit(self, is_fast: bool) -> Bit
         ensures { result ≡ stuff_bit is_fast self.field self.is_recessive }
     {
         stuff_bit(self.field, self.is_recessive, is_fast)
     }
 
-    /// After the stuff bit that is due.
+    /// Returns the run after the stuff bit, if one is due.
     pub fn flushed(self) -> Run
         ensures last { result ≡ flushed self }
         ensures short { result.count ≤ 4 }
@@ -85,7 +85,7 @@ impl Run {
         }
     }
 
-    /// After one more bit.
+    /// Returns the run after one more bit.
     pub fn then(self, bit: Bit) -> Run
         requires { self.count ≤ 4 }
         ensures { result ≡ added bit self }
@@ -103,7 +103,7 @@ impl Run {
     }
 }
 
-/// A stuff bit of this field after a bit of this value.
+/// Returns a stuff bit of this field that follows a bit of this value.
 pub(crate) fn stuff_bit(field: Field, last: bool, is_fast: bool) -> Bit
     ensures { result ≡ stuff_bit is_fast field last }
 {

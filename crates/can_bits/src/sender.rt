@@ -5,11 +5,11 @@ use crate::bit::Bit;
 use crate::run::{Run, stuff_bit};
 use std::alloc::{AllocError, Global};
 
-/// How many bits are between fixed stuff bits.
+/// The number of bits between two fixed stuff bits.
 const BETWEEN_FIXED: u8 = 4;
 
-/// Bits that were sent, with their stuff bits. The one that is due after five equal bits is sent with the bit that
-/// follows it.
+/// The bits sent so far, with their stuff bits. A stuff bit that is due after five equal bits is sent together with the
+/// next bit.
 #[derive(Drop)]
 pub(crate) struct Sender {
     pub bits: Vec<Bit>,
@@ -17,7 +17,7 @@ pub(crate) struct Sender {
 }
 
 impl Sender {
-    /// Nothing was sent.
+    /// Returns a sender that has sent nothing.
     pub fn new(alloc: Global) -> Sender
         ensures bits { result.bits.items ≡ [] }
         ensures run { result.run ≡ nothing_sent }
@@ -28,7 +28,7 @@ impl Sender {
         }
     }
 
-    /// Sends the stuff bit that is due.
+    /// Sends the stuff bit, if one is due.
     pub fn flush(&mut self, is_fast: bool) -> Result<(), AllocError>
         ensures bits { OnOk result (self.new.bits.items
             ≡ self.old.bits.items ++ due is_fast self.old.run) }
@@ -42,7 +42,7 @@ impl Sender {
         Ok(())
     }
 
-    /// Sends bits, each after the stuff bit that is due.
+    /// Sends bits, with the stuff bit that is due before each.
     pub fn send(&mut self, bits: &[Bit], is_fast: bool) -> Result<(), AllocError>
         ensures bits { OnOk result (self.new.bits.items
             ≡ self.old.bits.items ++ sent_all is_fast bits.now self.old.run) }
@@ -55,7 +55,7 @@ impl Sender {
         }
         Ok(())
     }
-    /// Sends bits, with a fixed stuff bit before each four of them.
+    /// Sends bits, with a fixed stuff bit before every four of them.
     pub fn send_fixed(&mut self, bits: &[Bit], is_fast: bool) -> Result<(), AllocError>
         ensures { OnOk result (self.new.bits.items ≡ self.old.bits.items
             ++ sent_fixed is_fast self.old.run.is_recessive 0 bits.now) }
@@ -75,7 +75,7 @@ impl Sender {
     }
 }
 
-/// A bit of a field as it is sent.
+/// Returns a bit as it is sent at either bit rate.
 fn sent(bit: &Bit, is_fast: bool) -> Bit
     ensures { result ≡ sent is_fast bit.now }
 {

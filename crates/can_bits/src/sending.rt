@@ -9,8 +9,8 @@ use crate::sender::Sender;
 use can_frame::Frame;
 use std::alloc::{AllocError, Global};
 
-/// The bits of a frame as they are on the wire, from start of frame to the end of intermission, if it is acknowledged and
-/// nothing strikes it.
+/// Returns the bits of a frame on the wire, from start of frame to the end of intermission. The frame is acknowledged
+/// and has no fault.
 pub fn frame_bits(alloc: Global, frame: &Frame) -> Result<Vec<Bit>, AllocError>
     ensures { IfOk result (λ bits. AreBitsOf frame.now bits.items) }
 {
@@ -19,7 +19,7 @@ pub fn frame_bits(alloc: Global, frame: &Frame) -> Result<Vec<Bit>, AllocError>
     Ok(bits)
 }
 
-/// A frame to the end of its CRC.
+/// Returns the bits of a frame from start of frame to the end of its CRC, with stuff bits.
 fn to_check_end(alloc: Global, frame: &Frame) -> Result<Vec<Bit>, AllocError>
     ensures { IfOk result (λ bits. AreToCheckEnd frame.now bits.items) }
 {
@@ -30,7 +30,7 @@ fn to_check_end(alloc: Global, frame: &Frame) -> Result<Vec<Bit>, AllocError>
     }
 }
 
-/// A classic frame to the end of its CRC.
+/// Returns the bits of a classic frame to the end of its CRC, with stuff bits.
 fn classic_to_check_end(alloc: Global, frame: &Frame) -> Result<Vec<Bit>, AllocError>
     requires { is_fd frame.now.payload ≡ false }
     ensures { IfOk result (λ bits. AreToCheckEnd frame.now bits.items) }
@@ -41,7 +41,8 @@ fn classic_to_check_end(alloc: Global, frame: &Frame) -> Result<Vec<Bit>, AllocE
     Ok(sender.bits)
 }
 
-/// An FD frame to the end of its CRC. No stuff bit follows its last data bit, since a fixed one does.
+/// Returns the bits of an FD frame to the end of its CRC. A fixed stuff bit follows its last data bit, never an
+/// ordinary one.
 fn fd_to_check_end(alloc: Global, frame: &Frame) -> Result<Vec<Bit>, AllocError>
     requires { is_fd frame.now.payload ≡ true }
     ensures { IfOk result (λ bits. AreToCheckEnd frame.now bits.items) }

@@ -10,11 +10,12 @@ use can_frame::{Frame, Item, Text, frame_text};
 use can_wire::Timing;
 use std::alloc::{AllocError, Global};
 
-/// Room for the words of a line with at most three numbers.
+/// A buffer for a line with at most three numbers.
 type LineText = Text<128>;
 
-/// The bits of a frame as text, those of a field in a line, with stuff bits in parentheses; how many there are; with
-/// bit rates the time to end of frame; and where the senders of others fall silent that lose arbitration to it.
+/// Returns the bits of a frame as text: a line for each field, with stuff bits in parentheses, and a line with the
+/// counts. If the bus has bit rates, a line gives the time to end of frame. For each other frame a line gives the bit
+/// at which its sender falls silent.
 pub fn bits_text(
     alloc: Global,
     frame: &Frame,
@@ -32,7 +33,7 @@ pub fn bits_text(
     Ok(text)
 }
 
-/// Writes bits, those of a field in a line.
+/// Writes bits, one line for each field.
 fn put_lines(text: &mut Vec<u8>, bits: &[Bit]) -> Result<(), AllocError>
     ensures { OnOk result (text.new.items
         ≡ text.old.items ++ lines_after None bits.now ++ 10 ∷ []) }
@@ -47,7 +48,7 @@ fn put_lines(text: &mut Vec<u8>, bits: &[Bit]) -> Result<(), AllocError>
     Ok(())
 }
 
-/// Starts the line of a bit of a field, after one of another field.
+/// Starts a line if the next bit belongs to another field than the bit before it.
 fn start_line(text: &mut Vec<u8>, before: Option<Field>, field: Field) -> Result<(), AllocError>
     ensures { OnOk result (text.new.items ≡ text.old.items ++ line_start before field) }
 {
@@ -60,7 +61,7 @@ fn start_line(text: &mut Vec<u8>, before: Option<Field>, field: Field) -> Result
     text.extend_from_slice(name(field).as_bytes())
 }
 
-/// Writes a bit: a digit, of a stuff bit in parentheses.
+/// Writes a bit as a digit, with parentheses around a stuff bit.
 fn put_bit(text: &mut Vec<u8>, bit: Bit) -> Result<(), AllocError>
     ensures { OnOk result (text.new.items ≡ text.old.items ++ bit_text bit) }
 {
@@ -72,7 +73,7 @@ fn put_bit(text: &mut Vec<u8>, bit: Bit) -> Result<(), AllocError>
     }
 }
 
-/// The name of a field, in 15 columns.
+/// Returns the name of a field, in 15 columns.
 fn name(field: Field) -> &'static str
     ensures { result.now ≡ name_of field }
 {
@@ -101,28 +102,28 @@ fn name(field: Field) -> &'static str
     }
 }
 
-/// Writes how many bits there are.
+/// Writes the line with the counts of bits.
 fn put_total(text: &mut Vec<u8>, bits: &[Bit]) -> Result<(), AllocError>
     ensures { OnOk result (text.new.items ≡ text.old.items ++ total_line bits.now) }
 {
     put_counts(text, bits.len(), stuff_bits(bits), fast_bits(bits))
 }
 
-/// How many of them are stuff bits.
+/// Returns the number of stuff bits.
 fn stuff_bits(bits: &[Bit]) -> usize
     ensures { result ≡ stuff_bits bits.now }
 {
     bits.iter().filter(|bit| bit.is_stuff).count()
 }
 
-/// How many of them go at the data bit rate.
+/// Returns the number of bits at the data bit rate.
 fn fast_bits(bits: &[Bit]) -> usize
     ensures { result ≡ fast_bits bits.now }
 {
     bits.iter().filter(|bit| bit.is_fast).count()
 }
 
-/// Writes these numbers of bits.
+/// Writes the line with these counts.
 fn put_counts(text: &mut Vec<u8>, all: usize, stuffs: usize, fast: usize) -> Result<(), AllocError>
     ensures { OnOk result (text.new.items ≡ text.old.items ++ counts_line all stuffs fast) }
 {
@@ -131,7 +132,7 @@ fn put_counts(text: &mut Vec<u8>, all: usize, stuffs: usize, fast: usize) -> Res
     text.extend_from_slice(line.as_bytes())
 }
 
-/// The same, into a room.
+/// Writes the line with these counts into an empty buffer.
 fn push_counts(line: &mut LineText, all: u64, stuffs: u64, fast: u64)
     requires { line.old ≡ [] }
     ensures { line.new ≡ counts_line all stuffs fast }
@@ -145,7 +146,7 @@ fn push_counts(line: &mut LineText, all: u64, stuffs: u64, fast: u64)
     line.push_all(b" at the data bit rate\n");
 }
 
-/// Writes the time of a frame, where the bus has bit rates.
+/// Writes the time to end of frame, if the bus has bit rates.
 fn put_time(text: &mut Vec<u8>, timing: Option<Timing>, frame: &Frame) -> Result<(), AllocError>
     ensures { OnOk result (text.new.items ≡ text.old.items ++ time_line timing frame.now) }
 {
@@ -166,7 +167,7 @@ fn put_nanos(text: &mut Vec<u8>, nanos: u64) -> Result<(), AllocError>
     text.extend_from_slice(line.as_bytes())
 }
 
-/// Writes where the senders of others fall silent.
+/// Writes, for each other frame, the bit at which its sender falls silent.
 fn put_silences(
     alloc: Global,
     text: &mut Vec<u8>,
@@ -184,7 +185,7 @@ fn put_silences(
     Ok(())
 }
 
-/// Writes where the sender of one falls silent.
+/// Writes the bit at which the sender of one other frame falls silent.
 #[tactic(auto, unfolding(can_frame::specs::FrameText::frame_spelling))]
 fn put_silence(
     text: &mut Vec<u8>,
@@ -203,7 +204,7 @@ fn put_silence(
     Ok(())
 }
 
-/// Writes at which bit, and in which field.
+/// Writes the place and the field of this bit.
 fn put_place(text: &mut Vec<u8>, place: usize, field: Field) -> Result<(), AllocError>
     ensures { OnOk result (text.new.items ≡ text.old.items ++ silence_text (Some (place, field))) }
 {

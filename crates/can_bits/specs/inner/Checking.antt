@@ -2,12 +2,12 @@ use Rattle.std.specs.Prelude.{ℕ, ◌≤◌, List}
 use Rattle.can_frame.specs.Arbitration.{low_bits}
 use Rattle.can_bits.specs.declared.checksum.Generator.{Generator}
 
--- How check sequences are made. Nothing that a caller has to know.
+-- Terms for the proofs of the CRC. Callers of this crate need none of them.
 
 -- the terms of a generator after its first
 abbrev pub terms_of : Generator → List ℕ
 terms_of g = low_bits g.width g.terms
 
--- its register fits a word
+-- the register of this generator fits a word
 abbrev pub IsGenerator : Generator → Type 0
 IsGenerator g = (1 ≤ g.width) × (g.width ≤ 31)

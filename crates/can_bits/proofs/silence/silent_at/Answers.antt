@@ -4,7 +4,7 @@ use Rattle.can_bits.specs.declared.bit.Bit.{Bit}
 use Rattle.can_bits.specs.Text.{silence_after}
 use Rattle.can_bits.proofs.silence.silent_at.Goals as goal
 
--- where no bit is left of the other
+-- the other sender has no bit left
 none_left : (k : ℕ) (bits : List Bit) → silence_after k bits [] ≡ None
 none_left k [] = refl
 none_left k (b ∷ bits) = refl
