@@ -54,7 +54,7 @@ fn program_command<'a>(alloc: Global) -> Result<Command<'a>, AllocError>
     ensures { IfOk result (λ c. app_of c ≡ program) }
 {
     Command::new(alloc, "canbusd")
-        .version("0.2.0")
+        .version("0.3.0")
         .about("Simulated CAN buses")
         .after_help(PROGRAM_HELP)
         .subcommand_required(true)
