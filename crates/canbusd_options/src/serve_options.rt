@@ -1,6 +1,6 @@
 //! The words of serve.
-ghost use Rattle.std.specs.Prelude.{◌≡◌, ◌≤◌, codes, false, map, All, IfErr, IfOk, Some};
-ghost use Rattle.std.specs.List.{AllZip};
+ghost use Rattle.std.specs.Prelude.{◌≡◌, ◌≤◌, codes, false, is_some, map, All, IfErr, IfOk, Some};
+ghost use Rattle.std.specs.List.{AllZip, list_any};
 ghost use Rattle.clap.specs.Words.{app_of, rule_of};
 ghost use Rattle.canbusd_options.specs.BusWords.{names_part};
 ghost use Rattle.canbusd_options.specs.Help.{IsNoMemory, RefusesValue};
@@ -85,7 +85,9 @@ impl ServeOptions<'_> {
     }
 
     /// Whether a bus has bit rates.
-    pub fn has_timings(&self) -> bool {
+    pub fn has_timings(&self) -> bool
+        ensures { result ≡ list_any is_some self.now.timings.items }
+    {
         self.timings.iter().any(|timing| timing.is_some())
     }
 }
