@@ -54,9 +54,9 @@ pub struct ServeOptions<'a> {
     pub buses: Vec<BusWord<'a>>,
     /// The bit rates of each bus, in their order, if it has any.
     pub timings: Vec<Option<Timing>>,
-    /// Where it listens: a Unix path where it begins with `/` or `.`, else host and port.
+    /// The address at which it listens: a Unix path if it begins with `/` or `.`, else host and port.
     pub address: &'a str,
-    /// How many sessions it serves: 1 to 4,000, in long runs to 4,294,967,295, and the most where that is not given.
+    /// How many sessions it serves: 1 to 4,000, in long runs to 4,294,967,295; the most if the number is not given.
     pub sessions: u32,
     /// How many milliseconds pass after each attempt of a bus without bit rates, at most 60,000.
     pub pace_ms: u32,
@@ -66,9 +66,9 @@ pub struct ServeOptions<'a> {
     pub folder: Option<&'a str>,
     /// When records are written.
     pub recording: Recording,
-    /// How many milliseconds what is written live may wait before it goes to its file, at most 60,000.
+    /// How many milliseconds live text may wait before it goes to its file, at most 60,000.
     pub flush_ms: u32,
-    /// Whether it then waits until the disk has it.
+    /// Whether each such write waits until the disk has the text.
     pub is_synced: bool,
     /// Whether the end of standard input ends the run.
     pub is_until_eof: bool,
@@ -124,7 +124,7 @@ pub fn serve_options<'a>(alloc: Global, serve: &ArgMatches<'a>) -> Result<ServeO
     })
 }
 
-// How many sessions there are.
+// How many sessions the server serves.
 #[tactic(auto, using(crate::proofs::Rules::text_in_rows))]
 fn sessions_given(
     alloc: Global,
@@ -145,7 +145,7 @@ fn sessions_given(
     text_within(alloc, Subcommand::Serve, SESSIONS, text, 1, most)
 }
 
-// How long what is written live may wait.
+// How many milliseconds live text may wait.
 #[tactic(auto, using(crate::proofs::Rules::text_in_rows))]
 fn flush_given(alloc: Global, serve: &ArgMatches<'_>) -> Result<u32, Error>
     ensures number { IfOk result (λ n.
