@@ -10,7 +10,7 @@ use Rattle.canbusd_options.specs.BitsOptions.{GiveBitsOptions}
 use Rattle.canbusd_options.specs.Options.{GiveAuditOptions, GiveBenchOptions, GiveServeOptions}
 use Rattle.canbusd_options.specs.Program.{AskJob, Asks, IsAsked, program}
 
--- What words ask of the program, from the matches of its parse.
+-- The job that words ask for, by the matches of their parse.
 
 -- clap says what the matches of the program are
 simple : is_simple program ≡ true
@@ -41,7 +41,7 @@ pub met_by : (c : Command) (words : List Text) (m : ArgMatches) (name : Text) (r
     → subcommand_name_of m ≡ Some name → option_map (λ (p : Text × List Row). p.1) (subcommand_rows_of m) ≡ Some rows → subcommand_of program words ≡ Some (name, rows)
 met_by c words m name rows is has met found = sym (named_by c words m is has) ∙ both_parts _ name rows (named m ∙ met) found
 
--- where clap finds no fault and the job is what a command asks for, the words ask for it
+-- if clap finds no fault and a command asks for the job, the words ask for it
 pub asked_by : (words : List Text) (j : Job) (p : Text × List Row) → fault_of program words ≡ [] → subcommand_of program words ≡ Some p → Asks (Some p) j → IsAsked words j
 asked_by words j p none met asks = (none, subst (λ o. Asks o j) (sym met) asks)
 

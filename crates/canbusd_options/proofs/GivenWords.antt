@@ -14,18 +14,18 @@ goes_on : {A : Type 0} (x : A) (b : Bool) (rest : Option A) → b ≡ true → c
 goes_on x true rest is = refl
 goes_on x false rest is = cc
 
--- where none fails, all pass
+-- if none fails, all pass
 pub all_pass : {A : Type 0} (p : A → Bool) (xs : List A) → find (λ x. not (p x)) xs ≡ None → AllPass p xs
 all_pass p [] none = All-nil (λ y. p y ≡ true)
 all_pass p (x ∷ xs) none =
     let here = passes x (p x) (find (λ y. not (p y)) xs) none in
     All-cons (λ y. p y ≡ true) x xs here (all_pass p xs (sym (goes_on x (p x) (find (λ y. not (p y)) xs) here) ∙ none))
 
--- where all pass, none fails
+-- if all pass, none fails
 pub none_fails : {A : Type 0} (p : A → Bool) (xs : List A) → AllPass p xs → find (λ x. not (p x)) xs ≡ None
 none_fails p [] all = refl
 none_fails p (x ∷ xs) all = goes_on x (p x) (find (λ y. not (p y)) xs) (all 0 x (omega arith)) ∙ none_fails p xs (All-tail (λ y. p y ≡ true) x xs all)
 
--- what holds of all words holds of the one at a place
+-- a property of all words is one of the word at a place
 pub at_word : (P : List ℕ → Type 0) (words : List (Bor (List ℕ))) (none : Bor (List ℕ)) (i : ℕ) → i < length words → All P (map (λ word. word.now) words) → P (get_or words i none).now
 at_word P words none i below all = subst P (get_or-map (λ word. word.now) words i none [] below) (all i [] (rw length-map below))

@@ -14,7 +14,7 @@ free : is_simple_and_free program ≡ true
 unfolding clap_on_literals
 free = refl
 
--- an error of words with these faults shows help or the version only where they ask for it
+-- an error of words with these faults shows help or the version only if they ask for it
 shown : (kinds : Kinds) (e : Error) → IsOfKinds kinds e → ShowsHelp e → IsAmong DisplayHelp kinds ⊎ IsAmong DisplayVersion kinds
 shown [] e (inl memory) (inl help) = absurd (search (rules, sym memory ∙ help))
 shown [] e (inl memory) (inr version) = absurd (search (rules, sym memory ∙ version))
@@ -53,7 +53,7 @@ no_fault a words is none = subst (λ p. is_simple_and_free p ≡ true → fault_
 pub is_of_value : (words : List Text) (e : Error) → fault_of program words ≡ [] → RefusesValue e → IsOfKinds (fault_of program words) e
 is_of_value words e none refused = subst (λ kinds. IsOfKinds kinds e) (sym none) refused
 
--- what holds of an error holds of the one that is passed on
+-- a property of an error is one of the error that is passed on
 pub passed_on : {T : Type 0} (P : Error → Type 0) (e : Error) (r : Result T Error) → IsErrAnd r (λ x. x ≡ e) → P e → IfErr r P
 passed_on P e (Ok t) same holds = tt
 passed_on P e (Err x) same holds = subst P (sym same) holds

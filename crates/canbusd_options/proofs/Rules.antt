@@ -9,7 +9,7 @@ use Rattle.canbusd_options.specs.Options.{rows_in}
 
 -- The rows of a parse, and the rules of a command.
 
--- what a getter reads, by the rows
+-- the text that a getter reads, by the rows
 pub text_in_rows : (m : ArgMatches) (id : Text) → first_value (found_of m) id ≡ first_of id (rows_in m)
 text_in_rows m id = first_value-rows (found_of m) id
 
@@ -34,7 +34,7 @@ pub below : (old sub new : Command) (app s : App) → AddsSubcommand old sub new
 below old sub new app s adds built plain is =
     adds.shape (third _ _ _ _ (ap (λ (a : App). a.top.is_plain) built ∙ plain)) ∙ ap₂ with_subcommand is (ap (λ (a : App). a.top) built)
 
--- what is there, or else nothing
+-- the texts that are there, or else none
 pub unwrapped : {A : Type 0} (f : A → List (List ℕ)) (o : Option A) (r : A) (P : A → Type 0) (rows : Option (List (List ℕ))) → UnwrapsOrElse o P r → (P r → f r ≡ []) → option_map f o ≡ rows → f r ≡ unwrap_or rows []
 unwrapped f None r P rows is empty same = empty is ∙ ap (λ q. unwrap_or q []) same
 unwrapped f (Some x) r P rows is empty same = ap f is ∙ ap (λ q. unwrap_or q []) same

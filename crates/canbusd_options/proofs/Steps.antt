@@ -47,7 +47,7 @@ without_dot true is_dotted names never = refl
 without_dot false true names never = absurd (never names refl)
 without_dot false false names never = refl
 
--- what comes after the `.` that a path begins with has its steps
+-- the part after the `.` that a path begins with has its steps
 pub after_dot : (path rest : List ℕ) → StripsPrefix path cur_dir rest → path_components rest ≡ path_steps path
 after_dot path rest strips = with_dot (slice_index path 0 == slash) (is_dot_at path 0) (path_names path) (path_components rest) (no_dot_name path _) (sym (whole path) ∙ strips ∙ ap (λ l. l ++ path_components rest) dot_steps)
 
@@ -55,19 +55,19 @@ after_dot path rest strips = with_dot (slice_index path 0 == slash) (is_dot_at p
 pub no_dot : (path : List ℕ) → (PathStartsWith path cur_dir → ⊥) → path_components path ≡ path_steps path
 no_dot path never = whole path ∙ without_dot (slice_index path 0 == slash) (is_dot_at path 0) (path_names path) (λ rest e. never (rest, whole path ∙ e ∙ sym (ap (λ l. l ++ rest) dot_steps)))
 
--- what is left of a path once the `.` that it may begin with is taken off
+-- the rest of a path after the `.` that it may begin with
 pub off_dot : {E : Type 0} (path : List ℕ) (p : Path) (r : Result Path E) → path_bytes p ≡ path → (IsOk r ↔ PathStartsWith (path_bytes p) cur_dir)
     → IfOk r (λ rest. StripsPrefix (path_bytes p) cur_dir (path_bytes rest)) → path_components (path_bytes (result_unwrap_or r p)) ≡ path_steps path
 off_dot path p (Ok rest) is begins strips = after_dot (path_bytes p) (path_bytes rest) strips ∙ ap path_steps is
 off_dot path p (Err e) is begins strips = no_dot (path_bytes p) (λ starts. absurd (search (rules, begins.1 starts))) ∙ ap path_steps is
 
--- two lists are one where each begins with the other
+-- two lists are one if each begins with the other
 one_list : {A : Type 0} (xs ys more others : List A) → xs ≡ ys ++ more → ys ≡ xs ++ others → xs ≡ ys
 one_list xs ys more others e f =
     let none : length more ≡ 0 = omega (arith, simp length-append at (ap length e), simp length-append at (ap length f)) in
     e ∙ ap (λ l. ys ++ l) (nil_from_length more none) ∙ append-nil ys
 
--- two paths have the same components where each begins with the other
+-- two paths have the same components if each begins with the other
 pub both_begin : (path other : List ℕ) → PathStartsWith path other → PathStartsWith other path → path_components path ≡ path_components other
 both_begin path other (more, e) (others, f) = one_list _ _ more others e f
 

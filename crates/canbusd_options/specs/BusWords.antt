@@ -5,7 +5,7 @@ use Rattle.std.specs.List.{after_first, before_first, position_or_len}
 
 -- The parts of a word BUS: names, and the script of faults after the first @ (own choice).
 
--- the text of a path, where one is given
+-- the text of a path, if one is given
 abbrev pub path_of : Option (Bor (List ℕ)) → Option (List ℕ)
 path_of path = option_map (λ text. text.now) path
 
@@ -13,7 +13,7 @@ path_of path = option_map (λ text. text.now) path
 abbrev pub is_at : ℕ → Bool
 is_at b = b == 64
 
--- the names: what comes before the first @, or all of it
+-- the names: the part before the first @, or the whole word
 abbrev pub names_part : List ℕ → List ℕ
 names_part bus = before_first is_at bus
 
@@ -21,6 +21,6 @@ names_part bus = before_first is_at bus
 abbrev pub first_name_of : List ℕ → List ℕ
 first_name_of names = before_first (λ b. b == 44) names
 
--- the path of the script: what comes after the first @, if there is one
+-- the path of the script: the part after the first @, if there is one
 abbrev pub script_part : List ℕ → Option (List ℕ)
 script_part bus = if nat_lt (position_or_len is_at bus) (length bus) then Some (after_first is_at bus) else None

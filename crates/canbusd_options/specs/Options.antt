@@ -33,15 +33,15 @@ use Rattle.canbusd_options.specs.RateWords.{GoWithBuses, number_for, number_in_w
 abbrev pub rows_in : ArgMatches → List Row
 rows_in m = rows_of (found_of m)
 
--- what the option of this name was given, or its default
+-- the text that the option of this name was given, or its default
 abbrev pub value_of : List Row → List ℕ → List ℕ
 value_of rows id = unwrap_or (first_of id rows) []
 
--- what it was given, or else this text
+-- the text that it was given, or else this one
 abbrev pub given_or : List ℕ → List Row → List ℕ → List ℕ
 given_or text rows id = unwrap_or (first_of id rows) text
 
--- what the option of this name was given, or its default, in a parse
+-- the text that the option of this name was given in a parse, or its default
 abbrev pub given_in : ArgMatches → List ℕ → List ℕ
 given_in m id = value_of (rows_in m) id
 
@@ -66,7 +66,7 @@ mode_text ack.Peers = codes "peers"
 abbrev pub IsMode : List ℕ → Type 0
 IsMode text = (mode : AckMode) × (text ≡ mode_text mode)
 
--- what is said of a bus is what the words give, with this limit where they give none
+-- the settings of a bus are those that the words give, with this limit if they give none
 pub record AreSettings (rows : List Row) (limit_else : List ℕ) (s : BusSettings) : Type 0 where
   pub ack : value_of rows (codes "ack") ≡ mode_text s.ack
   pub reporting : one_of (codes "report") rows ≡ Some (codes "true") → s.is_reporting ≡ true
@@ -80,7 +80,7 @@ pub record AreSettings (rows : List Row) (limit_else : List ℕ) (s : BusSetting
 abbrev pub GiveSettings : List Row → List ℕ → Type 0
 GiveSettings rows limit_else = (s : BusSettings) × AreSettings rows limit_else s
 
--- the limit of a run that keeps its record, where none is given
+-- the limit of a run that keeps its record, if none is given
 abbrev pub usual_limit : List ℕ
 usual_limit = codes "1000000"
 
@@ -107,11 +107,11 @@ AreBusWords buses words =
     (map (λ bus. bus.names.now) buses ≡ map names_part words)
     × (map (λ bus. path_of bus.script) buses ≡ map script_part words)
 
--- what an option was given, if it was
+-- the text that an option was given, if it was
 abbrev pub word_in : Option (Bor (List ℕ)) → Option (List ℕ)
 word_in text = option_map (λ t. t.now) text
 
--- a number is the one that a text writes, where there is one
+-- a number is the one that a text writes, or there is neither
 abbrev pub IsNumberIf : Option ℕ → Option (List ℕ) → Type 0
 IsNumberIf None None = Unit {0}
 IsNumberIf (Some n) (Some text) = IsNumberOfText n text
@@ -136,7 +136,7 @@ HasTimingOf None None None = Unit {0}
 HasTimingOf (Some bitrate) dbitrate (Some t) = IsTimingOf bitrate dbitrate t
 HasTimingOf _ _ _ = ⊥
 
--- what an option was given that may be there several times
+-- the texts that an option was given, which may be there several times
 abbrev pub words_given : List Row → List ℕ → List (List ℕ)
 words_given rows id = unwrap_or (all_of id rows) []
 
@@ -194,7 +194,7 @@ abbrev pub IsBusTimed : List Row → (bus : Option (List ℕ)) → Option BusTim
 IsBusTimed rows bus timing =
     HasRates (words_given rows (codes "bitrate")) (words_given rows (codes "dbitrate")) bus timing
 
--- so are those of a bus, where the words can be taken for the buses of these words BUS
+-- so are those of a bus, and the words can be taken for the buses of these words BUS
 abbrev pub IsTimed : List Row → (buses : List (List ℕ)) → (bus : Option (List ℕ)) → Option BusTiming → Type 0
 IsTimed rows buses bus timing = AreForBuses rows buses × IsBusTimed rows bus timing
 
@@ -246,19 +246,19 @@ recording_text recording.Never = codes "none"
 abbrev pub IsRecording : List ℕ → Type 0
 IsRecording text = (r : Recording) × (text ≡ recording_text r)
 
--- the limit of a server's buses where none is given: in a long run the most
+-- the limit of a server's buses, if none is given: in a long run the most
 abbrev pub server_limit : Recording → List ℕ
 server_limit recording.AtEnd = usual_limit
 server_limit recording.Live = codes "4294967294"
 server_limit recording.Never = codes "4294967294"
 
--- the most sessions of a server: where records are written at the end, passes are kept until then
+-- the most sessions of a server: if records are written at the end, passes are kept until then
 abbrev pub most_sessions : Recording → ℕ
 most_sessions recording.AtEnd = 4000
 most_sessions recording.Live = 4294967295
 most_sessions recording.Never = 4294967295
 
--- how many sessions a server has where that is not given: the most
+-- how many sessions a server has, if the number is not given: the most
 abbrev pub usual_sessions : Recording → List ℕ
 usual_sessions recording.AtEnd = codes "4000"
 usual_sessions recording.Live = codes "4294967295"
@@ -312,7 +312,7 @@ files_given rows = words_given rows (codes "FILE")
 abbrev pub IsFaultsWord : FaultsWord → List ℕ → Type 0
 IsFaultsWord faults word = (faults.names.now ≡ names_part word) × (Some faults.path.now ≡ script_part word)
 
--- the faults of a run are those of a word, where there is one
+-- the faults of a run are those of a word, or there is neither
 abbrev pub HasFaultsOf : Option (List ℕ) → Option FaultsWord → Type 0
 HasFaultsOf None None = Unit {0}
 HasFaultsOf (Some word) (Some faults) = IsFaultsWord faults word

@@ -15,7 +15,7 @@ use Rattle.canbusd_options.specs.Options.{AreAuditOptions, AreBenchOptions, AreS
 abbrev pub option_rule : Text → Rule
 option_rule name = record (new_rule name) { long = Some name; value_names = 1 }
 
--- the same, where it may be there several times
+-- the same, which may be there several times
 abbrev pub several_rule : Text → Rule
 several_rule name = record (option_rule name) { action = Some Append }
 
@@ -44,7 +44,7 @@ some_words_rule name =
 abbrev pub with_rate_rules : App → App
 with_rate_rules a = with_rule (with_rule a (several_rule (codes "bitrate"))) (several_rule (codes "dbitrate"))
 
--- a command with the options that say what a bus is like
+-- a command with the options of a bus
 abbrev pub with_bus_rules : App → App
 with_bus_rules a =
     with_rate_rules (with_rule (with_rule (with_rule (with_rule (with_rule (with_rule a
@@ -111,7 +111,7 @@ program =
     with_subcommand (with_subcommand (with_subcommand (with_subcommand (with_commands (new_app (codes "canbusd")))
     bench_app.top) serve_app.top) audit_app.top) bits_app.top
 
--- a job is what a command asks for, whose name and rows the words give
+-- a job is the one that a command asks for, whose name and rows the words give
 abbrev pub Asks : Option (Text × List Row) → Job → Type 0
 Asks None j = ⊥
 Asks (Some p) (job.Bench o) = (p.0 ≡ codes "bench") × AreBenchOptions p.1 o
@@ -119,7 +119,7 @@ Asks (Some p) (job.Serve o) = (p.0 ≡ codes "serve") × AreServeOptions p.1 o
 Asks (Some p) (job.Audit o) = (p.0 ≡ codes "audit") × AreAuditOptions p.1 o
 Asks (Some p) (job.Bits o) = (p.0 ≡ codes "bits") × AreBitsOptions p.1 o
 
--- a job is what words ask for in which clap finds no fault
+-- a job is the one that words ask for, in which clap finds no fault
 abbrev pub IsAsked : List Text → Job → Type 0
 IsAsked words j = (fault_of program words ≡ []) × Asks (subcommand_of program words) j
 

@@ -47,7 +47,7 @@ number_for bus words = option_map number_in_word (option_or (find (is_for bus) w
 abbrev pub is_once : List (List ℕ) → Option (List ℕ) → Bool
 is_once words bus = nat_le (count_by (is_for bus) words) 1
 
--- whether a word is for all buses, or for one of those of these words BUS
+-- whether a word is for all buses, or for a bus of these words BUS
 abbrev pub is_known : List (List ℕ) → List ℕ → Bool
 is_known buses word = is_for None word || list_any (λ bus. is_for (Some (names_part bus)) word) buses
 

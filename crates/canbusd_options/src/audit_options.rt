@@ -29,25 +29,25 @@ pub struct AuditOptions<'a> {
     pub files: Vec<&'a str>,
     /// Whether the text may be cut off.
     pub is_cut: bool,
-    /// What is written of the record.
+    /// The output of the audit.
     pub output: AuditOutput<'a>,
 }
 
-/// What an audit writes of a legal record.
+/// The output of an audit of a legal record.
 #[derive(Debug, Clone, Copy)]
 pub enum AuditOutput<'a> {
     /// How many entries it has.
     Count,
-    /// What the entries brought about.
+    /// The events that the entries brought about.
     Events(EventsAsked<'a>),
 }
 
-/// What is written of attempts, besides what they brought about.
+/// The bit rates and the faults of a run, by which the lines of its attempts have more fields.
 #[derive(Debug, Clone, Copy)]
 pub struct EventsAsked<'a> {
-    /// The bit rates of the bus, if they are given: by them what each attempt takes on the wire.
+    /// The bit rates of the bus, if they are given. They give the time of each attempt on the wire.
     pub timing: Option<Timing>,
-    /// The faults that the bus had, if they are given: which of their rules gave each attempt its verdict.
+    /// The faults that the bus had, if they are given. They give the rule that each verdict came from.
     pub faults: Option<FaultsWord<'a>>,
 }
 
@@ -64,7 +64,7 @@ pub fn audit_options<'a>(alloc: Global, audit: &ArgMatches<'a>) -> Result<AuditO
     })
 }
 
-// What is to be written.
+// The output that the words ask for.
 fn output_given<'a>(alloc: Global, audit: &ArgMatches<'a>) -> Result<AuditOutput<'a>, Error>
     ensures given { IfOk result (λ output. IsOutput (rows_in audit.now) output) }
     ensures taken { IfErr result (λ e. GiveOutput (rows_in audit.now) → IsNoMemory e) }

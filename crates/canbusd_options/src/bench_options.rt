@@ -72,7 +72,7 @@ pub fn bench_options<'a>(alloc: Global, bench: &ArgMatches<'a>) -> Result<BenchO
     })
 }
 
-// Whether both are given, and differ at most in what means nothing: `.` and doubled slashes. Links are not followed.
+// Whether both are given and name the same file, up to `.` and doubled slashes. Links are not followed.
 fn are_one_file(record: Option<&str>, log: Option<&str>) -> bool
     ensures { IsTrue result ↔ AreOneFile (path_of «record».entry) (path_of log.entry) }
 {

@@ -65,7 +65,7 @@ fn is_for(word: &str, bus: Option<&str>) -> bool
     }
 }
 
-// Whether a word is for all buses, or for one of those of these words BUS.
+// Whether a word is for all buses, or for a bus of these words BUS.
 fn is_known(buses: &[&str], word: &str) -> bool
     ensures { result ≡ is_known_to (map (λ bus. bus.now) buses.now) word.now }
 {
@@ -228,8 +228,8 @@ impl<'m, 'a> GivenRates<'m, 'a> {
         Ok(GivenRates { bitrate, dbitrate })
     }
 
-    /// The bit rates of a bus with these names, or of one whose names are not known, if they are given. The one for data is
-    /// not slower.
+    /// Returns the bit rates, if they are given, of the bus with these names, or of a bus whose names are not known. The
+    /// data bit rate is not slower.
     pub fn timing(&self, alloc: Global, bus: Option<&str>) -> Result<Option<Timing>, Error>
         ensures given { IfOk result (λ timing. HasRatesOf self.now (word_in bus.entry) timing) }
         ensures taken { IfErr result (λ e.
@@ -269,7 +269,7 @@ impl<'m, 'a> GivenRates<'m, 'a> {
     }
 }
 
-/// The bit rates of a bus, one of those of these words BUS, if they are given; or of one whose names are not known.
+/// Returns the bit rates of a bus, if they are given. It is a bus of these words BUS, or its names are not known.
 pub fn timing_given(
     alloc: Global,
     verb: Subcommand,

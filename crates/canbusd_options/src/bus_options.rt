@@ -1,4 +1,4 @@
-//! The words that say what a bus is like, which bench and serve share, and how an option's text, number or flag is taken.
+//! The options of a bus, which bench and serve share, and readers of an option's text, number or flag.
 ghost use Rattle.std.specs.Prelude.{◌≡◌, ◌↔◌, ◌≤◌, ◌^◌, codes, false, map, IfErr, IfNone, IfOk, IfSome, IsTrue};
 ghost use Rattle.std.specs.Str.Parse.{IsNumeral, digits_value};
 ghost use Rattle.clap.specs.Words.{app_of, kind_of, rule_of};
@@ -31,17 +31,17 @@ const RXQUEUE: &str = "rxqueue";
 
 pub const LIMIT: &str = "limit";
 
-/// How many events a run has at most that keeps its record, where no limit is given.
+/// The most events of a run that keeps its record, if no limit is given.
 pub const USUAL_LIMIT: &str = "1000000";
 
 const AUTO_RESTART: &str = "auto-restart";
 
 pub const BUS: &str = "BUS";
 
-/// What the options say of a bus, and of its sockets.
+/// The settings of a bus and of its sockets.
 #[derive(Debug, Clone, Copy)]
 pub struct BusSettings {
-    /// Who acknowledges frames.
+    /// Whether frames are always acknowledged, or only by receivers.
     pub ack: AckMode,
     /// Whether each fault is reported to the sockets.
     pub is_reporting: bool,
@@ -51,7 +51,7 @@ pub struct BusSettings {
     pub rx_capacity: u32,
     /// How many events the run has at most.
     pub limit: u32,
-    /// How many attempts after an interface went bus off it is restarted; 0: never.
+    /// How many attempts an interface stays bus off before it is restarted; 0: until a restart is asked for.
     pub auto_restart: u32,
 }
 
@@ -79,7 +79,7 @@ impl Subcommand {
     }
 }
 
-/// What the options of a command say of a bus, with this limit where none is given.
+/// Returns the settings of a bus by the options of a command, with this limit if none is given.
 pub fn settings_given(
     alloc: Global,
     verb: Subcommand,
@@ -117,7 +117,7 @@ fn ack_mode(alloc: Global, verb: Subcommand, matches: &ArgMatches<'_>) -> Result
     Err(verb.error(alloc, &message)?)
 }
 
-// The number that an option was given, in only decimal digits. Whether it is within these limits is the bus's to say.
+// The number that an option was given, in only decimal digits. Its limits are for the message.
 #[tactic(auto, using(crate::proofs::Rules::text_in_rows))]
 fn number_given(
     alloc: Global,
@@ -255,14 +255,14 @@ pub fn is_on(matches: &ArgMatches<'_>, flag: &str) -> bool
     matches.get_str(flag).unwrap_or("") == "true"
 }
 
-/// What an option was given that may be there several times.
+/// The texts that an option was given, which may be there several times.
 pub fn words_given<'m, 'a>(matches: &'m ArgMatches<'a>, option: &str) -> &'m [&'a str]
     ensures { map (λ word. word.now) result.now ≡ words_of (rows_in matches.now) option.now }
 {
     matches.get_strs(option).unwrap_or_default()
 }
 
-/// Adds the options that say what a bus is like.
+/// Adds the options of a bus.
 pub fn with_bus_options<'a>(alloc: Global, command: Command<'a>) -> Result<Command<'a>, AllocError>
     ensures { IfOk result (λ c. app_of c ≡ with_bus_rules (app_of command.entry)) }
 {

@@ -58,7 +58,7 @@ pub struct FaultsWord<'a> {
 }
 
 impl<'a> FaultsWord<'a> {
-    /// The names, and what follows the first `@`. `None` where there is no `@`.
+    /// The names, and what follows the first `@`. `None` if there is no `@`.
     pub fn read(word: &'a str) -> Option<FaultsWord<'a>>
         ensures some { IfSome result (λ faults. IsFaultsWord faults word.now) }
         ensures none { IfNone result (script_part word.now ≡ None) }

@@ -1,4 +1,4 @@
-//! What a command line asks for.
+//! The job that a command line asks for.
 ghost use Rattle.std.specs.Prelude.{◌≡◌, map, string_bytes, IfErr, IfOk};
 ghost use Rattle.clap.specs.Words.{app_of, fault_of};
 ghost use Rattle.canbusd_options.specs.Help.{AskHelp, IsOfKinds, IsNoMemory, ShowsHelp};
@@ -13,7 +13,7 @@ use crate::serve_options::{ServeOptions, serve_command, serve_options};
 use clap::{Command, Error};
 use std::alloc::{AllocError, Global};
 
-/// What a command line asks for.
+/// The job that a command line asks for.
 #[derive(Debug, Drop)]
 pub enum Job<'a> {
     /// To carry out the lines of the input.
@@ -26,8 +26,8 @@ pub enum Job<'a> {
     Bits(BitsOptions),
 }
 
-/// What the words of a command line ask for, the program's name among them. An error is a fault of the
-/// words, a request for help or the version, or no memory.
+/// Returns the job that the words of a command line ask for; the first word is the program's name. An error is a
+/// fault of the words, a request for help or the version, or no memory.
 pub fn read_options<'a>(alloc: Global, words: &'a [String]) -> Result<Job<'a>, Error>
     ensures asked { IfOk result (λ job. IsAsked (map string_bytes words.now) job) }
     ensures taken { IfErr result (λ e. AskJob (map string_bytes words.now) → IsNoMemory e) }
@@ -54,7 +54,7 @@ fn program_command<'a>(alloc: Global) -> Result<Command<'a>, AllocError>
     ensures { IfOk result (λ c. app_of c ≡ program) }
 {
     Command::new(alloc, "canbusd")
-        .version("0.2.0")
+        .version("0.3.0")
         .about("Simulated CAN buses")
         .after_help(PROGRAM_HELP)
         .subcommand_required(true)

@@ -16,7 +16,7 @@ const LIVE: &str = "live";
 
 const NONE: &str = "none";
 
-/// How many events a long run has at most.
+/// The most events of a long run.
 const LONG_LIMIT: &str = "4294967294";
 
 /// When the records of a server's buses are written.
@@ -31,7 +31,7 @@ pub enum Recording {
 }
 
 impl Recording {
-    /// What the word for it means.
+    /// Reads a word: `end`, `live` or `none`.
     fn read(text: &str) -> Option<Recording>
         ensures some { IfSome result (λ r. text.now ≡ recording_text r) }
         ensures none { IfNone result (¬ (IsRecording text.now)) }
@@ -48,7 +48,7 @@ impl Recording {
         None
     }
 
-    /// The limit of each bus, where none is given.
+    /// The limit of each bus, if none is given.
     pub fn limit(self) -> &'static str
         ensures { result.now ≡ server_limit self }
     {
@@ -58,7 +58,7 @@ impl Recording {
         }
     }
 
-    /// How many sessions a server has, where that is not given.
+    /// How many sessions a server has, if the number is not given.
     pub fn usual_sessions(self) -> &'static str
         ensures { result.now ≡ usual_sessions self }
     {
@@ -78,7 +78,7 @@ impl Recording {
         }
     }
 
-    /// Why options do not go with it, where they do not.
+    /// Returns why the options do not go with it, if they do not.
     fn clash(self, serve: &ArgMatches<'_>) -> Option<&'static str>
         ensures { IsNone result ↔ GoWith self (rows_in serve.now) }
     {
@@ -90,7 +90,7 @@ impl Recording {
     }
 }
 
-/// When records are written. A fault of the words where another option does not go with it.
+/// Returns when records are written, or a fault of the words if another option does not go with that.
 #[tactic(auto, using(crate::proofs::Rules::text_in_rows))]
 pub fn recording_given(alloc: Global, serve: &ArgMatches<'_>) -> Result<Recording, Error>
     ensures given { IfOk result (λ r.

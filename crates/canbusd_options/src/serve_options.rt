@@ -1,6 +1,6 @@
 //! The words of serve.
-ghost use Rattle.std.specs.Prelude.{◌≡◌, ◌≤◌, codes, false, map, All, IfErr, IfOk, Some};
-ghost use Rattle.std.specs.List.{AllZip};
+ghost use Rattle.std.specs.Prelude.{◌≡◌, ◌≤◌, codes, false, is_some, map, All, IfErr, IfOk, Some};
+ghost use Rattle.std.specs.List.{AllZip, list_any};
 ghost use Rattle.clap.specs.Words.{app_of, rule_of};
 ghost use Rattle.canbusd_options.specs.BusWords.{names_part};
 ghost use Rattle.canbusd_options.specs.Help.{IsNoMemory, RefusesValue};
@@ -54,9 +54,9 @@ pub struct ServeOptions<'a> {
     pub buses: Vec<BusWord<'a>>,
     /// The bit rates of each bus, in their order, if it has any.
     pub timings: Vec<Option<Timing>>,
-    /// Where it listens: a Unix path where it begins with `/` or `.`, else host and port.
+    /// The address at which it listens: a Unix path if it begins with `/` or `.`, else host and port.
     pub address: &'a str,
-    /// How many sessions it serves: 1 to 4,000, in long runs to 4,294,967,295, and the most where that is not given.
+    /// How many sessions it serves: 1 to 4,000, in long runs to 4,294,967,295; the most if the number is not given.
     pub sessions: u32,
     /// How many milliseconds pass after each attempt of a bus without bit rates, at most 60,000.
     pub pace_ms: u32,
@@ -66,9 +66,9 @@ pub struct ServeOptions<'a> {
     pub folder: Option<&'a str>,
     /// When records are written.
     pub recording: Recording,
-    /// How many milliseconds what is written live may wait before it goes to its file, at most 60,000.
+    /// How many milliseconds live text may wait before it goes to its file, at most 60,000.
     pub flush_ms: u32,
-    /// Whether it then waits until the disk has it.
+    /// Whether each such write waits until the disk has the text.
     pub is_synced: bool,
     /// Whether the end of standard input ends the run.
     pub is_until_eof: bool,
@@ -85,7 +85,9 @@ impl ServeOptions<'_> {
     }
 
     /// Whether a bus has bit rates.
-    pub fn has_timings(&self) -> bool {
+    pub fn has_timings(&self) -> bool
+        ensures { result ≡ list_any is_some self.now.timings.items }
+    {
         self.timings.iter().any(|timing| timing.is_some())
     }
 }
@@ -122,7 +124,7 @@ pub fn serve_options<'a>(alloc: Global, serve: &ArgMatches<'a>) -> Result<ServeO
     })
 }
 
-// How many sessions there are.
+// How many sessions the server serves.
 #[tactic(auto, using(crate::proofs::Rules::text_in_rows))]
 fn sessions_given(
     alloc: Global,
@@ -143,7 +145,7 @@ fn sessions_given(
     text_within(alloc, Subcommand::Serve, SESSIONS, text, 1, most)
 }
 
-// How long what is written live may wait.
+// How many milliseconds live text may wait.
 #[tactic(auto, using(crate::proofs::Rules::text_in_rows))]
 fn flush_given(alloc: Global, serve: &ArgMatches<'_>) -> Result<u32, Error>
     ensures number { IfOk result (λ n.

@@ -49,8 +49,8 @@ if TYPE_CHECKING:
     from canbusd.steps import step
     from canbusd.virtual import is_virtual
 
-#: The one of the program, of the wheel and of the folder canbusd-0.2.0.dist-info beside this package.
-__version__ = "0.2.0"
+#: The version of the program and of the wheel, also in the name of the folder canbusd-*.dist-info beside this package.
+__version__ = "0.3.0"
 
 __all__ = [
     "Attempt",

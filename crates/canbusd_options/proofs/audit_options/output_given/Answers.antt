@@ -6,7 +6,7 @@ use Rattle.canbusd_options.proofs.audit_options.output_given.Goals as goal
 use Rattle.clap.specs.Words.{Row}
 use Rattle.std.proofs.Common.{List, None}
 
--- rows that say what is written give bit rates, or none
+-- rows that give an output give bit rates, or none
 timing_of_output : (rows : List Row) → GiveOutput rows → GiveAuditTiming rows
 timing_of_output rows (output.Count, is) = (None, is.1)
 timing_of_output rows (output.Events asked, is) = (asked.timing, is.1)

@@ -37,11 +37,11 @@ returns-clause-given c =
       quiet = λ off. c.get_flag-2.ensures.other (flag_in_rows m (codes "verbose") ∙ off);
     }
 
--- texts differ where their first bytes do
+-- texts differ if their first bytes do
 differ : (x y : List ℕ) → x ≡ y → get_or x 0 0 < get_or y 0 0 → ⊥
 differ x y same low = let first : get_or x 0 0 ≡ get_or y 0 0 = ap (λ (text : List ℕ). get_or text 0 0) same in omega arith
 
--- words differ where they mean different times
+-- words differ if they mean different times
 same_recording : (a b : Recording) → recording_text a ≡ recording_text b → a ≡ b
 same_recording AtEnd AtEnd same = refl
 same_recording Live Live same = refl
