@@ -25,7 +25,7 @@ config_of s n = record {
   auto_restart = s.auto_restart;
 }
 
--- the faults of a run: those that some text spells where a script is named, else none
+-- the faults of a run: those that some text spells if a script is named, else none
 abbrev pub IsPlan : {A : Type 0} → Option A → List (List ℕ) → PlanSeen → Type 0
 IsPlan None names plan = plan ≡ no_plan
 IsPlan (Some path) names plan = (text : List ℕ) × ReadsPlan names text (Ok plan)

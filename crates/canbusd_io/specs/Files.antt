@@ -15,8 +15,7 @@ use Rattle.canbusd_options.specs.BusWords.{first_name_of}
 use Rattle.canbusd_io.specs.declared.program_error.ProgramError.{ProgramError}
 use Rattle.canbusd_io.specs.declared.program_error.ProgramError.TheVariants as fault
 
--- What is written to files, and what is reported of names, files and scripts that cannot be read or written (own
--- choice).
+-- The bytes that files get, and the faults of names, files and scripts that cannot be read or written (own choice).
 
 -- a writer took a text
 abbrev pub Took : {W : Type 0} → (W → Option (List ℕ)) → W → W → List ℕ → Type 0
@@ -48,7 +47,7 @@ abbrev pub IsOfRecordFile : List ℕ → ProgramError → Type 0
 IsOfRecordFile path (fault.CannotOpen named) = named.now ≡ path
 IsOfRecordFile path why = IsOfWriting why
 
--- a fault of names: they are none that a bus may have, or they are, and memory was refused
+-- a fault of names: a bus may not have them, or it may, and memory was refused
 abbrev pub IsOfNames : List ℕ → ProgramError → Type 0
 IsOfNames text fault.BadNames = AreNames (names_in text) → ⊥
 IsOfNames text fault.NoMemory = AreNames (names_in text)
@@ -60,7 +59,7 @@ IsOfLogFile bus path (fault.CannotOpen named) = named.now ≡ path
 IsOfLogFile bus path (fault.Log name lines) = name.now ≡ first_name_of bus.names.now
 IsOfLogFile bus path why = IsOfNames bus.names.now why
 
--- how a fault of a script is reported
+-- the error that reports a fault of a script
 abbrev pub script_fault_of : PlanError → ProgramError
 script_fault_of (plan.Script script.NoMemory) = fault.NoMemory
 script_fault_of why = fault.Script why
@@ -73,7 +72,7 @@ IsOfScript names text why = (error : PlanError) × (why ≡ script_fault_of erro
 abbrev pub IsOfScriptFile : List ℕ → List (List ℕ) → ProgramError → Type 0
 IsOfScriptFile path names why = IsOfFile path why ⊎ ((text : List ℕ) × IsOfScript names text why)
 
--- a fault of the script of a bus: there is none where no script is named
+-- a fault of the script of a bus: there is none if no script is named
 abbrev pub IsOfPlan : Option (Bor (List ℕ)) → List (List ℕ) → ProgramError → Type 0
 IsOfPlan None names why = ⊥
 IsOfPlan (Some path) names why = IsOfScriptFile path.now names why

@@ -7,7 +7,7 @@ use Rattle.can_record_text.specs.declared.version.Version.TheVariants as version
 use Rattle.canbusd_io.specs.Live.{MayGet, whole_contents}
 use Rattle.canbusd_io.specs.declared.live.LiveText.{LiveText}
 
--- What the record and the log of a bus have since they were begun (own choice), as far as they are not over.
+-- The text that the record and the log of a bus have got since they were begun (own choice), until they are over.
 
 -- a record has its first two lines, and then this text
 abbrev pub RecordHas : {F : Type 0} → (F → Option (List ℕ)) → LiveText F BusConfig → List ℕ → Type 0

@@ -17,8 +17,8 @@ use canbusd_options::{BusSettings, BusWord, FaultsWord};
 use std::alloc::{AllocError, Global};
 use std::rt::Files;
 
-/// The faults of a bus that has these names, those of the script that its word names, if it names one, and the script's text,
-/// which is empty where it names none.
+/// The faults of a bus that has these names, and the text of its script. If its word names no script there are no faults,
+/// and the text is empty.
 pub fn read_plan<'a, H: Files>(
     rt: &H,
     alloc: Global,
@@ -87,7 +87,7 @@ fn first_ifaces(count: u8) -> IfaceSet
     IfaceSet(((1_u32 << count) - 1) as u16)
 }
 
-/// Which option is past its limits, where `--limit` is at most this.
+/// The first option that is past its limits, if there is one; `--limit` is at most this.
 pub fn limits_note(alloc: Global, settings: &BusSettings, most: u32) -> Result<String, AllocError> {
     let limits = [
         ("txqueue", settings.tx_capacity, 1, MAX_TX_CAPACITY),

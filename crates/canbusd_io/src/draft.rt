@@ -1,5 +1,5 @@
-//! Files that are written under another name, and get their own once they are whole. So what an earlier run left stays
-//! as it was until then.
+//! Files that are written under another name, and get their own once they are whole. Until then the file of an earlier run
+//! stays as it was.
 use crate::files::open_failure;
 use crate::report::Report;
 use crate::shown::Shown;
@@ -10,8 +10,9 @@ use std::os::unix::fs::FileTypeExt;
 use std::rt::Files;
 use std::{fs, io};
 
-/// A file, and where it is written: beside it with `.new` after the name. Where something is there that is no
-/// plain file, as a device, it is written in place. What a run that was cut off left is set aside with `.cut` after the name.
+/// A file, and the draft that is written until it is whole: beside it, with `.new` after the name. If the path leads to
+/// something other than a plain file, as a device, it is written in place. The draft of a run that was cut off is set aside
+/// with `.cut` after the name.
 #[derive(Drop)]
 pub struct Draft {
     path: String,
@@ -67,25 +68,25 @@ impl Draft {
         &self.path
     }
 
-    /// Where it is written.
+    /// The path that is written.
     pub fn draft(&self) -> &str {
         &self.draft
     }
 
-    /// Where what a run that was cut off left is set aside.
+    /// The path to which the draft of a run that was cut off is set aside.
     pub fn aside(&self) -> &str {
         &self.aside
     }
 
-    /// Removes what an earlier run or somebody else has left where the file is to be written, unless it is written in
-    /// place. A link there is removed and not followed.
+    /// Removes the draft that an earlier run or another program has left, unless the file is written in place. A link there
+    /// is removed and not followed.
     pub fn clear<H: Files>(&self, rt: &H) {
         if self.is_apart() {
             let _ = fs::remove_file(rt, &self.draft);
         }
     }
 
-    /// Whether a plain file with more bytes than these is left where the file is to be written, unless it is written in place.
+    /// Whether a draft with more bytes than these is left, which is a plain file; never if the file is written in place.
     pub fn has_more_than<H: Files>(&self, rt: &H, bytes: u64) -> bool {
         match fs::symlink_metadata(rt, &self.draft) {
             Ok(found) => self.is_apart() && found.is_file() && found.len() > bytes,
@@ -93,17 +94,17 @@ impl Draft {
         }
     }
 
-    /// Sets aside what is there where the file is to be written.
+    /// Sets the draft aside.
     pub fn set_aside<H: Files>(&self, rt: &H) -> io::Result<()> {
         fs::rename(rt, &self.draft, &self.aside)
     }
 
-    /// Puts what was set aside back.
+    /// Puts the draft back that was set aside.
     pub fn put_back<H: Files>(&self, rt: &H) {
         let _ = fs::rename(rt, &self.aside, &self.draft);
     }
 
-    /// Removes what was set aside before, if there is something.
+    /// Removes a draft that was set aside before, if there is one.
     pub fn clear_aside<H: Files>(&self, rt: &H) -> io::Result<()> {
         match fs::remove_file(rt, &self.aside) {
             Err(error) if error.kind() != ErrorKind::NotFound => Err(error),
@@ -111,7 +112,7 @@ impl Draft {
         }
     }
 
-    /// Removes what an earlier run left under the file's name, unless the file is written in place.
+    /// Removes the file of an earlier run, unless the file is written in place.
     pub fn remove_older<H: Files>(&self, rt: &H) {
         if self.is_apart() {
             let _ = fs::remove_file(rt, &self.path);
@@ -133,7 +134,7 @@ impl Draft {
         Ok(())
     }
 
-    /// Looks whether something can be set aside: a folder can't be replaced.
+    /// Looks whether a draft can be set aside: a folder can't be replaced.
     pub fn look_aside<H: Files>(&self, rt: &H) -> io::Result<()> {
         match fs::symlink_metadata(rt, &self.aside) {
             Ok(found) if self.is_apart() && found.is_dir() => Err(ErrorKind::IsADirectory.into()),
@@ -153,7 +154,7 @@ impl Draft {
         self.look(rt)
     }
 
-    /// Makes the file where it is to be written, in the place of what is there, and opens it: each write goes to its end.
+    /// Makes the draft, in place of any older one, and opens it: each write goes to its end.
     pub fn make<H: Files<File = File>>(&self, rt: &H) -> io::Result<File> {
         if !self.is_apart() {
             return fs::create(rt, &self.path);
@@ -165,7 +166,7 @@ impl Draft {
             .open(rt, &self.draft)
     }
 
-    /// Gives a file that is whole its name, and removes any other.
+    /// Gives a file that is whole its name. One that is not is removed.
     pub fn keep<'a, H: Files>(
         &'a self,
         rt: &H,
@@ -181,8 +182,8 @@ impl Draft {
         }
     }
 
-    /// Gives a file its name, also where only the first part of it was written; unless another has that name already:
-    /// then the part stays where it was written.
+    /// Gives a file its name, also if only its first part was written; unless another file has that name already: then the
+    /// part stays under the draft's name.
     pub fn keep_part<'a, H: Files>(
         &'a self,
         rt: &H,

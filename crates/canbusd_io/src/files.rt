@@ -14,10 +14,10 @@ use std::fs;
 use std::io::{Error, ErrorKind, Read};
 use std::rt::Files;
 
-/// What standard input is called where it fails.
+/// The name of standard input in a report.
 pub const INPUT: &str = "standard input";
 
-/// What standard output is called where it fails.
+/// The name of standard output in a report.
 pub const OUTPUT: &str = "standard output";
 
 /// The file with this path, which is read in at most 16,777,216 reads.
@@ -46,7 +46,7 @@ pub(crate) fn read_file<'a, H: Files>(
     read_text(alloc, path, &mut file)
 }
 
-/// All that a reader of the file with this path has, as UTF-8 text.
+/// All bytes that a reader of the file with this path has, as UTF-8 text.
 pub fn read_text<'a, R: Read>(
     alloc: Global,
     path: &'a str,
@@ -88,7 +88,7 @@ pub fn utf8_note(
     format!(in alloc; "  {line}\n  this line is no UTF-8 text\n")
 }
 
-/// How a file or a stream that was not opened is reported.
+/// The report of a file or a stream that was not opened.
 pub(crate) fn open_failure<'a>(alloc: Global, path: &'a str, error: &Error) -> Report<'a>
     ensures { result.error ≡ fault.CannotOpen path.entry }
 {
@@ -99,7 +99,7 @@ pub(crate) fn open_failure<'a>(alloc: Global, path: &'a str, error: &Error) -> R
     )
 }
 
-/// How a fault of reading a file or a stream is reported.
+/// The report of a fault of reading a file or a stream.
 pub fn read_failure<'a>(alloc: Global, place: &str, error: &Error) -> Report<'a>
     ensures { IsOfReading result.error }
 {
@@ -110,7 +110,7 @@ pub fn read_failure<'a>(alloc: Global, place: &str, error: &Error) -> Report<'a>
     }
 }
 
-/// How a fault of writing to a file or a stream is reported.
+/// The report of a fault of writing to a file or a stream.
 pub fn write_failure<'a>(alloc: Global, place: &str, error: &Error) -> Report<'a>
     ensures { result.error ≡ fault.Write }
 {

@@ -1,13 +1,13 @@
-//! What the program reads and writes besides its streams, as names and scripts of a bus, records and logs; and the texts
-//! of its errors.
+//! Files and words that the program reads and writes besides its streams, as names and scripts of a bus, records and
+//! logs; and the texts of its errors.
 //!
 //! `read_names`, `read_plan` and `bus_config` make a bus of the words that describe it, and `read_faults` the faults that it had
 //! in a run; `save_record` and `save_log` write what a run leaves. A command line that was not carried out gives a `Report`: a
 //! `ProgramError`, and notes after its text.
 //!
-//! What is proved here: the configuration is that of the settings, a script is what some text spells for the names of its bus,
-//! and what is written is the record's text and the lines of its log; a report has the error that it was made of. What a file
-//! holds is not known to any contract. Tests show that of a file or a client only printable ASCII is shown.
+//! Proved here: the configuration is that of the settings, some text spells the faults of a script for the names of its bus,
+//! and a file gets the record's text or the lines of its log; a report has the error that it was made of. No contract knows
+//! the bytes of a file. Tests show that of a file or a client only printable ASCII is shown.
 #![tactic(auto)]
 
 mod buses;

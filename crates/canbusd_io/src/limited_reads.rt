@@ -5,10 +5,10 @@ use std::alloc::Global;
 use std::io;
 use std::io::{Error, ErrorKind, Read};
 
-/// How often a file is read at most: the last read finds its end.
+/// The largest number of reads of a file: the last one finds its end.
 pub(crate) const MOST_READS: u32 = LONGEST_INPUT as u32;
 
-/// A reader that is read at most this many times. One more is a fault that says how many there were.
+/// A reader that is read at most this many times. One read more is a fault, whose text has their number.
 #[derive(Drop)]
 pub struct LimitedReads<R> {
     reader: R,

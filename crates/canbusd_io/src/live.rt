@@ -30,14 +30,14 @@ use std::snapshot::Snapshot;
 #[derive(Drop)]
 pub struct LiveText<F: Write + OpenFile + Drop, B: Drop> {
     draft: Draft,
-    /// What its lines are written with: the configuration of the bus, or its names.
+    /// The configuration of the bus, or its names: its lines are written with them.
     pub bus: B,
     pub file: LiveFile<F>,
     /// The file before its first line, which only contracts see: it takes no memory.
     pub start: Snapshot<LiveFile<F>>,
 }
 
-/// The record of a bus, which gets the lines of its entries, and its name once it is whole.
+/// The record of a bus, which gets the lines of its entries. Its file gets its name once it is whole.
 pub type LiveRecord<F> = LiveText<F, BusConfig>;
 
 /// The log of a bus, which gets the lines of its tried frames.
@@ -221,7 +221,7 @@ impl<F: Write + OpenFile + Drop> LiveText<F, BusConfig> {
         self.settle(alloc, put)
     }
 
-    // Gives the file its name, which no file has that is over, and the faults of the run theirs.
+    // Gives the file its name, unless it is over, and the faults of the run theirs.
     fn name_both<H: Files>(
         &self,
         rt: &H,

@@ -9,15 +9,15 @@ use std::io;
 use std::io::{Error, ErrorKind, Write};
 use std::rt::Files;
 
-/// The faults of the run of a bus, for an audit: the script that it began with, and the lines of what became of its rules. The
-/// file is written as a draft, and gets its name after the record; a run without faults has none. One that lacks a line would
-/// say of later attempts that another rule decided, so with the first fault it is empty.
+/// The faults of the run of a bus, for an audit: the script that it began with, and the lines of the rules that came or went
+/// later. The file is written as a draft, and gets its name after the record; a run without faults has none. A file that
+/// lacks a line would give later attempts to another rule, so the first write that fails leaves it empty.
 #[derive(Drop)]
 pub struct LiveFaults {
     draft: Draft,
     script: String,
     is_synced: bool,
-    // Once it is made. Then it has the script.
+    // The file once it is made. Then it has the script.
     file: Option<LiveFile<File>>,
     has_fault: bool,
 }
@@ -41,7 +41,7 @@ impl LiveFaults {
         })
     }
 
-    /// Where it is written.
+    /// The path that is written.
     pub fn path(&self) -> &str {
         self.draft.draft()
     }
@@ -65,7 +65,7 @@ impl LiveFaults {
         self.checked(alloc, kept)
     }
 
-    /// Writes all lines of a run at its end, in a file that is made only where it had faults.
+    /// Writes all lines of a run at its end, in a file that is made only if it had faults.
     pub fn keep_all<H: Files<File = File>>(
         &mut self,
         rt: &H,
@@ -95,13 +95,13 @@ impl LiveFaults {
         self.has_fault = true;
     }
 
-    /// Removes what an earlier run left under the file's name. Before its record gets its own: a server that is killed then leaves
+    /// Removes the file of an earlier run. Callers do so before the record gets its name: a server that is killed then leaves
     /// no record beside the faults of another run.
     pub fn make_way<H: Files>(&self, rt: &H) {
         self.draft.remove_older(rt);
     }
 
-    /// Gives the file its name, which its record has by now. Where the run had no faults, or lines were lost, it is removed.
+    /// Gives the file its name, which its record has by now. If the run had no faults, or lines were lost, it is removed.
     pub fn finish<H: Files>(&self, rt: &H, alloc: Global) -> Result<(), Report<'static>> {
         if self.has_fault || !matches!(&self.file, Some(file) if file.has_lines()) {
             self.draft.clear(rt);

@@ -8,31 +8,31 @@ use std::fs::OpenFile;
 use std::io;
 use std::io::{BufWriter, Error, Write};
 
-/// How many bytes go out in one write at most.
+/// The largest number of bytes that go out in one write.
 const BLOCK: usize = 65_536;
 
-/// What a file keeps that had a fault.
+/// The part of a file that is kept after a fault.
 #[derive(Debug, Clone, Copy, PartialEq, Eq)]
 pub enum Remains {
     /// Its whole lines.
     WholeLines,
-    /// Nothing, as what lacks a line would say something else.
+    /// Nothing, as a file that lacks a line would say something else.
     Nothing,
 }
 
-/// A file that gets lines while a server runs. With the first fault it is over: it is cut to what it keeps then, and gets no
-/// more.
+/// A file that gets lines while a server runs. With the first fault it is over: it is cut to the part that is kept, and gets
+/// no more.
 #[derive(Drop)]
 pub struct LiveFile<F: Write + OpenFile + Drop> {
     pub path: String,
     remains: Remains,
-    /// Whether each flush waits until the disk has what was written.
+    /// Whether each flush waits until the disk has all lines.
     pub is_synced: bool,
-    /// Where its lines go, until it is over.
+    /// The writer that its lines go to, until it is over.
     pub out: Option<BufWriter<WholeLines<F>>>,
 }
 
-/// Why a file is over, and how many whole lines it has.
+/// The error that ended a file, and the number of its whole lines.
 #[derive(Drop)]
 pub struct FileOver {
     pub whole_lines: u64,
@@ -65,7 +65,7 @@ impl<F: Write + OpenFile + Drop> LiveFile<F> {
         matches!(&self.out, Some(out) if out.get_ref().lines > 0)
     }
 
-    /// Hands what was put to the system. The file is over where that fails, or where it was not put.
+    /// Hands the lines that were put to the system. The file is over if that fails, or if they were not put.
     pub fn settle(&mut self, put: io::Result<()>) -> Result<(), FileOver>
         ensures put { OnOk result (IsOk put) }
         ensures stays { OnOk result (Stays (whole_contents F.contents) self.old.out self.new.out) }
@@ -96,7 +96,7 @@ impl<F: Write + OpenFile + Drop> LiveFile<F> {
         }
     }
 
-    // Waits until the disk has what was written.
+    // Waits until the disk has all lines.
     fn sync(&self) -> io::Result<()> {
         match &self.out {
             Some(out) => out.get_ref().inner.sync_data(),
@@ -104,7 +104,7 @@ impl<F: Write + OpenFile + Drop> LiveFile<F> {
         }
     }
 
-    // It is over: for the fault of its last write, or else for this one.
+    // Ends the file: for the fault of its last write, or else for this one.
     fn end(&mut self, error: Error) -> FileOver
         ensures { self.new.out ≡ None }
     {

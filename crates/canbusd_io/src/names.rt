@@ -26,7 +26,7 @@ pub fn read_names<'a>(alloc: Global, names: &str) -> Result<Names, Report<'a>>
     })
 }
 
-// Which name is wrong, is there twice, or is one too many.
+// The name that is wrong or given twice, or the number of names that are too many.
 fn names_note(alloc: Global, names: &str) -> Result<String, AllocError> {
     let count = names.split(',').count();
     if count > 16 {

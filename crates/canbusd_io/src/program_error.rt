@@ -43,7 +43,7 @@ pub enum ProgramError<'a> {
     Write,
     #[error("no memory")]
     NoMemory,
-    /// Names of a record's interfaces are not as many as its bus has.
+    /// The names given for a record's interfaces are not as many as its bus has.
     #[error("names of another bus")]
     OtherBus,
 }

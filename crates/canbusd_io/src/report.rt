@@ -36,7 +36,7 @@ impl<'a> Report<'a> {
         }
     }
 
-    /// The report with a note more, where there is memory for it.
+    /// The report with one note more, if there is memory for it.
     pub fn and(mut self, note: &str) -> Report<'a>
         ensures { result.error ≡ self.entry.error }
     {
@@ -70,7 +70,7 @@ impl<'e, E: Write> Reporter<'e, E> {
         }
     }
 
-    /// Reports why a part of a job was not done, if it was not.
+    /// Reports the error of a part of a job, if there was one.
     pub fn report(&mut self, outcome: Result<(), Report<'_>>)
         ensures kept { IsTrue self.old.has_reported → IsTrue self.new.has_reported }
         ensures reported { IfErr outcome.entry (λ _. IsTrue self.new.has_reported) }

@@ -1,4 +1,4 @@
-//! What is reported of a rule of faults that is wrong, in a script or in a line of the bench.
+//! Notes on a rule of faults that is wrong, in a script or in a line of the bench.
 use crate::names::read_names;
 use crate::notes::{WITH_CR, fixed_note};
 use crate::shown::Shown;
@@ -6,7 +6,7 @@ use can_rules::{WrongWord, read_later, read_rule};
 use canbusd_options::has_name;
 use std::alloc::{AllocError, Global};
 
-/// Why a rule was not taken, for a bus whose names are given as a word of the command line has them.
+/// The reason why a rule was not taken, for a bus whose names are given as a word of the command line has them.
 pub fn rule_note(alloc: Global, rule: &str, bus: &str) -> Result<String, AllocError> {
     if rule.ends_with('\r') {
         return fixed_note(alloc, WITH_CR);
@@ -21,7 +21,7 @@ pub fn rule_note(alloc: Global, rule: &str, bus: &str) -> Result<String, AllocEr
     }
 }
 
-/// Why a line of what came while a run went on was not taken.
+/// The reason why a line of a rule that came during a run was not taken.
 pub(crate) fn later_note(alloc: Global, line: &str, bus: &str) -> Result<String, AllocError> {
     if line.ends_with('\r') {
         return fixed_note(alloc, WITH_CR);

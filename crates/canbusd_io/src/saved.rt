@@ -1,4 +1,4 @@
-//! The files that a run leaves: the record of a bus, and its log. Where it leaves none, a note says so.
+//! The files that a run leaves: the record of a bus, and its log. If it leaves none, a note says so.
 ghost use Rattle.std.specs.Prelude.{◌≡◌, ◌-◌, ◌==◌, count_by, IfErr, OnOk};
 ghost use Rattle.can_record_text.specs.Texts.{text_of};
 ghost use Rattle.canbusd_io.specs.declared.program_error.ProgramError.TheVariants as fault;
@@ -20,7 +20,7 @@ use std::fs;
 use std::io::{BufWriter, Error, ErrorKind, Write};
 use std::rt::Files;
 
-/// How many bytes of a log go out in one write.
+/// The number of bytes of a log that go out in one write.
 const LOG_BLOCK: usize = 65_536;
 
 /// Writes the text of a record to the file with this path. A file that is there stays as it is until the new one is whole: it is
@@ -176,7 +176,7 @@ fn put_log<W: Write>(names: &Names, record: &Record, file: &mut W) -> Result<(),
     file.flush().map_err(|_| lines)
 }
 
-// How a fault of writing a log is reported: a buffer took this many whole lines, and has these bytes left.
+// The report of a fault of writing a log: a buffer took this many whole lines, and has these bytes left.
 fn log_failure<'a>(alloc: Global, name: &'a str, lines: u64, unwritten: &[u8]) -> Report<'a>
     ensures { result.error ≡ fault.Log name.entry (lines - count_by (λ b. b == 10) unwritten.now) }
 {
@@ -184,7 +184,7 @@ fn log_failure<'a>(alloc: Global, name: &'a str, lines: u64, unwritten: &[u8]) -
     Report::new(alloc, ProgramError::Log { name, whole_lines })
 }
 
-// How a fault of writing a record is reported.
+// The report of a fault of writing a record.
 fn record_failure<'a>(alloc: Global, path: &str, error: &Error) -> Report<'a>
     ensures { IsOfWriting result.error }
 {

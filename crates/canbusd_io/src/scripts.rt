@@ -1,4 +1,4 @@
-//! Scripts of faults: a file, and what is reported of a wrong line of it.
+//! Scripts of faults: the file, and the notes on a wrong line of it.
 ghost use Rattle.std.specs.Prelude.{◌≡◌, List, ℕ, IfErr, IfOk, Ok};
 ghost use Rattle.can_rules.specs.Plans.{ReadsPlan};
 ghost use Rattle.can_rules.specs.RunFaults.{ReadsRunFaults};
@@ -16,8 +16,8 @@ use can_rules::{Plan, PlanError, RunFaults, begins_as_later, begins_as_rule};
 use std::alloc::{AllocError, Global};
 use std::rt::Files;
 
-/// What the script of faults in the file with this path says, for a bus with these names, which are given as they are read too;
-/// and its text.
+/// The faults that the script in the file with this path spells for a bus with these names, and its text. The names are given
+/// as read, and as a word of the command line has them.
 pub fn read_script<'a, H: Files>(
     rt: &H,
     alloc: Global,
@@ -60,7 +60,7 @@ fn read_script_file<'a, H: Files>(
     read_file(rt, alloc, path).map_err(|failure| failure.and(path_note(path)))
 }
 
-// What may be wrong with the path of a script.
+// A note on a mistake that the path of a script may have.
 fn path_note(path: &str) -> &'static str {
     if path.is_empty() {
         "  the path of a script comes after @\n"
@@ -71,7 +71,7 @@ fn path_note(path: &str) -> &'static str {
     }
 }
 
-// What the text of a file says.
+// The faults that the text of a file spells.
 fn script_in<'a>(
     alloc: Global,
     path: &str,
@@ -111,7 +111,7 @@ fn run_faults_in<'a>(
     }
 }
 
-// How a fault of a script is reported.
+// The report of a fault of a script.
 fn script_failure<'a>(
     alloc: Global,
     fault: PlanError,
@@ -125,7 +125,7 @@ fn script_failure<'a>(
     }
 }
 
-// The line of a script that is wrong, and why.
+// The line of a script that is wrong, and the reason.
 fn script_note(
     alloc: Global,
     path: &str,
@@ -188,7 +188,7 @@ fn with_line(
     format!(in alloc; "  {line}\n{note}")
 }
 
-// Why a line that is no rule is wrong.
+// The reason why a line that is no rule is wrong.
 fn numbered_note(
     alloc: Global,
     text: &str,
@@ -225,7 +225,7 @@ fn bad_verdict_note(alloc: Global, line: &str) -> Result<String, AllocError> {
     fixed_note(alloc, verdict_note(verdict))
 }
 
-// What is wrong with what follows the number of a line and a space.
+// The mistake in the words that follow the number of a line and a space.
 fn verdict_note(verdict: &str) -> &'static str {
     if verdict.starts_with(' ') || verdict.contains("  ") {
         return "words are parted by one space";
@@ -265,7 +265,7 @@ fn unknown_note(alloc: Global, line: &str, names: &str) -> Result<String, AllocE
     unknown_name_note(alloc, list, names)
 }
 
-// Where the attempt of this line comes first.
+// The first line that has the attempt of this line.
 fn repeated_note(alloc: Global, text: &str, number: usize) -> Result<String, AllocError> {
     let attempt = attempt_of(line_of(text, number));
     let place = text
@@ -276,7 +276,7 @@ fn repeated_note(alloc: Global, text: &str, number: usize) -> Result<String, All
     format!(in alloc; "  line {first} has a verdict for this attempt\n")
 }
 
-// The number that a line of a script begins with.
+// The number at the start of a line of a script.
 fn attempt_of(line: &str) -> Option<u32> {
     let (number, _) = line.split_once(' ')?;
     number.parse().ok()

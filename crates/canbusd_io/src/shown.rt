@@ -2,10 +2,10 @@ ghost use Rattle.std.specs.Prelude.{◌≡◌, ◌&&◌, if◌then◌else◌, na
 
 use std::fmt;
 
-/// How many bytes of a line or a name are shown.
+/// The number of bytes of a line or a name that are shown.
 const MOST_SHOWN: usize = 72;
 
-/// Bytes as they may go to a terminal: one that is no printable ASCII is shown as `?`.
+/// Bytes as they may go to a terminal: a byte that is no printable ASCII is shown as `?`.
 #[derive(Clone, Copy)]
 pub struct Shown<'a> {
     bytes: &'a [u8],
@@ -21,7 +21,7 @@ impl<'a> Shown<'a> {
         }
     }
 
-    /// The first 72 bytes, and `..` where there are more.
+    /// The first 72 bytes, and `..` if there are more.
     pub fn cut(bytes: &'a [u8]) -> Shown<'a> {
         let len = bytes.len().min(MOST_SHOWN);
         Shown {
@@ -43,7 +43,7 @@ impl fmt::Display for Shown<'_> {
     }
 }
 
-// The character of a byte, or `?`: one from the space to `~`.
+// The character of a byte from the space to `~`; of any other it is `?`.
 fn printable(byte: u8) -> char
     ensures { result ≡ (if nat_le 32 byte && nat_le byte 126 then byte else 63) }
 {
@@ -54,7 +54,7 @@ fn printable(byte: u8) -> char
     }
 }
 
-/// A line and where it is, as `FILE:NUMBER: TEXT`.
+/// A line and its place, as `FILE:NUMBER: TEXT`.
 #[derive(Clone, Copy)]
 pub struct SourceLine<'a> {
     file: &'a str,

@@ -5,14 +5,14 @@ use can_frame::count_of;
 use std::io;
 use std::io::{Error, Write};
 
-/// A writer, and how many whole lines it took.
+/// A writer, and the number of whole lines that it took.
 #[derive(Drop)]
 pub struct WholeLines<F: Write + Drop> {
     pub inner: F,
-    /// How many lines it took to their ends, and how many bytes these have.
+    /// The number of lines that it took to their ends, and of their bytes.
     pub lines: u64,
     pub bytes: u64,
-    /// How many bytes it took after the last of them.
+    /// The number of bytes that it took after the last of them.
     pub torn: u64,
     /// The fault of its last write, if there was one.
     pub why: Option<Error>,
