@@ -23,7 +23,7 @@ import time
 
 ROOT = os.path.dirname(os.path.dirname(os.path.abspath(__file__)))
 COMMANDS = {"page": ["report"], "story": ["report", "--text", "--last", "0"], "replay": ["replay"]}
-# How many frames an interface has in its queue.
+# The number of frames that an interface has in its queue.
 QUEUE = 100
 # The error message frames that each socket of `faults` asks for.
 ERRORS = ("1FFFFFFF", "140", "88", "0")

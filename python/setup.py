@@ -18,7 +18,7 @@ except ImportError:
     # Before setuptools 70.1.
     from wheel.bdist_wheel import bdist_wheel
 
-# Where a copy of this folder is built, beside it is a link to the scripts of the clone.
+# A copy of this folder that is built has a link to the scripts of the clone beside it.
 SCRIPTS = (Path(__file__).resolve().parents[1] / "scripts").resolve()
 CLONE = SCRIPTS.parent
 # The proved program, and canbusd-run of dist/, take no symbols of a later glibc than 2.34 (`scripts/program glibc`).

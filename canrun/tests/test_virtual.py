@@ -192,7 +192,7 @@ def test_what_is_left(tmp_path, seconds, options):
         folder.mkdir()
         assert virtual("sh", "-c", LEFT, seconds, options=options, cwd=folder).returncode == (143 if options else 0)
         lines = {path.name: path.read_text() for path in folder.iterdir()}
-        # That one ends with the sleep that it waits for, which gets SIGTERM too.
+        # The shell ends with the sleep that it waits for, which gets SIGTERM too.
         assert lines == {"deaf": 50 * "x\n", "late": 12 * "x\n" + "ended\n", "plain": 30 * "x\n"}, number
 
 

@@ -58,8 +58,8 @@ static bool is_terminal(int fd) {
     return major(status.st_rdev) / 8 == TERMINALS / 8 || status.st_rdev == makedev(5, 2);
 }
 
-/* Of each descriptor of this process the thread, by the number of its slot and one, for which it stays in the epoll.
- * What is closed leaves the epoll by itself; a number that is used anew is put there again. */
+/* The thread for which each descriptor of this process stays in the epoll, as the number of its slot and one. A closed
+ * descriptor leaves the epoll by itself; one that gets its number is put there again. */
 #define STAYING 1024
 static uint16_t keepers[STAYING];
 static bool are_terminals[STAYING];

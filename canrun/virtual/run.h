@@ -1,14 +1,14 @@
 /* The common part of all threads of a run in virtual time: one block of memory, and one epoll.
  *
  * One thread of the run has the turn; it runs, and the clock stands still. All others sleep on a word of their slots.
- * Who has to wait for something (a moment, a descriptor, a lock, a child) writes into its slot what that is, and hands
- * the turn to the next one that can go on; if there is none, the clock goes to the least moment that one waits for.
- * Which descriptors are ready is seen in the epoll, in which each thread registers those that it waits for. So nobody
- * has to find out who sleeps, and the order is the same in each run.
+ * A thread that has to wait (for a moment, a descriptor, a lock, a child) writes the wait into its slot, and hands the
+ * turn to the next thread that can go on; if there is none, the clock goes to the least moment that one waits for.
+ * The epoll knows the descriptors that are ready; each thread registers there those that it waits for. So nobody has
+ * to find out which threads sleep, and the order is the same in each run.
  *
  * Some waits go past this library: those inside of the C library, and those of programs that do not load it. They are
- * `outside`: the coordinator finds that who has the turn sleeps, takes it back, and looks at /proc before the clock
- * goes on. */
+ * `outside`: the coordinator finds that the thread with the turn sleeps, takes the turn back, and looks at /proc before
+ * the clock goes on. */
 #ifndef RUN_H
 #define RUN_H
 

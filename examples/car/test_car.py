@@ -111,7 +111,7 @@ def test_the_engine_goes_bus_off(canbusd, rest):
 def test_the_cluster_goes_bus_off(canbusd, rest):
     """others go on without it, and after its restart it counts from 0"""
     canbusd.bus_off("cluster")
-    # What it has sent before is on the bus.
+    # Frames that it has sent before are on the bus.
     canbusd.expect_from_now()
     canbusd.expect_no_frame("ClusterState", within=0.12)
     canbusd.expect_state("engine", "active")

@@ -506,7 +506,7 @@ def test_record_audit_and_log(tmp_path):
         taken = [item.frame for item in record.items if item.interface == "can1" and item.fate == "taken"]
         assert taken == received
         assert bench.audit() == f"ok {len(record.lines)} entries"
-        # What failed is an error frame in the log; what arrived twice is in it twice.
+        # A failed attempt is an error frame in the log; a frame that arrived twice is in it twice.
         logged = [(one.is_error_frame, 0 if one.is_error_frame else one.arbitration_id) for one in bench.log()]
         assert logged == [
             (attempt.outcome == "destroyed", 0 if attempt.outcome == "destroyed" else int(attempt.frame[:3], 16))
@@ -558,7 +558,7 @@ def test_an_answer_of_another_program(monkeypatch):
     with Bench("can0") as bench:
         session = bench.open("can0")
         others = [("load", "load 0 0"), ("status", "status off"), ("stats", "ok"), ("faults", "stats 1")]
-        # What is no number, and no state.
+        # Words that are no number, and no state.
         others += [("faults", "faults x"), ("status", "status off 1 -1"), ("status", "status idle 0 0")]
         for word, answer in others:
             monkeypatch.setattr(session, "call", lambda message: [answer] if message == word else [])

@@ -123,7 +123,7 @@ def test_error_frames_and_state_to_bus_off_and_back():
             assert shape(can0.recv(WAIT)) == error(0x100, "0000000000000000")
             assert can0.state is can.BusState.ACTIVE
             assert can0.error_counters() == ("active", 0, 0)
-            # What was queued at bus off is lost; the bus works again.
+            # A frame that was queued at bus off is lost; the bus works again.
             can0.send(message(0x124))
             assert can1.recv(WAIT).arbitration_id == 0x124
             assert can0.stats().lost == 1
@@ -363,7 +363,7 @@ def test_whose_a_message_is(server):
             assert shape(got) == shape(message(7, b"7")) and got.is_rx == (sender is not own)
         own.send(message(8, dlc=2, is_remote_frame=True))
         assert own.recv(WAIT).is_rx is False
-    # What was sent before by the same interface is not one's own.
+    # A frame that the same interface sent before is not one's own.
     with server.bus("can0", receive_own_messages=True, fd=True) as own, server.bus("can0") as beside:
         beside.send(message(9))
         own.send(message(9, bytes(12), is_fd=True))

@@ -146,7 +146,7 @@ def test_dump_of_several_interfaces():
                 )  # fmt: skip
             lines = dumped(child, sender, names=2)
     for name in ("can1", "can2"):
-        # How wide an identifier is depends on which interface's frames came first.
+        # The width of an identifier depends on which interface's frames came first.
         assert [" ".join(line.split()) for line in lines if name in line] == [
             f"{name} 123 [1] 11",
             f"{name} 00000123 [0]",

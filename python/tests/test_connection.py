@@ -114,7 +114,7 @@ def test_messages_cut_at_each_byte(play):
             whole = STREAM[:cut].count(b">")
             played.write(STREAM[:cut])
             got = [bus.recv(WAIT) for _ in range(whole)]
-            # What is cut off is nothing yet.
+            # A message that is cut off is nothing yet.
             assert bus.recv(0) is None
             played.write(STREAM[cut:])
             got += [bus.recv(WAIT) for _ in range(len(READ) - whole)]

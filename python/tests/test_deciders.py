@@ -196,7 +196,7 @@ USED = "".join(f"at {number} next 1 id {number:03X} good\n" for number in range(
         # No rule without end is used up, and none that gives more verdicts than there were attempts.
         ("always id 7FF good\n" * 63 + "next 3 id 7FE good\nat 2 always lastbit\nat 2 nofaults\nat 2 always good", {2: "always good"}),
         ("always id 7FF good\n" * 63 + "next 2 id 7FE good\nat 2 always lastbit\nat 2 nofaults\nat 2 always good", {2: "always good"}),
-        # What was before all rules were ended is forgotten.
+        # The end of all rules forgets the attempts before it.
         ("at 1 nofaults\n" + "at 1 next 1 id 7FE good\n" * 64 + LATE, {1: "next 1 id 001 good"}),
         # A hundred, each of which is used up at once.
         (USED, {number: f"next 1 id {number:03X} good" for number in range(3)}),

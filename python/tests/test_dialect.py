@@ -164,7 +164,7 @@ def test_a_periodic_frame_changes(run, ends):
     with pytest.raises(ValueError):
         task.modify_data(Frame(0x124, b"\x02"))
     task.stop()
-    # What was sent before.
+    # Frames that were sent before.
     while tester.recv(timeout=0.1):
         pass
     task.start()

@@ -226,7 +226,7 @@ def test_more_frames_than_a_socket_holds_are_seen(tmp_path):
 
 
 def test_what_nobody_expects_is_kept_piece_by_piece(monkeypatch):
-    # What is kept as it came is 7 frames; the rest goes on in pieces of 2, and the order is that of the bus.
+    # 7 frames are kept as they came; the rest goes on in pieces of 2, and the order is that of the bus.
     monkeypatch.setattr("canbusd._expect.observer.MOST_UNREAD_FRAMES", 7)
     monkeypatch.setattr("canbusd._expect.observer.FRAMES_AT_ONCE", 2)
     with Server("can0,can1", txqueue=100) as server, server.bus("can0") as can0:

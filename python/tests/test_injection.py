@@ -13,7 +13,7 @@ from common import WAIT, message, needs_live
 from test_report import rules_on
 
 TESTER, ECU = 0x100, 0x200
-# Whatever gives a rule that is wrong.
+# Everything that makes a wrong rule.
 BAD_NAME = Faults().next(1, sender="ecu").local("crc", "can9")
 
 

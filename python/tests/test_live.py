@@ -30,7 +30,7 @@ def test_lines_are_taken_once(tmp_path):
     assert list(file.lines()) == ["one"] and list(file.lines()) == []
     append(path, "o\n\nfour")
     assert list(file.lines()) == ["two", ""]
-    # What does not take a line leaves it and those after it.
+    # A reader that does not take a line leaves it and those after it.
     append(path, "\nfive\n")
     assert next(file.lines()) == "four"
     assert list(file.lines()) == ["four", "five"]

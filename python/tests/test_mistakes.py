@@ -10,7 +10,7 @@ import canbusd
 from canbusd import Bench, Server, ServerError
 from common import WAIT, message
 
-# Which of these errors it is, and words of its text in their order.
+# The error, and words of its text in their order.
 WITHOUT_A_RUN = [
     # Servers and benches.
     ("Server('can0,can1', pace=0)", TypeError, "Server has no argument pace (pace_ms?); there are faults, ack,"),

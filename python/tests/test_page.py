@@ -19,7 +19,7 @@ pytestmark = pytest.mark.skipif(PROGRAM is None, reason="no chromium on the PATH
 PLACE = "(() => { const box = at('lanes').getBoundingClientRect(); return [box.left + 300, box.top + 12]; })()"
 ATTEMPT = "attemptOf[view.step]"
 SPAN = "view.to - view.from"
-# How many colours there are in the bands of states of both nodes at step 32.
+# The number of colours in the bands of states of both nodes at step 32.
 COLOURS = """(() => {
   const left = placeOf(plotted(), axis.start[32]) + 3, pen = at('lanes').getContext('2d');
   const all = new Uint32Array(pen.getImageData(left, 0, 8, at('lanes').height).data.buffer);
@@ -28,7 +28,7 @@ COLOURS = """(() => {
     return new Set(all.subarray(top * 8, (top + 6) * 8)).size;
   });
 })()"""
-# What is written on the time line.
+# The texts on the time line.
 WRITTEN = """(() => {
   const said = [], pen = CanvasRenderingContext2D.prototype, write = pen.fillText;
   pen.fillText = function (text, ...more) { said.push(text); write.call(this, text, ...more); };
@@ -36,7 +36,7 @@ WRITTEN = """(() => {
   pen.fillText = write;
   return said;
 })()"""
-# What is cut at the right of the page, or of a box that can't be scrolled and shows no sign of it.
+# Elements that are cut at the right of the page, or of a box that can't be scrolled and shows no sign of it.
 CUT = """[...document.querySelectorAll('main *, header *')].filter(one => {
   const style = getComputedStyle(one), isSigned = style.textOverflow === 'ellipsis' || style.webkitLineClamp !== 'none';
   return one.checkVisibility() && one.scrollWidth > one.clientWidth + 1 && style.overflowX === 'hidden' && !isSigned
@@ -292,7 +292,7 @@ def test_long_names_and_frames_have_room(opened, width):
     shown = opened(*long_names())
     shown.size(width)
     show_each(shown, width, TABS)
-    # What became of an attempt is in its row, however long name and frame are.
+    # The outcome of an attempt is in its row, however long name and frame are.
     shown.run("showTab('tab-attempts')")
     shown.settle()
     assert "destroyed" in shown.run(OUTCOMES) and None not in shown.run(OUTCOMES)

@@ -88,7 +88,7 @@ def test_values_at_the_cursor_are_in_one_table(shown):
     assert dict(choose(shown, 0)) == first
     assert dict(choose(shown, 2)) == {**first, "gear": "Drive", "speed": "120.5 km/h"}
     assert dict(choose(shown, 3))["left"] == "5"
-    # What a multiplexer leaves out of a frame keeps its value.
+    # A signal that a multiplexer leaves out of a frame keeps its value.
     last = dict(choose(shown, 4))
     assert (last["page"], last["left"], last["right"]) == ("1", "5", "8 %")
 

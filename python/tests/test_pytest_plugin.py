@@ -40,7 +40,7 @@ def run(pytester, monkeypatch):
     def run(text, *words):
         body = "\n".join(line[4:] for line in text.split("\n"))
         pytester.makepyfile("import can, canbusd, pytest\n" + body)
-        # Where the package is installed this names what is loaded already.
+        # An installed package has loaded this module already.
         words = (
             "-p",
             "canbusd.pytest_plugin",

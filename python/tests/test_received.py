@@ -8,7 +8,7 @@ from canbusd._expect import received_frames
 from canbusd._expect.received_frames import Received, state_in
 from canbusd._session.protocol import ErrorCounters
 
-# What the sessions on a and b receive of: 1 sent by a, 2 by b, 1 by a again, and 3 by a, which b misses.
+# The frames that the sessions on a and b receive of: 1 sent by a, 2 by b, 1 by a again, and 3 by a, which b misses.
 AT_A = [
     "< frame 001 1.000001 11 same 0",
     "< frame 002 1.000002  other 0",
@@ -54,7 +54,7 @@ def test_frames_of_two_buses_are_two():
     received.add("a", "< frame 001 1.000001 11 other 0")
     assert [seen.channel("ab") for seen in received.untaken()] == ["a", "b"]
     received.take(next(received.untaken()))
-    # What is taken on one bus is not taken on the other, whose frames have an order of their own.
+    # A frame that is taken on one bus is not taken on the other, whose frames have an order of their own.
     assert [seen.channel("ab") for seen in received.untaken()] == ["b"]
 
 

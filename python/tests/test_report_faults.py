@@ -13,7 +13,7 @@ from forked import forked
 from test_report import data_of, rules_on
 
 RULE = "next 1 from a lastbit"
-# What is wrong with a file, and what the program says of it.
+# A fault of a file, and the program's words for it.
 WRONG = [
     (b"next 1 globul bit\n", "script line 1: bad line: `next 1 globul bit`; after next N"),
     (b"# a comment\n5 globul bit\n", "script line 2: bad line: `5 globul bit`; "),
@@ -35,7 +35,7 @@ def reported(tmp_path):
                 bench.open("a").send(0x123)
                 assert [bench.attempt().outcome for _ in range(2)] == ["lastbit", "done"]
         status, page, said = forked("report", *words, cwd=tmp_path, **more)
-        # That an interface has no name is another matter.
+        # The line about interfaces without names is not of the fault.
         return status, page, "".join(line for line in said.splitlines(True) if ": no log names " not in line)
 
     return reported

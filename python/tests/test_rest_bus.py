@@ -152,7 +152,7 @@ def test_counters_and_checksums(bench):
         rest.run(until=0.18)
         # 80 + 0C is 8C.
         assert sent(ecu, DATA) == [f"800c00000000{0x8C:02x}{count % 16:02x}" for count in range(18)]
-        # What the function sets is in its frame only.
+        # The value that the function sets is in its frame only.
         assert rest["Engine"]["EngineData.Counter"] == 0
         rest.on_send("EngineData", None)
         rest.run(until=0.19)
@@ -361,7 +361,7 @@ def test_a_fault_of_a_function_is_raised_at_the_end(car):
             car.wait_for(lambda: rest._fault, timeout=WAIT)
             with pytest.raises(KeyError, match="EngineData"):
                 rest["Engine"]["EngineSpeed"] = 1
-    # What went wrong first is what is raised.
+    # The first fault is raised.
     rest = live(car)
     rest.on_send("EngineData", fail)
     with pytest.raises(ZeroDivisionError):
@@ -466,7 +466,7 @@ def test_the_command(car):
     finally:
         child.send_signal(signal.SIGINT)
         written, said = child.communicate(timeout=5 * WAIT)
-    # How many these are depends on the machine.
+    # Their number depends on the machine.
     assert child.returncode == 0 and said.startswith("canbusd restbus: ") and said.endswith(" skipped\n")
     lines = written.splitlines()
     assert lines[0] == "engine     EngineData 100 [8] from Engine, every 10 ms, NoMsgSendType"
@@ -512,7 +512,7 @@ def test_what_the_files_say(car):
     assert (done.returncode, done.stdout) == (0, f"{load_database(REST)}\n")
 
 
-# What is due when.
+# Messages and the times at which they are due.
 
 
 def test_a_schedule():
@@ -563,7 +563,7 @@ def test_what_somebody_else_has_frozen_stays():
         frozen = gc.get_freeze_count()
         punctuality.begin()
         punctuality.end()
-        # What is no longer used leaves.
+        # Objects that are no longer used are freed.
         assert 0 < gc.get_freeze_count() <= frozen
     finally:
         gc.unfreeze()

@@ -475,7 +475,7 @@ def test_a_forked_process_keeps_no_server_from_its_end(tmp_path):
         child.join(WAIT)
 
 
-# What a forked process does, and how it ends.
+# The work of a forked process, and its end.
 FORKED = {
     "it exits": "sys.exit()",
     "it raises": "raise KeyError",

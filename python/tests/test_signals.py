@@ -80,7 +80,7 @@ def test_frames_that_the_file_does_not_know(car):
 def test_the_frame_of_signals(car):
     values = {"speed": "120.5", "temperature": 20, "gear": "Drive", "torque": -10.0}
     assert str(car.encode("Engine", values)) == DRIVES
-    # What is not given has its initial value, 65 for temperature.
+    # A signal that is not given has its initial value, 65 for temperature.
     assert str(car.encode("Engine", {"gear": 1})) == "123#0000410100000000"
     assert str(car.encode("Pages", {"page": 1, "right": "10"})) == "200#0105"
     assert str(car.encode("Request", {"service": "0x22"})) == "18DAF110#220000"

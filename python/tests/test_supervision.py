@@ -116,7 +116,7 @@ def test_a_sequence(server, can0):
     can0.send_many([message(0x100), message(0x7FF), message(0x101, [5]), message(0x102)])
     found = server.expect_sequence(0x100, {"id": 0x101, "data": b"\5"}, within=WAIT)
     assert [one.arbitration_id for one in found] == [0x100, 0x101]
-    # What comes after the last step is still there.
+    # Frames after the last step are still there.
     server.expect_sequence(0x102, within=WAIT)
 
 

@@ -88,7 +88,7 @@ def test_a_wire_that_is_never_free():
 def test_attempts_that_begin_too_early():
     tried = [(iface, text, micros - 2 * (k == 3)) for k, (iface, text, micros) in enumerate(FULL)]
     run = replay_of(*tried)
-    # What was rounded off is less than a microsecond.
+    # Rounding loses less than a microsecond.
     assert overlaps_of(run, slots_of(run)) == [
         "attempt 3 at 0.000856 begins 1.001 microseconds before attempt 2 is over"
     ]

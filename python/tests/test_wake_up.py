@@ -172,7 +172,7 @@ def test_a_program_goes_on():
         program = server.start([sys.executable, "-c", PROGRAM])
         server.expect(0x100, within=WAIT)
         pid = program.pid
-        # What wakes it is also what it answers to, and it does not see it.
+        # The frame that wakes it would be answered too, but it does not see that frame.
         server.node("ecu", program).sleep(wake_on=0x200)
         tester.send(0x200)
         server.expect_state("ecu", "active", within=WAIT)

@@ -342,7 +342,7 @@ def test_the_page(tmp_path):
             browser.until("byIdentifier.get('124').sender === 1")
             browser.run("showTab('tab-events')")
             assert "bus off" in browser.run("at('events').innerText")
-            # What is chosen stays, and nothing moves while it is paused; what comes is kept.
+            # The choice stays, and nothing moves while it is paused; frames that come are kept.
             browser.run("at('offs').querySelector('button').click()")
             browser.settle()
             assert browser.run("at('moment').innerText").startswith("Chosen: ")

@@ -222,7 +222,7 @@ def test_a_source_distribution_says_where_the_program_is(environment, tmp_path):
         "-c", "import canbusd\ntry: canbusd.Server('can0')\nexcept canbusd.ProgramNotFound as e: print(e)"
     )
     assert "install the wheel" in said.stdout
-    # What is on the PATH is the package's own command, and no program.
+    # The PATH has the package's own command, and no program.
     own = [tmp_path / "venv" / "bin" / "canbusd", "audit", "run.rec"]
     path = {"PATH": f"{own[0].parent}:/usr/bin:/bin"}
     said = subprocess.run(own, env=path, capture_output=True, text=True, timeout=WAIT, check=False)

@@ -63,7 +63,7 @@ CARRIED_OUT = [
             "64 < error wrong state >< error wrong state >< error no such interface >\n"
         ),
     ),
-    # Who wins: the 11-bit identifier where the first 11 bits are equal, then the lower interface.
+    # The winner: the 11-bit identifier if the first 11 bits are equal, then the lower interface.
     (
         "bench --ack always --report can0,can1,can2",
         "feed 1 < send 048C0000 0 >\nfeed 2 < send 123 0 >\nattempt\nattempt\n",
@@ -98,7 +98,7 @@ CARRIED_OUT = [
 ]
 # Sixteen names of fifteen bytes each.
 NAMES = [f"interface-no-{number:02}" for number in range(16)]
-# What a bus of these interfaces, with all else as it is by default, leaves of a frame from the first to the last.
+# The record of a frame from the first of these interfaces to the last, with all else as it is by default.
 SIXTEEN = """canbus record 1
 bus 16 always FFFF 10 1000000
 open 0 256 = socket 0

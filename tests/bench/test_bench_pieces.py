@@ -6,7 +6,7 @@ from commands import TWO_SESSIONS, TWO_STARTED, run_bytes, run_line
 
 OUTSIDE = "note: session 2: bytes outside < and > were skipped\n"
 BEGUN = "note: session 1: the last message has no >\n"
-# What follows the two sessions, what they write then, and what is reported after the run.
+# The lines after the two sessions, their output, and the report after the run.
 NOTED = [
     ("feed 1 < echo >  < echo >\t\nfeed 1 < ec\nfeed 1 ho >\n", "1 < echo >< echo >\n1 < echo >\n", ""),
     ("feed 2 echo\n", "", OUTSIDE),
@@ -26,7 +26,7 @@ NOTED = [
         "note: session 64: bytes outside < and > were skipped\n",
     ),
 ]
-# What follows the two sessions, what they write then, and how the first piece with a refusal is shown.
+# The lines after the two sessions, their output, and how the first piece with a refusal is shown.
 REFUSED = [
     ("feed 1 < send 123 2 1122 >\n", "1 < error bad word count >\n", "error bad word count >\n"),
     (

@@ -20,7 +20,7 @@ from rule_model import EXTENDED, REMOTE, RunFaults, word_of
 from serving import Plain, plain, serving
 
 LASTBIT = "next 1 lastbit"
-# What is before the names of senders, and these.
+# The words before the names of senders, and these.
 SENDERS = re.compile(f"(?:next (?!0+ )[0-9]{{1,8}}|always) from ({NAMES})(?: |$)")
 
 
@@ -192,7 +192,7 @@ def test_64_rules(program, tmp_path):
     assert done.stdout.decode().splitlines()[-1] == "1 < ok >< faults 1 >"
 
 
-# What a session is, and what a rule gets there.
+# The modes of a session, and the reply to a rule in each.
 MODES = {
     "": "wrong state",
     "< open can0 >": "",

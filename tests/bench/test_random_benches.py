@@ -38,7 +38,7 @@ def difference(one, other):
     """What differs first between two runs, or None."""
     if one.returncode != other.returncode:
         return f"status {one.returncode}, other {other.returncode}: {one.stderr!r}, other {other.stderr!r}"
-    # What follows the line of a fault is our own, and so is what is said after a run to the end of its input.
+    # The lines after that of a fault are our own, and so are those after a run to the end of its input.
     if one.returncode == 1 and one.stderr.splitlines()[:1] != other.stderr.splitlines()[:1]:
         return f"standard error {one.stderr!r}, other {other.stderr!r}"
     lines = itertools.zip_longest(one.stdout.split(b"\n"), other.stdout.split(b"\n"))

@@ -248,7 +248,7 @@ def test_dialogues_of_the_guide(clone):
                 with open(path, "w", encoding="ascii") as file:
                     file.write(wanted)
             written = clone.shell(command)[1]
-            # What the bench wrote before it found a fault is not shown.
+            # Lines that the bench wrote before it found a fault are not shown.
             assert written == wanted or (
                 wanted.startswith("canbusd: ") and written.endswith(wanted)
             ), f"{command}: {written}"

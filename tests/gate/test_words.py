@@ -70,7 +70,7 @@ def test_options_of_the_program(program, command):
 NUMBERS = [(option, command) for option in words.OF_CANBUSD if option.range[2] for command in option.commands]
 # The options without which another is refused.
 NEEDED = {"dbitrate": ["--bitrate", "5000"], "flush": ["--record", "none"]}
-# What each command needs to end at once.
+# The words with which each command ends at once.
 REST = {
     "bench": ["can0"],
     "serve": ["--listen", "./none/socket", "can0"],

@@ -68,7 +68,7 @@ def become(begin, words):
     """Makes this process a command with these words, which begins so, and ends it."""
     status = 1
     try:
-        # What is collected here is still used there.
+        # The fork still uses objects that are garbage here.
         gc.disable()
         begin()
         main(words)

@@ -15,7 +15,7 @@ def made_once(request, name, make):
     with open(f"{folder}.lock", "w", encoding="ascii") as lock:
         fcntl.flock(lock, fcntl.LOCK_EX)
         if not os.path.exists(f"{folder}.done"):
-            # Where an earlier one failed, its part is there.
+            # An earlier one that failed has left its part.
             shutil.rmtree(folder, ignore_errors=True)
             folder.mkdir()
             make(folder)

@@ -19,7 +19,7 @@ IDENTIFIERS = [
     "20000123:7FF", "80000123:9FFFFFFF", "A0000123:9fffffff", "40000000:40000000", "C0000123:DFFFFFFF", "0:80000000",
 ]  # fmt: skip
 VERDICTS = ["good", "lastbit", "global bit", "global form"]
-# What a rule is changed to have.
+# Words that a rule is changed to have.
 WORDS = [
     "next", "always", "from", "id", "skip", "good", "lastbit", "global", "local", "bit", "crc", "form", "stuff", "0", "1",
     "00000001", "000000001", "99999999", "100000000", "-1", "+1", "1x", "123", "800", "20000000", "123:", ":123",

@@ -83,7 +83,7 @@ class Interface:
         self.tec = self.rec = 0
         self.waiting: deque[Pending] = deque()
         self.sent = self.done = self.lost = self.refused = 0
-        # How many attempts there were since it went bus off; None where it is not off.
+        # The number of attempts since it went bus off; None if it is not bus off.
         self.attempts_off: Optional[int] = None
         self.is_down = False
 

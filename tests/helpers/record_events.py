@@ -73,7 +73,7 @@ class Replay:
         self.refused: dict[tuple[int, str], list[int]] = {}
         self.counts: tuple[Counts, ...] = ((0, 0),) * record.ifaces
         self.attempts = self.idle = 0
-        # How many attempts were idle since the last step.
+        # The number of idle attempts since the last step.
         self.idle_since = 0
         self.moment = ""
         #: What the step that was begun last brought about: the number of a socket, the text of an error message frame, empty

@@ -42,7 +42,7 @@ BUS = f"bus {NUMBER} (always|peers) ({SET}) {NUMBER} {NUMBER}"
 
 # About how many bytes are read at once.
 BLOCK = 1 << 20
-# How many entries a record has at most that is written at the end of its run, and one that is written while it runs.
+# The most entries of a record that is written at the end of its run, and of one that is written while it runs.
 MOST_ENTRIES, MOST_LIVE_ENTRIES = 1 << 24, (1 << 32) - 2
 
 
@@ -141,7 +141,7 @@ def parse_text(data: bytes, cut: bool = False) -> RecordText:
     With `cut` the text may end before its line `end`; what follows its last LF is not looked at then.
     """
     reader, end = TextReader(), data.rfind(b"\n") + 1
-    # That a byte is none of a text goes before what its lines are.
+    # A byte that is none of a text is reported before the lines are read.
     for block in blocks_of(data, end):
         decoded(block)
     if not cut:

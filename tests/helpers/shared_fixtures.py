@@ -29,7 +29,7 @@ def share(pluginmanager):
     """Registers this module as a plugin, once however many folders of tests are run."""
     if not pluginmanager.has_plugin(__name__):
         pluginmanager.register(sys.modules[__name__], __name__)
-    # Where the tests of the package are run beside these, and it is not installed, pytest has not found it.
+    # If the tests of the package run beside these, and it is not installed, pytest has not found it.
     pluginmanager.import_plugin("canbusd.pytest_plugin")
 
 

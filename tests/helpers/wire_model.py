@@ -12,7 +12,7 @@ from collections.abc import Iterator, Sequence
 
 FD_LENGTHS = [0, 1, 2, 3, 4, 5, 6, 7, 8, 12, 16, 20, 24, 32, 48, 64]
 ACKNOWLEDGED_END = [1, 0, 1] + 7 * [1]
-# How many bits frames have from start of frame to end of frame: 000# by hand (34 zeros, those of its CRC among them, 6
+# The bits of frames from start of frame to end of frame: 000# by hand (34 zeros, those of its CRC among them, 6
 # stuff bits, 10 at its end), the others by fields and a second model.
 KNOWN_LENGTHS = [
     ("000#", 50),

@@ -8,7 +8,7 @@ import pytest
 from commands import call, run_line
 from serving import program
 
-# What is reported of other words is in test_long_runs.py, and of files and streams that fail in test_devices.py.
+# Reports of other words are in test_long_runs.py, and those of files and streams that fail in test_devices.py.
 NO_JOB = [
     "",
     "serve",

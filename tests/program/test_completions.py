@@ -20,7 +20,7 @@ COMPLETIONS = os.path.join(TOOLS, "completions")
 # The tools are run for their help.
 PATH = f"{TOOLS}:{os.environ['PATH']}"
 FILES = ["faults.script", "first.bench", "run.rec", "out.txt", "my faults.script", "logs/kept.rec"]
-# What is typed, and what the tab key adds to it.
+# The typed text, and the text that the tab key adds.
 TYPED = [
     ("canbusd ben", "ch "),
     ("canbusd bit", "s "),

@@ -112,7 +112,7 @@ def try_program(debian):
     bench = "canbusd bench can0,can1@examples/last_bit.script <examples/last_bit.bench"
     assert debian.does("sh", "-c", f"cd /usr/share/doc/canbusd && {bench}") == expected("last_bit")
     debian.serves(0, "/tmp/served", "serve", "--listen", "./socket", "--out", ".", "can0")
-    # What contrib/Dockerfile runs, as its user and in its folder, but on a free port.
+    # The command of contrib/Dockerfile, as its user and in its folder, but on a free port.
     with open(os.path.join(ROOT, "contrib", "Dockerfile"), encoding="utf-8") as file:
         recipe = file.read()
     words = re.search(r"^CMD \[(.*)\]$", recipe, re.M)[1].replace('"', "").replace(":29536", ":0").split(", ")

@@ -18,7 +18,7 @@ FAULTS = re.compile(
     rb"canbusd: (line \d+: bad line|input too long|bad version|entry \d+: wrong|read fault|no memory)\n"
     rb"(  [ -~]{1,300}\n){0,3}"
 )
-# What standard error says after a run to the end of its input.
+# Standard error after a run to the end of its input.
 NOTES = re.compile(rb"(note: session \d+: (bytes outside < and > were skipped|the last message has no >)\n)*")
 RECORD = b"""canbus record 1
 bus 2 always 0000 10 100

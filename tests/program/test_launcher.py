@@ -339,7 +339,7 @@ def hang_up(_, client):
     client.close()
 
 
-# How a server is ended: the words that it is given, how many sessions, what is done, and the status.
+# The ends of a server: its words, the number of its sessions, the act, and the status.
 ENDS = {
     "Ctrl-C": ([], 10, functools.partial(to_all, signal.SIGINT), 0),
     "SIGINT": ([], 10, functools.partial(to_launcher, signal.SIGINT), 0),

@@ -134,7 +134,7 @@ class Bench:
         self.line = ["bench", "--record", "run.rec", *words]
         assert "error unknown command" not in self.runs(text)[0], "this input has unknown commands"
         self.commands = [found.span() for found in TAKES_MEMORY.finditer(text)]
-        # What it does where one of these commands is refused memory.
+        # The answers of the program when one of these commands is refused memory.
         self.refused = {self.refuses(command) for command in self.commands}
         self.ample = self.runs(text)
 
@@ -174,7 +174,7 @@ class Bench:
         output = done.stdout.split(SAYS_NO_MEMORY)[0] if last == FOREVER else done.stdout
         assert self.ample[0].startswith(output), f"at {first}: {done.stdout}"
         assert done.stdout == "" or done.stdout.endswith("\n"), f"a line is cut at {first}: {done.stdout}"
-        # Where the record's own memory was refused, its file is a part of it.
+        # If the record's own memory was refused, its file is a part of it.
         assert (
             last == FOREVER or not did[1] or self.ample[1].startswith(did[1]) and did[1] != self.ample[1]
         ), f"at {first}: another record: {did[1]}"
@@ -369,7 +369,7 @@ def test_calls_without_memory(refusing):
         assert (done.returncode, done.stdout, done.stderr) == (0, ample.stdout, ""), f"at {place}: {done}"
 
 
-# What a client says, each with its answer with ample memory; where that is None, texts come in any order.
+# A client's messages, each with its answer with ample memory; None is an answer of texts in any order.
 SAYS = [
     ("< open can2 >", "< ok >"),
     ("< rawmode >", "< ok >"),

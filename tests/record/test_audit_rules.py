@@ -51,7 +51,7 @@ attempt 0.000007 good = tried 0 3 124# done 0002 0000; counts 0 12 0; rule 4
 attempt 0.000008 lastbit = tried 0 4 124# lastbit 0002 0000; counts 0 20 0
 attempt 0.000009 good = tried 0 4 124# done 0002 0000; counts 0 19 0
 """
-# Where the bus took the rules: the two of the script after its line, the others before the attempts that they came before.
+# The places where the bus took the rules: the two of the script after its line, the others before their attempts.
 TOLD = {
     "open 0 ": "rule 1 next 1 from ecu lastbit\nrule 2 always id 123 skip 1 good\n",
     "attempt 0.000003 ": "rule 3 next 1 global form\n",

@@ -32,7 +32,7 @@ ATTEMPTS = [
     ("local-stuff:0004", "done", "0002"),
     ("good", "done", "0002"),
 ]
-# Where nobody is to acknowledge it.
+# A frame that nobody acknowledges.
 NOBODY = [("good", "noack", "0000")]
 
 

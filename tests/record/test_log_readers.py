@@ -106,13 +106,13 @@ LOG = """\
 (1.000450) can1 123##10102030405060708090A0B0C
 (1.000460) can0 1FFFFFFF##0
 """
-# What a listener reads of that log.
+# A listener's frames of that log.
 HEARD = [
     "frame 123 1.000000 1122", "remote 123 1.000100 0", "remote 7FF 1.000200 4",
     "frame 1FFFFFFF 1.000300 0102030405060708", "frame 12345678 1.000400 ", "frame 048C0000 0.500000 DEADBEEF",
     "fdframex 1 123 1.000450 0102030405060708090A0B0C", "fdframe 1FFFFFFF 1.000460 ",
 ]  # fmt: skip
-# What a bench logs of it.
+# The log of a bench.
 LOGGED = """\
 (0000000001.000000) can0 123#1122
 (0000000001.000100) can1 123#R

@@ -22,7 +22,7 @@ VERSION = (
     "down, canbus record 6"
 )
 LINE = "a line is EVENT = REPLY, and the last is end COUNT; each ends with LF"
-# What is put in place of what, the fault, the line where it is and how that is shown, and what is said of it.
+# The old text, the new one, the fault, its line, how that is shown, and the message.
 DAMAGED = [
     (
         "done 0002",

@@ -17,7 +17,7 @@ from serving import ROOT, program
 
 # The same as a program.
 REPORT = [sys.executable, "-m", "canbusd", "report"]
-# How many random runs are replayed.
+# The number of random runs that are replayed.
 RUNS = 300
 STATES = ["active", "warning", "passive", "off", "down"]
 

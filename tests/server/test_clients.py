@@ -18,7 +18,7 @@ from serving import ROOT, WAIT, Plain, all_sleep, come_true, join, line_of, plai
 can = pytest.importorskip("can", reason="python-can is not installed")
 from can.io import CanutilsLogReader  # noqa: E402
 
-# How many frames the replayed log has.
+# The number of frames of the replayed log.
 FRAMES = 10000
 # Small identifiers of 29 bits go out without leading zeros, and each received frame counts as one of 29 bits.
 OLD_CLIENT = can.__version__.startswith("4.1.")

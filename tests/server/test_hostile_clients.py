@@ -18,7 +18,7 @@ import pytest
 from serving import WAIT, Pair, Plain, come_true, join, plain, serving_alone, turns
 
 FAST = ("--pace", "0", "--txqueue", "1024")
-# What a client says to come into raw mode, and there.
+# A client's messages to enter raw mode, and those in it.
 DIALOGUE = b"< open can1 >< rawmode >< filter 1 123 7FF >< send 124 2 1 2 >< stats >< errmask FF >< send 7FF 0 >"
 WORDS = [
     b"open",

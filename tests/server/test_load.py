@@ -209,7 +209,7 @@ def take_place(server):
 class BusLoad:
     """The sessions of a bus, each in a thread, and in the end what `stats` says to those that stay."""
 
-    # Where the processes of all buses wait for one another.
+    # A barrier at which the processes of all buses wait for one another.
     buses = None
 
     def __init__(self, server, bus, frames, seed):

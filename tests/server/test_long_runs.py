@@ -438,7 +438,7 @@ def test_the_service_keeps_what_the_run_before_it_left(tmp_path):
     assert moves() == []
     killed = ["can0.log", *(f"can0.rec{one}" for one in (".cut", ".faults.cut", ".faults.new", ".new")), "car0.log"]
     assert moves(*killed) == killed and moves() == killed
-    # What a start leaves that failed: the first lines of records.
+    # A start that failed leaves the first lines of records.
     script = "# a script\n" * 100
     failed = [("can0.rec.new", FRONT), ("can0.rec.faults.new", script), ("car0.rec.cut", FRONT)]
     for name, text in [("can0.log", ""), *failed]:

@@ -672,7 +672,7 @@ def test_a_disk_that_is_full(tmp_path):
     assert call(program(), "audit", f"{tmp_path}/can0.rec")[1] == "ok 0 entries\n"
     growing = left(tmp_path).pop("rec.faults.new", "")
     assert script.startswith(growing) and "rec.faults" not in left(tmp_path)
-    # What is left of them takes the place of nothing.
+    # Their remains replace no other file.
     assert start(tmp_path, "--record", "end", "can0")[::2] == (0, "") and left(tmp_path) == {}
 
 

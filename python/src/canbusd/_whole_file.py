@@ -82,7 +82,7 @@ def renamed(path: Path, old: Optional[os.stat_result]) -> Iterator[BinaryIO]:
 
 def drafted(folder: int, name: str) -> tuple[int, bool]:
     """Opens a new file in a folder, with this name only if there are none without; whether it has it."""
-    # Where it is not there, such a file can't get a name later.
+    # Without that folder a file without a name can't get one later.
     if os.path.exists(OWN_FILES):
         try:
             return os.open(".", os.O_TMPFILE | os.O_WRONLY, 0o666, dir_fd=folder), False

@@ -241,7 +241,7 @@ class CanbusdBus(InjectsFaults, NamesWhatThereIs, BusABC):
                 LOG.warning("%s: %s %s is left out: %s", self.channel, name, rate, said)
 
     def __enter__(self: Self) -> Self:
-        # That of python-can 4.1 has no type.
+        # The method of python-can 4.1 has no type.
         return self
 
     @overload

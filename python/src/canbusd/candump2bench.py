@@ -25,9 +25,9 @@ is 1 then.
 MOST_INTERFACES = 16
 # The most bytes that `canbusd bench` reads.
 MOST_BYTES = 16777216
-# How many lines that were left out are named, each on a line of its own.
+# The most lines left out that are named, one a line.
 MOST_NAMED = 100
-# What candump writes on a screen has the number of bytes in brackets.
+# A line that candump writes to a screen has the number of bytes in brackets.
 SCREEN_LINE = re.compile(r".*\S +[0-9A-Fa-f]{3,8} +\[[0-9]{1,2}\].*")
 
 

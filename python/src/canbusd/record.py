@@ -28,7 +28,7 @@ __all__ = ["Attempt", "BadRecord", "Item", "Record", "audit", "fault_named", "pa
 Path = Union[str, "os.PathLike[str]"]
 Outcome = Literal["done", "lastbit", "destroyed", "noack", "idle"]
 Fate = Literal["taken", "waiting", "unread", "dropped"]
-# How records begin, and how many bytes of one that does not are shown to the program.
+# The first line of a record, and the number of bytes of other files that the program is shown.
 BEGINNING, LINE = re.compile(b"canbus record [1-6]\n"), 256
 
 

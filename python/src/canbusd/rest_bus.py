@@ -438,7 +438,7 @@ class RestBus(NamesWhatThereIs):
     def check(self) -> None:
         """Raises what it ended with, if that was a fault, such as one of a function given to `on_send`."""
 
-    # What messages ask of it.
+    # The questions of its messages.
 
     def now(self) -> int:
         """Returns the moment, in microseconds."""

@@ -89,7 +89,7 @@ def signal_of(signal: Any, multiplexers: list[str], matrix: Any) -> SignalFormat
         raw_start=Decimal(str(start or 0)),
         is_signed=bool(signal.is_signed),
         is_float=bool(signal.is_float),
-        # That of a big-endian signal counts from the highest bit of byte 0.
+        # The start bit of a big-endian signal counts from the highest bit of byte 0.
         bits=bits_of(signal.get_startbit(bit_numbering=1), signal.size, signal.is_little_endian),
         is_multiplexer=bool(signal.is_multiplexer),
         multiplexer=above,

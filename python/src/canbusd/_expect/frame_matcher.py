@@ -22,7 +22,7 @@ Step = Union[int, str, Mapping[str, Any]]
 LEAST_EXTENDED = 0x800
 MOST_IDENTIFIER = 0x1FFFFFFF
 NO_DATABASE = "names of messages and signals need a database: give the server database='car.dbc', or a rest bus"
-# How many names to suggest for an unknown signal.
+# The most names that are suggested for an unknown signal.
 MOST_NAMED = 12
 
 

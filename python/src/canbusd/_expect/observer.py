@@ -124,7 +124,7 @@ class Observer:
         self._lock = threading.RLock()
         #: The moment of the last frame that came before all that is expected.
         self._forgotten = -1
-        # How many wait for frames, and read them.
+        # The number of threads that wait for frames, and read them.
         self._waiting = 0
         self._reader: Optional[Reader] = None
         names = [name for bus in buses for name in bus]

@@ -14,9 +14,9 @@ from typing import NamedTuple, Optional
 from canbusd._session.protocol import ErrorCounters, State
 from canbusd.frames import Frame, frame_of_message
 
-# How many frames of a bus are kept, and how many changes of state of an interface.
+# The most frames of a bus that are kept, and the most changes of state of an interface.
 MOST_KEPT, MOST_STATES = 200_000, 20_000
-# How many of the frames that were seen a failure shows.
+# The most frames that a failure shows.
 MOST_SHOWN = 10
 # Classes of error message frames, and the bits of byte 1 in one of class 004 (linux/can/error.h).
 CONTROLLER, BUS_OFF, RESTARTED = 0x004, 0x040, 0x100
@@ -168,7 +168,7 @@ class Received:
         # By the name of an interface the place of the state that was expected last.
         self._expected: dict[str, int] = {}
 
-    # What comes.
+    # Frames and states that come.
 
     def add(self, name: str, text: str) -> None:
         """Adds a message that hands over a frame, `< frame 123 1.000002 11 other 17`, to a session on this interface."""

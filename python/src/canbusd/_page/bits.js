@@ -78,7 +78,7 @@ function wireBits(text) {
   return sender.bits;
 }
 
-// Where one who sends other bits falls silent, or -1: after arbitration nobody does.
+// The bit at which a sender of other bits falls silent, or -1: after arbitration nobody does.
 const COMPETES = new Set(["SOF", "identifier", "SRR", "IDE", "extension", "RTR", "RRS"]);
 function silentAt(bits, others) {
   const place = bits.findIndex((one, k) => one.bit !== others[k]?.bit);

@@ -79,7 +79,7 @@ function fieldList(step) {
   happened("fields", pairs, step);
   return element("dl", pairs.flatMap(([name, value]) => [element("dt", name), element("dd", value)]));
 }
-// What else there is of a step: its events, what was lost with it, and its items.
+// The rest of a step: its events, its losses and its items.
 function eventsAt(step) {
   const events = run.events.filter(event => event[0] === step), lost = run.lost[step] || [];
   const words = ([, kind, , text]) => element("p", [element("b", `${kind}: `, { className: isWorst(kind) ? "bad" : "" }), text]);

@@ -1,5 +1,5 @@
 "use strict";
-// What both pages share: elements, words, colours, columns of numbers and places along the time line.
+// Both pages share this: elements, words, colours, columns of numbers and places along the time line.
 
 const KINDS = ["done", "lastbit", "destroyed", "noack", "restart", "down", "idle"];
 const KIND_WORDS = ["done", "last bit", "destroyed", "no acknowledgement", "restart", "down", "idle"];
@@ -46,7 +46,7 @@ const loss = number => element("td", grouped(number), { className: number ? "num
 // The symbol of a kind of attempt, or of another thing that the legend has.
 const mark = name => element("i", [], { className: "mark " + name });
 
-// What one script adds to what another does: functions that are called when it has done it.
+// Functions of one script that are called when another has done its work.
 const added = {};
 function on(what, each) { (added[what] ||= []).push(each); }
 function happened(what, ...given) { for (const each of added[what] || []) each(...given); }
@@ -184,7 +184,7 @@ class Numbers {
   }
 }
 
-// How often each of `codes` codes comes in ranges of a column: sums up to each block, and the rest one by one.
+// Counts each of `codes` codes in ranges of a column: sums up to each block, and the rest one by one.
 class Tallies {
   constructor(column, codes) {
     Object.assign(this, { column, codes });
@@ -209,7 +209,7 @@ class Tallies {
   }
 }
 
-// What keys do, and the buttons that name them.
+// The keys, and the buttons that name them.
 function listenToKeys(keys) {
   for (const button of document.querySelectorAll("[data-key]")) button.onclick = () => keys[button.dataset.key]();
   document.addEventListener("keydown", event => {

@@ -10,7 +10,7 @@ function identifierList() {
   return made;
 }
 const identifierOf = text => text.slice(0, text.indexOf("#"));
-// How many there are in all, once the run is known.
+// The number of identifiers, once the run is known.
 let allIdentifiers = 0;
 on("taken", () => {
   const isTried = new Uint8Array(run.texts.length), found = new Set();

@@ -8,7 +8,7 @@ let axis = new Axis([0], 1), lanes = [];
 // and `ends` are the places of their ends, as an axis.
 const time = { isInstant: false, lengthOf: null, ends: null, axisWords: [], ticks: () => [], words: () => "", choose: () => {}, moved: () => {} };
 
-// Where things are.
+// Places of lanes and steps.
 
 const isNarrow = () => window.innerWidth < 640;
 function plotted() {
@@ -17,7 +17,7 @@ function plotted() {
 }
 const placeOf = (plot, place) => (place - view.from) / (view.to - view.from) * plot.width;
 
-// How wide a step is that has a length, and where any ends.
+// The width of a step that has a length, and the end of any step.
 const widthOf = (plot, step) => time.lengthOf(step) / (view.to - view.from) * plot.width;
 const endOf = (plot, step) => time.lengthOf ? placeOf(plot, axis.start[step]) + widthOf(plot, step)
   : placeOf(plot, axis.start[step + 1] ?? axis.length);
@@ -26,7 +26,7 @@ const endOf = (plot, step) => time.lengthOf ? placeOf(plot, axis.start[step]) + 
 function edgesOf(width, from, to, places = axis) {
   const edges = new Int32Array(width + 1);
   for (let x = 0; x <= width; x++) edges[x] = places.from(from + (to - from) * x / width);
-  // What ends at the right end of the axis is in its last pixel.
+  // A step that ends at the right end of the axis is in its last pixel.
   if (to >= axis.length) edges[width] = axis.count;
   return edges;
 }
@@ -191,7 +191,7 @@ class NodeLane {
       else write(plot.pen, `${limit} ${text}`, plot.width + 6, y(limit) + aside[limit], theme.soft);
     }
   }
-  // What is said at the left: the values at a step.
+  // The words at the left: the values at a step.
   values(step) {
     const of = numbers => numbers.all.length ? grouped(numbers.all[step]) : "0";
     return [["tec", `transmit ${of(this.tec)}`], ["rec", `receive ${of(this.rec)}`], ["queue", `queue ${of(this.queue)}`]];
@@ -319,7 +319,7 @@ function moveCursor(cursor, plot, from, to) {
   cursor.style.transform = `translateX(${left}px)`;
   cursor.style.width = Math.max(Math.min(to, plot.width) - left, 3) + "px";
 }
-// What is seen, in the overview of all.
+// Marks the visible part in the overview of the run.
 function placeWindow() {
   const wide = at("overview").clientWidth, box = at("window");
   box.style.left = view.from / axis.length * wide + "px";

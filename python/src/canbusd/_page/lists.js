@@ -1,6 +1,6 @@
 // Lists of any length, tabs of lists, and buttons that choose kinds.
 
-// What browsers can scroll through at most; longer lists scroll faster.
+// The most pixels that browsers can scroll through; longer lists scroll faster.
 const MOST_ROOM = 8e6;
 
 // A list of which only the rows in view are made. A column is a heading, a width, and whether it has numbers ("n"), is
@@ -32,7 +32,7 @@ class Rolling {
   get line() { return window.innerWidth < 420 ? 64 : isNarrow() ? 44 : 22; }
   get inView() { return Math.max(Math.floor((this.box.clientHeight - this.head.offsetHeight) / this.line), 1); }
   get whole() { return Math.min(this.list.length * this.line, MOST_ROOM); }
-  // How far one row scrolls.
+  // The pixels that one row scrolls.
   get step() { return this.list.length ? this.whole / this.list.length : 1; }
   get isVisible() { return this.box.offsetParent !== null; }
   set(list) {
@@ -78,7 +78,7 @@ class Rolling {
   }
   row(place) {
     const one = this.list[place], cells = this.cellsOf(one, this.list[place - 1]);
-    // Where a row is wrapped it is parted at the blanks.
+    // A long row is wrapped at the blanks.
     const made = cells.flatMap((content, k) => [this.cell("gridcell", this.columns[k], content), " "]);
     const row = element("div", made, { className: "row" });
     row.setAttribute("role", "row");

@@ -44,7 +44,7 @@ SCRIPTS = (
 )
 # The controls of a page that may act, with their script and style.
 ACTS, ACT_SCRIPTS, ACT_STYLES = "watch_acts.html", ("watch_acts.js",), ("watch_acts.css",)
-# How much a page gets that is opened later: ticks, and frames.
+# The most ticks and frames that a page gets which is opened later.
 MOST_TICKS, MOST_FRAMES = 2400, 4000
 # Seconds in which pages are sent that the server has ended, after which a silent connection is closed, and between two looks
 # for a file descriptor if there are no more.

@@ -9,7 +9,7 @@ on("taken", column => {
   other.partner.forEach((number, k) => { if (number) other.partnerOf[number - 1] = k; });
   other.spans = [spansByAttempt(), [other.since, other.since.map((since, k) => since + other.took[k])]];
 });
-// Where each attempt begins and ends. Attempts between two attempts of this run share a place over the border.
+// The begin and the end of each attempt. Attempts between two attempts of this run share a place over the border.
 const HALF = 0.3;
 function spansByAttempt() {
   const starts = new Float64Array(other.count), ends = new Float64Array(other.count), { start } = axes[0], between = new Map();
@@ -47,7 +47,7 @@ class OtherLane {
         else this.bar(plot, k, left, Math.max(room - (room > 5 ? 1 : 0), 1), top, fills);
       }
     }
-    // Where there are more attempts than pixels, the worst of each.
+    // A pixel with several attempts shows the worst of them.
     kinds.forEach((kind, x) => { if (kind) block(plot.pen, fills[KINDS[kind - 1]], x, top + 2, byTime.lengthOf ? 2 : 1, STRIP - 4); });
     this.outages(plot, top + STRIP + 2, fills);
     across(plot, top + this.height - 4, theme.line);

@@ -1,4 +1,4 @@
-// What the reader does.
+// The reader's keys, clicks and drags.
 
 function choose(step) {
   if (!axis.count) return;

@@ -7,7 +7,7 @@ const FATE_WORDS = ["taken by the client", "waiting at the end", "unread at the 
 const DROPPED = 3;
 const ARRAYS = { B: Uint8Array, H: Uint16Array, I: Uint32Array, d: Float64Array };
 const STEP_WIDTH = { [RESTART]: 0.8, [DOWN]: 0.8, [IDLE]: 0.5 };
-// Which axis is shown: by attempts, or by time. Where attempts have no length on it they are instants there.
+// The axis: by attempts, or by time. Attempts without a length are instants on it.
 const byTime = { isOn: false, lengthOf: null, ends: null };
 let run, steps, items, names, tec, rec, queues, downs, attemptOf, moments, axes, tallies, failures, firstMoment = 0;
 let chips, showTab, tab = "tab-events";

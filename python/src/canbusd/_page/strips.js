@@ -39,14 +39,14 @@ function stack(plot, i, sums, top, x, wide, fills, whole) {
   for (let kind = 0; kind < RESTART; kind++) {
     const number = won(sums, i, kind);
     if (!number) continue;
-    // What failed is seen, however small its share is.
+    // Failed attempts are visible, however small their share is.
     const high = Math.max(number / whole * (STRIP - 4), kind ? 1.5 : 0.5);
     block(plot.pen, fills[KINDS[kind]], x, y -= high, wide, high);
   }
   if (won(sums, i, RESTART)) block(plot.pen, theme.restart, x, top, wide, 4);
   if (won(sums, i, DOWN)) block(plot.pen, theme.down, x, top, wide, 4);
 }
-// How much room there is for words after an instant.
+// The room for words after an instant.
 function labelRoom(plot, step, x) {
   if (!time.isInstant) return 0;
   const next = step + 1 < axis.count ? placeOf(plot, axis.start[step + 1]) : plot.width;
@@ -121,12 +121,12 @@ function makeLanes() {
   if (worst && worst.dropped) lanes.push(socketLane(worst));
   happened("lanes made");
 }
-// How many frames of a node wait after each step.
+// The frames of a node that wait after each step.
 function leftOf(i) {
   return new Numbers(queues[i].all.map((waiting, step) => (steps.off[step] | steps.down[step]) >> i & 1 ? 0
     : waiting - (steps.kind[step] === 0 && steps.iface[step] === i)));
 }
-// How full the receive queue of a socket was after each step, and in which steps it lost items.
+// The items in a socket's receive queue after each step, and the steps in which it lost items.
 function socketLane(socket) {
   const count = steps.kind.length, fill = new Int32Array(count + 1), marks = new Uint8Array(count);
   for (let item = 0; item < items.step.length; item++) {

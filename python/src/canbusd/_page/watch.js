@@ -11,10 +11,10 @@ let chosenAt = null, chosen = null, byKey = new Map(), byIdentifier = new Map(),
 const held = [], lists = {};
 // Of each node the first one that is known to be on its bus; how long all frames took the wire.
 let busOf = names.map((_, i) => i), busyInAll = 0, nodeLanes = [], loadLanes = new Map();
-// Which nodes got one frame.
+// The nodes that got one frame.
 const joined = new Set();
 
-// What came.
+// Ticks and frames that came.
 
 function take(news) {
   if (news.start) {
@@ -25,7 +25,7 @@ function take(news) {
   }
   for (const tick of news.ticks) takeTick(tick);
   for (const frame of news.frames) takeFrame(...frame);
-  // What a reader looks back at is kept for longer.
+  // Ticks are kept for longer while the reader looks back.
   const more = isLatest ? 1 : 10;
   if (ticks.length > MOST_TICKS * more) ticks = ticks.slice(-MOST_TICKS);
   if (frames.length > MOST * more) {
@@ -43,7 +43,7 @@ function fewer(all) {
   });
   return kept.reverse();
 }
-// How many attempts there were since the tick before: those that were done, and the failed ones that were reported.
+// Counts the attempts since the tick before: those that were done, and the failed ones that were reported.
 function takeTick(tick) {
   const before = ticks.length ? ticks[ticks.length - 1] : tick;
   tick.wins = names.map((_, i) => [Math.max(0, tick.ifaces[i][SENT_DONE] - before.ifaces[i][SENT_DONE]), ...tick.faults[i]]);
@@ -90,7 +90,7 @@ function measure() {
   for (let k = 1; k < ticks.length; k++) start[k] = ticks[k - 1].time - first;
   start[ticks.length] = ticks.length ? ticks[ticks.length - 1].time - first : 1;
   axis = new Axis(start, Math.min(1, Math.max(start[ticks.length], 0.1)));
-  // What is seen stays, also where older ticks are gone.
+  // The view stays as it is, also after older ticks are gone.
   const moved = first - (measure.first ?? first);
   measure.first = first;
   if (isLatest) {
@@ -285,7 +285,7 @@ function sayOffs(last) {
     shown.length ? "Went bus off: " : "", ...buttons, more);
 }
 
-// What the reader does.
+// The reader's keys, clicks and drags.
 
 function show() {
   measure();

@@ -1,4 +1,4 @@
-// Which nodes are on one bus, and how busy each bus is.
+// The nodes of each bus, and its load.
 
 // Nodes that got one frame are on one bus.
 function joinBuses(seen) {

@@ -106,7 +106,7 @@ function rateWords() {
   const words = rate => rate % 1e6 ? `${grouped(rate / 1e3)} kbit/s` : `${grouped(rate / 1e6)} Mbit/s`;
   return words(run.wire.bitrate) + (run.wire.dbitrate ? `, data at ${words(run.wire.dbitrate)}` : "");
 }
-// How many attempts begin before those before them are over.
+// Counts the attempts that begin before those before them are over.
 function overlaps() {
   let found = 0;
   for (let k = 0, over = 0; k < axis.count; k++) {
@@ -160,7 +160,7 @@ function delayWords(step) {
 }
 const shareWords = (busy, { all, nanos }) => `load ${percent(busy / nanos)}, ${percent(all ? busy / all : 0)} of the busy time`;
 
-// What each identifier takes, of the attempts that begin in what is seen.
+// The load of each identifier, of the attempts that begin in the visible part.
 
 function sumsSeen() {
   const first = axis.from(view.from), last = axis.from(view.to), key = [first, last, view.from, view.to].join();

@@ -91,7 +91,7 @@ class Comparison:
     @functools.cached_property
     def differences(self) -> list[Difference]:
         """All differences, in their order."""
-        # Where a frame that only the other run has would be.
+        # The place that a frame of the other run only would have.
         here, there = places(self.partners, len(self.other)), places(reversed_pairs(self.partners), len(self.one))
         found = [one for row in self._rows for one in self._in_row(row, here, there)]
         more = [

@@ -15,9 +15,9 @@ from canbusd._process.rates import Rates
 
 # The number of bytes that are read at once; more are no quicker.
 BLOCK = 1 << 17
-# How many the program may be ahead.
+# The most lines that the program may be ahead.
 AHEAD = 1 << 20
-# What fcntl.h calls F_SETPIPE_SZ; Python has a name for it from 3.10 on.
+# F_SETPIPE_SZ of fcntl.h; Python has a name for it from 3.10 on.
 SET_PIPE_SIZE = 1031
 # After how many milliseconds without a line somebody looks whether one will come.
 SILENCE = 1000

@@ -19,7 +19,7 @@ from canbusd.rules import NAMES, Rule, parse_rule
 Found = TypeVar("Found")
 # More bytes than a line has: names of 16 interfaces, twice, and a few words.
 LONGEST_LINE = 4096
-# How files end of a run that goes on, and of one that was cut off.
+# The ends of the names of files: of a run that goes on, and of one that was cut off.
 GROWING = (".new", ".cut")
 # The program's words about names that are not as many as the interfaces of a record's bus.
 OTHER_BUS = "names of another bus"

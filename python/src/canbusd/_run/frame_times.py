@@ -7,7 +7,7 @@ from canbusd.record import parse_record
 
 # The number of frames that are kept.
 MOST_KEPT = 1 << 16
-# What a run begins with in which each frame is done: version 4 has frames of every kind, and room for all.
+# The first lines of a run in which each frame is done: version 4 has frames of every kind, and room for all.
 FRONT = ["canbus record 4", "bus 1 always 0000 1 4294967294 0", "open 0 1 = socket 0", "option 0 fd 1 = ok"]
 
 
@@ -17,7 +17,7 @@ class FrameTimes:
     def __init__(self, rates: Rates) -> None:
         self.rates = rates
         self._kept: dict[str, int] = {}
-        # Where there is no program it shows at once.
+        # A program that is missing is reported at once.
         self.of(["000#"])
 
     def of(self, texts: Iterable[str]) -> list[int]:

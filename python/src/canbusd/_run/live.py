@@ -28,7 +28,7 @@ class GrowingFile:
 
     def __init__(self, *paths: Path) -> None:
         self._paths = paths
-        # Where the first line begins that was not taken.
+        # The place of the first line that was not taken.
         self._place = 0
 
     def text(self, first: int = 0) -> bytes:

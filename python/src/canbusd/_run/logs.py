@@ -32,7 +32,7 @@ NUMBERED = (".asc", ".blf")
 LINE = re.compile(r"\(([0-9]{1,10}\.[0-9]{6})\) +(\S+) +(\S+)(?: +([RT]))?")
 # python-can counts channels from 0, and its ASC and BLF files have one more.
 NUMBER = re.compile("[0-9]+")
-# How a record begins.
+# The first bytes of a record.
 RECORD = "canbus record "
 
 

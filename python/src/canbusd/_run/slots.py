@@ -11,7 +11,7 @@ from typing import NamedTuple
 from canbusd._run.steps import RESTART, moment_of
 from canbusd.replay import Replay
 
-# How much later than its moment a frame ends at most, in nanoseconds.
+# The most nanoseconds that a frame ends after its moment.
 MOST_LATER = 999
 # The last moment that there is, at which a bus's time stops, in microseconds.
 LAST_MOMENT = 9999999999999999

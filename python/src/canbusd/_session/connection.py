@@ -72,7 +72,7 @@ class Connection:
         # Whether the server accepts each frame by its number, and the numbers of one's own, if they are noted.
         self._has_acks = False
         self._own: Optional[OwnNumbers] = None
-        # How long the question at hand is, and what was sent of it.
+        # The length of the question at hand, and the bytes of it that were sent.
         self._length, self._sent = 0, [0]
         # At first what is still to come is the greeting.
         self._asked = Asked(VERDICT)
@@ -298,7 +298,7 @@ class Connection:
             if found is not None or left == 0:
                 return found
             news = self._next_news()
-        # Who reads from now on sees that there is somebody to wake.
+        # A thread that reads from now on sees that another waits to be woken.
         if self._reading.locked():
             # Whether the socket takes more is nothing that its reader sees.
             most = 0.01 if events & select.POLLOUT else LONGEST_NAP

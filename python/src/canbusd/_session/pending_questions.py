@@ -5,7 +5,7 @@ from typing import NamedTuple
 
 from canbusd.frames import HANDED_OVER, MESSAGE
 
-# How an answer ends: with an echo, or as the verdict on a frame, which is one message.
+# The end of an answer: an echo, or the verdict on a frame, which is one message.
 ECHO, VERDICT = "e", "v"
 # The verdict that accepts a frame, with its number. A bus has fewer than 2**32 entries, so it has ten digits at most.
 ACK, LONGEST_ACK = "ack ", len("ack ") + 10

@@ -25,7 +25,7 @@ options of a capture the server may be another. There are no capture filters, on
 """
 # The name of the capture of all interfaces, and what precedes that of one.
 ALL, ONE = "canbusd", "canbusd-"
-# Where Wireshark looks in the user's home: from version 4.2 on, and before.
+# The folders in the user's home that Wireshark reads: from version 4.2 on, and before.
 FOLDERS = (".local/lib/wireshark/extcap", ".config/wireshark/extcap")
 # Seconds in which a server has to answer that may not be there.
 DETECTION = 1.0

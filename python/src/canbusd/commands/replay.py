@@ -32,7 +32,7 @@ bits after them. With --json it is the last line, with its times in seconds.
   canbusd replay --quiet --bitrate 500000 run.rec
   canbusd replay --json run.rec | jq 'select(.outcome == "destroyed")'
 """
-# How many attempts that overlap are reported.
+# The most attempts that overlap and are reported.
 MOST_OVERLAPS = 10
 
 

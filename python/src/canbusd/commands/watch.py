@@ -53,7 +53,7 @@ class Watcher:
         self.buses = [Watched(name, address=address, fd=True, receive_own_messages=True) for name in names]
         # When the counts were asked for last.
         self.asked = 0.0
-        # How long frames take on the bus of each interface: the same for those with the same bit rates.
+        # The times of frames on the bus of each interface: the same for those with the same bit rates.
         rates = [rates_of(bus.load()) for bus in self.buses]
         times = {one: times_of(one) for one in rates if one}
         self.wires = [times[one] if one else None for one in rates]
