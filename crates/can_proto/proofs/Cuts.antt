@@ -1,8 +1,8 @@
 use Rattle.std.proofs.Common.{◌≡◌, ℕ, Bool, true, false, if◌then◌else◌, List, [], ◌∷◌, ◌++◌, refl, sym, ap, ◌∙◌}
 
--- Texts are cut at marks.
+-- Texts that are cut at marks.
 
--- no mark is in it
+-- the text has no mark
 abbrev pub clear : (ℕ → Bool) → List ℕ → Bool
 clear mark [] = true
 clear mark (b ∷ bs) = if mark b then false else clear mark bs
@@ -12,7 +12,7 @@ abbrev up_to : (ℕ → Bool) → List ℕ → List ℕ
 up_to mark [] = []
 up_to mark (b ∷ bs) = if mark b then [] else b ∷ up_to mark bs
 
--- the bytes after it
+-- the bytes after the first mark
 abbrev past : (ℕ → Bool) → List ℕ → List ℕ
 past mark [] = []
 past mark (b ∷ bs) = if mark b then bs else past mark bs
@@ -42,14 +42,14 @@ past-cut mark sep (b ∷ bs) rest is h =
     let parts = clear_parts (mark b) (clear mark bs) h in
     rw (parts.0, past-cut mark sep bs rest is parts.1) refl
 
--- texts that are cut at their first mark have equal parts
+-- two equal texts, cut at their first marks, have equal parts
 pub cut : (mark : ℕ → Bool) (sep : ℕ) (xs ys rest last : List ℕ) → mark sep ≡ true → clear mark xs ≡ true → clear mark ys ≡ true → xs ++ sep ∷ rest ≡ ys ++ sep ∷ last → (xs ≡ ys) × (rest ≡ last)
 cut mark sep xs ys rest last is cx cy e = (
   sym (up_to-cut mark sep xs rest is cx) ∙ ap (up_to mark) e ∙ up_to-cut mark sep ys last is cy,
   sym (past-cut mark sep xs rest is cx) ∙ ap (past mark) e ∙ past-cut mark sep ys last is cy,
 )
 
--- a text with a mark in it
+-- a text that contains a mark
 
 stays : (x y : Bool) → y ≡ false → (if x then false else y) ≡ false
 stays true y h = refl

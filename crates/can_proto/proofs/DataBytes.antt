@@ -5,13 +5,13 @@ use Rattle.can_proto.specs.declared.fault.ProtoFault.TheVariants.{BadByte}
 use Rattle.can_frame.specs.Numbers.{number_in}
 use Rattle.can_proto.specs.Commands.{◌>>=◌, with_front, bytes_of, or_fault}
 
--- The bytes of data that were read, in front of those that are left.
+-- The data bytes read so far, in front of the bytes that are left.
 
 regroup : (front : List ℕ) (b : ℕ) (read : Result (List ℕ) ProtoFault) → with_front front (read >>= λ bs. Ok (b ∷ bs)) ≡ with_front (front ++ b ∷ []) read
 regroup front b (Ok bs) = ap (λ (x : List ℕ). Ok x) (sym (append_assoc front (b ∷ []) bs))
 regroup front b (Err e) = refl
 
--- one byte more is read
+-- the next byte is read
 pub more : (front word : List ℕ) (b : ℕ) (rest : List (List ℕ)) (all : Result (List ℕ) ProtoFault) → with_front front (bytes_of (word ∷ rest)) ≡ all → Some b ≡ number_in 16 2 word → with_front (front ++ b ∷ []) (bytes_of rest) ≡ all
 unfolding bytes_of
 more front word b rest all h e =

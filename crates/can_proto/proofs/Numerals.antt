@@ -4,7 +4,7 @@ use Rattle.std.proofs.lemmas.Fmt.{decimal_by_steps}
 use Rattle.can_frame.specs.FrameText.{digit_of, digits, pairs}
 use Rattle.can_proto.proofs.Cuts.{clear, clear-append, clear-one}
 
--- No mark is among digits.
+-- Digits contain no mark.
 
 -- a mark is no digit
 abbrev pub IsMark : (ℕ → Bool) → Type 0

@@ -27,7 +27,7 @@ use Rattle.can_proto.proofs.Cuts.{clear, clear_parts}
 use Rattle.can_proto.proofs.Numerals.{IsMark, clear-digits, clear-decimal}
 use Rattle.can_frame.proofs.Numerals.{left, value-digits, value-decimal}
 
--- A command's written spelling is read back.
+-- The text of a command is read back as that command.
 
 -- words
 
@@ -72,7 +72,7 @@ spaced-again (w ∷ v ∷ ws) h =
     ∙ next-word w (join_with_byte 32 (v ∷ ws) ++ 32 ∷ []) h.0 h.1
     ∙ ap (λ (rest : List (List ℕ)). w ∷ rest) (spaced-again (v ∷ ws) h.2)
 
--- the words of a command are words
+-- the words of a command are valid words
 
 no-blank : IsMark is_blank
 no-blank d h = grind arith
@@ -85,7 +85,7 @@ pub clear-front : (w : List ℕ) → front w ≡ w → clear is_blank w ≡ true
 clear-front [] h = refl
 clear-front (b ∷ bs) h = let parts = front-parts (is_blank b) b (front bs) bs h in rw (parts.0, clear-front bs parts.1) refl
 
--- the bytes up to the first blank have none
+-- the bytes before the first blank contain no blank
 clear-up-to : (text : List ℕ) → clear is_blank (front text) ≡ true
 clear-up-to [] = refl
 clear-up-to (b ∷ bs) = by_test (is_blank b) refl (clear-up-to bs)
@@ -94,7 +94,7 @@ clear-up-to (b ∷ bs) = by_test (is_blank b) refl (clear-up-to bs)
     by_test true is more = refl
     by_test false is more = rw (is, more) refl
 
--- the words of a text are words
+-- the words of a text are valid words
 words-after : (was_blank : Bool) (text : List ℕ) → AreWords (words_after was_blank text)
 words-after was_blank [] = tt
 words-after was_blank (b ∷ bs) = by_test was_blank (is_blank b) refl (λ was. words-after was bs)
@@ -119,7 +119,7 @@ some-id true n = omega arith
 clear-id : (id : Identifier) → clear is_blank (id_text id) ≡ true
 clear-id id = clear-digits is_blank no-blank 16 (if id.extended then 8 else 3) id.number
 
--- a few letters, an identifier and a count
+-- an identifier, a count and more words are valid words
 words-count : (id : Identifier) (n : ℕ) (rest : List (List ℕ)) → n < 2 ^ 64 → AreWords rest → AreWords (id_text id ∷ decimal n ∷ rest)
 words-count id n rest small h = (clear-id id, some-id id.extended id.number, (clear-decimal is_blank no-blank n small, decimal_nonempty n small, h))
 
@@ -241,7 +241,7 @@ decimal-width n h = elim (cases_lt n 10) [
       rw (lt-false n 10 (omega arith)) (omega (arith, most, least))
 ]
 
--- each of the lengths
+-- each valid length of an FD frame is read back
 fd-length-again : (n : ℕ) → is_fd_length n ≡ true → fd_length_of (decimal n) ≡ Ok n
 fd-length-again n h =
     let small = at_most_64 n h in
@@ -266,7 +266,7 @@ send-fd-again : (flags : FdFlags) (id_word len_word : List ℕ) (words : List (L
 unfolding send_fd_of
 send-fd-again flags id_word len_word words id len bytes is_id is_len count is_bytes = rw (is_id, is_len, eq-true (length words) len count, is_bytes) refl
 
--- a digit of flags, and what follows it
+-- the flags and the words after them are read back
 send-flagged-again : (word : List ℕ) (flags : FdFlags) (words : List (List ℕ)) (c : Command) → flags_of_word word ≡ Ok flags → send_fd_of flags words ≡ Ok c → send_flagged_of (word ∷ words) ≡ Ok c
 unfolding send_flagged_of
 send-flagged-again word flags words c is_flags sends = rw (is_flags, sends) refl
@@ -320,7 +320,7 @@ unfolding fault_of
 spaced-rule [] rule some is = absurd (omega arith)
 spaced-rule (w ∷ ws) rule some is = ap (λ (text : List ℕ). Ok (Fault text)) is
 
--- and so is each command
+-- each command is read back
 
 tested : {A : Type 0} (b : Bool) (x y : A) → IsTrue b → (if b then x else y) ≡ x
 tested true x y h = refl

@@ -4,9 +4,9 @@ use Rattle.can_frame.specs.Numbers.{digit_in, one_more, number_after, number_in}
 use Rattle.can_proto.specs.Words.{is_blank, front, words_after, words_of}
 use Rattle.can_proto.specs.Commands.{short_id, long_id, id_of}
 
--- A property of each digit is one of each byte of a word that spells a number.
+-- If each digit has a property, each byte of a word that spells a number has it.
 
--- each of them has it
+-- each byte has the property
 abbrev pub Each : (ℕ → Type 0) → List ℕ → Type 0
 Each P [] = Unit {0}
 Each P (b ∷ bs) = P b × Each P bs
@@ -43,7 +43,7 @@ of-id P each word id h = by (length word == 8) h
     by true e = long (number_in 16 8 word) refl e
     by false e = short (number_in 16 3 word) refl e
 
--- a word that spells an identifier ends before a space
+-- the word of an identifier ends before a space
 
 digit-solid : (b v : ℕ) → digit_in 16 b ≡ Some v → is_blank b ≡ false
 digit-solid b v h = grind arith

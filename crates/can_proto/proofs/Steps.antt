@@ -1,4 +1,4 @@
--- More bytes, counted from the beginning of the run.
+-- The text kept of a run as more bytes are read.
 use Rattle.std.proofs.Common.{◌≡◌, ℕ, ◌+◌, ◌-◌, ◌<◌, ◌≤◌, false, ◌||◌, List, [], ◌∷◌, ◌++◌, length, take, drop, get_or, sym, ap, subst, ◌∙◌, append_assoc, arith}
 use Rattle.std.proofs.lemmas.List.{append-nil, length-append, length-take, length-drop, take_more, drop-append-le, drop_all, drop-take, take-take, take-append-drop, take_all}
 use Rattle.can_proto.specs.declared.message.Incoming.{Incoming}
@@ -15,13 +15,13 @@ nothing_new items more h = sym (ap (λ (m : List Incoming). items ++ m) h ∙ ap
 pub opens-given : (items : List Incoming) (t : List ℕ) (b : ℕ) → b ≡ 60 → MayBeKept t → items ≡ items ++ messages_of (t ++ b ∷ [])
 opens-given items t b e h = nothing_new items (messages_of (t ++ b ∷ [])) (rw e (opens t h).0)
 
--- a run that begins at the end of what was read
+-- a run begins at the end of the bytes read so far
 pub opens-kept : (piece t : List ℕ) (i b : ℕ) → i < length piece → b ≡ 60 → MayBeKept t → 60 ∷ drop (i + 1) (take (i + 1) piece) ≡ kept_of (t ++ b ∷ [])
 opens-kept piece t i b lt e h =
     let none : drop (i + 1) (take (i + 1) piece) ≡ [] = drop_all (i + 1) (take (i + 1) piece) (omega (arith, length-take (i + 1) piece)) in
     ap (λ (r : List ℕ). 60 ∷ r) none ∙ sym (rw e (opens t h).1)
 
--- the run goes on: from what was held, or from its start
+-- the run continues, from the bytes held or from its start
 pub parts : (piece : List ℕ) (i end : ℕ) → i ≤ end → take end piece ≡ take i piece ++ drop i (take end piece)
 parts piece i end le = sym (ap (λ (t : List ℕ). t ++ drop i (take end piece)) (sym (take-take i end piece le)) ∙ take-append-drop i (take end piece))
 
@@ -34,14 +34,14 @@ started_more piece start i end s le lt = ap (λ (t : List ℕ). drop start t) (p
 pub carried_length : (held piece : List ℕ) (i end : ℕ) → i ≤ end → end ≤ length piece → length ((held ++ take i piece) ++ drop i (take end piece)) ≡ length held + end
 carried_length held piece i end le lt = ap (λ (t : List ℕ). length t) (sym (carried_more held piece i end le)) ∙ omega (arith, length-append held (take end piece), length-take end piece)
 
--- the bytes looked through for a mark
+-- the bytes searched for a mark
 pub clear_start : (piece : List ℕ) (from : ℕ) → has_mark (drop from (take from piece)) ≡ false
 clear_start piece from = ap has_mark (drop_all from (take from piece) (omega (arith, length-take from piece)))
 
 one_more : (piece : List ℕ) (from i : ℕ) → from ≤ i → i < length piece → drop from (take (i + 1) piece) ≡ drop from (take i piece) ++ get_or piece i 0 ∷ []
 one_more piece from i le lt = rw (take_more piece i 0 lt) (drop-append-le from (take i piece) (get_or piece i 0 ∷ []) (omega (arith, length-take i piece)))
 
--- one byte of a piece is what is read of it
+-- one byte of a piece, as it is read
 one : (piece : List ℕ) (i : ℕ) → i < length piece → get_or piece i 0 ∷ [] ≡ drop i (take (i + 1) piece)
 one piece i lt =
     let none : drop i (take i piece) ≡ [] = drop_all i (take i piece) (omega (arith, length-take i piece)) in
@@ -75,7 +75,7 @@ closes-with run b e h = rw e (closes run h.1 h.2)
 pub pushed : (new old more : List Incoming) (m : Incoming) → new ≡ old ++ m ∷ [] → more ≡ m ∷ [] → new ≡ old ++ more
 pushed new old more m h k = h ∙ ap (λ (x : List Incoming). old ++ x) (sym k)
 
--- the five cases at any place whose text is `<` and a run
+-- the five cases at a place whose text is `<` and a run
 pub closes-at : (t run : List ℕ) (b : ℕ) → t ≡ 60 ∷ run → MayBeKept t → b ≡ 62 → (messages_of (t ++ b ∷ []) ≡ Message run ∷ []) × ([] ≡ kept_of (t ++ b ∷ []))
 closes-at t run b e h k =
     let w : MayBeKept (60 ∷ run) = subst MayBeKept e h in
@@ -144,7 +144,7 @@ past-keeps text before part all t after whole keeps h =
 pub kept_by : (t text : List ℕ) → t ≡ kept_of text → MayBeKept t
 kept_by t text e = subst MayBeKept (sym e) (kept-kept text)
 
--- the text that the reader holds after the call
+-- the text that the reader keeps after the call
 pub after-carried : (inside held piece text : List ℕ) (place : RunStart) → held ≡ inside → place ≡ Carried → text_kept_at held piece (length piece) place ≡ kept_of text → 60 ∷ (inside ++ piece) ≡ kept_of text
 after-carried inside held piece text place e p h =
     let all : take (length piece) piece ≡ piece = take_all (length piece) piece (omega arith) in

@@ -5,7 +5,7 @@ use Rattle.can_proto.specs.declared.answer.Cause.TheVariants as cause
 use Rattle.can_proto.specs.Causes.{cause_text}
 use Rattle.can_proto.specs.Verbs.{is_word}
 
--- the cause that has these words
+-- the cause with these words
 abbrev cause_in : List ℕ → Cause
 cause_in text =
     if is_word text (codes "record full") then cause.RecordFull else

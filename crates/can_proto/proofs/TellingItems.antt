@@ -30,7 +30,7 @@ no-space d h = grind arith
 pub no-point : IsMark is_point
 no-point d h = grind arith
 
--- moments
+-- timestamps
 clear-moment : (m : ℕ) → m < 10 ^ 16 → clear is_space (moment_text m) ≡ true
 clear-moment m h = clear-append is_space (decimal (m / 1000000)) (46 ∷ digits 10 6 (m % 1000000)) (clear-decimal is_space no-space (m / 1000000) (omega arith)) (clear-digits is_space no-space 10 6 (m % 1000000))
 
@@ -101,7 +101,7 @@ regroup-all b m p rest = regroup ((b ++ 32 ∷ []) ++ m) p rest ∙ regroup b m 
 between : {A : Type 0} (x y v w : A) → x ≡ v → y ≡ w → x ≡ y → v ≡ w
 between x y v w h k e = cc
 
--- a word, a moment and the rest
+-- a word, a timestamp and the rest
 same-parts : (xs ys rest last : List ℕ) (m n : ℕ) → clear is_space xs ≡ true → clear is_space ys ≡ true → m < 10 ^ 16 → n < 10 ^ 16 → xs ++ 32 ∷ (moment_text m ++ 32 ∷ rest) ≡ ys ++ 32 ∷ (moment_text n ++ 32 ∷ last) → (xs ≡ ys) × (m ≡ n) × (rest ≡ last)
 same-parts xs ys rest last m n cx cy hm hn e =
     let word = cut is_space 32 xs ys (moment_text m ++ 32 ∷ rest) (moment_text n ++ 32 ∷ last) refl cx cy e in
@@ -117,7 +117,7 @@ same-identifier a b ha hb e =
 unfoldable pub third : List ℕ → ℕ
 third text = get_or text 2 0
 
--- and the fourth, if the third is that of a data frame
+-- the fourth byte, if the third is that of a data frame
 fourth : List ℕ → ℕ
 fourth text = get_or text 3 0
 
@@ -175,11 +175,11 @@ fourth-fd f xs = by f.brs f.esi
     by false true = refl
     by false false = refl
 
--- an FD frame's text, and what follows it
+-- an FD frame's text and the text after it
 fd-then : (f : FdFlags) (body rest : List ℕ) → (fd_word f ++ body) ++ rest ≡ fd_word f ++ (body ++ rest)
 fd-then f body rest = append_assoc (fd_word f) body rest
 
--- two frames whose texts are followed by a space and more
+-- two frames with equal texts up to a space are equal
 one-front : (a b : Identifier) (p q : Payload) (m n : ℕ) (rest last : List ℕ) → IsIdentifier a → IsIdentifier b → IsPayload p → IsPayload q → m < 10 ^ 16 → n < 10 ^ 16 →
     frame_front (record { id = a; payload = p }) m ++ 32 ∷ rest ≡ frame_front (record { id = b; payload = q }) n ++ 32 ∷ last →
     (a ≡ b) × (p ≡ q) × (m ≡ n) × (rest ≡ last)
@@ -207,7 +207,7 @@ one-front a b (Remote k) (Fd g ys) m n rest last ha hb hp hq hm hn e = let k : 1
 one-front a b (Data xs) (Remote l) m n rest last ha hb hp hq hm hn e = let k : 102 ≡ 114 = ap third e in absurd (omega (arith, k))
 one-front a b (Remote k) (Data ys) m n rest last ha hb hp hq hm hn e = let k : 114 ≡ 102 = ap third e in absurd (omega (arith, k))
 
--- a frame's text is no error message frame's
+-- the text of a frame is not that of an error message frame
 frame-no-error : (id : Identifier) (p : Payload) (rest : List ℕ) (error : ErrorMessage) (m n : ℕ) → frame_front (record { id = id; payload = p }) m ++ rest ≡ error_text true error n → ⊥
 unfolding third
 frame-no-error id (Data xs) rest error m n e = let k : 102 ≡ 101 = ap third e in omega (arith, k)
@@ -283,7 +283,7 @@ one-origin (Other m) (Other n) ho hp e = ap Other (same-number m n ho hp (ap (dr
 one-origin (Same m) (Other n) ho hp e = let k : 115 ≡ 111 = ap first-byte e in absurd (omega (arith, k))
 one-origin (Other m) (Same n) ho hp e = let k : 111 ≡ 115 = ap first-byte e in absurd (omega (arith, k))
 
--- a frame's text with its origin
+-- the text of a frame with its origin
 ends-with : (f : CanFrame) (m : ℕ) (o : Origin) → (frame_front f m ++ origin_text o) ++ codes " >" ≡ frame_front f m ++ 32 ∷ origin-tail o
 ends-with f m o = append_assoc (frame_front f m) (origin_text o) (codes " >") ∙ ap (λ (rest : List ℕ). frame_front f m ++ rest) (tailed o)
 

@@ -15,30 +15,31 @@ use Rattle.can_proto.specs.declared.command.Command.TheVariants.{SetOption, ErrD
 use Rattle.can_proto.specs.declared.command.Command.TheVariants.{Load, Restart, Fault, Faults, NoFaults, Close, Down}
 use Rattle.can_proto.specs.Words.{front, words_of}
 
--- The spelling of a client's commands (socketcand's raw mode; filter and the options are own choice). Other spellings
--- are read too: digits in lower case or fewer of them, and more blanks.
+-- The spelling of a client's commands (socketcand's raw mode; filters and options are own choice). A server also reads
+-- other spellings: lower case, fewer digits, and more blanks.
 
 -- `0` (48) or `1` (49)
 abbrev pub flag_text : Bool → List ℕ
 flag_text false = 48 ∷ []
 flag_text true = 49 ∷ []
 
--- the request to send an FD frame, with its flags if it has any
+-- the first words of the request to send an FD frame, with its flags if it has any
 abbrev pub fd_verb_words : FdFlags → List (List ℕ)
 fd_verb_words flags =
     if has_no_flags flags then codes "sendfd" ∷ [] else codes "sendfdx" ∷ ((48 + flags_number flags) ∷ []) ∷ []
 
--- a data frame or an FD frame with its length and each byte in two digits, or a remote frame with what it asks for
+-- the words for a frame: a data frame or an FD frame with its length and each byte in two digits, or a remote frame
+-- with the length it requests
 abbrev pub frame_words : Identifier → Payload → List (List ℕ)
 frame_words id (Data bytes) = codes "send" ∷ id_text id ∷ decimal (length bytes) ∷ map (digits 16 2) bytes
 frame_words id (Remote len) = codes "sendrtr" ∷ id_text id ∷ decimal len ∷ []
 frame_words id (Fd flags bytes) = fd_verb_words flags ++ id_text id ∷ decimal (length bytes) ∷ map (digits 16 2) bytes
 
--- a filter: identifier word and mask in 8 digits each
+-- the words of a filter: identifier word and mask, 8 digits each
 abbrev pub filter_command_words : CanFilter → List (List ℕ)
 filter_command_words f = digits 16 8 f.id ∷ digits 16 8 f.mask ∷ []
 
--- an option with its value
+-- the words for an option and its value
 abbrev pub option_command_words : Opt → List (List ℕ)
 option_command_words (opt.Loopback on) = codes "loopback" ∷ flag_text on ∷ []
 option_command_words (opt.RecvOwn on) = codes "recvown" ∷ flag_text on ∷ []
@@ -68,29 +69,29 @@ command_words NoFaults = codes "nofaults" ∷ []
 command_words Close = codes "close" ∷ []
 command_words Down = codes "down" ∷ []
 
--- a command's written spelling: its words with one space (32) between each two
+-- the text of a command: its words with one space (32) between each two
 abbrev pub command_spelling : Command → List ℕ
 command_spelling command = join_with_byte 32 (command_words command)
 
--- one word: a byte at least, and no blank
+-- one word: at least one byte, and no blank
 abbrev pub IsWord : List ℕ → Type 0
 IsWord word = (0 < length word) × (front word ≡ word)
 
--- a word at least, with one space (32) between each two and no other blank
+-- at least one word, with one space (32) between each two and no other blank
 abbrev pub AreSpaced : List ℕ → Type 0
 AreSpaced text = (0 < length (words_of text)) × (join_with_byte 32 (words_of text) ≡ text)
 
--- words of 32 bits, with no bit 29 in the mask
+-- a filter of two 32-bit words, with bit 29 of the mask clear
 abbrev pub IsFilter : CanFilter → Type 0
 IsFilter f = (f.id < 2 ^ 32) × (f.mask < 2 ^ 32) × (bit_and f.mask (2 ^ 29) ≡ 0)
 
--- an option that there is: error masks have 32 bits
+-- a valid option: error masks have 32 bits
 abbrev pub IsOption : Opt → Type 0
 IsOption (opt.ErrMask mask) = mask < 2 ^ 32
 IsOption _ = Unit {0}
 
--- a command that can be written: the name is one word, the words of a rule are spaced, and frame, filters and masks are
--- within their limits
+-- a command that can be written. The name is one word, the words of a rule are spaced, and the frame, the filters and
+-- the masks are within their limits.
 abbrev pub IsCommand : Command → Type 0
 IsCommand (Open name) = IsWord name
 IsCommand (Send frame) = IsIdentifier frame.id × IsPayload frame.payload

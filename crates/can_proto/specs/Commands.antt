@@ -26,56 +26,56 @@ use Rattle.can_proto.specs.Messages.{messages_of, kept_of}
 use Rattle.can_proto.specs.Words.{words_of}
 use Rattle.can_proto.specs.Verbs.{named, is_allowed_in}
 
--- The command that the words of a message spell, or the first fault from left to right (socketcand's raw mode; the
--- faults and their order are own choice).
+-- The command that the words of a message spell, or the first fault from left to right. The commands are those of
+-- socketcand's raw mode; the faults and their order are own choice.
 
 infixl 10 ◌>>=◌
 abbrev pub ◌>>=◌ : {A B : Type 0} → Result A ProtoFault → (A → Result B ProtoFault) → Result B ProtoFault
 (Ok x) >>= f = f x
 (Err e) >>= f = Err e
 
--- the command is kept on the heap
+-- whether the command needs memory on the heap
 abbrev pub keeps_on_heap : Command → Bool
 keeps_on_heap (Open name) = true
 keeps_on_heap (SetFilters filters) = true
 keeps_on_heap (Fault rule) = true
 keeps_on_heap _ = false
 
--- the value is kept on the heap
+-- the result is a value that needs memory on the heap
 abbrev pub KeepsOnHeap : {A : Type 0} → (A → Bool) → Result A ProtoFault → Type 0
 KeepsOnHeap heavy (Ok x) = IsTrue (heavy x)
 KeepsOnHeap heavy (Err e) = ⊥
 
--- the result is that of reading, but for lack of memory if the value would be kept on the heap
+-- the two results are equal, but `NoMemory` may replace a value that needs memory on the heap
 abbrev pub GivesBut : {A : Type 0} → (A → Bool) → Result A ProtoFault → Result A ProtoFault → Type 0
 GivesBut heavy (Err NoMemory) read = KeepsOnHeap heavy read
 GivesBut heavy answer read = read ≡ answer
 
--- the result is that of reading
+-- the two results are equal
 abbrev pub GivesAsRead : {A : Type 0} → Result A ProtoFault → Result A ProtoFault → Type 0
 GivesAsRead answer read = GivesBut (λ _. false) answer read
 
--- the value, or else the fault
+-- the value, or this fault if there is none
 abbrev pub or_fault : {A : Type 0} → ProtoFault → Option A → Result A ProtoFault
 or_fault fault None = Err fault
 or_fault fault (Some x) = Ok x
 
--- bit 31, by which linux/can.h marks 29-bit identifiers, may be set and is cleared
+-- the identifier word without bit 31, by which linux/can.h marks 29-bit identifiers
 abbrev pub cleared : ℕ → ℕ
 cleared n = if nat_lt n (2 ^ 31) then n else n - 2 ^ 31
 
--- 29 bits
+-- an identifier of 29 bits
 abbrev pub long_id : Option ℕ → Result Identifier ProtoFault
 long_id None = Err BadId
 long_id (Some n) =
     if nat_lt (cleared n) (2 ^ 29) then Ok (record { extended = true; number = cleared n }) else Err BadId
 
--- 11 bits
+-- an identifier of 11 bits
 abbrev pub short_id : Option ℕ → Result Identifier ProtoFault
 short_id None = Err BadId
 short_id (Some n) = if nat_lt n (2 ^ 11) then Ok (record { extended = false; number = n }) else Err BadId
 
--- an identifier: 8 hexadecimal digits are one of 29 bits, 1 to 3 are one of 11
+-- an identifier: 8 hexadecimal digits have 29 bits, 1 to 3 digits have 11 bits
 unfoldable pub id_of : List ℕ → Result Identifier ProtoFault
 id_of word = if length word == 8 then long_id (number_in 16 8 word) else short_id (number_in 16 3 word)
 
@@ -84,7 +84,7 @@ unfoldable pub length_of : List ℕ → Result ℕ ProtoFault
 length_of (d ∷ []) = if nat_le 48 d && nat_le d 56 then Ok (d - 48) else Err BadLength
 length_of _ = Err BadLength
 
--- a length of an FD frame, in decimal without leading zeros
+-- the length of an FD frame, in decimal without leading zeros
 unfoldable pub fd_length_of : List ℕ → Result ℕ ProtoFault
 fd_length_of word =
     or_fault BadLength (number_in 10 2 word)
@@ -98,7 +98,7 @@ bytes_of (word ∷ words) = do
   bs ← bytes_of words
   Ok (b ∷ bs)
 
--- the faults of the words of data: their count, and then a word that spells no byte
+-- the faults of data words: a wrong count comes first, then a word that spells no byte
 abbrev pub IsDataFault : ℕ → List (List ℕ) → ProtoFault → Type 0
 IsDataFault len words e =
     (((length words == len) ≡ false) × (e ≡ BadCount))
@@ -114,7 +114,7 @@ send_of (id_word ∷ len_word ∷ words) = do
       else Err BadCount
 send_of _ = Err BadCount
 
--- the request to send a frame, if there is one
+-- the request to send a frame, if the frame has no fault
 abbrev pub asks_to_send : Result CanFrame ProtoFault → Result Command ProtoFault
 asks_to_send (Ok frame) = Ok (Send frame)
 asks_to_send (Err e) = Err e
@@ -134,7 +134,7 @@ unfoldable pub flags_of_word : List ℕ → Result FdFlags ProtoFault
 flags_of_word (d ∷ []) = if nat_le 48 d then or_fault BadNumber (flags_of (d - 48)) else Err BadNumber
 flags_of_word _ = Err BadNumber
 
--- `sendfdx FLAGS ID LEN b ..`: flags, and what follows `sendfd`
+-- `sendfdx FLAGS ID LEN b ..`: the flags, then the words of `sendfd`
 unfoldable pub send_flagged_of : List (List ℕ) → Result Command ProtoFault
 send_flagged_of (word ∷ words) = flags_of_word word >>= λ flags. send_fd_of flags words
 send_flagged_of [] = Err BadCount
@@ -147,7 +147,7 @@ remote_of (id_word ∷ len_word ∷ []) = do
   Ok (Send (record { id = id; payload = Remote len }))
 remote_of _ = Err BadCount
 
--- a mask with bit 29 makes no filter
+-- a filter, or a fault if its mask has bit 29
 abbrev pub masked : ℕ → ℕ → Result CanFilter ProtoFault
 masked id mask = if bit_and mask (2 ^ 29) == 0 then Ok (record { id = id; mask = mask }) else Err InvalidFilter
 
@@ -158,7 +158,7 @@ filter_of id_word mask_word = do
   mask ← or_fault BadNumber (number_in 16 8 mask_word)
   masked id mask
 
--- filters, two words for each
+-- a list of filters, two words for each
 unfoldable pub filters_of : List (List ℕ) → Result (List CanFilter) ProtoFault
 filters_of [] = Ok []
 filters_of (word ∷ []) = Err BadCount
@@ -176,7 +176,7 @@ set_of (count_word ∷ words) = do
       else if length words == count * 2 then filters_of words >>= (λ filters. Ok (SetFilters filters))
       else Err BadCount
 
--- the word of a command that takes one
+-- the only argument of a command
 abbrev pub only : List (List ℕ) → Result (List ℕ) ProtoFault
 only (word ∷ []) = Ok word
 only _ = Err BadCount
@@ -193,7 +193,7 @@ abbrev pub flag_of : List ℕ → Option Bool
 flag_of (d ∷ []) = if d == 48 then Some false else if d == 49 then Some true else None
 flag_of _ = None
 
--- one flag and no word more
+-- a single flag and no other word
 unfoldable pub switch_of : List (List ℕ) → Result Bool ProtoFault
 switch_of words = only words >>= λ word. or_fault BadNumber (flag_of word)
 
@@ -201,17 +201,17 @@ switch_of words = only words >>= λ word. or_fault BadNumber (flag_of word)
 unfoldable pub open_of : List (List ℕ) → Result Command ProtoFault
 open_of words = only words >>= λ name. Ok (Open name)
 
--- `fault RULE`: the words of the rule with one space (32) between each two
+-- `fault RULE`: the rule has one space (32) between each two words
 unfoldable pub fault_of : List (List ℕ) → Result Command ProtoFault
 fault_of [] = Err BadCount
 fault_of words = Ok (Fault (join_with_byte 32 words))
 
--- a command of one word
+-- a command without arguments
 abbrev pub alone : Command → List (List ℕ) → Result Command ProtoFault
 alone command [] = Ok command
 alone command _ = Err BadCount
 
--- the command by the words after the first one
+-- the command of a verb, by the words after the verb
 unfoldable pub arguments_of : Verb → List (List ℕ) → Result Command ProtoFault
 arguments_of verb.Echo words = alone Echo words
 arguments_of verb.Interfaces words = alone Interfaces words
@@ -241,17 +241,17 @@ arguments_of verb.NoFaults words = alone NoFaults words
 arguments_of verb.Close words = alone Close words
 arguments_of verb.Down words = alone Down words
 
--- the command of a verb with the words after it, in a mode
+-- the command of a verb and the words after it, in a mode
 abbrev pub command_of : Mode → List (List ℕ) → Option Verb → Result Command ProtoFault
 command_of mode words None = Err UnknownCommand
 command_of mode words (Some v) = if is_allowed_in v mode then arguments_of v words else Err WrongState
 
--- the command of the words of a message in a mode
+-- the command of a message's words, in a mode
 abbrev pub reading : Mode → List (List ℕ) → Result Command ProtoFault
 reading mode [] = Err EmptyMessage
 reading mode (word ∷ words) = command_of mode words (named word)
 
--- the stream gives one message, which asks in raw mode for this frame to be sent, and nothing of it is kept
+-- the stream has one message, which in raw mode asks to send this frame, and a reader keeps nothing of it
 abbrev pub IsLoneSend : List ℕ → CanFrame → Type 0
 IsLoneSend stream frame =
     (inside : List ℕ)
@@ -259,10 +259,10 @@ IsLoneSend stream frame =
     × (kept_of stream ≡ [])
     × (reading Raw (words_of inside) ≡ Ok (Send frame))
 
--- more items in front of those that are read
+-- the items already read, in front of the others
 abbrev pub with_front : {A : Type 0} → List A → Result (List A) ProtoFault → Result (List A) ProtoFault
 with_front items read = read >>= λ more. Ok (items ++ more)
 
--- the faults of filters
+-- the faults that a filter can have
 abbrev pub IsFilterFault : ProtoFault → Type 0
 IsFilterFault e = (e ≡ BadNumber) ⊎ (e ≡ InvalidFilter)

@@ -7,20 +7,20 @@ use Rattle.can_proto.specs.declared.fault.ProtoFault.TheVariants.{BadByte, BadCo
 use Rattle.can_proto.specs.Words.{BeginsWith}
 use Rattle.can_proto.specs.Commands.{id_of, send_of}
 
--- Words of hexadecimal digits, as the code takes them one by one.
+-- Words of hexadecimal digits, which the code reads one at a time.
 
--- the first word of a text spells this byte, and what follows it (own choice)
+-- the first word of a text spells this byte, and this text follows it (own choice)
 abbrev pub IsFirstByte : ℕ → List ℕ → List ℕ → Type 0
 IsFirstByte byte rest text = (word : List ℕ) × BeginsWith word rest text × (number_in 16 2 word ≡ Some byte)
 
--- the first word of a text spells this identifier, and what follows it (own choice)
+-- the first word of a text spells this identifier, and this text follows it (own choice)
 abbrev pub IsFirstId : Identifier → List ℕ → List ℕ → Type 0
 IsFirstId id rest text = (word : List ℕ) × BeginsWith word rest text × (id_of word ≡ Ok id)
 
--- the fault of a word that spells no byte, if this many words should follow it and these do: a wrong count comes first
+-- the fault of a word that spells no byte, if this many words should follow it: a wrong count comes first
 abbrev pub fault_of_byte : ℕ → List (List ℕ) → ProtoFault
 fault_of_byte left words = if length words == left then BadByte else BadCount
 
--- after a word that spells this identifier, the words ask for the frame to be sent (own choice)
+-- after a word for this identifier, the other words ask to send this frame (own choice)
 abbrev pub AsksFor : CanFrame → Identifier → List (List ℕ) → Type 0
 AsksFor frame id words = (word : List ℕ) → id_of word ≡ Ok id → send_of (word ∷ words) ≡ Ok (Send frame)

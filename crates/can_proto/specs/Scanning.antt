@@ -4,32 +4,32 @@ use Rattle.can_proto.specs.declared.scanning.RunStart.{RunStart}
 use Rattle.can_proto.specs.declared.scanning.RunStart.TheVariants.{Outside, Carried, At}
 use Rattle.can_proto.specs.Messages.{messages_of, kept_of}
 
--- The meaning of the parts of a reader.
+-- Terms for the parts of a reader.
 
--- the text kept: `<` and the bytes inside, if a run is being read
+-- the text that a reader keeps: `<` and the bytes after it, if a run is being read
 abbrev pub text_kept : Bool → List ℕ → List ℕ
 text_kept is_open inside = if is_open then 60 ∷ inside else []
 
--- the text kept at byte i of a piece, by the beginning of the run
+-- the text that a reader keeps at index `i` of a piece, if the run begins there
 abbrev pub text_kept_at : List ℕ → List ℕ → ℕ → RunStart → List ℕ
 text_kept_at held piece i Outside = []
 text_kept_at held piece i Carried = 60 ∷ (held ++ take i piece)
 text_kept_at held piece i (At start) = 60 ∷ drop start (take i piece)
 
--- the place is not after byte i
+-- the run does not begin after index `i`
 abbrev pub IsWithin : RunStart → ℕ → Type 0
 IsWithin (At start) i = start ≤ i
 IsWithin _ i = Unit {0}
 
--- reading a piece from byte i up to another adds the messages that end there, and finds the beginning of the run at its
--- end
+-- reading a piece from index `i` to `end` adds the messages that end there. `next` is the beginning of the run at
+-- `end`.
 abbrev pub ReadsUpTo : List ℕ → List ℕ → ℕ → RunStart → ℕ → List Incoming → List Incoming → RunStart → Type 0
 ReadsUpTo held piece i place end before after next =
     (after ≡ before ++ messages_of (text_kept_at held piece i place ++ drop i (take end piece)))
     × (text_kept_at held piece end next ≡ kept_of (text_kept_at held piece i place ++ drop i (take end piece)))
     × IsWithin next end
 
--- a piece after the text kept gives these items, and leaves the run at its end begun there
+-- a reader that kept this text reads these items from a piece, and the run at the end of the piece begins at `place`
 pub record Scans (kept held piece : List ℕ) (items : List Incoming) (place : RunStart) : Type 0 where
   pub given : items ≡ messages_of (kept ++ piece)
   pub keeps : text_kept_at held piece (length piece) place ≡ kept_of (kept ++ piece)

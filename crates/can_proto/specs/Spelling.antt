@@ -22,7 +22,7 @@ use Rattle.can_proto.specs.declared.answer.Origin.{Origin}
 use Rattle.can_proto.specs.declared.answer.Origin.TheVariants.{Same, Other}
 use Rattle.can_proto.specs.Causes.{cause_text}
 
--- How replies and received items are written to a client (socketcand's raw mode; the exact texts are own choice).
+-- The texts of replies and received items for a client (socketcand's raw mode; the exact texts are own choice).
 
 -- the number of hexadecimal digits of an error class, at least 3
 abbrev pub class_width : ℕ → ℕ
@@ -37,25 +37,25 @@ class_width class =
 abbrev pub class_text : ℕ → List ℕ
 class_text class = digits 16 (class_width class) class
 
--- the identifier of a frame, its moment and its data
+-- the identifier, the timestamp and the data of a frame
 abbrev pub body_text : CanFrame → ℕ → List ℕ
 body_text frame micros =
     id_text frame.id ++ codes " " ++ moment_text micros ++ codes " " ++ pairs (payload_bytes frame.payload)
 
--- a data frame with its moment, up to the end of the text: without data there are two spaces
+-- a data frame with its timestamp, without the closing ` >`; if there is no data, two spaces precede the `>`
 abbrev pub data_front : CanFrame → ℕ → List ℕ
 data_front frame micros = codes "< frame " ++ body_text frame micros
 
--- the beginning of the text of an FD frame: a frame with flags has another word, and the flags as a digit (own choice)
+-- the first word of an FD frame's text: a frame with flags has another word and the flags as a digit (own choice)
 abbrev pub fd_word : FdFlags → List ℕ
 fd_word flags =
     if has_no_flags flags then codes "< fdframe " else codes "< fdframex " ++ (48 + flags_number flags) ∷ codes " "
 
--- an FD frame, in the same way
+-- an FD frame with its timestamp, without the closing ` >`
 abbrev pub fd_front : CanFrame → ℕ → List ℕ
 fd_front frame micros = fd_word (payload_flags frame.payload) ++ body_text frame micros
 
--- a remote frame with its moment and the length that it asks for
+-- a remote frame with its timestamp and the length that it requests, without the closing ` >`
 abbrev pub remote_front : CanFrame → ℕ → List ℕ
 remote_front frame micros =
     codes "< remote " ++ id_text frame.id ++ codes " " ++ moment_text micros ++ codes " "
@@ -68,7 +68,7 @@ frame_front frame micros =
     else if is_fd frame.payload then fd_front frame micros
     else data_front frame micros
 
--- an error message frame with its moment, and with its data if these are asked for
+-- an error message frame with its timestamp, and with its data if the flag is set
 abbrev pub error_text : Bool → ErrorMessage → ℕ → List ℕ
 error_text false e micros = codes "< error " ++ class_text e.class ++ codes " " ++ moment_text micros ++ codes " >"
 error_text true e micros =
@@ -80,39 +80,39 @@ abbrev pub item_text : Bool → Item → ℕ → List ℕ
 item_text errdata (item.Data frame) micros = frame_front frame micros ++ codes " >"
 item_text errdata (item.Error e) micros = error_text errdata e micros
 
--- a frame's origin: the receiving socket's own interface or another one, and the frame's number there
+-- the origin of a frame: the receiving socket's own interface or another one, and the frame's number there
 abbrev pub origin_text : Origin → List ℕ
 origin_text (Same number) = codes " same " ++ decimal number
 origin_text (Other number) = codes " other " ++ decimal number
 
--- the text of an item if origins are asked for: a frame's is at its end, and an error message frame has none
+-- the text of an item with its origin before the end; an error message frame has no origin
 abbrev pub item_text_from : Bool → Origin → Item → ℕ → List ℕ
 item_text_from errdata origin (item.Data frame) micros = frame_front frame micros ++ origin_text origin ++ codes " >"
 item_text_from errdata origin (item.Error e) micros = error_text errdata e micros
 
--- the origin that such a text has
+-- the origin that the text of an item shows
 abbrev pub shown_origin : Item → Origin → Option Origin
 shown_origin (item.Data frame) origin = Some origin
 shown_origin (item.Error e) origin = None
 
--- a number of 64 bits
+-- the number of an origin has at most 64 bits
 abbrev pub IsOrigin : Origin → Type 0
 IsOrigin (Same number) = number < 2 ^ 64
 IsOrigin (Other number) = number < 2 ^ 64
 
--- the text of an item if the data of error message frames are not asked for: only their class is shown
+-- the item as shown without the data of error message frames, only with their class
 abbrev pub without_data : Item → Item
 without_data (item.Data frame) = item.Data frame
 without_data (item.Error e) = item.Error (record { class = e.class; bytes = [] })
 
--- the outcome of the items offered to the socket, and of the frames of its interface
+-- the counts of items offered to the socket, and of frames of its interface
 abbrev pub stats_text : SocketStats → IfaceStats → List ℕ
 stats_text s i =
     codes "< stats " ++ decimal s.queued ++ codes " " ++ decimal s.dropped ++ codes " " ++ decimal s.taken
     ++ codes " " ++ decimal i.sent ++ codes " " ++ decimal i.done ++ codes " " ++ decimal i.waiting ++ codes " "
     ++ decimal i.lost ++ codes " " ++ decimal i.refused ++ codes " >"
 
--- the word of a fault confinement state
+-- the word for a fault confinement state
 abbrev pub state_word : State → List ℕ
 state_word Active = codes "active"
 state_word Warning = codes "warning"
@@ -130,14 +130,14 @@ status_text c =
 abbrev pub no_bus_load : BusLoad
 no_bus_load = record { permille = 0; micros = 0; bitrate = 0; dbitrate = 0 }
 
--- the thousandths of the last whole second in which the bus was busy, the microseconds for which it was busy since it
--- started, and its bit rates, the nominal one and the one for data
+-- the load of a bus: the thousandths of the last whole second and the microseconds since its start for which it was
+-- busy, then its nominal and its data bit rate
 abbrev pub load_text : BusLoad → List ℕ
 load_text l =
     codes "< load " ++ decimal l.permille ++ codes " " ++ decimal l.micros ++ codes " " ++ decimal l.bitrate
     ++ codes " " ++ decimal l.dbitrate ++ codes " >"
 
--- the reply to a client
+-- the text of a reply to a client
 abbrev pub answer_text : Answer → List ℕ
 answer_text Greeting = codes "< hi >"
 answer_text Done = codes "< ok >"
@@ -150,19 +150,19 @@ answer_text (Faults left) = codes "< faults " ++ decimal left ++ codes " >"
 answer_text (Closing c) = codes "< closed " ++ decimal c.unread ++ codes " " ++ decimal c.dropped ++ codes " >"
 answer_text (Refused why) = codes "< error " ++ cause_text why ++ codes " >"
 
--- names with a space (32) before each
+-- names, with a space (32) before each
 abbrev pub spaced : List (List ℕ) → List ℕ
 spaced names = flat_map (λ name. 32 ∷ name) names
 
--- the reply to `interfaces`: all their names
+-- the reply to `interfaces`, with all names of interfaces
 abbrev pub interfaces_text : List (List ℕ) → List ℕ
 interfaces_text names = codes "< interfaces" ++ spaced names ++ codes " >"
 
--- the eight counts of `stats` that are shown; an interface's error counters are not
+-- the eight counts that `stats` shows; it leaves out the error counters of the interface
 abbrev pub told_counts : SocketStats → IfaceStats → List ℕ
 told_counts s i = s.queued ∷ s.dropped ∷ s.taken ∷ i.sent ∷ i.done ∷ i.waiting ∷ i.lost ∷ i.refused ∷ []
 
--- counts of 64 bits
+-- each number of the reply has at most 64 bits
 abbrev pub FitsIn64 : Answer → Type 0
 FitsIn64 (Sent number) = All (λ n. n < 2 ^ 64) (number ∷ [])
 FitsIn64 (Stats s i) = All (λ n. n < 2 ^ 64) (told_counts s i)
@@ -172,7 +172,7 @@ FitsIn64 (Faults left) = All (λ n. n < 2 ^ 64) (left ∷ [])
 FitsIn64 (Closing c) = All (λ n. n < 2 ^ 64) (c.unread ∷ c.dropped ∷ [])
 FitsIn64 _ = Unit {0}
 
--- replies that are equal in all that is shown
+-- the two replies are equal in all that their texts show
 abbrev pub AreAlike : Answer → Answer → Type 0
 AreAlike (Stats s i) (Stats t j) = told_counts s i ≡ told_counts t j
 AreAlike one other = one ≡ other

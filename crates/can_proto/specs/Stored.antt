@@ -2,7 +2,7 @@ use Rattle.std.specs.Prelude.{ℕ, List}
 use Rattle.can_proto.specs.declared.stored.Stored.{Stored}
 use Rattle.can_proto.specs.declared.stored.Stored.TheVariants.{Short, Long}
 
--- The store in which a message keeps its bytes. No public clause speaks of it.
+-- The store in which a message keeps its bytes. Public clauses do not use it.
 
 -- the bytes in order
 abbrev pub stored_bytes : Stored → List ℕ

@@ -8,21 +8,21 @@ use Rattle.can_proto.specs.declared.verb.Verb.TheVariants.{SendFd, SendFlagged, 
 use Rattle.can_proto.specs.declared.verb.Verb.TheVariants.{FdFrames, ErrMask, ErrData, Ack, Origin, Stats, Status}
 use Rattle.can_proto.specs.declared.verb.Verb.TheVariants.{Load, Restart, Fault, Faults, NoFaults, Close, Down}
 
--- The commands' first words and the modes that have them (socketcand's raw mode; sendfd, sendfdx, and filter and what
--- follows it, is own choice).
+-- The first words of commands and the modes that have them (socketcand's raw mode; sendfd, sendfdx, and filter and the
+-- later ones are own choice).
 
--- the two words are one, byte for byte
+-- whether two words are equal, byte for byte
 abbrev pub is_word : List ℕ → List ℕ → Bool
 is_word [] [] = true
 is_word (a ∷ as_) (b ∷ bs) = (a == b) && is_word as_ bs
 is_word _ _ = false
 
--- one of socketcand's other modes
+-- whether the word names one of socketcand's other modes
 abbrev pub is_other_mode : List ℕ → Bool
 is_other_mode word =
     (is_word word (codes "bcmmode") || is_word word (codes "isotpmode")) || is_word word (codes "controlmode")
 
--- the command that a first word asks for
+-- the command that a first word names
 abbrev pub named : List ℕ → Option Verb
 named word =
     if is_word word (codes "send") then Some Send else
@@ -53,8 +53,9 @@ named word =
     if is_word word (codes "down") then Some Down else
     if is_other_mode word then Some OtherMode else None
 
--- the mode has the command. `open` comes before an interface is opened; `echo` and `interfaces` always; the modes once
--- it is opened; those of faults then and in raw mode; all others in raw mode. A session that has ended has none
+-- whether a mode has a command. `open` is allowed before an interface is opened, `echo` and `interfaces` before the
+-- session ends. The mode commands are allowed once an interface is opened, and the fault commands also in raw mode. Raw
+-- mode has all commands but `open`. A session that has ended has none.
 abbrev pub is_allowed_in : Verb → Mode → Bool
 is_allowed_in Open NoBus = true
 is_allowed_in Open _ = false
@@ -70,12 +71,12 @@ is_allowed_in NoFaults Opened = true
 is_allowed_in _ Raw = true
 is_allowed_in _ _ = false
 
--- the mode has what a first word asks for
+-- whether a mode has the command that a first word names
 abbrev pub has_verb : Mode → Option Verb → Bool
 has_verb mode None = false
 has_verb mode (Some verb) = is_allowed_in verb mode
 
--- the mode has the command that these words begin with
+-- whether a mode has the command that these words begin with
 abbrev pub mode_has : Mode → List (List ℕ) → Bool
 mode_has mode [] = false
 mode_has mode (word ∷ words) = has_verb mode (named word)

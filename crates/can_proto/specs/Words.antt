@@ -6,16 +6,16 @@ use Rattle.std.specs.Prelude.{◌≡◌, ℕ, Bool, true, false, ◌||◌, ◌==
 abbrev pub is_blank : ℕ → Bool
 is_blank b = (b == 32 || b == 9) || (b == 13 || b == 10)
 
--- it is no blank
+-- the byte is no blank
 abbrev pub IsSolid : ℕ → Type 0
 IsSolid b = is_blank b ≡ false
 
--- the bytes up to the first blank
+-- the bytes before the first blank
 abbrev pub front : List ℕ → List ℕ
 front [] = []
 front (b ∷ bs) = if is_blank b then [] else b ∷ front bs
 
--- a word begins at a byte that is no blank and follows a blank or nothing
+-- the words of a text: a word begins at a byte that is no blank, after a blank or at the start
 abbrev pub words_after : Bool → List ℕ → List (List ℕ)
 words_after was_blank [] = []
 words_after was_blank (b ∷ bs) =
@@ -27,6 +27,6 @@ words_after was_blank (b ∷ bs) =
 abbrev pub words_of : List ℕ → List (List ℕ)
 words_of text = words_after true text
 
--- the first word of a text, and what has the words after it
+-- the first word of a text, and the text that has the words after it
 abbrev pub BeginsWith : List ℕ → List ℕ → List ℕ → Type 0
 BeginsWith word rest text = words_of text ≡ word ∷ words_of rest

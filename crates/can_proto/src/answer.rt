@@ -15,37 +15,37 @@ pub enum Answer {
     Done,
     /// The reply to `echo`.
     Echo,
-    /// The frame was sent. Its number at its interface.
+    /// The frame was sent. The field is its number at its interface.
     Sent(u64),
-    /// The outcome of the items offered to the socket and of the frames of its interface.
+    /// The counts of items offered to the socket, and of frames of its interface.
     Stats(SocketStats, IfaceStats),
     /// The error counters of the interface.
     Status(Counters),
-    /// How busy the bus was.
+    /// The load of the bus.
     Load(BusLoad),
-    /// How many rules of faults the bus has.
+    /// The number of fault rules of the bus.
     Faults(u64),
     /// The socket was closed.
     Closing(Closed),
-    /// Nothing was done.
+    /// The command was refused, for this cause; nothing was done.
     Refused(Cause),
 }
 
-/// The load of a bus with bit rates, and its bit rates in bits a second: all 0 on a bus without.
+/// The load of a bus and its bit rates in bits per second. All fields are 0 if the bus has no bit rates.
 #[derive(Debug, Clone, Copy, PartialEq, Eq)]
 pub struct BusLoad {
-    /// For how many thousandths of the last whole second.
+    /// The thousandths of the last whole second during which the bus was busy.
     pub permille: u16,
-    /// For how many microseconds since it started.
+    /// The microseconds during which the bus was busy since it started.
     pub micros: u64,
     /// The nominal bit rate.
     pub bitrate: u32,
-    /// The bit rate for data: the nominal one if it has none of its own.
+    /// The data bit rate; it equals the nominal one if the bus has no other.
     pub dbitrate: u32,
 }
 
 impl BusLoad {
-    /// The load of a bus without bit rates.
+    /// Returns the load of a bus without bit rates.
     pub fn none() -> BusLoad
         ensures { result ≡ no_bus_load }
     {
@@ -58,16 +58,17 @@ impl BusLoad {
     }
 }
 
-/// The origin of a frame, from the interface of the socket that received it, and its number there.
+/// The origin of a frame, as seen from the interface of the socket that received it. The field is the number of the
+/// frame at the sending interface.
 #[derive(Debug, Clone, Copy, PartialEq, Eq)]
 pub enum Origin {
-    /// From the same interface.
+    /// The same interface sent the frame.
     Same(u64),
-    /// From another one.
+    /// Another interface sent the frame.
     Other(u64),
 }
 
-/// Why a client's message was not carried out.
+/// The cause for which the server did not carry out a client's message.
 #[derive(Debug, Clone, Copy, PartialEq, Eq)]
 pub enum Cause {
     NoMemory,
@@ -101,7 +102,7 @@ pub enum Cause {
 }
 
 impl Cause {
-    /// Its words, at most 18 bytes.
+    /// Returns the words of the cause, at most 18 bytes.
     pub fn text(self) -> &'static [u8]
         ensures text { result.now ≡ cause_text self }
         ensures short { length result.now ≤ 18 }

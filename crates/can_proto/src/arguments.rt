@@ -14,7 +14,7 @@ use can_event::Opt;
 use can_frame::{FdFlags, read_hexadecimal};
 use std::alloc::Global;
 
-/// The word of a command that takes one.
+/// Returns the only argument of a command, or a fault if there is not exactly one.
 fn read_word(rest: &[u8]) -> Result<&[u8], ProtoFault>
     ensures { GivesAsRead (result_map_both (λ word. word.now) (λ e. e) result)
         (only (words_of rest.now)) }
@@ -28,7 +28,7 @@ fn read_word(rest: &[u8]) -> Result<&[u8], ProtoFault>
     Ok(word)
 }
 
-/// The words of `errmask HEX`.
+/// Reads the arguments of `errmask HEX`.
 #[tactic(auto, unfolding(crate::specs::Commands::mask_of))]
 fn read_mask(rest: &[u8]) -> Result<Command, ProtoFault>
     ensures { GivesAsRead result (mask_of (words_of rest.now)) }
@@ -39,7 +39,7 @@ fn read_mask(rest: &[u8]) -> Result<Command, ProtoFault>
     }
 }
 
-/// A flag of one digit.
+/// Reads a flag of one digit.
 fn read_flag(word: &[u8]) -> Option<bool>
     ensures { result ≡ flag_of word.now }
 {
@@ -50,7 +50,7 @@ fn read_flag(word: &[u8]) -> Option<bool>
     }
 }
 
-/// One flag, as of `join F`.
+/// Reads a single flag, as in `join F`.
 #[tactic(auto, unfolding(crate::specs::Commands::switch_of))]
 fn read_switch(rest: &[u8]) -> Result<bool, ProtoFault>
     ensures { GivesAsRead result (switch_of (words_of rest.now)) }
@@ -61,7 +61,7 @@ fn read_switch(rest: &[u8]) -> Result<bool, ProtoFault>
     }
 }
 
-/// The word of `open NAME`.
+/// Reads the argument of `open NAME`.
 #[inline(never)]
 #[tactic(auto, unfolding(crate::specs::Commands::open_of))]
 fn read_open(alloc: Global, rest: &[u8]) -> Result<Command, ProtoFault>
@@ -73,7 +73,7 @@ fn read_open(alloc: Global, rest: &[u8]) -> Result<Command, ProtoFault>
     }
 }
 
-/// The words of `fault RULE`.
+/// Reads the arguments of `fault RULE`.
 #[inline(never)]
 #[tactic(auto, unfolding(crate::specs::Commands::fault_of))]
 fn read_fault(alloc: Global, rest: &[u8]) -> Result<Command, ProtoFault>
@@ -88,7 +88,7 @@ fn read_fault(alloc: Global, rest: &[u8]) -> Result<Command, ProtoFault>
     }
 }
 
-/// A command without arguments.
+/// Returns a command without arguments, or a fault if words follow it.
 #[inline(always)]
 fn read_alone(command: Command, rest: &[u8]) -> Result<Command, ProtoFault>
     ensures { GivesAsRead result (alone command (words_of rest.now)) }
@@ -99,7 +99,7 @@ fn read_alone(command: Command, rest: &[u8]) -> Result<Command, ProtoFault>
     }
 }
 
-/// Returns the command of a verb, by the words after it.
+/// Returns the command of a verb and the words after it.
 #[tactic(auto, unfolding(crate::specs::Commands::arguments_of))]
 pub fn read_arguments(alloc: Global, verb: Verb, rest: &[u8]) -> Result<Command, ProtoFault>
     ensures { GivesBut keeps_on_heap result (arguments_of verb (words_of rest.now)) }

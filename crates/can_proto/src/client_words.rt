@@ -6,7 +6,7 @@ use crate::words::next_word;
 use std::alloc::{AllocError, Global};
 use std::marker::Model;
 
-/// Words of a client.
+/// Words that a client wrote.
 #[derive(Debug, Drop)]
 pub struct ClientWords {
     bytes: Vec<u8>,
@@ -21,14 +21,14 @@ impl Model for ClientWords {
 }
 
 impl ClientWords {
-    /// Their bytes.
+    /// Returns the bytes of these words.
     pub fn bytes(&self) -> &[u8]
         ensures { result.now ≡ self.now }
     {
         &self.bytes
     }
 
-    /// A copy of the bytes.
+    /// Returns a copy of the bytes.
     pub(crate) fn copied(alloc: Global, bytes: &[u8]) -> Result<ClientWords, AllocError>
         ensures { IfOk result (λ words. words ≡ bytes.now) }
     {
@@ -36,7 +36,7 @@ impl ClientWords {
         Ok(ClientWords { bytes })
     }
 
-    /// The first word and those in the text after it, one space between each two.
+    /// Returns the first word and the words of the text after it, with one space between each two.
     pub(crate) fn joined(alloc: Global, word: &[u8], rest: &[u8]) -> Result<ClientWords, AllocError>
         ensures { IfOk result (λ words.
             words ≡ join_with_byte 32 (word.now ∷ words_of rest.now)) }
@@ -52,8 +52,8 @@ impl ClientWords {
     }
 }
 
-/// The name of an interface as a client wrote it. No interface need have it.
+/// The name of an interface as a client wrote it. An interface of this name need not exist.
 pub type WantedName = ClientWords;
 
-/// A rule of faults as a client wrote it, with one space between each two words. It need not be one.
+/// A fault rule as a client wrote it, with one space between each two words. It need not be valid.
 pub type WantedRule = ClientWords;

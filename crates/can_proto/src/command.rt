@@ -16,22 +16,22 @@ use std::alloc::Global;
 /// The stage of a session.
 #[derive(Debug, Clone, Copy, PartialEq, Eq)]
 pub enum Mode {
-    /// Just connected: no interface is opened.
+    /// The client just connected and has opened no interface.
     NoBus,
-    /// An interface is opened, no socket on it.
+    /// The client has opened an interface and has no socket on it.
     Opened,
-    /// Raw mode: a socket is open.
+    /// Raw mode: the client has an open socket.
     Raw,
     /// The session is over.
     Ended,
 }
 
-/// A client's request.
+/// A request of a client.
 #[derive(Debug, Drop)]
 pub enum Command {
-    /// Get a reply.
+    /// Request a reply.
     Echo,
-    /// Get the names of all interfaces that may be opened.
+    /// Request the names of all interfaces that may be opened.
     Interfaces,
     /// Open the interface of this name.
     Open(WantedName),
@@ -43,35 +43,35 @@ pub enum Command {
     SetFilters(FilterSet),
     /// Change an option of the socket.
     SetOption(Opt),
-    /// Get the data of error message frames, or only their classes.
+    /// Receive the data of error message frames, or only their classes.
     ErrData(bool),
-    /// Get the number of each frame that is sent, or nothing.
+    /// Request the number of each frame sent, or no numbers.
     Ack(bool),
-    /// Get the origin of each frame that is received, or not.
+    /// Request the origin of each frame received, or no origins.
     Origin(bool),
-    /// Get the counts of frames and items.
+    /// Request the counts of frames and items.
     Stats,
-    /// Get the error counters of the interface, and its state by them.
+    /// Request the error counters and the state of the interface.
     Status,
-    /// Get the load of the bus.
+    /// Request the load of the bus.
     Load,
-    /// Restart the interface that is bus off or down.
+    /// Restart the interface, which is bus off or down.
     Restart,
     /// Add one fault rule to the bus.
     Fault(WantedRule),
-    /// Get the number of fault rules of the bus.
+    /// Request the number of fault rules of the bus.
     Faults,
-    /// End all fault rules.
+    /// Remove all fault rules.
     NoFaults,
-    /// Close the socket and end.
+    /// Close the socket and end the session.
     Close,
     /// Take the interface down.
     Down,
 }
 
 impl Command {
-    /// The command that a message spells in a mode, or else the first fault of the message.
-    /// `NoMemory` comes only if all else is right. The time grows with the message.
+    /// Returns the command that a message spells in a mode, or the first fault of the message. The result is `NoMemory`
+    /// only if everything else is right. The time grows with the length of the message.
     pub fn read(alloc: Global, mode: Mode, message: &Message) -> Result<Command, ProtoFault>
         ensures { GivesBut keeps_on_heap result (reading mode (words_of message.now)) }
     {
@@ -89,7 +89,7 @@ impl Command {
     }
 }
 
-/// Returns the command of a verb in a mode, by the words after it.
+/// Returns the command of a verb and the words after it, in a mode.
 #[inline(always)]
 fn read_verb(alloc: Global, verb: Verb, mode: Mode, rest: &[u8]) -> Result<Command, ProtoFault>
     ensures { GivesBut keeps_on_heap result (command_of mode (words_of rest.now) (Some verb)) }

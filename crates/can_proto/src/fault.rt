@@ -1,42 +1,42 @@
 use thiserror::Error;
 
-/// Why a message is no command. The text goes to the client.
+/// A fault that keeps a message from being a command. The client receives its text.
 #[derive(Debug, Clone, Copy, PartialEq, Eq, Error)]
 pub enum ProtoFault {
-    /// Memory was refused.
+    /// The allocator had no memory.
     #[error("no memory")]
     NoMemory,
-    /// A filter whose mask has bit 29.
+    /// The mask of a filter has bit 29.
     #[error("invalid filter")]
     InvalidFilter,
-    /// More than 512 filters.
+    /// The message has more than 512 filters.
     #[error("too many filters")]
     TooManyFilters,
-    /// A message without a word.
+    /// The message has no word.
     #[error("empty message")]
     EmptyMessage,
-    /// Its first word is not that of a command.
+    /// The first word names no command.
     #[error("unknown command")]
     UnknownCommand,
-    /// The session's mode has no such command.
+    /// The mode of the session does not have this command.
     #[error("wrong state")]
     WrongState,
-    /// One of the modes of socketcand that are left out.
+    /// The word names a mode of socketcand that this server leaves out.
     #[error("mode not supported")]
     ModeNotSupported,
     /// The command takes another number of words.
     #[error("bad word count")]
     BadCount,
-    /// No identifier.
+    /// The word spells no identifier.
     #[error("bad id")]
     BadId,
-    /// No length from 0 to 8.
+    /// The word spells no length that the command allows.
     #[error("bad length")]
     BadLength,
-    /// No byte of one or two hexadecimal digits.
+    /// The word spells no byte of one or two hexadecimal digits.
     #[error("bad byte")]
     BadByte,
-    /// No number of the kind wanted.
+    /// The word spells no number that the command allows.
     #[error("bad number")]
     BadNumber,
 }

@@ -11,7 +11,7 @@ use can_filter::{Filter, FilterSet};
 use can_frame::{read_decimal, read_hexadecimal};
 use std::alloc::Global;
 
-/// The filter of two words.
+/// Returns the filter that two words spell.
 #[tactic(auto, unfolding(crate::specs::Commands::filter_of))]
 fn read_filter(id_word: &[u8], mask_word: &[u8]) -> Result<Filter, ProtoFault>
     ensures value { result ≡ filter_of id_word.now mask_word.now }
@@ -29,7 +29,7 @@ fn read_filter(id_word: &[u8], mask_word: &[u8]) -> Result<Filter, ProtoFault>
     }
 }
 
-/// The filters that the words spell, two words for each, in the first places of an array.
+/// Returns the filters that the words spell, two words for each, in the first places of an array.
 fn read_filters(rest: &[u8], count: usize) -> Result<[Filter; 512], ProtoFault>
     requires few { count ≤ 512 }
     requires words { length (words_of rest.now) ≡ count * 2 }
@@ -54,7 +54,7 @@ fn read_filters(rest: &[u8], count: usize) -> Result<[Filter; 512], ProtoFault>
     Ok(filters)
 }
 
-/// The words of `filter N ID MASK ..`.
+/// Reads the arguments of `filter N ID MASK ..`.
 #[inline(never)]
 #[tactic(auto, unfolding(crate::specs::Commands::set_of))]
 pub fn read_set(alloc: Global, rest: &[u8]) -> Result<Command, ProtoFault>

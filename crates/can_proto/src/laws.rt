@@ -16,14 +16,14 @@ ghost use Rattle.can_proto.specs.declared.answer.Origin.{Origin as AnOrigin};
 use crate::answer::Cause;
 use crate::message::Incoming;
 
-/// However a stream is cut into pieces, the calls of a reader together give the messages of the
-/// whole stream.
+/// A reader returns the same messages for a stream, however the stream is cut into pieces.
 pub fn every_cut_gives_the_same_messages()
     ensures { (pieces : List (List ℕ)) →
         given_from [] pieces ≡ messages_of (flat_map (λ piece. piece) pieces) }
 {}
 
-/// At most 1,024 bytes between marks, no mark among them, are a message. What follows is read by itself.
+/// At most 1,024 bytes between `<` and `>`, with no other mark among them, are one message. The bytes after `>` are
+/// read separately.
 pub fn bytes_between_marks_are_a_message()
     ensures { (inside rest : List ℕ) →
         has_mark inside ≡ false → length inside ≤ 1024 →
@@ -36,9 +36,9 @@ pub fn words_tell_one_cause()
     ensures { (one other : Cause) → cause_text one ≡ cause_text other → one ≡ other }
 {}
 
-/// Different items, or moments, have different texts. If the data of error message frames are not
-/// asked for, they are left out, and only their classes and moments differ in the text. With
-/// origins, frames of different origins have different texts too.
+/// Different items have different texts, and so do different timestamps. Without `errdata` the text of an error message
+/// frame leaves out its data: only its class and timestamp show. With origins, frames of different origins also have
+/// different texts.
 pub fn texts_tell_items_apart()
     ensures whole { (i j : AnItem) (m n : ℕ) →
         IsItem i → IsItem j → m < 10 ^ 16 → n < 10 ^ 16 →
@@ -52,7 +52,7 @@ pub fn texts_tell_items_apart()
         (i ≡ j) × (m ≡ n) × (shown_origin i o ≡ shown_origin j p) }
 {}
 
-/// Different lists of names have different texts, and none of these is the text of another reply or of an item.
+/// Different lists of names have different texts. None of these texts is the text of another reply or of an item.
 pub fn names_tell_apart()
     ensures one_list { (one other : List (List ℕ)) →
         All IsWord one → All IsWord other →
@@ -66,8 +66,8 @@ pub fn names_tell_apart()
         item_text_from errdata o i m ≡ interfaces_text names → ⊥ }
 {}
 
-/// The text of a command is read back as that command, in each mode that has it. A space on either
-/// side makes no difference, as messages are written with them.
+/// Each mode that has a command reads the command's text back as that command. A space before and after the text, as
+/// written in messages, makes no difference.
 pub fn written_commands_are_read()
     ensures alone { (mode : AMode) (c : ACommand) →
         IsCommand c → IsTrue (mode_has mode (command_words c)) →
@@ -77,8 +77,8 @@ pub fn written_commands_are_read()
         reading mode (words_of (codes " " ++ command_spelling c ++ codes " ")) ≡ Ok c }
 {}
 
-/// No text belongs to two replies, except that those to `stats` leave the error counters out; and none to
-/// a reply and an item, with its origin or without.
+/// No two replies have the same text, except that `stats` leaves out the error counters. No reply has the text of an
+/// item, with or without an origin.
 pub fn answers_tell_apart()
     ensures one_answer { (one other : AnAnswer) →
         FitsIn64 one → FitsIn64 other → answer_text one ≡ answer_text other → AreAlike one other }

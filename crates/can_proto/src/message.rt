@@ -4,7 +4,7 @@ use crate::stored::Stored;
 use std::alloc::{AllocError, Global};
 use std::marker::Model;
 
-/// A message: the bytes that stood between `<` and `>`, at most 1,024, neither mark among them.
+/// A message: at most 1,024 bytes between `<` and `>`, with no other mark among them.
 #[derive(Debug, Drop)]
 pub struct Message {
     inside: Stored,
@@ -20,14 +20,14 @@ impl Model for Message {
 }
 
 impl Message {
-    /// The bytes between the marks.
+    /// Returns the bytes between the marks.
     pub fn inside(&self) -> &[u8]
         ensures { result.now ≡ self.now }
     {
         self.inside.bytes()
     }
 
-    /// The message of the bytes held and those that followed them.
+    /// Returns the message of the bytes held followed by more bytes.
     #[inline(always)]
     pub(crate) fn joined(alloc: Global, held: &[u8], more: &[u8]) -> Result<Message, AllocError>
         ensures { IfOk result (λ m. m ≡ held.now ++ more.now) }
@@ -37,11 +37,11 @@ impl Message {
     }
 }
 
-/// A message of a stream, or a fault of one.
+/// A message of a stream, or a fault of a message.
 #[derive(Debug, Drop)]
 pub enum Incoming {
     /// A whole message.
     Message(Message),
-    /// A `<` with more than 1,024 bytes after it before the next mark.
+    /// More than 1,024 bytes follow a `<` before the next mark.
     TooLong,
 }

@@ -1,4 +1,4 @@
-//! Data and identifiers in their usual form: words of as many digits as they can have, with one space after each.
+//! Data and identifiers in their usual form: each word has its full number of digits, with one space after it.
 ghost use Rattle.std.specs.Prelude.{◌≡◌, ◌≤◌, ◌<◌, ◌∷◌, [], Ok, take, length, ok_or, MatchOption, IfSome};
 ghost use Rattle.can_proto.specs.Words.{IsSolid, words_of};
 ghost use Rattle.can_frame.specs.Numbers.{hex_digit, number_in};
@@ -10,7 +10,7 @@ use can_frame::CanId;
 /// The entry of the table for a byte that is no digit.
 const NO_DIGIT: u8 = 64;
 
-/// The values of the hexadecimal digits, in either case, each at the place of its byte.
+/// The value of each hexadecimal digit in either case, at the index of its byte.
 #[rattlefmt::skip]
 static DIGITS: [u8; 256] = [
     64, 64, 64, 64, 64, 64, 64, 64, 64, 64, 64, 64, 64, 64, 64, 64,
@@ -31,7 +31,7 @@ static DIGITS: [u8; 256] = [
     64, 64, 64, 64, 64, 64, 64, 64, 64, 64, 64, 64, 64, 64, 64, 64,
 ];
 
-/// The value of a hexadecimal digit, or else 64.
+/// Returns the value of a hexadecimal digit, or 64 for any other byte.
 #[inline(always)]
 fn digit_or_64(byte: u8) -> u8
     ensures value { MatchOption (hex_digit byte) (result ≡ 64) (λ v. (result ≡ v) × (v < 16)) }
@@ -41,7 +41,7 @@ fn digit_or_64(byte: u8) -> u8
     DIGITS[usize::from(byte)]
 }
 
-/// The byte of two hexadecimal digits.
+/// Returns the byte that two hexadecimal digits spell.
 #[inline(always)]
 pub fn byte_of(high: u8, low: u8) -> Option<u8>
     ensures value { result ≡ number_in 16 2 (high ∷ low ∷ []) }
@@ -55,7 +55,7 @@ pub fn byte_of(high: u8, low: u8) -> Option<u8>
     Some(high * 16 + low)
 }
 
-/// The identifier of three hexadecimal digits.
+/// Returns the identifier that three hexadecimal digits spell.
 #[inline(always)]
 #[tactic(auto, unfolding(crate::specs::Commands::id_of))]
 pub fn short_id(high: u8, middle: u8, low: u8) -> Option<CanId>
@@ -74,8 +74,8 @@ pub fn short_id(high: u8, middle: u8, low: u8) -> Option<CanId>
     }
 }
 
-/// The bytes that this many words spell, in the first places of `N`, if each word has two digits
-/// and one space after it, as data mostly has.
+/// Returns the bytes that this many words spell, in the first places of an array. Each word must have two digits and
+/// one space after it, which is the usual form of data.
 #[inline(always)]
 pub fn paired_bytes<const N: usize>(text: &[u8], len: usize) -> Option<[u8; N]>
     requires small { len ≤ N }

@@ -9,8 +9,8 @@ use can_frame::Frame;
 use std::alloc::{AllocError, Global};
 use std::marker::Model;
 
-/// Reads the messages of a stream that comes in pieces. Between two calls it keeps the last `<` and
-/// at most 1,024 bytes after it, if these may still become a message.
+/// Reads the messages of a stream that comes in pieces. Between two calls it keeps the last `<` and at most 1,024 bytes
+/// after it, if these may still become a message.
 #[derive(Drop)]
 pub struct Reader {
     is_open: bool,
@@ -31,7 +31,7 @@ impl Model for Reader {
 }
 
 impl Reader {
-    /// A reader at the start of a stream. It takes the room for what it will keep.
+    /// Returns a reader at the start of a stream. It allocates the memory that it may need later.
     pub fn new(alloc: Global) -> Result<Reader, AllocError>
         ensures { IfOk result (λ r. r ≡ []) }
     {
@@ -41,9 +41,9 @@ impl Reader {
         })
     }
 
-    /// Returns the messages of the stream up to the end of this piece, except those returned
-    /// before. An error comes only if memory was refused, and then the reader is as before the
-    /// call. The time grows with the piece.
+    /// Returns the messages of the stream up to the end of this piece, except the messages returned before. It fails
+    /// only if the allocator has no memory, and then the reader is unchanged. The time grows with the length of the
+    /// piece.
     pub fn feed(&mut self, alloc: Global, piece: &[u8]) -> Result<Vec<Incoming>, AllocError>
         ensures given { IfOk result (λ out. out.items ≡ messages_of (self.old ++ piece.now)) }
         ensures keeps { OnOk result (self.new ≡ kept_of (self.old ++ piece.now)) }
@@ -65,9 +65,8 @@ impl Reader {
         Ok(out)
     }
 
-    /// The frame that a piece asks to be sent in raw mode, if the piece is one whole `send` in its
-    /// usual spelling and no message was begun before it. The reader stays as it is, and the piece
-    /// gives nothing else.
+    /// Returns the frame that a piece asks to send in raw mode. The piece must be a single `send` in its usual
+    /// spelling, and no message may have begun before it. The reader is unchanged, and the piece contains nothing else.
     pub fn lone_send(&self, piece: &[u8]) -> Option<Frame>
         ensures sends { IfSome result (λ frame. IsLoneSend (self.now ++ piece.now) frame) }
         ensures keeps { IfSome result (λ _. kept_of (self.now ++ piece.now) ≡ self.now) }
@@ -79,7 +78,7 @@ impl Reader {
     }
 }
 
-/// Adds bytes for which room was taken before.
+/// Adds bytes to a buffer that has capacity for them.
 fn put(inside: &mut Vec<u8>, more: &[u8])
     requires { length inside.old.items + length more.now ≤ vec_capacity inside.old }
     ensures items { inside.new.items ≡ inside.old.items ++ more.now }

@@ -6,25 +6,24 @@ ghost use Rattle.can_proto.specs.Scanning.{text_kept_at, text_kept, IsWithin, Re
 use crate::message::{Incoming, Message};
 use std::alloc::{AllocError, Global};
 
-/// The most bytes inside a message.
+/// The largest number of bytes in a message.
 pub const LIMIT: usize = 1024;
 
-/// The beginning of the run that is being read.
+/// The beginning of the run of bytes that is being read.
 #[derive(Clone, Copy)]
 pub enum RunStart {
     /// No run is being read.
     Outside,
-    /// In an earlier piece: the run goes on from what is held of it.
+    /// The run began in an earlier piece, and this piece continues it.
     Carried,
-    /// At this byte of the piece.
+    /// The run began at this byte of the piece.
     At(usize),
 }
 
-/// The number of bytes that are looked through at once.
+/// The number of bytes that one step searches for a mark.
 const BLOCK: usize = 16;
 
-/// Returns whether the block from a byte on has a mark. It has no branches, so the compiler can
-/// compare all bytes at once.
+/// Returns whether the block at an index has a mark. It has no branches, so the compiler can compare all bytes at once.
 fn block_has_mark(piece: &[u8], from: usize) -> bool
     requires { from + 16 ≤ length piece.now }
     ensures { result ≡ has_mark (drop from (take (from + 16) piece.now)) }
@@ -36,7 +35,7 @@ fn block_has_mark(piece: &[u8], from: usize) -> bool
     found
 }
 
-/// After the whole blocks from a byte on that have no mark.
+/// Returns the index after the whole blocks without a mark.
 fn clear_blocks(piece: &[u8], from: usize) -> usize
     requires { from ≤ length piece.now }
     ensures after { from ≤ result }
@@ -53,7 +52,7 @@ fn clear_blocks(piece: &[u8], from: usize) -> usize
     i
 }
 
-/// The next mark from a byte on, or the end.
+/// Returns the index of the next mark, or the length of the piece.
 fn next_mark(piece: &[u8], from: usize) -> usize
     requires { from ≤ length piece.now }
     ensures after { from ≤ result }
@@ -70,7 +69,7 @@ fn next_mark(piece: &[u8], from: usize) -> usize
     piece.len()
 }
 
-/// The bytes of the piece from one up to another, no mark among them.
+/// Reads the bytes of the piece from one index to another, which contain no mark.
 fn pass(
     out: &mut Vec<Incoming>,
     held: &[u8],
@@ -107,7 +106,7 @@ fn pass(
     }
 }
 
-/// The mark at a byte of the piece.
+/// Reads the mark at an index of the piece.
 fn at_mark(
     alloc: Global,
     out: &mut Vec<Incoming>,
@@ -134,7 +133,7 @@ fn at_mark(
     Ok(RunStart::Outside)
 }
 
-/// The message of the bytes held and those that followed them.
+/// Adds the message of the bytes held followed by more bytes.
 #[inline(never)]
 fn push_message(
     alloc: Global,
@@ -149,8 +148,8 @@ fn push_message(
     Ok(())
 }
 
-/// Returns the messages of a piece after the bytes held, and the beginning of the run at its end.
-/// `is_open` is whether a run was being read, of which `held` are the bytes so far.
+/// Returns the messages of a piece after the bytes held, and the beginning of the run at its end. If `is_open` is true,
+/// a run was being read and `held` are its bytes so far.
 pub fn scan(
     alloc: Global,
     is_open: bool,

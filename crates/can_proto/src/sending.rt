@@ -12,14 +12,14 @@ use crate::pairs::{byte_of, paired_bytes, short_id};
 use crate::words::{has_words, next_word};
 use can_frame::{CanId, FdFlags, Frame, is_fd_length, read_decimal, read_hexadecimal};
 
-/// An identifier of 8 digits (29 bits) or of 1 to 3 (11 bits).
+/// Reads an identifier: 8 digits (29 bits) or 1 to 3 digits (11 bits).
 fn read_id(word: &[u8]) -> Result<CanId, ProtoFault>
     ensures { GivesAsRead result (id_of word.now) }
 {
     id_in(word).ok_or(ProtoFault::BadId)
 }
 
-/// The identifier that a word spells, if it spells one.
+/// Returns the identifier that a word spells, or none.
 #[tactic(auto, unfolding(crate::specs::Commands::id_of))]
 fn id_in(word: &[u8]) -> Option<CanId>
     ensures { id_of word.now ≡ ok_or result ProtoFault.BadId }
@@ -33,7 +33,7 @@ fn id_in(word: &[u8]) -> Option<CanId>
     }
 }
 
-/// The identifier of 29 bits that a word of 8 digits spells, if it spells one.
+/// Returns the 29-bit identifier that a word of 8 digits spells, or none.
 #[tactic(auto, unfolding(crate::specs::Commands::id_of))]
 fn long_id(word: &[u8]) -> Option<CanId>
     requires { length word.now ≡ 8 }
@@ -48,7 +48,7 @@ fn long_id(word: &[u8]) -> Option<CanId>
     CanId::extended(number).ok()
 }
 
-/// A length of one digit, 0 to 8.
+/// Reads a length of one digit, 0 to 8.
 #[tactic(auto, unfolding(crate::specs::Commands::length_of))]
 fn read_length(word: &[u8]) -> Result<u8, ProtoFault>
     ensures value { GivesAsRead result (length_of word.now) }
@@ -60,7 +60,7 @@ fn read_length(word: &[u8]) -> Result<u8, ProtoFault>
     }
 }
 
-/// A length of an FD frame, in decimal without leading zeros.
+/// Reads the length of an FD frame, in decimal without leading zeros.
 #[tactic(auto, unfolding(crate::specs::Commands::fd_length_of))]
 fn read_fd_length(word: &[u8]) -> Result<usize, ProtoFault>
     ensures value { GivesAsRead result (fd_length_of word.now) }
@@ -79,7 +79,7 @@ fn read_fd_length(word: &[u8]) -> Result<usize, ProtoFault>
     }
 }
 
-/// The byte that 1 or 2 hexadecimal digits spell.
+/// Returns the byte that 1 or 2 hexadecimal digits spell, or none.
 fn read_byte(word: &[u8]) -> Option<u8>
     ensures { result ≡ number_in 16 2 word.now }
 {
@@ -90,8 +90,8 @@ fn read_byte(word: &[u8]) -> Option<u8>
     }
 }
 
-/// The bytes that this many words spell, in the first places of `N`. A wrong count comes before a
-/// word that spells no byte.
+/// Returns the bytes that this many words spell, in the first places of an array. The fault of a wrong count comes
+/// before that of a word that spells no byte.
 fn read_bytes<const N: usize>(rest: &[u8], len: usize) -> Result<[u8; N], ProtoFault>
     requires small { len ≤ N }
     requires few { len ≤ 64 }
@@ -107,7 +107,7 @@ fn read_bytes<const N: usize>(rest: &[u8], len: usize) -> Result<[u8; N], ProtoF
     spelled_bytes::<N>(rest, len)
 }
 
-/// The bytes of `read_bytes`, if the words may have any blanks between them.
+/// Returns the bytes that this many words spell, with any blanks between the words.
 #[inline(never)]
 fn spelled_bytes<const N: usize>(rest: &[u8], len: usize) -> Result<[u8; N], ProtoFault>
     requires small { len ≤ N }
@@ -128,7 +128,7 @@ fn spelled_bytes<const N: usize>(rest: &[u8], len: usize) -> Result<[u8; N], Pro
     }
 }
 
-/// The byte that the first word spells, and the bytes after it, if this many words should follow.
+/// Returns the byte that the first word spells, and the text after it. This many words should follow.
 fn spelled_byte(text: &[u8], left: usize) -> Result<(u8, &[u8]), ProtoFault>
     ensures value { IfOk result (λ found. IsFirstByte found.0 found.1.now text.now) }
     ensures fault { IfErr result (IsDataFault (left + 1) (words_of text.now)) }
@@ -142,7 +142,7 @@ fn spelled_byte(text: &[u8], left: usize) -> Result<(u8, &[u8]), ProtoFault>
     }
 }
 
-/// The fault if a word spells no byte and this many words should follow it.
+/// Returns the fault of a word that spells no byte and that this many words should follow.
 fn bad_byte(after: &[u8], left: usize) -> ProtoFault
     ensures { result ≡ fault_of_byte left (words_of after.now) }
 {
@@ -153,7 +153,7 @@ fn bad_byte(after: &[u8], left: usize) -> ProtoFault
     }
 }
 
-/// The words of `send ID LEN b ..`.
+/// Reads the arguments of `send ID LEN b ..`.
 #[inline(never)]
 pub fn read_send(rest: &[u8]) -> Result<Command, ProtoFault>
     ensures { GivesAsRead result (send_of (words_of rest.now)) }
@@ -161,7 +161,7 @@ pub fn read_send(rest: &[u8]) -> Result<Command, ProtoFault>
     Ok(Command::Send(read_frame(rest)?))
 }
 
-/// The data frame that these words ask to be sent.
+/// Returns the data frame that these words ask to send.
 fn read_frame(rest: &[u8]) -> Result<Frame, ProtoFault>
     ensures { GivesAsRead (asks_to_send result) (send_of (words_of rest.now)) }
 {
@@ -171,8 +171,8 @@ fn read_frame(rest: &[u8]) -> Result<Frame, ProtoFault>
     }
 }
 
-/// The data frame of words in their usual form: an identifier of three or eight digits, a length, and two digits a byte,
-/// with one space after each of them.
+/// Returns the data frame of words in their usual form: an identifier of three or eight digits, a length, and two
+/// digits for each byte, with one space after each.
 #[inline(always)]
 pub fn usual_frame(text: &[u8]) -> Option<Frame>
     ensures { IfSome result (λ frame. send_of (words_of text.now) ≡ Ok (Send frame)) }
@@ -183,7 +183,7 @@ pub fn usual_frame(text: &[u8]) -> Option<Frame>
     }
 }
 
-/// The data frame of this identifier and of a length and data in their usual form.
+/// Returns the data frame of this identifier, and of a length and data in their usual form.
 #[inline(always)]
 fn usual_payload(id: CanId, text: &[u8]) -> Option<Frame>
     ensures { IfSome result (λ frame. AsksFor frame id (words_of text.now)) }
@@ -199,7 +199,7 @@ fn usual_payload(id: CanId, text: &[u8]) -> Option<Frame>
     }
 }
 
-/// The identifier of three or eight digits that the first word spells, and what follows one space after it.
+/// Returns the identifier that a first word of three or eight digits spells, and the text after one space.
 #[inline(always)]
 fn usual_id(text: &[u8]) -> Option<(CanId, &[u8])>
     ensures { IfSome result (λ found. IsFirstId found.0 found.1.now text.now) }
@@ -210,7 +210,7 @@ fn usual_id(text: &[u8]) -> Option<(CanId, &[u8])>
     }
 }
 
-/// The identifier of eight digits that the first word spells, and what follows one space after it.
+/// Returns the identifier that a first word of eight digits spells, and the text after one space.
 fn usual_long_id(text: &[u8]) -> Option<(CanId, &[u8])>
     ensures { IfSome result (λ found. IsFirstId found.0 found.1.now text.now) }
 {
@@ -223,7 +223,7 @@ fn usual_long_id(text: &[u8]) -> Option<(CanId, &[u8])>
     }
 }
 
-/// The data frame of words in any form.
+/// Returns the data frame of words in any form.
 #[inline(never)]
 #[tactic(auto, unfolding(crate::specs::Commands::send_of))]
 fn spelled_frame(rest: &[u8]) -> Result<Frame, ProtoFault>
@@ -244,7 +244,7 @@ fn spelled_frame(rest: &[u8]) -> Result<Frame, ProtoFault>
     }
 }
 
-/// The words of `sendfdx FLAGS ID LEN b ..`; the flags are a number from 0 to 3.
+/// Reads the arguments of `sendfdx FLAGS ID LEN b ..`. The flags are a number from 0 to 3.
 #[inline(never)]
 #[tactic(auto, unfolding(crate::specs::Commands::send_flagged_of))]
 pub fn read_send_flagged(rest: &[u8]) -> Result<Command, ProtoFault>
@@ -257,7 +257,7 @@ pub fn read_send_flagged(rest: &[u8]) -> Result<Command, ProtoFault>
     read_send_fd(flags, rest)
 }
 
-/// The flags of an FD frame: one digit.
+/// Reads the flags of an FD frame, one digit.
 #[tactic(auto, unfolding(crate::specs::Commands::flags_of_word))]
 fn read_flags(word: &[u8]) -> Result<FdFlags, ProtoFault>
     ensures { GivesAsRead result (flags_of_word word.now) }
@@ -272,7 +272,7 @@ fn read_flags(word: &[u8]) -> Result<FdFlags, ProtoFault>
     }
 }
 
-/// The words of `sendfd ID LEN b ..`, for a frame with these flags.
+/// Reads the arguments of `sendfd ID LEN b ..`, for a frame with these flags.
 #[inline(never)]
 #[tactic(auto, unfolding(crate::specs::Commands::send_fd_of))]
 pub fn read_send_fd(flags: FdFlags, rest: &[u8]) -> Result<Command, ProtoFault>
@@ -293,7 +293,7 @@ pub fn read_send_fd(flags: FdFlags, rest: &[u8]) -> Result<Command, ProtoFault>
     }
 }
 
-/// The words of `sendrtr ID LEN`.
+/// Reads the arguments of `sendrtr ID LEN`.
 #[inline(never)]
 #[tactic(auto, unfolding(crate::specs::Commands::remote_of))]
 pub fn read_remote(rest: &[u8]) -> Result<Command, ProtoFault>

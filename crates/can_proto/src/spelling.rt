@@ -10,8 +10,8 @@ use can_confine::{Counters, State};
 use can_event::{IfaceStats, SocketStats};
 use can_frame::{ErrorFrame, FdFlags, Frame, Item, Moment};
 
-/// The text of an item that a client's socket received, with the data of error message frames if
-/// `errdata` asks for them.
+/// Returns the text of an item that a client's socket received. If `errdata` is true, the text of an error message
+/// frame includes its data.
 pub fn item_text(item: Item, moment: Moment, errdata: bool) -> ItemText
     ensures text { result ≡ item_text errdata item moment }
     ensures short { length result ≤ 170 }
@@ -21,7 +21,7 @@ pub fn item_text(item: Item, moment: Moment, errdata: bool) -> ItemText
     text
 }
 
-/// Puts the text of an item, as `item_text` spells it, into an empty text.
+/// Writes the text of an item, as `item_text` spells it, into an empty buffer.
 pub fn push_item(text: &mut ItemText, item: &Item, moment: Moment, errdata: bool)
     requires { text.old ≡ [] }
     ensures text { text.new ≡ item_text errdata item.now moment }
@@ -36,8 +36,8 @@ pub fn push_item(text: &mut ItemText, item: &Item, moment: Moment, errdata: bool
     }
 }
 
-/// Puts the text of an item, as `item_text` spells it, into an empty text, with the origin of a
-/// frame before its end.
+/// Writes the text of an item, as `item_text` spells it, into an empty buffer, with the origin of a frame before its
+/// end.
 #[inline(never)]
 pub fn push_item_from(
     text: &mut ItemText,
@@ -60,7 +60,7 @@ pub fn push_item_from(
     }
 }
 
-/// Adds a frame's origin.
+/// Adds the origin of a frame.
 fn push_origin(text: &mut ItemText, origin: Origin)
     requires { length text.old + 27 ≤ 200 }
     ensures text { text.new ≡ text.old ++ origin_text origin }
@@ -78,7 +78,7 @@ fn push_origin(text: &mut ItemText, origin: Origin)
     }
 }
 
-/// The text of a reply.
+/// Returns the text of a reply.
 pub fn reply_text(answer: Answer) -> Text
     ensures { result ≡ answer_text answer }
 {
@@ -102,7 +102,7 @@ pub fn reply_text(answer: Answer) -> Text
     }
 }
 
-/// A word and a number.
+/// Returns the text of a word and a number.
 fn count_text(word: &[u8], number: u64) -> Text
     requires { length word.now ≤ 200 }
     ensures { result ≡ word.now ++ codes " " ++ decimal number ++ codes " >" }
@@ -113,7 +113,7 @@ fn count_text(word: &[u8], number: u64) -> Text
     text
 }
 
-/// The text of a refusal: that of `reply_text`, in the room of an item's.
+/// Returns the text of a refusal, as `reply_text` spells it, in the buffer of an item.
 pub fn refusal_text(cause: Cause) -> ItemText
     ensures { result ≡ answer_text (Refused cause) }
 {
@@ -124,7 +124,7 @@ pub fn refusal_text(cause: Cause) -> ItemText
     text
 }
 
-/// A text of these bytes.
+/// Returns a text of these bytes.
 fn fixed_text(bytes: &[u8]) -> Text
     requires { length bytes.now ≤ 256 }
     ensures { result ≡ bytes.now }
@@ -134,7 +134,7 @@ fn fixed_text(bytes: &[u8]) -> Text
     text
 }
 
-/// Returns how many hexadecimal digits an error class takes, at least 3.
+/// Returns the number of hexadecimal digits of an error class, at least 3.
 fn class_width(class: u32) -> usize
     ensures width { result ≡ class_width class }
     ensures most { result ≤ 8 }
@@ -163,7 +163,7 @@ fn push_class(text: &mut ItemText, class: u32)
     text.push_hex(class_width(class), u64::from(class));
 }
 
-/// Adds the text of a frame, up to its end.
+/// Adds the text of a frame, without its closing ` >`.
 #[inline(always)]
 fn push_frame(text: &mut ItemText, frame: &Frame, moment: Moment)
     requires { length text.old + 168 ≤ 200 }
@@ -179,7 +179,7 @@ fn push_frame(text: &mut ItemText, frame: &Frame, moment: Moment)
     }
 }
 
-/// Adds a data frame, up to the end of its text. Without data a space is the last byte.
+/// Adds a data frame, up to the end of its text. If there is no data, the last byte is a space.
 fn push_classic(text: &mut ItemText, frame: &Frame, moment: Moment)
     requires { length text.old + 168 ≤ 200 }
     ensures text { text.new ≡ text.old ++ data_front frame.now moment }
@@ -189,7 +189,7 @@ fn push_classic(text: &mut ItemText, frame: &Frame, moment: Moment)
     push_data(text, frame, moment);
 }
 
-/// Adds an FD frame, in the same way.
+/// Adds an FD frame, up to the end of its text. If there is no data, the last byte is a space.
 fn push_fd(text: &mut ItemText, frame: &Frame, moment: Moment)
     requires { length text.old + 168 ≤ 200 }
     ensures text { text.new ≡ text.old ++ fd_front frame.now moment }
@@ -199,7 +199,7 @@ fn push_fd(text: &mut ItemText, frame: &Frame, moment: Moment)
     push_data(text, frame, moment);
 }
 
-/// Adds what the text of an FD frame with these flags begins with.
+/// Adds the first word of the text of an FD frame with these flags.
 fn push_fd_word(text: &mut ItemText, flags: FdFlags)
     requires { length text.old + 13 ≤ 200 }
     ensures text { text.new ≡ text.old ++ fd_word flags }
@@ -214,7 +214,7 @@ fn push_fd_word(text: &mut ItemText, flags: FdFlags)
     }
 }
 
-/// Adds the identifier, the moment and the data of a frame.
+/// Adds the identifier, the timestamp and the data of a frame.
 fn push_data(text: &mut ItemText, frame: &Frame, moment: Moment)
     requires { length text.old + 155 ≤ 200 }
     ensures text { text.new ≡ text.old ++ body_text frame.now moment }
@@ -228,7 +228,7 @@ fn push_data(text: &mut ItemText, frame: &Frame, moment: Moment)
     text.push_pairs(frame.bytes());
 }
 
-/// Adds a remote frame, up to the end of its text.
+/// Adds a remote frame, without its closing ` >`.
 fn push_remote(text: &mut ItemText, frame: &Frame, moment: Moment)
     requires remote { is_remote frame.now.payload ≡ true }
     requires room { length text.old + 51 ≤ 200 }
@@ -243,7 +243,7 @@ fn push_remote(text: &mut ItemText, frame: &Frame, moment: Moment)
     push_length(text, frame.len());
 }
 
-/// Adds the length that a remote frame asks for.
+/// Adds the length that a remote frame requests.
 fn push_length(text: &mut ItemText, len: u8)
     requires small { len ≤ 8 }
     requires room { length text.old < 200 }
@@ -270,7 +270,7 @@ fn push_error(text: &mut ItemText, error: ErrorFrame, moment: Moment, errdata: b
     text.push_all(b" >");
 }
 
-/// The eight counts of `stats`.
+/// Returns the eight counts of `stats`.
 fn stats_text(socket: SocketStats, iface: IfaceStats) -> Text
     ensures { result ≡ stats_text socket iface }
 {
@@ -288,7 +288,7 @@ fn stats_text(socket: SocketStats, iface: IfaceStats) -> Text
     text
 }
 
-/// The word of a fault confinement state.
+/// Returns the word for a fault confinement state.
 fn state_word(state: State) -> &'static [u8]
     ensures word { result.now ≡ state_word state }
     ensures short { length result.now ≤ 7 }
@@ -302,7 +302,7 @@ fn state_word(state: State) -> &'static [u8]
     }
 }
 
-/// The state and the two counts of `status`.
+/// Returns the state and the two counters of `status`.
 fn status_text(counters: Counters) -> Text
     ensures { result ≡ status_text counters }
 {
@@ -315,7 +315,7 @@ fn status_text(counters: Counters) -> Text
     text
 }
 
-/// The four numbers of `load`.
+/// Returns the four numbers of `load`.
 fn load_text(load: BusLoad) -> Text
     ensures { result ≡ load_text load }
 {

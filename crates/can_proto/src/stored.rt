@@ -4,11 +4,11 @@ ghost use Rattle.can_proto.specs.Stored.{stored_bytes};
 use arrayvec::ArrayVec;
 use std::alloc::{AllocError, Global};
 
-/// The number of bytes that a message keeps in itself: enough for each `send` with single spaces.
+/// The number of bytes that a message keeps without an allocation: enough for each `send` with single spaces.
 const SHORT: usize = 48;
 
-/// The bytes of a message. A few of them are in the value itself, so messages of usual length take
-/// no memory.
+/// The bytes of a message. A short message keeps them in the value itself, so messages of usual length need no
+/// allocation.
 #[derive(Debug, Drop)]
 pub enum Stored {
     Short(ArrayVec<u8, SHORT>),
@@ -16,7 +16,7 @@ pub enum Stored {
 }
 
 impl Stored {
-    /// The bytes in order.
+    /// Returns the bytes in order.
     pub fn bytes(&self) -> &[u8]
         ensures { result.now ≡ stored_bytes self.now }
     {
@@ -26,7 +26,7 @@ impl Stored {
         }
     }
 
-    /// The bytes held and those that followed them. Memory is taken once, and only for more than 48.
+    /// Returns the bytes held followed by more bytes. It allocates once, and only for more than 48 bytes.
     #[inline(always)]
     pub fn joined(alloc: Global, held: &[u8], more: &[u8]) -> Result<Stored, AllocError>
         ensures { IfOk result (λ s. stored_bytes s ≡ held.now ++ more.now) }
@@ -38,7 +38,7 @@ impl Stored {
     }
 }
 
-/// Both one after the other.
+/// Returns a vector of both byte strings, one after the other.
 #[inline(never)]
 fn long(alloc: Global, held: &[u8], more: &[u8]) -> Result<Vec<u8>, AllocError>
     ensures { IfOk result (λ v. v.items ≡ held.now ++ more.now) }
@@ -49,7 +49,7 @@ fn long(alloc: Global, held: &[u8], more: &[u8]) -> Result<Vec<u8>, AllocError>
     Ok(bytes)
 }
 
-/// Both one after the other, if they are few enough.
+/// Returns both byte strings, one after the other, if they are short enough.
 fn short(held: &[u8], more: &[u8]) -> Option<ArrayVec<u8, SHORT>>
     ensures { IfSome result (λ v. v.items ≡ held.now ++ more.now) }
 {

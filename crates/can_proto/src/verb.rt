@@ -4,14 +4,14 @@ ghost use Rattle.can_proto.specs.Verbs.{is_word, is_other_mode, named, is_allowe
 
 use crate::command::Mode;
 
-/// The command that a first word asks for.
+/// The command that a first word names.
 #[derive(Debug, Clone, Copy, PartialEq, Eq)]
 pub enum Verb {
     Echo,
     Interfaces,
     Open,
     Rawmode,
-    /// A mode of socketcand that is left out.
+    /// A mode of socketcand that this server leaves out.
     OtherMode,
     Send,
     SendRtr,
@@ -45,7 +45,7 @@ fn matches(word: &[u8], name: &[u8]) -> bool
     word == name
 }
 
-/// The verb that a word names.
+/// Returns the verb that a word names.
 pub fn verb_of(word: &[u8]) -> Option<Verb>
     ensures { result ≡ named word.now }
 {
@@ -108,8 +108,7 @@ pub fn verb_of(word: &[u8]) -> Option<Verb>
     }
 }
 
-/// Returns the bytes after `send` and a space, if these and a space before them begin the text, as
-/// they begin most messages.
+/// Returns the bytes after ` send `, if the text begins with these six bytes, as most messages do.
 pub fn after_send(text: &[u8]) -> Option<&[u8]>
     ensures { IfSome result (λ rest. BeginsWith (codes "send") rest.now text.now) }
 {
@@ -119,7 +118,7 @@ pub fn after_send(text: &[u8]) -> Option<&[u8]>
     }
 }
 
-/// Returns whether a word names one of the modes of socketcand that are left out.
+/// Returns whether a word names a mode of socketcand that this server leaves out.
 fn names_other_mode(word: &[u8]) -> bool
     ensures { result ≡ is_other_mode word.now }
 {

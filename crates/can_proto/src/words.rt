@@ -7,7 +7,7 @@ fn is_space(byte: u8) -> bool
     byte == b' ' || byte == b'\t' || byte == b'\r' || byte == b'\n'
 }
 
-/// Returns how many blanks are at the front.
+/// Returns the number of blanks at the start of the text.
 fn blanks(text: &[u8]) -> usize
     ensures within { result ≤ length text.now }
     ensures same { words_of text.now ≡ words_of (drop result text.now) }
@@ -21,7 +21,7 @@ fn blanks(text: &[u8]) -> usize
     text.len()
 }
 
-/// Returns how many bytes come before the first blank.
+/// Returns the number of bytes before the first blank.
 fn letters(text: &[u8]) -> usize
     ensures within { result ≤ length text.now }
     ensures word { front text.now ≡ take result text.now }
@@ -35,7 +35,7 @@ fn letters(text: &[u8]) -> usize
     text.len()
 }
 
-/// The first word, and what follows it.
+/// Returns the first word, and the text after it.
 pub fn next_word(text: &[u8]) -> Option<(&[u8], &[u8])>
     ensures { MatchOption result (words_of text.now ≡ []) (λ found.
         BeginsWith found.0.now found.1.now text.now) }
