@@ -16,28 +16,28 @@ use Rattle.can_bus.specs.Transmit.{gone_count, head_of}
 use Rattle.can_bus.specs.Counters.{state_at, transmission}
 use Rattle.can_bus.specs.AutoRestart.{restarted_next}
 
--- What an attempt answers: whose frame is tried, and what becomes of it.
+-- The reply to an attempt: the frame that is tried, and its result.
 
--- the live interfaces with a frame to send: they take part in arbitration
+-- The live interfaces with a frame to send: they take part in arbitration.
 abbrev pub contenders : BusConfig → List Entry → List ℕ
 contenders c past =
     filter (λ i. is_some (head_of past i) && not (is_silent (state_at c past i))) (range_with_len 0 c.ifaces)
 
--- the bits of a frame that waits
+-- The arbitration bits of a waiting frame.
 abbrev pub bits_in : Option Pending → List ℕ
 bits_in None = []
 bits_in (Some p) = arbitration_bits p.frame
 
--- interface j's frame goes before interface i's (Bosch CAN Specification 2.0, arbitration)
+-- The frame of interface j wins over the frame of interface i (Bosch CAN Specification 2.0, arbitration).
 abbrev pub beats : List Entry → ℕ → ℕ → Bool
 beats past j i = goes_before (bits_in (head_of past j)) (bits_in (head_of past i))
 
--- the interface that wins the bus: the lowest contender that no other one beats
+-- The interface that wins the bus: the lowest contender that no other contender beats.
 abbrev pub winner : BusConfig → List Entry → Option ℕ
 winner c past = find (λ i. not (list_any (λ j. beats past j i) (contenders c past))) (contenders c past)
 
--- the winner sends its frame, and the attempt goes as its faults and the error counts have it; then interfaces are
--- restarted
+-- The winner sends its frame, and the result follows from the faults and the error counts; then interfaces are
+-- restarted.
 abbrev pub tried_with : BusConfig → List Entry → ℕ → Verdict → ℕ → CanFrame → Tried
 tried_with c past m v w frame =
     let t = transmission c past w v in
@@ -52,12 +52,12 @@ tried_with c past m v w frame =
       restarted = restarted_next c past;
     }
 
--- the reply to an attempt that interface w wins, whose oldest frame is this (own choice)
+-- The reply to an attempt that interface w wins with this oldest frame (own choice).
 abbrev pub tried_head : BusConfig → List Entry → ℕ → Verdict → ℕ → Option Pending → Reply
 tried_head c past m v w None = reply.Attempted (attempt.Idle (restarted_next c past))
 tried_head c past m v w (Some p) = reply.Attempted (attempt.Tried (tried_with c past m v w p.frame))
 
--- idle exactly where no live interface has a frame to send
+-- The attempt is idle exactly if no live interface has a frame to send.
 abbrev pub attempt_reply : BusConfig → List Entry → ℕ → Verdict → Option ℕ → Reply
 attempt_reply c past m v None = reply.Attempted (attempt.Idle (restarted_next c past))
 attempt_reply c past m v (Some w) = tried_head c past m v w (head_of past w)

@@ -6,7 +6,7 @@ use Rattle.can_bus.specs.declared.history.Chain.{Chain, Empty, Answered', Receiv
 
 -- A history that only contracts see.
 
--- the entries of a chain, the newest first
+-- The entries of a chain, the newest first.
 abbrev pub entries_of : Chain → List Entry
 entries_of Empty = []
 entries_of (Answered' shape before event reply) = entry_of event.value reply.value ∷ entries_of before

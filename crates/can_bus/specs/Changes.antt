@@ -31,47 +31,47 @@ use Rattle.can_bus.specs.Posts.{attempt_posts, restart_posts, auto_restart_posts
 use Rattle.can_bus.specs.State.{InterfaceState, SocketState, Parts, reached, key_in}
 use Rattle.can_bus.specs.Legal.{lacks_fd}
 
--- What each call does to what is kept: the parts before it, and the parts after it.
+-- The effect of each call on the state of a bus: the parts before it and after it.
 
 -- ---- sockets
 
--- socket s is at place k
+-- Socket s is at place k.
 pub record IsAt (sockets : List SocketState) (s k : ℕ) (v : SocketState) : Type 0 where
   pub there : slice_get sockets k ≡ Some v
   pub number : v.number ≡ s
 
--- no socket has the number
+-- No socket has this number.
 abbrev pub IsNowhere : List SocketState → ℕ → Type 0
 IsNowhere sockets s = list_any (λ v. v.number == s) sockets ≡ false
 
--- a call on a socket that is not open is refused
+-- A call on a socket that is not open is refused.
 abbrev pub FindsNone : Parts → ℕ → Refusal → Parts → Type 0
 FindsNone old s why new = (why ≡ refusal.NoSocket) × IsNowhere old.sockets s × (new ≡ old)
 
--- the oldest item, or nothing, is taken from a socket
+-- The socket without its oldest item, if one was taken.
 abbrev pub relieved : Option Received → SocketState → SocketState
 relieved None v = v
 relieved (Some r) v = record v { waiting = drop 1 v.waiting; taken = v.taken + 1 }
 
--- one socket is changed
+-- The call changes one socket.
 pub record Alters (old : Parts) (s : ℕ) (change : SocketState → SocketState) (new : Parts) : Type 0 where
   pub place : ℕ
   pub socket : SocketState
   pub is_at : IsAt old.sockets s place socket
   pub after : new ≡ record old { sockets = slice_set old.sockets place (change socket) }
 
--- a socket's filters or options are set
+-- The call sets the filters or an option of a socket.
 abbrev pub Sets : Parts → ℕ → (SocketState → SocketState) → Reply → Parts → Type 0
 Sets old s change reply.Done new = Alters old s change new
 Sets old s change (reply.Refused why) new = FindsNone old s why new
 Sets old s change _ new = ⊥
 
--- the filters of a socket are set, unless memory was refused
+-- The call sets the filters of a socket, unless memory was refused.
 abbrev pub Refilters : Parts → ℕ → List CanFilter → Reply → Parts → Type 0
 Refilters old s filters (reply.Refused refusal.NoMemory) new = new ≡ old
 Refilters old s filters r new = Sets old s (λ v. record v { filters = filters }) r new
 
--- an open socket gives its oldest item, or nothing (own choice)
+-- An open socket returns its oldest item, or nothing (own choice).
 pub record Gives (old : Parts) (s : ℕ) (item : Option Received) (new : Parts) : Type 0 where
   pub place : ℕ
   pub socket : SocketState
@@ -79,13 +79,13 @@ pub record Gives (old : Parts) (s : ℕ) (item : Option Received) (new : Parts) 
   pub oldest : item ≡ slice_get socket.waiting 0
   pub after : new ≡ record old { sockets = slice_set old.sockets place (relieved item socket) }
 
--- the oldest item of a socket is given
+-- The call takes the oldest item of a socket.
 abbrev pub Receives : Parts → ℕ → Reply → Parts → Type 0
 Receives old s (reply.Received item) new = Gives old s item new
 Receives old s (reply.Refused why) new = FindsNone old s why new
 Receives old s _ new = ⊥
 
--- an open socket is closed, with these counts (own choice)
+-- An open socket is closed, and returns these counts (own choice).
 pub record Removes (old : Parts) (s : ℕ) (c : Closed) (new : Parts) : Type 0 where
   pub place : ℕ
   pub socket : SocketState
@@ -93,17 +93,17 @@ pub record Removes (old : Parts) (s : ℕ) (c : Closed) (new : Parts) : Type 0 w
   pub counts : c ≡ record { unread = length socket.waiting; dropped = socket.dropped }
   pub after : new ≡ record old { sockets = remove old.sockets place }
 
--- a socket is closed
+-- The call closes a socket.
 abbrev pub Closes : Parts → ℕ → Reply → Parts → Type 0
 Closes old s (reply.Closed c) new = Removes old s c new
 Closes old s (reply.Refused why) new = FindsNone old s why new
 Closes old s _ new = ⊥
 
--- as many items may wait on a socket (own choice)
+-- A socket may have this capacity (own choice).
 abbrev pub IsCapacity : ℕ → Type 0
 IsCapacity n = (1 ≤ n) × (n ≤ max_rx_capacity)
 
--- a socket as it is opened
+-- A socket when it is opened.
 abbrev pub fresh : ℕ → ℕ → ℕ → SocketState
 fresh n i capacity = record {
   number = n;
@@ -116,14 +116,14 @@ fresh n i capacity = record {
   dropped = 0;
 }
 
--- the sockets with one more, under the next number
+-- The sockets with one more under the next number.
 abbrev pub with_socket : Parts → ℕ → ℕ → Parts
 with_socket old i capacity = record old {
   sockets = old.sockets ++ fresh old.opened i capacity ∷ [];
   opened = old.opened + 1;
 }
 
--- a socket is opened
+-- The call opens a socket.
 abbrev pub Opens : Parts → ℕ → ℕ → Reply → Parts → Type 0
 Opens old i capacity (reply.Opened s) new =
     (i < old.nodes.count)
@@ -142,44 +142,44 @@ Opens old i capacity _ new = ⊥
 
 -- ---- sending
 
--- the interface of a socket
+-- The interface of a socket.
 pub record IsInterfaceOf (old : Parts) (s : ℕ) (v : SocketState) (l : InterfaceState) : Type 0 where
   pub place : ℕ
   pub is_at : IsAt old.sockets s place v
   pub interface : slice_get old.interfaces v.iface ≡ Some l
 
--- interface i is bus off (own choice)
+-- Interface i is bus off (own choice).
 abbrev pub is_off_at : Nodes → ℕ → Bool
 is_off_at nodes i = is_off (state_of (counts_at nodes i))
 
--- interface i is down (own choice)
+-- Interface i is down (own choice).
 abbrev pub is_down_at : Nodes → ℕ → Bool
 is_down_at nodes i = is_down (state_of (counts_at nodes i))
 
--- interface i is bus off or down (own choice)
+-- Interface i is bus off or down (own choice).
 abbrev pub is_silent_at : Nodes → ℕ → Bool
 is_silent_at nodes i = is_silent (state_of (counts_at nodes i))
 
--- a frame as it waits that was sent on this socket (own choice)
+-- A frame sent on this socket, as it waits (own choice).
 abbrev pub pending_of : CanFrame → SocketId → SocketState → Pending
 pending_of frame s v = record { frame = frame; socket = s; loopback = v.options.loopback }
 
--- an interface that took this frame (own choice)
+-- The interface after it queued this frame (own choice).
 abbrev pub with_pending : Pending → InterfaceState → InterfaceState
 with_pending p l = record l { waiting = l.waiting ++ p ∷ []; sent = l.sent + 1 }
 
--- an interface that refused a frame, for want of room (own choice)
+-- The interface after it refused a frame because its queue was full (own choice).
 abbrev pub with_refused : InterfaceState → InterfaceState
 with_refused l = record l { refused = l.refused + 1 }
 
--- an interface is put in place i, whose head competes from then on
+-- The parts with this interface at place i, and with the key of its first frame.
 abbrev pub with_interface : Parts → ℕ → InterfaceState → Parts
 with_interface old i l = record old {
   interfaces = slice_set old.interfaces i l;
   keys = slice_set old.keys i (key_in (slice_get l.waiting 0));
 }
 
--- a frame that is sent finds room, and is the n-th of its interface (own choice)
+-- A sent frame is queued, as the n-th frame of its interface (own choice).
 pub record Takes (old : Parts) (s n : ℕ) (pending : SocketState → Pending) (new : Parts) : Type 0 where
   pub socket : SocketState
   pub interface : InterfaceState
@@ -190,14 +190,14 @@ pub record Takes (old : Parts) (s n : ℕ) (pending : SocketState → Pending) (
   pub number : n ≡ interface.sent
   pub after : new ≡ with_interface old socket.iface (with_pending (pending socket) interface)
 
--- the socket is open, and the frame is an FD frame that it did not ask for
+-- The socket is open and has not enabled FD frames, and the frame is an FD frame.
 pub record IsFdOffFor (old : Parts) (s : ℕ) (pending : SocketState → Pending) : Type 0 where
   pub place : ℕ
   pub socket : SocketState
   pub is_at : IsAt old.sockets s place socket
   pub lacks : lacks_fd (pending socket).frame socket.options ≡ true
 
--- the socket is open, and its interface is bus off (own choice)
+-- The socket is open, and its interface is bus off (own choice).
 pub record IsOffFor (old : Parts) (s : ℕ) (pending : SocketState → Pending) : Type 0 where
   pub place : ℕ
   pub socket : SocketState
@@ -205,7 +205,7 @@ pub record IsOffFor (old : Parts) (s : ℕ) (pending : SocketState → Pending) 
   pub may : lacks_fd (pending socket).frame socket.options ≡ false
   pub off : is_off_at old.nodes socket.iface ≡ true
 
--- the socket is open, and its interface is down (own choice)
+-- The socket is open, and its interface is down (own choice).
 pub record IsDownFor (old : Parts) (s : ℕ) (pending : SocketState → Pending) : Type 0 where
   pub place : ℕ
   pub socket : SocketState
@@ -213,7 +213,7 @@ pub record IsDownFor (old : Parts) (s : ℕ) (pending : SocketState → Pending)
   pub may : lacks_fd (pending socket).frame socket.options ≡ false
   pub down : is_down_at old.nodes socket.iface ≡ true
 
--- a frame that is sent finds no room (own choice)
+-- A sent frame is refused because the queue is full (own choice).
 pub record FindsFull (old : Parts) (s : ℕ) (pending : SocketState → Pending) (new : Parts) : Type 0 where
   pub socket : SocketState
   pub interface : InterfaceState
@@ -223,7 +223,7 @@ pub record FindsFull (old : Parts) (s : ℕ) (pending : SocketState → Pending)
   pub full : length interface.waiting ≡ interface.room
   pub after : new ≡ record old { interfaces = slice_set old.interfaces socket.iface (with_refused interface) }
 
--- a frame is sent on a socket
+-- The call sends a frame on a socket.
 abbrev pub Sends : Parts → ℕ → (SocketState → Pending) → Result ℕ Refusal → Parts → Type 0
 Sends old s pending (Ok n) new = Takes old s n pending new
 Sends old s pending (Err refusal.NoSocket) new = IsNowhere old.sockets s × (new ≡ old)
@@ -235,7 +235,7 @@ Sends old s pending (Err _) new = ⊥
 
 -- ---- attempts
 
--- what an attempt of this class leaves of the winner's interface, which went off or not
+-- The winner's interface after an attempt of this class; `off` means that it went bus off.
 abbrev pub settled : Class → Bool → InterfaceState → InterfaceState
 settled k off l = record l {
   waiting = if off then [] else if is_done k then drop 1 l.waiting else l.waiting;
@@ -243,7 +243,7 @@ settled k off l = record l {
   done = if is_done k then l.done + 1 else l.done;
 }
 
--- what an attempt answers of the frame that it tried, the n-th of the winner
+-- The result of an attempt for the tried frame, the n-th of the winner.
 abbrev pub tried_in : Transmission → ℕ → ℕ → IfaceSet → Pending → Tried
 tried_in tr m n restarted pending = record {
   moment = m;
@@ -256,11 +256,11 @@ tried_in tr m n restarted pending = record {
   restarted = restarted;
 }
 
--- the winner counts the attempts until its restart from now on, if it went off
+-- If the winner went bus off, it starts to count the attempts until its restart.
 abbrev pub counting_down : ℕ → ℕ → Bool → List ℕ → List ℕ
 counting_down n w off left = if off then slice_set left w n else left
 
--- what an attempt leaves, of which the winner's interface was this
+-- The parts after an attempt; the winner's interface was `interface` before it.
 abbrev pub after_try : Parts → BusConfig → Transmission → InterfaceState → Pending → Tried → Parts
 after_try old c tr interface pending t =
     record (with_interface old tr.winner (settled t.class (is_in tr.winner t.off) interface)) {
@@ -270,7 +270,7 @@ after_try old c tr interface pending t =
       tried = old.tried + 1;
     }
 
--- the head of the winner is tried, in an attempt that then restarts these interfaces (own choice)
+-- The attempt tries the first frame of the winner, and reports these interfaces as restarted (own choice).
 pub record Carries (old : Parts) (c : BusConfig) (m : ℕ) (v : Verdict) (restarted : IfaceSet) (t : Tried)
     (new : Parts) : Type 0 where
   pub place : ℕ
@@ -282,38 +282,38 @@ pub record Carries (old : Parts) (c : BusConfig) (m : ℕ) (v : Verdict) (restar
   pub tried : t ≡ tried_in (attempt_between old.nodes place v c.ack) m interface.gone restarted pending
   pub after : new ≡ after_try old c (attempt_between old.nodes place v c.ack) interface pending t
 
--- a frame is tried, if a live interface has one, in an attempt that then restarts these interfaces
+-- The attempt tries a frame, if a live interface has one, and reports these interfaces as restarted.
 abbrev pub Tries : Parts → BusConfig → ℕ → Verdict → IfaceSet → Option Tried → Parts → Type 0
 Tries old c m v restarted None new = IsIdle old.keys × (new ≡ old)
 Tries old c m v restarted (Some t) new = Carries old c m v restarted t new
 
--- the interfaces that wait for one attempt more
+-- The interfaces whose restart is one attempt away.
 abbrev pub due_in : List ℕ → IfaceSet
 due_in left = set_where (λ i. slice_index_or left i 0 == 1) 16
 
--- each interface that counts has one attempt less before it
+-- Each interface that counts has one attempt less until its restart.
 abbrev pub ticked : List ℕ → List ℕ
 ticked left = map (λ n. n - 1) left
 
--- the error counts, of which those of these interfaces begin anew
+-- The error counts after a restart of these interfaces.
 abbrev pub begun_anew : IfaceSet → Nodes → Nodes
 begun_anew restarted nodes = record nodes {
   counters = map (λ i. if is_in i restarted then at_start else counts_at nodes i) (range_with_len 0 16);
 }
 
--- these interfaces are restarted by an attempt
+-- The parts after an attempt restarts these interfaces.
 abbrev pub after_auto_restart : Parts → IfaceSet → ℕ → Parts
 after_auto_restart old restarted m = record old {
   nodes = begun_anew restarted old.nodes;
   sockets = map (reached (auto_restart_posts restarted m)) old.sockets;
 }
 
--- what an attempt came to, by the frame that was tried, if one was
+-- The result of an attempt from the tried frame, if there is one.
 abbrev pub came_to : IfaceSet → Option Tried → Attempt
 came_to restarted None = attempt.Idle restarted
 came_to restarted (Some t) = attempt.Tried t
 
--- an attempt: one attempt less is left before each restart, a frame is tried, and interfaces are restarted
+-- An attempt counts down to each restart, tries a frame, and restarts interfaces.
 pub record Attempts (old : Parts) (c : BusConfig) (m : ℕ) (v : Verdict) (a : Attempt) (new : Parts) : Type 0 where
   pub tried : Option Tried
   pub between : Parts
@@ -321,20 +321,20 @@ pub record Attempts (old : Parts) (c : BusConfig) (m : ℕ) (v : Verdict) (a : A
   pub came : a ≡ came_to (due_in old.left) tried
   pub after : new ≡ after_auto_restart between (due_in old.left) m
 
--- an interface with a key is there, is live, and has a frame to send
+-- An interface with a key exists, is live, and has a frame to send.
 pub record IsReady (parts : Parts) (w : ℕ) : Type 0 where
   pub there : w < length parts.interfaces
   pub counted : w < parts.nodes.count
   pub live : is_silent_at parts.nodes w ≡ false
   pub has_head : (l : InterfaceState) → slice_get parts.interfaces w ≡ Some l → is_some (slice_get l.waiting 0) ≡ true
 
--- so is each interface with a key (own choice)
+-- Each interface with a key is ready to send (own choice).
 abbrev pub AreReady : Parts → Type 0
 AreReady parts = (w k : ℕ) → slice_get parts.keys w ≡ Some (Some k) → IsReady parts w
 
 -- ---- restarts
 
--- what a restart leaves
+-- The parts after a restart.
 abbrev pub after_restart : Parts → ℕ → ℕ → Parts
 after_restart old i m = record old {
   nodes = record old.nodes { counters = slice_set old.nodes.counters i at_start };
@@ -342,7 +342,7 @@ after_restart old i m = record old {
   sockets = map (reached (restart_posts i m)) old.sockets;
 }
 
--- an interface is restarted
+-- The call restarts an interface.
 abbrev pub Restarts : Parts → ℕ → ℕ → Reply → Parts → Type 0
 Restarts old i m reply.Done new =
     (i < old.nodes.count) × (is_silent_at old.nodes i ≡ true) × (new ≡ after_restart old i m)
@@ -353,12 +353,12 @@ Restarts old i m _ new = ⊥
 
 -- ---- interfaces that go down
 
--- an interface whose frames are all lost (own choice)
+-- An interface that lost all its frames (own choice).
 abbrev pub emptied : InterfaceState → InterfaceState
 emptied l = record l { waiting = []; gone = l.sent }
 
--- what is left where interface i, of which this was kept, goes down: its frames are lost, it counts no attempts, and
--- its sockets receive nothing
+-- The parts after interface i, which was `l`, goes down. Its frames are lost, it counts no attempts, and its sockets
+-- receive nothing.
 abbrev pub after_down : Parts → ℕ → InterfaceState → Parts
 after_down old i l = record (with_interface old i (emptied l)) {
   nodes = record old.nodes {
@@ -367,14 +367,14 @@ after_down old i l = record (with_interface old i (emptied l)) {
   left = slice_set old.left i 0;
 }
 
--- an interface that is there goes down (own choice)
+-- An interface that exists goes down (own choice).
 pub record GoesDown (old : Parts) (i : ℕ) (new : Parts) : Type 0 where
   pub interface : InterfaceState
   pub counted : i < old.nodes.count
   pub there : slice_get old.interfaces i ≡ Some interface
   pub after : new ≡ after_down old i interface
 
--- an interface is taken down
+-- The call takes an interface down.
 abbrev pub TakesDown : Parts → ℕ → Reply → Parts → Type 0
 TakesDown old i reply.Done new = GoesDown old i new
 TakesDown old i (reply.Refused refusal.NoInterface) new = (old.nodes.count ≤ i) × (new ≡ old)

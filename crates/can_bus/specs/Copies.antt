@@ -22,41 +22,41 @@ use Rattle.can_bus.specs.Queues.{queued_to, taken_from}
 
 -- The copies of frames that reach a socket, and the attempts that made them.
 
--- a data frame, as against an error message frame (own choice)
+-- The item is a data frame, and not an error message frame (own choice).
 abbrev pub is_data : Item → Bool
 is_data (item.Data f) = true
 is_data (item.Error e) = false
 
--- a data frame that interface i sent
+-- The item is a data frame that interface i sent.
 abbrev pub is_from : ℕ → Received → Bool
 is_from i r = is_data r.item && (r.from == i)
 
--- the data frames that interface i sent and socket s got, in order
+-- The data frames from interface i that socket s got, in order.
 abbrev pub received_from : BusConfig → List Entry → ℕ → ℕ → List Received
 received_from c past i s = filter (is_from i) (queued_to c past s)
 
--- the numbers of the data frames that interface i sent, in order
+-- The numbers of the data frames from interface i, in order.
 abbrev pub numbers_from : ℕ → List Received → List ℕ
 numbers_from i rs = map (λ (r : Received). r.number) (filter (is_from i) rs)
 
--- each number is at least the one before it, and the first at least a
+-- No number is less than the one before it, and the first is at least a.
 abbrev pub NeverFall : ℕ → List ℕ → Type 0
 NeverFall a [] = Unit {0}
 NeverFall a (n ∷ ns) = (a ≤ n) × NeverFall n ns
 
 -- ---- the attempts that made them
 
--- the frame of an attempt comes to interface i: it was accepted there, or is looped back to its own
--- (the kernel's networking/can document, local loopback of sent frames)
+-- The frame of an attempt reaches interface i: the interface accepted it, or gets its own frame back (the kernel's
+-- networking/can document, local loopback of sent frames).
 abbrev pub comes_to : ℕ → Tried → Option Pending → Bool
 comes_to i t p = is_in i t.accepted || ((i == t.winner) && is_looped_back t.class p)
 
--- fewer items wait on socket s than may
+-- Socket s has room for one more waiting item.
 abbrev pub has_room : BusConfig → List Entry → ℕ → Bool
 has_room c past s = nat_lt (length (queued_to c past s)) (capacity_of past s + length (taken_from past s))
 
--- an attempt copies its frame to socket s: the socket is open, the frame comes to its interface, passes its
--- filters and options, and finds room
+-- An attempt copies its frame to socket s: the socket is open, and the frame reaches its interface, passes its filters
+-- and options, and finds room.
 abbrev pub is_copied : BusConfig → List Entry → ℕ → Tried → Option Pending → Bool
 is_copied c past s t p =
     is_open past s
@@ -64,35 +64,35 @@ is_copied c past s t p =
     && (wants (filters_of past s) (options_of past s) (item.Data t.frame) (is_own (sender_in p) s)
     && has_room c past s))
 
--- copying after one more entry (own choice)
+-- copying after one more entry (own choice).
 abbrev pub copying_after : BusConfig → List Entry → ℕ → ℕ → Reply → List Tried → List Tried
 copying_after c past i s (reply.Attempted (attempt.Tried t)) before =
     if is_copied c past s t (slice_get (sent_by past t.winner) t.number) && (t.winner == i) then before ++ t ∷ []
     else before
 copying_after c past i s _ before = before
 
--- the attempts won by interface i that copied their frame to socket s, in order
+-- The attempts won by interface i that copied their frame to socket s, in order.
 abbrev pub copying : BusConfig → List Entry → ℕ → ℕ → List Tried
 copying c [] i s = []
 copying c (e ∷ past) i s = copying_after c past i s e.reply (copying c past i s)
 
--- what an attempt's copy is: its frame, the interface that won, the frame's number and the moment
+-- The copy that an attempt makes: its frame, the winner, the frame's number and the moment.
 abbrev pub copy_of : Tried → Received
 copy_of t = record { item = item.Data t.frame; from = t.winner; number = t.number; moment = t.moment }
 
--- the frame went over the bus whole, to all that got every bit right
+-- The whole frame went over the bus to each interface that saw no error.
 abbrev pub went_over : Class → Bool
 went_over class.Done = true
 went_over class.LastBit = true
 went_over _ = false
 
--- what holds of two attempts in turn that copied frames of one interface to one socket: the numbers never fall,
--- and where the number is the same the earlier attempt failed only at the last bit
+-- The relation of two attempts, in this order, that copied frames of one interface to one socket. The numbers do not
+-- decrease. If they are equal, the earlier attempt failed only at the last bit.
 pub record InTurn (earlier later : Tried) : Type 0 where
   pub rising : earlier.number ≤ later.number
   pub again : earlier.number ≡ later.number → earlier.class ≡ class.LastBit
 
--- the frame of an attempt of interface i is the one that was accepted there under the attempt's number
+-- Interface i won the attempt, and had accepted its frame under the attempt's number.
 pub record IsOfSent (past : List Entry) (i : ℕ) (t : Tried) : Type 0 where
   pub winner : t.winner ≡ i
   pub frame : option_map (λ (p : Pending). p.frame) (slice_get (sent_by past i) t.number) ≡ Some t.frame

@@ -8,23 +8,23 @@ use Rattle.can_bus.specs.Attempts.{winner}
 use Rattle.can_bus.specs.State.{InterfaceState, Parts}
 use Rattle.can_bus.specs.Transmit.{head_of}
 
--- What the next attempt tries.
+-- The frame that the next attempt tries.
 
--- interface w with its oldest frame, if it has one (own choice)
+-- Interface w with its oldest frame, if it has one (own choice).
 abbrev pub with_frame : ℕ → Option Pending → Option (ℕ × CanFrame)
 with_frame w None = None
 with_frame w (Some p) = Some (w, p.frame)
 
--- the interface that wins, with its oldest frame (own choice)
+-- The interface that wins, with its oldest frame (own choice).
 abbrev pub head_at : List Entry → Option ℕ → Option (ℕ × CanFrame)
 head_at past None = None
 head_at past (Some w) = with_frame w (head_of past w)
 
--- the interface that wins the next attempt, and the frame that it sends: none where no live interface has one
+-- The interface that wins the next attempt, and the frame that it sends: None if no live interface has a frame.
 abbrev pub next_head : BusConfig → List Entry → Option (ℕ × CanFrame)
 next_head c past = head_at past (winner c past)
 
--- the same, from what is kept: the winner's interface, and its oldest frame
+-- The same from the state of the bus: the winner's interface, and its oldest frame.
 pub record IsNext (parts : Parts) (head : ℕ × CanFrame) : Type 0 where
   pub interface : InterfaceState
   pub pending : Pending
@@ -33,7 +33,7 @@ pub record IsNext (parts : Parts) (head : ℕ × CanFrame) : Type 0 where
   pub oldest : slice_get interface.waiting 0 ≡ Some pending
   pub frame : head.1 ≡ pending.frame
 
--- what the next attempt tries, from what is kept: nothing where no interface competes
+-- The next attempt from the state of the bus: None if no interface competes.
 abbrev pub ReportsNext : Parts → Option (ℕ × CanFrame) → Type 0
 ReportsNext parts None = IsIdle parts.keys
 ReportsNext parts (Some head) = IsNext parts head

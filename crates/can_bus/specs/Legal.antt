@@ -21,48 +21,48 @@ use Rattle.can_bus.specs.Counters.{state_at}
 use Rattle.can_bus.specs.Attempts.{winner, attempt_reply}
 use Rattle.can_bus.specs.Queues.{taken_from, queued_to, dropped_at}
 
--- The one reply that an event has, by the entries before it.
+-- The only reply that an event may have after the entries before it.
 
--- the bus has no interface of this number
+-- The bus has no interface with this number.
 abbrev pub lacks_iface : BusConfig → ℕ → Bool
 lacks_iface c i = nat_le c.ifaces i
 
--- a socket may be opened with this capacity (own choice)
+-- A socket may be opened with this capacity (own choice).
 abbrev pub is_capacity : ℕ → Bool
 is_capacity n = nat_le 1 n && nat_le n max_rx_capacity
 
--- no further socket may be opened: 64 are open (own choice)
+-- No more sockets may be opened: 64 are open (own choice).
 abbrev pub has_all_sockets : List Entry → Bool
 has_all_sockets past = nat_le 64 (length (open_sockets past))
 
--- the next socket to be opened: its number is how many were opened before
+-- The next socket to be opened; its number is the number of sockets opened before.
 abbrev pub next_socket : List Entry → SocketId
 next_socket past = record { 0 = length (places past) }
 
--- what a socket has when it is closed: how many items wait, and how many found no room
+-- The counts of a socket at its close: its unread items and its dropped items.
 abbrev pub counts_at_close : BusConfig → List Entry → ℕ → Closed
 counts_at_close c past s = record {
   unread = length (queued_to c past s) - length (taken_from past s);
   dropped = length (dropped_at c past s);
 }
 
--- the oldest item that waits on socket s
+-- The oldest item that waits on socket s.
 abbrev pub next_item : BusConfig → List Entry → ℕ → Option Received
 next_item c past s = slice_get (queued_to c past s) (length (taken_from past s))
 
--- the frame is an FD frame, and the option for such is off (CAN_RAW_FD_FRAMES of linux/can/raw.h)
+-- The frame is an FD frame, and the socket has not enabled FD frames (CAN_RAW_FD_FRAMES of linux/can/raw.h).
 abbrev pub lacks_fd : CanFrame → Options → Bool
 lacks_fd frame options = is_fd frame.payload && not options.fd
 
--- the transmit queue of interface i has no room (ENOBUFS of write(2) on a CAN socket)
+-- The transmit queue of interface i is full (ENOBUFS of write(2) on a CAN socket).
 abbrev pub has_full_queue : BusConfig → List Entry → ℕ → Bool
 has_full_queue c past i = waiting_count past i == c.tx_capacity
 
--- a call on a socket that is not open is refused
+-- A call on a socket that is not open is refused.
 abbrev pub if_open : List Entry → ℕ → Reply → Reply
 if_open past s r = if is_open past s then r else reply.Refused refusal.NoSocket
 
--- the reply of a send on a socket that is open: the first case that holds
+-- The reply to a send on an open socket: the first case that holds.
 abbrev pub send_reply : BusConfig → List Entry → ℕ → CanFrame → Reply
 send_reply c past s frame =
     if lacks_fd frame (options_of past s) then reply.Refused refusal.FdOff
@@ -71,7 +71,7 @@ send_reply c past s frame =
     else if has_full_queue c past (iface_of past s) then reply.Refused refusal.NoBuffers
     else reply.Sent (length (sent_by past (iface_of past s)))
 
--- the reply of an event after these entries: the first case that holds
+-- The reply to an event after these entries: the first case that holds.
 abbrev pub legal_reply : BusConfig → List Entry → Event → Reply
 legal_reply c past (Open i capacity) =
     if lacks_iface c i then reply.Refused refusal.NoInterface
@@ -90,7 +90,7 @@ legal_reply c past (Restart i m) =
     else reply.Refused refusal.NotBusOff
 legal_reply c past (Down i m) = if lacks_iface c i then reply.Refused refusal.NoInterface else reply.Done
 
--- a legal history: no more entries than the limit, and each reply is the one that the entries before it give
+-- A history is legal: it is within the limit, and each reply is the one that the entries before it require.
 abbrev pub IsLegal : BusConfig → List Entry → Type 0
 IsLegal c [] = Unit {0}
 IsLegal c (e ∷ past) = (length past < c.limit) × (e.reply ≡ legal_reply c past e.event) × IsLegal c past

@@ -7,58 +7,58 @@ use Rattle.can_bus.specs.Lean.{record_of}
 use Rattle.can_bus.specs.Legal.{IsLegal}
 use Rattle.can_bus.specs.State.{Parts, IsKept}
 
--- A bus of a long run (own choice): only the entries that were not handed out are in memory, its tail.
+-- The bus of a long run (own choice): its memory holds only its tail, the entries that were not handed out.
 
--- its configuration, its entries so far, the newest first, how many of them were handed out, and how many its tail has
--- memory for
+-- The configuration, the entries so far (the newest first), the number of entries handed out, and the capacity of the
+-- tail.
 pub record LongJournal : Type 0 where
   pub config : BusConfig
   pub history : List Entry
   pub handed : ℕ
   pub room : ℕ
 
--- what others see of it: a bus as any other
+-- The journal that others see, as for any other bus.
 abbrev pub journal_of : LongJournal → Journal
 journal_of j = record { config = j.config; history = j.history }
 
--- the entries that were not handed out, the oldest first
+-- The entries that were not handed out, the oldest first.
 abbrev pub held_back : LongJournal → List Entry
 held_back j = drop j.handed (reverse j.history)
 
--- the entries that were handed out, the oldest first
+-- The entries that were handed out, the oldest first.
 abbrev pub handed_entries : LongJournal → List Entry
 handed_entries j = take j.handed (reverse j.history)
 
--- how many entries more the tail takes
+-- The number of entries that the tail still takes.
 abbrev pub places_left : LongJournal → ℕ
 places_left j = j.handed + j.room - length j.history
 
--- the tail takes an entry more
+-- The tail takes one more entry.
 abbrev pub HasPlace : LongJournal → Type 0
 HasPlace j = 0 < places_left j
 
--- a block has the entries that were not handed out, in order, and all are handed out from then on; the tail is a
--- block with memory for this many, and nothing else has changed
+-- The block gets the entries that were not handed out, in order, and now all are handed out. The new tail has memory
+-- for this many entries, and nothing else changes.
 pub record HandsOut (old : LongJournal) (room : ℕ) (block : List Entry) (new : LongJournal) : Type 0 where
   pub entries : block ≡ held_back old
   pub after : new ≡ record old { handed = length old.history; room = room }
 
--- nothing was handed out, and the tail has memory for as many entries as before
+-- Nothing was handed out, and the tail has memory for at least as many entries as before.
 pub record KeepsTail (old new : LongJournal) : Type 0 where
   pub handed : new.handed ≡ old.handed
   pub room : old.room ≤ new.room
 
--- the tail has what was not handed out
+-- The tail has the entries that were not handed out.
 pub record HasTail (history : List Entry) (tail : List Entry) (handed : ℕ) : Type 0 where
   pub counted : handed + length tail ≡ length history
   pub rest : tail ≡ drop handed (reverse history)
 
--- what is kept is what the history leaves, and the tail has what was not handed out
+-- The parts are the state after the history, and the tail has the entries that were not handed out.
 pub record IsLong (c : BusConfig) (history : List Entry) (parts : Parts) (tail : List Entry) (handed : ℕ) : Type 0 where
   pub kept : IsKept (record_of c history) parts
   pub holds : HasTail history tail handed
 
--- what is left at the end of a run: the last entries of a legal history of a proper configuration
+-- The rest at the end of a run: the last entries of a legal history of a proper configuration.
 pub record IsEnd (c : BusConfig) (history : List Entry) (tail : List Entry) (handed : ℕ) : Type 0 where
   pub proper : IsLongConfig c
   pub legal : IsLegal c history

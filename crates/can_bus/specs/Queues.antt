@@ -12,38 +12,38 @@ use Rattle.can_event.specs.declared.reply.Reply.TheVariants as reply
 use Rattle.can_bus.specs.Sockets.{is_open, iface_of, capacity_of, filters_of, options_of}
 use Rattle.can_bus.specs.Posts.{Post, posts_of, is_own}
 
--- The receive queues of a bus's sockets, by its history.
+-- The receive queues of a bus's sockets, from its history.
 
--- the posts that pass these filters and options
+-- The posts that pass these filters and options.
 abbrev pub passing : List CanFilter → Options → ℕ → List Post → List Received
 passing filters options s [] = []
 passing filters options s (p ∷ ps) =
     if wants filters options p.received.item (is_own p.sender s) then p.received ∷ passing filters options s ps
     else passing filters options s ps
 
--- what an entry offers socket s: the posts at its interface that pass its filters and options, as they
--- are then, while it is open
+-- The items that an entry offers to socket s, if it is open: the posts at its interface that pass its current filters
+-- and options.
 abbrev pub candidates_of : BusConfig → List Entry → ℕ → Event → Reply → List Received
 candidates_of c past s e r =
     if is_open past s then passing (filters_of past s) (options_of past s) s (posts_of c past (iface_of past s) e r)
     else []
 
--- all that was offered to socket s, in order
+-- All items offered to socket s, in order.
 abbrev pub candidates_for : BusConfig → List Entry → ℕ → List Received
 candidates_for c [] s = []
 candidates_for c (e ∷ past) s = candidates_for c past s ++ candidates_of c past s e.event e.reply
 
--- taken_from after one more entry (own choice)
+-- taken_from after one more entry (own choice).
 abbrev pub taken_after : Event → Reply → ℕ → List Received → List Received
 taken_after (Receive s) (reply.Received (Some r)) k before = if k == s.0 then before ++ r ∷ [] else before
 taken_after _ _ k before = before
 
--- the items that receive gave on socket s, in order
+-- The items that receive calls returned on socket s, in order.
 abbrev pub taken_from : List Entry → ℕ → List Received
 taken_from [] s = []
 taken_from (e ∷ past) s = taken_after e.event e.reply s (taken_from past s)
 
--- the candidates that found room, in order: as many as fit beside those that wait
+-- The offered items that found room, in order: as many as fit besides the waiting items.
 abbrev pub queued_to : BusConfig → List Entry → ℕ → List Received
 queued_to c [] s = []
 queued_to c (e ∷ past) s =
@@ -51,7 +51,7 @@ queued_to c (e ∷ past) s =
     (capacity_of past s + length (taken_from past s) - length (queued_to c past s))
     (candidates_of c past s e.event e.reply)
 
--- the candidates that found no room
+-- The offered items that found no room.
 abbrev pub dropped_at : BusConfig → List Entry → ℕ → List Received
 dropped_at c [] s = []
 dropped_at c (e ∷ past) s =

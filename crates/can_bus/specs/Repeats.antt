@@ -13,34 +13,34 @@ use Rattle.can_bus.specs.Counters.{counts_of}
 use Rattle.can_bus.specs.Queues.{queued_to}
 use Rattle.can_bus.specs.Copies.{numbers_from}
 
--- How often one frame can reach a socket. A fault in the last bit of end of frame reaches only the transmitter:
--- it sends again a frame that the receivers have accepted (Bosch CAN Specification 2.0, message validation).
+-- How many times one frame can reach a socket. Only the transmitter sees a fault in the last bit of end of frame: it
+-- repeats a frame that the receivers have accepted (Bosch CAN Specification 2.0, message validation).
 
--- how often number n is among the data frames of interface i that socket s got
+-- How many times number n is among the data frames from interface i that socket s got.
 abbrev pub copies_queued : BusConfig → List Entry → ℕ → ℕ → ℕ → ℕ
 copies_queued c past i s n = count_by (λ m. m == n) (numbers_from i (queued_to c past s))
 
--- no frame reaches a socket more than 32 times
+-- No frame reaches a socket more than 32 times.
 abbrev pub AtMost32Copies : BusConfig → List Entry → Type 0
 AtMost32Copies c past = (i s n : ℕ) → copies_queued c past i s n ≤ 32
 
--- the transmit error count of interface i
+-- The transmit error count of interface i.
 abbrev pub transmit_count : BusConfig → List Entry → ℕ → ℕ
 transmit_count c past i = (counts_of c past i).tec
 
--- while a frame is at the head of its queue, the transmit error count of its interface never falls
+-- While a frame is first in its queue, the transmit error count of its interface does not decrease.
 abbrev pub RisesAtTheHead : BusConfig → Entry → List Entry → Type 0
 RisesAtTheHead c e past =
     (i : ℕ) (p : Pending) → head_of past i ≡ Some p → gone_count (e ∷ past) i ≡ gone_count past i
     → transmit_count c past i ≤ transmit_count c (e ∷ past) i
 
--- an attempt that failed only at the last bit adds 8 to the transmit error count of its winner
+-- An attempt that failed only at the last bit adds 8 to the transmit error count of its winner.
 abbrev pub LastBitAdds8 : BusConfig → Entry → List Entry → Type 0
 LastBitAdds8 c e past =
     (t : Tried) → e.reply ≡ reply.Attempted (attempt.Tried t) → t.class ≡ class.LastBit
     → transmit_count c (e ∷ past) t.winner ≡ transmit_count c past t.winner + 8
 
--- an attempt that failed only at the last bit of end of frame had that fault, and no other
+-- An attempt that failed only at the last bit of end of frame had that fault and no other.
 abbrev pub HadThatFaultAlone : Entry → Type 0
 HadThatFaultAlone e =
     (t : Tried) → e.reply ≡ reply.Attempted (attempt.Tried t) → t.class ≡ class.LastBit

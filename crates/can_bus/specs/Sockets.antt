@@ -11,73 +11,74 @@ use Rattle.can_event.specs.declared.reply.Reply.TheVariants as reply
 use Rattle.can_event.specs.declared.entry.Entry.{Entry}
 use Rattle.can_event.specs.Events.{with_option}
 
--- The sockets of a bus, by its history. A history is the list of a bus's entries so far, the newest
--- first: an entry follows what came before it.
+-- The sockets of a bus, from its history. A history is the list of a bus's entries so far, the newest first: each entry
+-- follows the entries before it.
 
--- where a socket was opened, and how many items may wait there
+-- The interface and the capacity with which a socket was opened.
 pub record Place : Type 0 where
   pub iface : ℕ
   pub capacity : ℕ
 
--- places after one more entry (own choice)
+-- places after one more entry (own choice).
 abbrev pub places_after : Event → Reply → List Place → List Place
 places_after (Open i capacity) (reply.Opened s) before = before ++ record { iface = i; capacity = capacity } ∷ []
 places_after _ _ before = before
 
--- the sockets opened so far, the first one first: a socket's number is its place, never used again (own choice)
+-- The sockets opened so far, the first one first. A socket's number is its place, which is never used again (own
+-- choice).
 abbrev pub places : List Entry → List Place
 places [] = []
 places (e ∷ past) = places_after e.event e.reply (places past)
 
--- open_sockets after one more entry, where n sockets were opened before (own choice)
+-- open_sockets after one more entry, if n sockets were opened before (own choice).
 abbrev pub open_after : ℕ → Event → Reply → List ℕ → List ℕ
 open_after n (Open i capacity) (reply.Opened s) before = before ++ n ∷ []
 open_after n (Close s) (reply.Closed c) before = filter (λ k. not (k == s.0)) before
 open_after n _ _ before = before
 
--- the numbers of the sockets that were opened and not closed, rising
+-- The numbers of the open sockets, in increasing order.
 abbrev pub open_sockets : List Entry → List ℕ
 open_sockets [] = []
 open_sockets (e ∷ past) = open_after (length (places past)) e.event e.reply (open_sockets past)
 
--- socket s was opened and not closed
+-- Socket s was opened and not closed.
 abbrev pub is_open : List Entry → ℕ → Bool
 is_open past s = list_any (λ k. k == s) (open_sockets past)
 
--- the interface of a socket, 0 where there was none (own choice)
+-- The interface of a socket, or 0 if there is none (own choice).
 abbrev pub iface_in : Option Place → ℕ
 iface_in None = 0
 iface_in (Some p) = p.iface
 
--- the capacity of a socket, 0 where there was none (own choice)
+-- The capacity of a socket, or 0 if there is none (own choice).
 abbrev pub capacity_in : Option Place → ℕ
 capacity_in None = 0
 capacity_in (Some p) = p.capacity
 
--- the interface that socket s was opened on
+-- The interface on which socket s was opened.
 abbrev pub iface_of : List Entry → ℕ → ℕ
 iface_of past s = iface_in (slice_get (places past) s)
 
--- how many items may wait on socket s
+-- The number of items that may wait on socket s.
 abbrev pub capacity_of : List Entry → ℕ → ℕ
 capacity_of past s = capacity_in (slice_get (places past) s)
 
--- options_of after one more entry (own choice)
+-- options_of after one more entry (own choice).
 abbrev pub options_after : Event → Reply → ℕ → Options → Options
 options_after (SetOption s option) reply.Done k before = if k == s.0 then with_option option before else before
 options_after _ _ k before = before
 
--- the options of socket s as last set (linux/can/raw.h)
+-- The options of socket s as last set (linux/can/raw.h).
 abbrev pub options_of : List Entry → ℕ → Options
 options_of [] s = default_options
 options_of (e ∷ past) s = options_after e.event e.reply s (options_of past s)
 
--- filters_of after one more entry (own choice)
+-- filters_of after one more entry (own choice).
 abbrev pub filters_after : Event → Reply → ℕ → List CanFilter → List CanFilter
 filters_after (SetFilters s filters) reply.Done k before = if k == s.0 then filters else before
 filters_after _ _ k before = before
 
--- the filters of socket s as last set; at its open it receives everything (linux/can/raw.h)
+-- The filters of socket s as last set; a new socket receives everything (linux/can/raw.h).
 abbrev pub filters_of : List Entry → ℕ → List CanFilter
 filters_of [] s = receives_all
 filters_of (e ∷ past) s = filters_after e.event e.reply s (filters_of past s)

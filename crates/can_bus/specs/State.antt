@@ -20,9 +20,9 @@ use Rattle.can_bus.specs.Posts.{Post}
 use Rattle.can_bus.specs.Queues.{queued_to, taken_from, dropped_at, passing}
 use Rattle.can_bus.specs.Legal.{IsLegal}
 
--- What a bus keeps so that each call is fast, and that it is what the history leaves.
+-- The state that a bus keeps for fast calls, and its relation to the history.
 
--- what is kept of an interface
+-- The state of an interface.
 pub record InterfaceState : Type 0 where
   pub waiting : List Pending
   pub room : ℕ
@@ -31,11 +31,11 @@ pub record InterfaceState : Type 0 where
   pub done : ℕ
   pub refused : ℕ
 
--- an interface as a bus begins (own choice)
+-- An interface of a new bus (own choice).
 abbrev pub fresh_interface : ℕ → InterfaceState
 fresh_interface capacity = record { waiting = []; room = capacity; sent = 0; gone = 0; done = 0; refused = 0 }
 
--- what is kept of an open socket
+-- The state of an open socket.
 pub record SocketState : Type 0 where
   pub number : ℕ
   pub iface : ℕ
@@ -46,26 +46,26 @@ pub record SocketState : Type 0 where
   pub taken : ℕ
   pub dropped : ℕ
 
--- items come in: those that fit wait, the others are counted
+-- The socket after these items arrive: items that fit wait, and the others are counted as dropped.
 abbrev pub filled : SocketState → List Received → SocketState
 filled v rs = record v {
   waiting = v.waiting ++ take (v.capacity - length v.waiting) rs;
   dropped = v.dropped + length (drop (v.capacity - length v.waiting) rs);
 }
 
--- these posts come to a socket: those that pass its filters and options come in (own choice)
+-- The socket after these posts, of which those that pass its filters and options arrive (own choice).
 abbrev pub offered : List Post → SocketState → SocketState
 offered posts v = filled v (passing v.filters v.options v.number posts)
 
--- the posts at the socket's interface come to it
+-- The socket after the posts at its interface.
 abbrev pub reached : (ℕ → List Post) → SocketState → SocketState
 reached posts v = offered (posts v.iface) v
 
--- the key by which a frame that waits competes
+-- The arbitration key of a waiting frame.
 abbrev pub key_in : Option Pending → Option ℕ
 key_in p = option_map (λ (q : Pending). key_of q.frame) p
 
--- what a history leaves of an interface
+-- The state of an interface after a history.
 abbrev pub kept_interface : BusConfig → List Entry → ℕ → InterfaceState
 kept_interface c past i = record {
   waiting = drop (gone_count past i) (sent_by past i);
@@ -76,7 +76,7 @@ kept_interface c past i = record {
   refused = refused_count past i;
 }
 
--- what a history leaves of an open socket
+-- The state of an open socket after a history.
 abbrev pub kept_socket : BusConfig → List Entry → ℕ → SocketState
 kept_socket c past s = record {
   number = s;
@@ -89,27 +89,27 @@ kept_socket c past s = record {
   dropped = length (dropped_at c past s);
 }
 
--- what a history leaves of the interfaces, by number (own choice)
+-- The state of the interfaces after a history, by number (own choice).
 unfoldable pub kept_interfaces : BusConfig → List Entry → List InterfaceState
 kept_interfaces c past = map (kept_interface c past) (range_with_len 0 c.ifaces)
 
--- what a history leaves of the open sockets, by rising number (own choice)
+-- The state of the open sockets after a history, by increasing number (own choice).
 unfoldable pub kept_sockets : BusConfig → List Entry → List SocketState
 kept_sockets c past = map (kept_socket c past) (open_sockets past)
 
--- the keys of the heads, by interface
+-- The arbitration keys of the first waiting frames, by interface.
 unfoldable pub kept_keys : List Entry → List (Option ℕ)
 kept_keys past = map (λ i. key_in (head_of past i)) (range_with_len 0 16)
 
--- the error counts, by interface
+-- The error counts, by interface.
 unfoldable pub kept_nodes : BusConfig → List Entry → Nodes
 kept_nodes c past = record { count = c.ifaces; counters = map (counts_of c past) (range_with_len 0 16) }
 
--- how many attempts are left until each interface is restarted
+-- The number of attempts until the restart of each interface.
 unfoldable pub kept_left : BusConfig → List Entry → List ℕ
 kept_left c past = map (attempts_left c past) (range_with_len 0 16)
 
--- the parts of a bus beside its record
+-- The parts of a bus besides its record.
 pub record Parts : Type 0 where
   pub interfaces : List InterfaceState
   pub keys : List (Option ℕ)
@@ -119,7 +119,7 @@ pub record Parts : Type 0 where
   pub opened : ℕ
   pub tried : ℕ
 
--- what a history leaves
+-- The parts after a history.
 abbrev pub kept_parts : BusConfig → List Entry → Parts
 kept_parts c past = record {
   interfaces = kept_interfaces c past;
@@ -131,7 +131,7 @@ kept_parts c past = record {
   tried = length (tape past);
 }
 
--- what is kept is what the history leaves, and there is memory for all the entries that may come
+-- The parts are the state after the history, and there is memory for all entries up to the limit.
 pub record IsKept (j : Kept) (parts : Parts) : Type 0 where
   pub of_parts : parts ≡ kept_parts j.config j.history
   pub legal : IsLegal j.config j.history

@@ -18,7 +18,7 @@ use Rattle.can_bus.specs.State.{InterfaceState, SocketState}
 
 -- The counts that a bus reports without an event.
 
--- of an open socket: the items that found room, that found none, and that were taken
+-- The counts of an open socket: its queued, dropped and taken items.
 abbrev pub socket_stats_of : BusConfig → List Entry → ℕ → Option SocketStats
 socket_stats_of c past s =
     if is_open past s then Some (record {
@@ -28,7 +28,7 @@ socket_stats_of c past s =
     })
     else None
 
--- of an interface that is there: the frames sent, done, waiting, lost and refused, and the error counts
+-- The counts of an interface: its frames sent, done, waiting, lost and refused, and its error counts.
 abbrev pub iface_stats_of : BusConfig → List Entry → ℕ → Option IfaceStats
 iface_stats_of c past i =
     if nat_lt i c.ifaces then Some (record {
@@ -41,11 +41,11 @@ iface_stats_of c past i =
     })
     else None
 
--- the error counts of the places of all 16 interfaces
+-- The error counts at all 16 places for interfaces.
 unfoldable pub all_counts : BusConfig → List Entry → List ErrorCounts
 all_counts c past = map (counts_of c past) (range_with_len 0 16)
 
--- the same, from what is kept
+-- The same, from the state of the interface.
 abbrev pub told_interface : ErrorCounts → InterfaceState → IfaceStats
 told_interface counts l = record {
   sent = l.sent;
@@ -56,24 +56,24 @@ told_interface counts l = record {
   counters = counts;
 }
 
--- how many frames of an interface were lost, from what is kept of it
+-- The number of lost frames, from the state of the interface.
 abbrev pub lost_of : InterfaceState → ℕ
 lost_of l = l.gone - l.done
 
--- the number of a socket, and how many items wait there and found no room, from what is kept of it
+-- The number of a socket, and the number of its waiting and of its dropped items.
 abbrev pub numbered_counts : SocketState → SocketId × Closed
 numbered_counts v = (record { 0 = v.number }, record { unread = length v.waiting; dropped = v.dropped })
 
--- what waits on a socket, if it is there (own choice)
+-- The items that wait on a socket, if it exists (own choice).
 abbrev pub waiting_in : Option SocketState → List Received
 waiting_in None = []
 waiting_in (Some v) = v.waiting
 
--- what waits on the socket at a place among those that are open
+-- The items that wait on the open socket at this place.
 abbrev pub waiting_at : List SocketState → ℕ → List Received
 waiting_at sockets place = waiting_in (slice_get sockets place)
 
--- these are the counts of an open socket, from what is kept of it (own choice)
+-- These are the counts of an open socket, from its state (own choice).
 pub record ReportsOf (sockets : List SocketState) (s : ℕ) (stats : SocketStats) : Type 0 where
   pub place : ℕ
   pub socket : SocketState
@@ -84,7 +84,7 @@ pub record ReportsOf (sockets : List SocketState) (s : ℕ) (stats : SocketStats
     taken = socket.taken;
   }
 
--- the counts of a socket, from what is kept: none where it is not open (own choice)
+-- The counts of a socket, from its state: None if it is not open (own choice).
 abbrev pub ReportsSocket : List SocketState → ℕ → Option SocketStats → Type 0
 ReportsSocket sockets s None = IsNowhere sockets s
 ReportsSocket sockets s (Some stats) = ReportsOf sockets s stats

@@ -10,9 +10,9 @@ use can_fault::Verdict;
 use can_frame::{ErrorFrame, Iface};
 use std::marker::Model;
 
-/// An attempt that tried a frame, and all that followed: what `judge` answers of it.
+/// An attempt that tried a frame, and the judgement that `judge` returns for it.
 ///
-/// Contracts see only the attempt, since what followed is fixed by it.
+/// Contracts see only the attempt, since the attempt fixes the judgement.
 #[derive(Debug, Drop)]
 pub struct Attempted<'a> {
     tried: &'a Tried,
@@ -33,7 +33,8 @@ impl<'a> Model for Attempted<'a> {
         IsJudged (outcome_of a.tried.now a.verdict a.ack a.nodes.now) a.judgement.now };
 }
 
-/// Whether a frame that was tried, and waited with this loopback option, is put to the sockets of an interface.
+/// Returns whether a tried frame, which was queued with this loopback option, is posted to the
+/// sockets of an interface.
 pub fn is_posted(tried: &Tried, iface: Iface, loopback: bool) -> bool
     ensures { result ≡ goes_to iface tried.now (is_done tried.now.class && loopback) }
 {
@@ -47,8 +48,8 @@ impl<'a> Attempted<'a> {
     ghost use Rattle.can_bus.specs.Attempted.{outcome_of, transmission_of};
     ghost use Rattle.can_bus.specs.Posts.{goes_to, is_looped_back, role_at, fault_message_for};
 
-    /// An attempt under these faults, where the interfaces were so before it, at most 16, and what `judge`
-    /// answers of it.
+    /// Returns the attempt under these faults, with the state of the interfaces before it and the
+    /// judgement of `judge`. There are at most 16 interfaces.
     pub fn new(
         tried: &'a Tried,
         verdict: Verdict,
@@ -68,15 +69,16 @@ impl<'a> Attempted<'a> {
         }
     }
 
-    /// The frame that was tried, and what became of it.
+    /// Returns the frame that was tried, and the result.
     pub fn tried(&self) -> &Tried
         ensures { result.now ≡ self.now.tried }
     {
         self.tried
     }
 
-    /// Whether the frame, which waited so, is put to the sockets of an interface: one that accepted it, and
-    /// its own where it is looped back.
+    /// Returns whether the frame, which was queued like this, is posted to the sockets of an
+    /// interface. It is posted where it was accepted, and on its own interface if it is looped
+    /// back.
     pub fn is_posted(&self, iface: Iface, pending: Option<Pending>) -> bool
         ensures { result
             ≡ goes_to iface self.now.tried (is_looped_back self.now.tried.class pending) }
@@ -88,7 +90,8 @@ impl<'a> Attempted<'a> {
         is_posted(self.tried, iface, loopback)
     }
 
-    /// The part that an interface has in the attempt: none where it is bus off or down, or not there.
+    /// Returns the role of an interface in the attempt, or `None` if it is bus off, down, or not
+    /// there.
     pub fn role_of(&self, iface: Iface) -> Option<Role>
         ensures { result ≡ role_at (transmission_of self.now) iface }
     {
@@ -108,7 +111,7 @@ impl<'a> Attempted<'a> {
         Some(Role::Other)
     }
 
-    /// The error message frame of the attempt's fault, as an interface sees it, if it sees one.
+    /// Returns the error message frame for the attempt's fault, if this interface sees one.
     pub fn fault_at(&self, iface: Iface) -> Option<ErrorFrame>
         ensures { result ≡ fault_message_for self.now.tried.class self.now.verdict
             (role_at (transmission_of self.now) iface) }
@@ -119,7 +122,8 @@ impl<'a> Attempted<'a> {
         }
     }
 
-    /// The error message frame of a change of an interface's state, if the attempt changed it.
+    /// Returns the error message frame for a change of the interface's state, if the attempt
+    /// changed it.
     pub fn state_change_at(&self, iface: Iface) -> Option<ErrorFrame>
         ensures { result ≡ state_message ((transmission_of self.now).counts iface)
             (counts_after (transmission_of self.now) iface) }

@@ -15,7 +15,7 @@ use can_fault::Verdict;
 use can_frame::{Iface, IfaceSet, Moment};
 use can_queue::BoundedQueue;
 
-/// What an attempt answers of the frame that was tried.
+/// Returns the result of an attempt for the tried frame.
 fn tried_as(
     moment: Moment,
     winner: Iface,
@@ -47,7 +47,7 @@ fn tried_as(
     }
 }
 
-/// The error counters of an interface, which begin anew where it is one of these.
+/// Returns the error counters of an interface, which are 0 if it is in this set.
 fn anew_at(nodes: &Nodes, restarted: IfaceSet, iface: Iface) -> Counters
     ensures { result ≡ (if is_in iface restarted then at_start else counts_at nodes.now iface) }
 {
@@ -58,7 +58,7 @@ fn anew_at(nodes: &Nodes, restarted: IfaceSet, iface: Iface) -> Counters
     }
 }
 
-/// The error counters, of which those of these interfaces begin anew.
+/// Returns all error counters, which are 0 for the interfaces in this set.
 pub fn begun_anew(nodes: &Nodes, restarted: IfaceSet) -> [Counters; 16]
     ensures { result ≡ (begun_anew restarted nodes.now).counters }
 {
@@ -71,8 +71,8 @@ pub fn begun_anew(nodes: &Nodes, restarted: IfaceSet) -> [Counters; 16]
 }
 
 impl<T: BoundedQueue<Pending>, R: BoundedQueue<Received>, A: Arbiter> State<T, R, A> {
-    /// Tries the frame that wins the bus, if there is one, in an attempt that then restarts these interfaces, and
-    /// notifies the sockets.
+    /// Tries the frame that wins the bus, if there is one, and notifies the sockets. The attempt
+    /// reports these interfaces as restarted.
     fn try_head(
         &mut self,
         config: BusConfig,
@@ -123,7 +123,8 @@ impl<T: BoundedQueue<Pending>, R: BoundedQueue<Received>, A: Arbiter> State<T, R
         Some(tried)
     }
 
-    /// Restarts these interfaces at the end of an attempt, if any, and notifies the sockets.
+    /// Restarts these interfaces at the end of an attempt, if there are any, and notifies the
+    /// sockets.
     fn restart_all(&mut self, restarted: IfaceSet, moment: Moment)
         requires sixteen { length self.old.nodes.counters ≡ 16 }
         requires dropped { All (λ v. v.dropped + 1 < 2 ^ 64) self.old.sockets }
@@ -136,8 +137,8 @@ impl<T: BoundedQueue<Pending>, R: BoundedQueue<Received>, A: Arbiter> State<T, R
         posting::post_restarts(&mut self.sockets, restarted, moment);
     }
 
-    /// Tries the frame that wins the bus, restarts the interfaces that have been off for long enough, and
-    /// notifies the sockets.
+    /// Tries the frame that wins the bus, restarts the interfaces that have been bus off long
+    /// enough, and notifies the sockets.
     pub(crate) fn attempt(&mut self, config: BusConfig, moment: Moment, verdict: Verdict) -> Attempt
         requires few { self.old.nodes.count ≤ 16 }
         requires sixteen { length self.old.nodes.counters ≡ 16 }
@@ -176,8 +177,8 @@ impl<T: BoundedQueue<Pending>, R: BoundedQueue<Received>, A: Arbiter> State<T, R
         Reply::Done
     }
 
-    /// Takes an interface down: the frames that wait there are lost, and it counts no attempts until a restart. No socket is
-    /// notified.
+    /// Takes an interface down. Its waiting frames are lost, and it counts no attempts until a
+    /// restart. No socket is notified.
     pub(crate) fn down(&mut self, iface: Iface) -> Reply
         requires { self.old.nodes.count ≤ length self.old.interfaces }
         ensures { TakesDown self.old iface result self.new }

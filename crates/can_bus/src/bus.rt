@@ -32,7 +32,7 @@ use std::alloc::{AllocError, Global};
 use std::marker::Model;
 use thiserror::Error;
 
-/// Why no bus was made.
+/// Why a bus could not be made.
 #[derive(Debug, Clone, Copy, PartialEq, Eq, Error)]
 pub enum BusFault {
     /// The configuration is outside the limits of a bus.
@@ -55,13 +55,14 @@ impl From<AllocError> for BusFault {
 
 /// A bus: interfaces that share one wire, and the sockets open on them.
 ///
-/// Each event call is answered only from the bus's record, and adds one entry to it; a call that is
-/// refused for a full record or for want of memory adds none and changes nothing. Contracts see a bus
-/// as its configuration and its history. The queues that frames and items wait in are known by the
-/// laws of `BoundedQueue`, and the arbiter by those of `Arbiter`.
+/// Each event call is answered from the bus's record only, and adds one entry to it. A call that is
+/// refused for a full record or for lack of memory adds no entry and changes nothing. Contracts see
+/// a bus as its configuration and its history. The laws of `BoundedQueue` describe the queues for
+/// frames and items, and the laws of `Arbiter` describe the arbiter.
 ///
-/// No event but `open` and `set_filters` takes memory: `new` reserves the record, of 32 bytes an entry and 76 for its FD
-/// frame, the transmit queues and the places of 64 sockets. A call on a socket looks through the open ones, at most 64.
+/// Only the events `open` and `set_filters` take memory. `new` reserves the record (32 bytes per
+/// entry and 76 for its FD frame), the transmit queues and the places of 64 sockets. A call on a
+/// socket searches the open sockets, of which there are at most 64.
 #[derive(Drop)]
 pub struct Bus<T: BoundedQueue<Pending>, R: BoundedQueue<Received>, A: Arbiter> {
     alloc: Global,
@@ -69,10 +70,10 @@ pub struct Bus<T: BoundedQueue<Pending>, R: BoundedQueue<Received>, A: Arbiter> 
     state: State<T, R, A>,
 }
 
-/// The bus of the program: rings for its queues.
+/// The bus of the program, with ring buffers as queues.
 pub type RingBus = Bus<RingQueue<Pending>, RingQueue<Received>, IndexArbiter>;
 
-/// The plainest bus, with lists for its queues.
+/// The simplest bus, with lists as queues.
 pub type ListBus = Bus<ListQueue<Pending>, ListQueue<Received>, ScanArbiter>;
 
 impl<T: BoundedQueue<Pending>, R: BoundedQueue<Received>, A: Arbiter> Model for Bus<T, R, A> {
@@ -86,7 +87,7 @@ impl<T: BoundedQueue<Pending>, R: BoundedQueue<Received>, A: Arbiter> Model for 
     ghost invariant = { λ b. IsKept b.record b.state };
 }
 
-/// The entry of a socket's filters that are set to a copy of these, in memory of its own.
+/// Returns the entry for setting a socket's filters to a copy of these, in its own memory.
 pub(crate) fn filters_entry(
     alloc: Global,
     id: SocketId,
@@ -101,7 +102,7 @@ pub(crate) fn filters_entry(
 }
 
 impl<T: BoundedQueue<Pending>, R: BoundedQueue<Received>, A: Arbiter> Bus<T, R, A> {
-    /// A bus on which nothing was done. It takes memory for all of `limit` entries.
+    /// Returns a bus without events. It takes memory for all `limit` entries.
     pub fn new(alloc: Global, config: BusConfig) -> Result<Bus<T, R, A>, BusFault>
         ensures made { IfOk result (λ b. b ≡ record { config = config; history = [] }) }
         ensures proper { OnOk result (IsConfig config) }
@@ -120,7 +121,7 @@ impl<T: BoundedQueue<Pending>, R: BoundedQueue<Received>, A: Arbiter> Bus<T, R, 
         })
     }
 
-    /// The bus's record: its configuration, and each event with its reply.
+    /// Returns the bus's record: its configuration, and each event with its reply.
     pub fn record(&self) -> &Record
         ensures config { result.now.config ≡ self.now.config }
         ensures history { result.now.history ≡ self.now.history }
@@ -130,7 +131,7 @@ impl<T: BoundedQueue<Pending>, R: BoundedQueue<Received>, A: Arbiter> Bus<T, R, 
         &self.record
     }
 
-    /// Only the bus's record, at the end of its run.
+    /// Returns the bus's record at the end of its run, and drops the rest.
     pub fn into_record(self) -> Record
         ensures config { result.config ≡ self.config }
         ensures history { result.history ≡ self.history }
@@ -141,14 +142,14 @@ impl<T: BoundedQueue<Pending>, R: BoundedQueue<Received>, A: Arbiter> Bus<T, R, 
         record
     }
 
-    /// What it keeps beside its record.
+    /// Returns the state that the bus keeps besides its record.
     pub(crate) fn state(&self) -> &State<T, R, A>
         ensures { IsKept (record_of self.now.config self.now.history) result.now }
     {
         &self.state
     }
 
-    /// How many entries its record has.
+    /// Returns the number of entries in the record.
     pub fn len(&self) -> u64
         ensures len { result ≡ length self.now.history }
         ensures proper { IsLongConfig self.now.config }
@@ -157,17 +158,19 @@ impl<T: BoundedQueue<Pending>, R: BoundedQueue<Received>, A: Arbiter> Bus<T, R, 
         self.record.len() as u64
     }
 
-    /// The number of the next attempt that tries a frame: how many there were.
+    /// Returns the number of attempts so far that tried a frame, which is the number of the next
+    /// one.
     pub fn next_attempt(&self) -> u64
         ensures { result ≡ length (tape self.now.history) }
     {
         self.state.tried()
     }
 
-    /// Carries out an event, and returns its reply. A refusal is a reply as well.
+    /// Carries out an event and returns its reply. A refusal is also a reply.
     ///
-    /// The event enters the record with its reply, unless that is `RecordFull` or `NoMemory`: then nothing has changed.
-    /// Memory is taken only for `Open` and `SetFilters`. It costs what the event's own call does.
+    /// The event enters the record with its reply, unless the reply is `RecordFull` or `NoMemory`;
+    /// in that case nothing has changed. Only `Open` and `SetFilters` take memory. The cost is that
+    /// of the event's own call.
     pub fn answer(&mut self, alloc: Global, event: &Event) -> Reply
         ensures { IsAnswered self.old event.now result self.new }
     {
@@ -185,7 +188,8 @@ impl<T: BoundedQueue<Pending>, R: BoundedQueue<Received>, A: Arbiter> Bus<T, R, 
         reply
     }
 
-    // Sets the filters of a socket where the record has room: all memory is taken before anything changes.
+    // Sets the filters of a socket if the record has room: it takes all memory before it changes
+    // anything.
     #[inline(never)]
     fn answer_filters(&mut self, alloc: Global, id: SocketId, filters: &FilterSet) -> Reply
         requires room { length self.old.history < self.old.config.limit }
@@ -203,10 +207,10 @@ impl<T: BoundedQueue<Pending>, R: BoundedQueue<Received>, A: Arbiter> Bus<T, R, 
         reply
     }
 
-    /// Opens a socket on an interface, where `capacity` items may wait.
+    /// Opens a socket on an interface, with room for `capacity` waiting items.
     ///
-    /// Refusals, in this order: `RecordFull`, `NoInterface`, `BadCapacity` outside 1 to 65,536,
-    /// `TooManySockets` where 64 are open, `NoMemory`.
+    /// The refusals, in this order: `RecordFull`, `NoInterface`, `BadCapacity` outside 1 to 65,536,
+    /// `TooManySockets` if 64 are open, `NoMemory`.
     pub fn open(&mut self, alloc: Global, iface: Iface, capacity: u32) -> Result<SocketId, Refusal>
         ensures { Answers reply.Opened self.old (event.Open iface capacity) result self.new }
     {
@@ -214,19 +218,20 @@ impl<T: BoundedQueue<Pending>, R: BoundedQueue<Received>, A: Arbiter> Bus<T, R, 
             .into_opened()
     }
 
-    /// Closes a socket, and counts what nobody took and what found no room.
+    /// Closes a socket, and returns the number of its unread items and of its dropped items.
     ///
-    /// Frames that it sent stay in their transmit queue. Refusals: `RecordFull`, `NoSocket`.
+    /// Frames that the socket sent stay in their transmit queue. Refusals: `RecordFull`,
+    /// `NoSocket`.
     pub fn close(&mut self, id: SocketId) -> Result<Closed, Refusal>
         ensures { Answers reply.Closed self.old (event.Close id) result self.new }
     {
         self.answer(self.alloc, &Event::Close(id)).into_closed()
     }
 
-    /// Sets the filters of a socket, to a copy of these.
+    /// Sets the filters of a socket to a copy of these.
     ///
-    /// Refusals, in this order: `RecordFull`, `NoMemory` (all memory is taken before the socket is
-    /// looked up), `NoSocket`. It costs the length of the set.
+    /// The refusals, in this order: `RecordFull`, `NoMemory`, `NoSocket`. All memory is taken
+    /// before the socket is looked up. The cost grows with the length of the set.
     pub fn set_filters(
         &mut self,
         alloc: Global,
@@ -249,10 +254,12 @@ impl<T: BoundedQueue<Pending>, R: BoundedQueue<Received>, A: Arbiter> Bus<T, R, 
             .into_done()
     }
 
-    /// Puts a frame into the transmit queue of the socket's interface, and answers its number there.
+    /// Puts a frame into the transmit queue of the socket's interface, and returns its number
+    /// there.
     ///
-    /// Refusals, in this order: `RecordFull`, `NoSocket`, `FdOff` where the frame is an FD frame and the
-    /// socket did not ask for such, `BusOff`, `Down`, `NoBuffers` exactly where the queue is full.
+    /// The refusals, in this order: `RecordFull`, `NoSocket`, `FdOff`, `BusOff`, `Down`,
+    /// `NoBuffers`. `FdOff` means that the frame is an FD frame and the socket has not enabled FD
+    /// frames. `NoBuffers` is returned exactly if the queue is full.
     pub fn send(&mut self, id: SocketId, frame: Frame) -> Result<u64, Refusal>
         ensures { Answers reply.Sent self.old (event.Send id frame) result self.new }
     {
@@ -264,7 +271,7 @@ impl<T: BoundedQueue<Pending>, R: BoundedQueue<Received>, A: Arbiter> Bus<T, R, 
         outcome
     }
 
-    /// Takes the oldest item of a socket: `None` where nothing waits.
+    /// Takes the oldest item of a socket, or returns `None` if no item waits.
     ///
     /// Refusals: `RecordFull`, `NoSocket`.
     pub fn receive(&mut self, id: SocketId) -> Result<Option<Received>, Refusal>
@@ -275,10 +282,10 @@ impl<T: BoundedQueue<Pending>, R: BoundedQueue<Received>, A: Arbiter> Bus<T, R, 
         Ok(taken.then_some(room))
     }
 
-    /// Takes the oldest item of a socket into the room, and returns whether there was one: where nothing waits the room
-    /// stays.
+    /// Takes the oldest item of a socket into `room`, and returns whether there was one. If no item
+    /// waits, `room` does not change.
     ///
-    /// Refusals: `RecordFull`, `NoSocket`. The room stays then, too.
+    /// Refusals: `RecordFull`, `NoSocket`. After a refusal `room` does not change either.
     pub fn receive_into(&mut self, id: SocketId, room: &mut Received) -> Result<bool, Refusal>
         ensures answer { Answers (taken_reply room.new) self.old (event.Receive id)
             result self.new }
@@ -292,11 +299,11 @@ impl<T: BoundedQueue<Pending>, R: BoundedQueue<Received>, A: Arbiter> Bus<T, R, 
         outcome
     }
 
-    /// Tries the frame that wins the bus, under these faults: `Idle` where no live interface has one to
-    /// send. Then it restarts each interface that was off for as many attempts as `auto_restart` says, this
-    /// one included.
+    /// Tries the frame that wins the bus, under these faults, or returns `Idle` if no live
+    /// interface has a frame to send. Then it restarts each interface that was bus off for
+    /// `auto_restart` attempts, including this one.
     ///
-    /// It costs a look at each interface and at each open socket. Refusal: `RecordFull`.
+    /// It looks at each interface and at each open socket. Refusal: `RecordFull`.
     pub fn attempt(&mut self, moment: Moment, verdict: Verdict) -> Result<Attempt, Refusal>
         ensures { Answers reply.Attempted self.old (event.Attempt moment verdict) result self.new }
     {
@@ -309,9 +316,9 @@ impl<T: BoundedQueue<Pending>, R: BoundedQueue<Received>, A: Arbiter> Bus<T, R, 
         Ok(attempt)
     }
 
-    /// Brings an interface that is bus off or down back, with both its error counts 0.
+    /// Restarts an interface that is bus off or down, and sets both error counts to 0.
     ///
-    /// Refusals, in this order: `RecordFull`, `NoInterface`, `NotBusOff`.
+    /// The refusals, in this order: `RecordFull`, `NoInterface`, `NotBusOff`.
     pub fn restart(&mut self, iface: Iface, moment: Moment) -> Result<(), Refusal>
         ensures { Answers done_reply self.old (event.Restart iface moment) result self.new }
     {
@@ -319,11 +326,11 @@ impl<T: BoundedQueue<Pending>, R: BoundedQueue<Received>, A: Arbiter> Bus<T, R, 
             .into_done()
     }
 
-    /// Takes an interface down, as `ip link set down` does: until a restart it sends, accepts, acknowledges and counts
-    /// nothing. The frames in its transmit queue are lost, its sockets stay open. An interface that is down or bus off may
-    /// be taken down.
+    /// Takes an interface down, as `ip link set down` does. Until a restart it sends, accepts,
+    /// acknowledges and counts nothing. The frames in its transmit queue are lost, and its sockets
+    /// stay open. A call may also take down an interface that is already down or bus off.
     ///
-    /// Refusals, in this order: `RecordFull`, `NoInterface`.
+    /// The refusals, in this order: `RecordFull`, `NoInterface`.
     pub fn down(&mut self, iface: Iface, moment: Moment) -> Result<(), Refusal>
         ensures { Answers done_reply self.old (event.Down iface moment) result self.new }
     {
@@ -331,44 +338,47 @@ impl<T: BoundedQueue<Pending>, R: BoundedQueue<Received>, A: Arbiter> Bus<T, R, 
             .into_done()
     }
 
-    /// How many items found room on an open socket, found none, and were taken. No event.
+    /// Returns the numbers of queued, dropped and taken items of an open socket. This is not an
+    /// event.
     pub fn socket_stats(&self, id: SocketId) -> Option<SocketStats>
         ensures { result ≡ socket_stats_of self.now.config self.now.history id.0 }
     {
         self.state.socket_stats(id)
     }
 
-    /// What became of the frames of an interface, and its error counters. No event.
+    /// Returns the frame counts and the error counters of an interface. This is not an event.
     pub fn iface_stats(&self, iface: Iface) -> Option<IfaceStats>
         ensures { result ≡ iface_stats_of self.now.config self.now.history iface }
     {
         self.state.iface_stats(iface)
     }
 
-    /// The interface whose frame the next attempt tries: `None` where no live interface has one to send.
-    /// No event.
+    /// Returns the interface whose frame the next attempt tries, or `None` if no live interface has
+    /// a frame to send. This is not an event.
     pub fn next_winner(&self) -> Option<Iface>
         ensures { result ≡ winner self.now.config self.now.history }
     {
         self.state.winner()
     }
 
-    /// The interface and the frame that the next attempt tries: `None` where no live interface has one to send.
-    /// No event.
+    /// Returns the interface and the frame that the next attempt tries, or `None` if no live
+    /// interface has a frame to send. This is not an event.
     pub fn next_head(&self) -> Option<(Iface, Frame)>
         ensures { result ≡ next_head self.now.config self.now.history }
     {
         self.state.next_head()
     }
 
-    /// Whether an interface that is bus off counts the attempts until it is restarted. No event.
+    /// Returns whether an interface that is bus off counts attempts until its restart. This is not
+    /// an event.
     pub fn is_counting(&self) -> bool
         ensures { result ≡ is_counting self.now.config self.now.history }
     {
         self.state.is_counting()
     }
 
-    /// The error counters of all 16 places, by interface; where there is no interface they are 0. No event.
+    /// Returns the error counters of all 16 places, by interface; they are 0 if there is no
+    /// interface. This is not an event.
     pub fn counters(&self) -> [Counters; 16]
         ensures { result ≡ all_counts self.now.config self.now.history }
     {

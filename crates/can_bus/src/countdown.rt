@@ -5,7 +5,7 @@ ghost use Rattle.can_bus.specs.Changes.{counting_down, due_in, ticked};
 use can_frame::{Iface, IfaceSet};
 use std::marker::Model;
 
-/// How many attempts are left until each interface is restarted: 0 where it does not count.
+/// For each interface, the number of attempts until its restart; 0 if it does not count.
 #[derive(Drop)]
 pub struct Countdown {
     left: [u32; 16],
@@ -20,14 +20,15 @@ impl Model for Countdown {
 }
 
 impl Countdown {
-    /// No interface counts.
+    /// Returns a value in which no interface counts.
     pub fn new() -> Countdown
         ensures { result ≡ replicate 16 0 }
     {
         Countdown { left: [0; 16] }
     }
 
-    /// An interface that went bus off is restarted in this many attempts from now on, 0 for never.
+    /// Starts the countdown of an interface that went bus off. It restarts after this many
+    /// attempts, or never for 0.
     pub fn start(&mut self, iface: Iface, attempts: u32, is_off: bool)
         ensures { self.new ≡ counting_down attempts iface is_off self.old }
     {
@@ -36,21 +37,21 @@ impl Countdown {
         }
     }
 
-    /// An interface counts no longer.
+    /// Stops the countdown of an interface.
     pub fn stop(&mut self, iface: Iface)
         ensures { self.new ≡ slice_set self.old iface 0 }
     {
         self.left[iface.number() as usize] = 0;
     }
 
-    /// Whether an interface counts.
+    /// Returns whether an interface counts.
     pub fn is_running(&self) -> bool
         ensures { result ≡ list_any (λ n. not (n == 0)) self.now }
     {
         self.left.iter().any(|left| *left != 0)
     }
 
-    /// The interfaces that the next attempt restarts.
+    /// Returns the interfaces that the next attempt restarts.
     fn due(&self) -> IfaceSet
         ensures { result ≡ due_in self.now }
     {
@@ -63,7 +64,7 @@ impl Countdown {
         due
     }
 
-    /// One attempt less is left.
+    /// Counts one attempt for each interface that counts.
     fn tick(&mut self)
         ensures { self.new ≡ ticked self.old }
     {
@@ -72,8 +73,8 @@ impl Countdown {
         }
     }
 
-    /// Counts an attempt, and answers the interfaces that it restarts. Where the bus is made to restart none, for
-    /// 0, nothing is looked at.
+    /// Counts an attempt, and returns the interfaces that it restarts. If the bus restarts no
+    /// interface (`attempts` is 0), it does nothing.
     pub fn count(&mut self, attempts: u32) -> IfaceSet
         requires { attempts ≡ 0 → self.old ≡ replicate 16 0 }
         ensures due { result ≡ due_in self.old }

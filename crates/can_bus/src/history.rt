@@ -9,7 +9,7 @@ use std::snapshot::Snapshot;
 
 const _: () = prove!(size_of::<History>() == 0);
 
-// The entries as contracts see them: no value of this type is kept.
+// The entries as contracts see them. No value of this type is kept in memory.
 #[derive(Drop)]
 enum Chain {
     Empty,
@@ -22,7 +22,8 @@ enum Chain {
     ),
 }
 
-/// The entries of a bus, the newest first, which only contracts see: it takes no memory, and its methods do nothing.
+/// The entries of a bus, the newest first. Only contracts see them: the value takes no memory, and
+/// its methods do nothing at run time.
 #[derive(Drop)]
 pub struct History {
     chain: Snapshot<Chain>,
@@ -39,7 +40,7 @@ impl Model for History {
 }
 
 impl History {
-    /// No entries.
+    /// Returns a history without entries.
     pub fn new() -> History
         ensures { result ≡ [] }
     {
@@ -48,7 +49,7 @@ impl History {
         }
     }
 
-    /// An event was answered so.
+    /// Notes an event with its reply.
     pub fn note(&mut self, event: &Event, reply: &Reply)
         ensures { self.new ≡ entry_of event.now reply.now ∷ self.old }
     {
@@ -57,7 +58,7 @@ impl History {
         self.chain = Snapshot::of(&chain);
     }
 
-    /// A receive took an item into the room, or took none, or was refused.
+    /// Notes a receive call, which took an item into `room`, took none, or was refused.
     pub fn note_receive(&mut self, id: &SocketId, outcome: &Result<bool, Refusal>, room: &Received)
         ensures { self.new ≡ receive_entry id.now room.now outcome.now ∷ self.old }
     {

@@ -8,8 +8,8 @@ use can_queue::{BoundedQueue, QueueError};
 use std::alloc::Global;
 use std::marker::Model;
 
-/// What belongs to one interface: its transmit queue, and how many frames it took, sent away, finished
-/// and refused for want of room.
+/// The state of one interface: its transmit queue, and the numbers of frames that it took, removed,
+/// finished and refused.
 #[derive(Drop)]
 pub struct Interface<T: BoundedQueue<Pending>> {
     queue: T,
@@ -48,14 +48,14 @@ impl<T: BoundedQueue<Pending>> Interface<T> {
         })
     }
 
-    /// The frame that competes for the bus, if one waits.
+    /// Returns the frame that competes for the bus, if one waits.
     pub fn head(&self) -> Option<Pending>
         ensures { result ≡ slice_get self.now.waiting 0 }
     {
         self.queue.front().copied()
     }
 
-    /// The key by which its head competes, if a frame waits.
+    /// Returns the arbitration key of the first frame, if a frame waits.
     pub fn head_key(&self) -> Option<u32>
         ensures { result ≡ key_in (slice_get self.now.waiting 0) }
     {
@@ -65,42 +65,43 @@ impl<T: BoundedQueue<Pending>> Interface<T> {
         }
     }
 
-    /// How many frames it took: the number of the next one.
+    /// Returns the number of frames taken, which is the number of the next frame.
     pub fn sent(&self) -> u64
         ensures { result ≡ self.now.sent }
     {
         self.sent
     }
 
-    /// How many frames have left the queue: the number of its head.
+    /// Returns the number of frames that have left the queue, which is the number of the first
+    /// waiting frame.
     pub fn gone(&self) -> u64
         ensures { result ≡ self.now.gone }
     {
         self.gone
     }
 
-    /// How many frames were sent whole.
+    /// Returns the number of frames sent successfully.
     pub fn done(&self) -> u64
         ensures { result ≡ self.now.done }
     {
         self.done
     }
 
-    /// How many frames found the queue full.
+    /// Returns the number of frames that were refused because the queue was full.
     pub fn refused(&self) -> u64
         ensures { result ≡ self.now.refused }
     {
         self.refused
     }
 
-    /// How many frames wait.
+    /// Returns the number of frames that wait.
     pub fn waiting(&self) -> u64
         ensures { result ≡ length self.now.waiting }
     {
         self.queue.len() as u64
     }
 
-    /// Takes a frame, and answers its number; where there is no room it counts the frame as refused.
+    /// Queues a frame and returns its number. If the queue is full, it counts the frame as refused.
     pub fn send(&mut self, pending: Pending) -> Option<u64>
         requires sent { self.old.sent + 1 < 2 ^ 64 }
         requires refused { self.old.refused + 1 < 2 ^ 64 }
@@ -123,7 +124,7 @@ impl<T: BoundedQueue<Pending>> Interface<T> {
         }
     }
 
-    /// All that waits is lost, and has left the queue.
+    /// Loses all waiting frames; they have left the queue.
     pub fn lose_all(&mut self)
         ensures { self.new ≡ emptied self.old }
     {
@@ -131,8 +132,8 @@ impl<T: BoundedQueue<Pending>> Interface<T> {
         self.gone = self.sent;
     }
 
-    /// What an attempt with its head leaves: a finished head goes, and all that waits is lost where the
-    /// interface went bus off.
+    /// Updates the queue after an attempt with its first frame. A finished frame leaves the queue.
+    /// If the interface went bus off, all waiting frames are lost.
     pub fn finish_attempt(&mut self, class: Class, is_off: bool)
         requires gone { self.old.gone + 1 < 2 ^ 64 }
         requires done { self.old.done + 1 < 2 ^ 64 }

@@ -16,7 +16,7 @@ use can_frame::{Frame, Iface};
 use can_queue::{BoundedQueue, QueueError};
 use std::alloc::Global;
 
-/// The interfaces of a bus that begins.
+/// Returns the interfaces of a new bus.
 pub fn make<T: BoundedQueue<Pending>>(
     alloc: Global,
     count: u8,
@@ -36,7 +36,7 @@ pub fn make<T: BoundedQueue<Pending>>(
     Ok(interfaces)
 }
 
-/// Reports the arbiter which key an interface competes with, if any.
+/// Sets the arbitration key of an interface in the arbiter, or clears it.
 pub fn set_key<A: Arbiter>(arbiter: &mut A, iface: Iface, key: Option<u32>)
     ensures { A.keys_of arbiter.new ≡ slice_set (A.keys_of arbiter.old) iface key }
 {
@@ -46,7 +46,8 @@ pub fn set_key<A: Arbiter>(arbiter: &mut A, iface: Iface, key: Option<u32>)
     }
 }
 
-/// Settles what an attempt with the head of an interface leaves, and gives the arbiter its next frame.
+/// Updates an interface after an attempt with its first frame, and gives the arbiter the key of its
+/// next frame.
 pub fn finish_attempt<T: BoundedQueue<Pending>, A: Arbiter>(
     interfaces: &mut Vec<Interface<T>>,
     arbiter: &mut A,
@@ -69,7 +70,7 @@ pub fn finish_attempt<T: BoundedQueue<Pending>, A: Arbiter>(
     set_key(arbiter, iface, key);
 }
 
-/// Loses all frames that wait on an interface, which then has none that competes.
+/// Loses all frames that wait on an interface, and removes its key from the arbiter.
 pub fn lose_all<T: BoundedQueue<Pending>, A: Arbiter>(
     interfaces: &mut Vec<Interface<T>>,
     arbiter: &mut A,
@@ -119,14 +120,14 @@ impl<T: BoundedQueue<Pending>, R: BoundedQueue<Received>, A: Arbiter> State<T, R
         Ok(number)
     }
 
-    /// How many interfaces there are.
+    /// Returns the number of interfaces.
     pub fn iface_count(&self) -> usize
         ensures { result ≡ length self.now.interfaces }
     {
         self.interfaces.len()
     }
 
-    /// How many frames of an interface were lost as it went bus off or down.
+    /// Returns the number of frames of an interface that were lost when it went bus off or down.
     pub fn lost_at(&self, place: usize) -> Option<u64>
         ensures { result ≡ option_map lost_of (slice_get self.now.interfaces place) }
     {
@@ -134,7 +135,7 @@ impl<T: BoundedQueue<Pending>, R: BoundedQueue<Received>, A: Arbiter> State<T, R
         Some(interface.gone().saturating_sub(interface.done()))
     }
 
-    /// The counts of an interface.
+    /// Returns the counts of an interface.
     pub fn iface_stats(&self, iface: Iface) -> Option<IfaceStats>
         requires { All (λ l. l.done ≤ l.gone) self.now.interfaces }
         ensures { result

@@ -25,45 +25,48 @@ use can_frame::{Frame, Iface};
 use can_record::{PackedRecord, Record};
 use std::alloc::Global;
 
-/// A bus that others share. Contracts see its journal, and how many entries more it takes.
+/// A bus that others share. Contracts see its journal, and the number of entries that it still
+/// takes.
 ///
-/// Each call is what the method of the same name of `Bus` is. What `state` shows gives the calls below it.
+/// Each method does what the method of `Bus` with the same name does. The methods after `state`
+/// have default bodies that read it.
 pub trait Journaled: Drop {
-    /// Its configuration and its entries so far.
+    /// The configuration and the entries so far.
     ghost journal: { Self → Journal };
 
-    /// How many entries more it takes before some are handed out.
+    /// The number of entries that the bus takes before some have to be handed out.
     ghost places_in: { Self → ℕ };
 
-    /// The entries that it has handed out, the oldest first.
+    /// The entries that were handed out, the oldest first.
     ghost handed_out: { Self → List Entry };
 
-    /// What it leaves at its end.
+    /// The value that remains at the end of the run.
     type Left: Drop;
 
-    /// The configuration and the entries of the bus that left it.
+    /// The configuration and the entries of the bus from which this value remains.
     ghost left: { Self.Left → Journal };
 
-    /// The entries that the bus which left it had handed out.
+    /// The entries that this bus had handed out.
     ghost handed_by: { Self.Left → List Entry };
 
-    /// How many entries more it takes before some are handed out. Where there is always a place it is `usize::MAX`.
+    /// Returns the number of entries that the bus takes before some have to be handed out. It is
+    /// `usize::MAX` if there is always a place.
     fn places(&self) -> usize
         ensures { result ≡ places_in self.now };
 
-    /// How many entries there are.
+    /// Returns the number of entries.
     fn len(&self) -> u64
         ensures len { result ≡ length (journal self.now).history }
         ensures proper { IsLongConfig (journal self.now).config }
         ensures legal { IsLegal (journal self.now).config (journal self.now).history };
 
-    /// Carries out an event, and returns its reply.
+    /// Carries out an event and returns its reply.
     fn answer(&mut self, alloc: Global, event: &Event) -> Reply
         requires { 0 < places_in self.old }
         ensures answered { IsAnswered (journal self.old) event.now result (journal self.new) }
         ensures out { handed_out self.new ≡ handed_out self.old };
 
-    /// Takes the oldest item of a socket into the room, and returns whether there was one.
+    /// Takes the oldest item of a socket into `room`, and returns whether there was one.
     fn receive_into(&mut self, id: SocketId, room: &mut Received) -> Result<bool, Refusal>
         requires { 0 < places_in self.old }
         ensures answer { Answers (taken_reply room.new) (journal self.old) (event.Receive id) result
@@ -71,60 +74,61 @@ pub trait Journaled: Drop {
         ensures stays { result ≢ Ok true → room.new ≡ room.old }
         ensures out { handed_out self.new ≡ handed_out self.old };
 
-    /// Hands out the entries that were not handed out yet, in order, for an empty block, and returns how many came before
-    /// them. A bus with its whole record keeps them all: it hands out none.
+    /// Hands out the entries that were not yet handed out, in order, in exchange for an empty
+    /// block. It returns the number of entries before them. A bus that keeps its whole record hands
+    /// out no entries.
     fn hand_out(&mut self, block: &mut PackedRecord) -> u64
         requires { block.old.entries ≡ [] }
         ensures handed { HasTail (journal self.old).history block.new.entries result }
         ensures same { journal self.new ≡ journal self.old }
         ensures out { handed_out self.new ≡ handed_out self.old ++ block.new.entries };
 
-    /// What it leaves.
+    /// Returns the value that remains at the end of the run.
     fn into_left(self) -> Self::Left
         ensures left { left result ≡ journal self }
         ensures out { handed_by result ≡ handed_out self };
 
-    /// What it keeps beside its entries.
+    /// Returns the state that the bus keeps besides its entries.
     fn state(&self) -> &RingState
         ensures { IsKept (record_of (journal self.now).config (journal self.now).history)
             result.now };
 
-    /// The number of the next attempt that tries a frame.
+    /// Returns the number of the next attempt that tries a frame.
     fn next_attempt(&self) -> u64
         ensures { result ≡ length (tape (journal self.now).history) }
     {
         self.state().tried()
     }
 
-    /// The interface whose frame the next attempt tries.
+    /// Returns the interface whose frame the next attempt tries.
     fn next_winner(&self) -> Option<Iface>
         ensures { result ≡ winner (journal self.now).config (journal self.now).history }
     {
         self.state().winner()
     }
 
-    /// The interface and the frame that the next attempt tries.
+    /// Returns the interface and the frame that the next attempt tries.
     fn next_head(&self) -> Option<(Iface, Frame)>
         ensures { result ≡ next_head (journal self.now).config (journal self.now).history }
     {
         self.state().next_head()
     }
 
-    /// Whether an interface that is bus off counts the attempts until it is restarted.
+    /// Returns whether an interface that is bus off counts attempts until its restart.
     fn is_counting(&self) -> bool
         ensures { result ≡ is_counting (journal self.now).config (journal self.now).history }
     {
         self.state().is_counting()
     }
 
-    /// The error counters of all 16 places, by interface.
+    /// Returns the error counters of all 16 places, by interface.
     fn counters(&self) -> [Counters; 16]
         ensures { result ≡ all_counts (journal self.now).config (journal self.now).history }
     {
         self.state().counters()
     }
 
-    /// How many items found room on an open socket, found none, and were taken.
+    /// Returns the numbers of queued, dropped and taken items of an open socket.
     fn socket_stats(&self, id: SocketId) -> Option<SocketStats>
         ensures { result
             ≡ socket_stats_of (journal self.now).config (journal self.now).history id.0 }
@@ -132,7 +136,7 @@ pub trait Journaled: Drop {
         self.state().socket_stats(id)
     }
 
-    /// What became of the frames of an interface, and its error counters.
+    /// Returns the frame counts and the error counters of an interface.
     fn iface_stats(&self, iface: Iface) -> Option<IfaceStats>
         ensures { result
             ≡ iface_stats_of (journal self.now).config (journal self.now).history iface }
@@ -144,7 +148,7 @@ pub trait Journaled: Drop {
 impl Journaled for RingBus {
     ghost journal = { λ b. b };
 
-    // The greatest usize.
+    // The largest `usize`.
     ghost places_in = { λ b. 18446744073709551615 };
 
     ghost handed_out = { λ b. [] };

@@ -32,12 +32,13 @@ ghost use Rattle.can_event.specs.declared.attempt.Attempt.TheVariants as attempt
 
 use can_event::BusConfig;
 
-// What holds of every legal history, in the words of the field. Each body is empty: the clause is the law.
+// Laws of every legal history, in the words of the field. Each body is empty: the clause is the
+// law.
 
 // ---- the headline
 
-/// Every accepted frame, exactly: the headline holds of every legal history of a proper configuration. The
-/// laws below say its parts, and more.
+/// Every accepted frame, exactly: the headline holds for every legal history of a proper
+/// configuration. The laws below state its parts, and more.
 pub fn every_accepted_frame_exactly(config: BusConfig)
     ensures { IsLongConfig config → (past : List Entry) → IsLegal config past →
         Headline config past }
@@ -45,23 +46,23 @@ pub fn every_accepted_frame_exactly(config: BusConfig)
 
 // ---- copies
 
-/// The data frames of an interface that a socket got are, in order, one copy for each attempt of that
-/// interface whose frame came to the socket's interface while the socket was open, passed its filters and
-/// options, and found room.
+/// A socket gets the data frames of an interface in order: one copy for each attempt that copied a
+/// frame. Such an attempt happened while the socket was open, its frame reached the socket's
+/// interface, passed the socket's filters and options, and found room.
 pub fn each_copy_comes_of_one_attempt(config: BusConfig)
     ensures { (past : List Entry) → IsLegal config past → (i s : ℕ) →
         received_from config past i s ≡ map copy_of (copying config past i s) }
 {}
 
-/// The frame of each copy is the one that the sending interface accepted under the copy's number.
+/// The frame of each copy is the frame that the sending interface accepted under the copy's number.
 pub fn copies_are_of_frames_sent(config: BusConfig)
     ensures { (past : List Entry) → IsLegal config past → (i s : ℕ) →
         All (IsOfSent past i) (copying config past i s) }
 {}
 
-/// The numbers of one interface's frames never fall on a socket. Each copy comes of an attempt that was done
-/// or failed only at the last bit; of the attempts that copied one number at most one is done, and it is
-/// the last.
+/// On a socket the numbers of one interface's frames never decrease. Each copy comes from an
+/// attempt that was done or failed only at the last bit. Of the attempts that copied one number, at
+/// most one is done, and it is the last.
 pub fn copies_come_in_turn(config: BusConfig)
     ensures numbers { (past : List Entry) → IsLegal config past → (i s : ℕ) →
         NeverFall 0 (numbers_from i (queued_to config past s)) }
@@ -71,20 +72,20 @@ pub fn copies_come_in_turn(config: BusConfig)
         AllPairs InTurn (copying config past i s) }
 {}
 
-/// An attempt that failed only at the last bit of end of frame had that fault, and no other.
+/// An attempt that failed only at the last bit of end of frame had that fault and no other.
 pub fn last_bit_attempts_had_that_fault_alone(config: BusConfig)
     ensures { (past : List Entry) → IsLegal config past → All HadThatFaultAlone past }
 {}
 
-/// A number is queued to a socket as often as there are attempts that copied the frame of that number.
+/// A number is queued to a socket once for each attempt that copied the frame with that number.
 pub fn each_number_is_queued_once_for_each_attempt(config: BusConfig)
     ensures { (past : List Entry) → IsLegal config past → (i s n : ℕ) →
         count_by (λ m. m == n) (numbers_from i (queued_to config past s))
         ≡ count_by (λ (t : Tried). t.number == n) (copying config past i s) }
 {}
 
-/// A socket of the sending interface itself gets a frame only by loopback, once it is done: a number
-/// is queued there at most once.
+/// A socket of the sending interface gets a frame only by loopback, after the frame is done. So a
+/// number is queued there at most once.
 pub fn own_copies_are_single(config: BusConfig)
     ensures done { (past : List Entry) → IsLegal config past → (s : ℕ) →
         All (λ t. t.class ≡ class.Done) (copying config past (iface_of past s) s) }
@@ -93,10 +94,11 @@ pub fn own_copies_are_single(config: BusConfig)
         (copying config past (iface_of past s) s) }
 {}
 
-/// On a bus of proper configuration a frame reaches a socket at most 32 times. While it is at the head of its
-/// queue the transmit error count of its interface never falls, and each attempt that failed at the last bit
-/// alone adds 8: by the 32nd the interface is bus off, and the frame lost. Restarts leave the bound as it is: an interface
-/// that is restarted was bus off or down, so it had no frame at the head.
+/// On a bus with a proper configuration, a frame reaches a socket at most 32 times. While the frame
+/// is first in its queue, the transmit error count of its interface never decreases. Each attempt
+/// that failed only at the last bit adds 8. By the 32nd such attempt the interface is bus off, and
+/// the frame is lost. Restarts do not change the bound: a restarted interface was bus off or down,
+/// so it had no frame in its queue.
 pub fn at_most_32_copies(config: BusConfig)
     ensures copies { IsLongConfig config → (past : List Entry) → IsLegal config past →
         AtMost32Copies config past }
@@ -108,15 +110,16 @@ pub fn at_most_32_copies(config: BusConfig)
 
 // ---- frames
 
-/// Each frame that was accepted for sending is done, waits, or was lost as its interface went bus off or down.
+/// Each frame accepted for sending is done, waits, or was lost when its interface went bus off or
+/// down.
 pub fn no_frame_is_forgotten(config: BusConfig)
     ensures { (past : List Entry) → IsLegal config past → (i : ℕ) →
         length (sent_by past i)
         ≡ done_count past i + (length (sent_by past i) - gone_count past i) + lost_count past i }
 {}
 
-/// Each frame that was accepted for sending has one fate, and the counts of an interface are how many
-/// frames have each.
+/// Each frame accepted for sending has one fate. The counts of an interface are the numbers of
+/// frames with each fate.
 pub fn counts_are_those_of_the_fates(config: BusConfig)
     ensures waiting { (past : List Entry) → IsLegal config past → (i : ℕ) →
         frames_with Waiting past i ≡ length (sent_by past i) - gone_count past i }
@@ -126,7 +129,8 @@ pub fn counts_are_those_of_the_fates(config: BusConfig)
         frames_with Lost past i ≡ lost_count past i }
 {}
 
-/// Frames are lost where their interface goes bus off or down, all that wait there, and nowhere else.
+/// Frames are lost only when their interface goes bus off or down, and then all its waiting frames
+/// are lost.
 pub fn only_silence_loses_frames(config: BusConfig)
     ensures kept { (past : List Entry) → (e : Entry) → (i : ℕ) →
         goes_silent i e.event e.reply ≡ false → lost_count (e ∷ past) i ≡ lost_count past i }
@@ -138,8 +142,8 @@ pub fn only_silence_loses_frames(config: BusConfig)
 
 // ---- items
 
-/// An item that is offered to a socket is queued exactly where fewer were queued before it than the socket's
-/// capacity and the items taken by then; each other one is dropped.
+/// A socket queues an offered item exactly if it queued fewer items before than its capacity plus
+/// the items taken by then. It drops every other item.
 pub fn items_find_room_in_turn(config: BusConfig)
     ensures offered { (past : List Entry) → (s : ℕ) →
         map (λ (o : Offer). o.item) (offers_to config past s) ≡ candidates_for config past s }
@@ -149,8 +153,8 @@ pub fn items_find_room_in_turn(config: BusConfig)
         dropped_at config past s ≡ without_room (capacity_of past s) 0 (offers_to config past s) }
 {}
 
-/// As counts, what is offered to a socket is queued or dropped, and what is queued is taken or left unread
-/// at its close, which reports both counts.
+/// Each item offered to a socket is queued or dropped. Each queued item is taken, or is unread at
+/// the close of the socket. The close reports the unread and the dropped items.
 pub fn each_item_is_counted(config: BusConfig)
     ensures offered { (past : List Entry) → (s : ℕ) →
         length (candidates_for config past s)
@@ -162,13 +166,13 @@ pub fn each_item_is_counted(config: BusConfig)
         IsLegal config (closing s k ∷ past) → k.dropped ≡ length (dropped_at config past s.0) }
 {}
 
-/// The items that receive gave are the first that were queued, in order.
+/// Receive calls return the first queued items, in order.
 pub fn items_are_taken_in_order(config: BusConfig)
     ensures { (past : List Entry) → IsLegal config past → (s : ℕ) →
         taken_from past s ≡ take (length (taken_from past s)) (queued_to config past s) }
 {}
 
-/// No queue ever holds more than it may: neither a socket's nor an interface's.
+/// No queue of a socket or an interface exceeds its capacity.
 pub fn queues_stay_within_their_capacity(config: BusConfig)
     ensures receive { (past : List Entry) → IsLegal config past → (s : ℕ) →
         length (queued_to config past s) - length (taken_from past s)
@@ -179,7 +183,7 @@ pub fn queues_stay_within_their_capacity(config: BusConfig)
 
 // ---- sockets
 
-/// Nothing is queued to a socket before its open, nor after its close, whatever comes later.
+/// No item is queued to a socket before its open or after its close.
 pub fn only_open_sockets_receive(config: BusConfig)
     ensures before { (past : List Entry) → (i capacity : ℕ) → (s : SocketId) →
         IsLegal config (opening i capacity s ∷ past) → queued_to config past s.0 ≡ [] }
@@ -193,7 +197,7 @@ pub fn few_sockets_are_open(config: BusConfig)
     ensures { (past : List Entry) → IsLegal config past → length (open_sockets past) ≤ 64 }
 {}
 
-/// Sockets are numbered 0, 1, 2 and so on as they are opened, so no number is used again.
+/// Sockets get the numbers 0, 1, 2 and so on as they are opened, so no number is used twice.
 pub fn socket_numbers_are_never_used_again(config: BusConfig)
     ensures { (past : List Entry) → IsLegal config past →
         numbers_given past ≡ range_with_len 0 (length (places past)) }
@@ -201,7 +205,8 @@ pub fn socket_numbers_are_never_used_again(config: BusConfig)
 
 // ---- interfaces
 
-/// An interface that is bus off or down has no frame waiting: all that was accepted there is gone.
+/// An interface that is bus off or down has no waiting frame: all its accepted frames have left the
+/// queue.
 pub fn silent_interfaces_have_nothing_to_send(config: BusConfig)
     ensures gone { IsLongConfig config → (past : List Entry) → IsLegal config past → (i : ℕ) →
         is_silent (state_at config past i) ≡ true →
@@ -210,9 +215,9 @@ pub fn silent_interfaces_have_nothing_to_send(config: BusConfig)
         is_silent (state_at config past i) ≡ true → head_of past i ≡ None }
 {}
 
-/// An interface that is bus off or down takes part in no attempt, and a frame sent on one of its sockets is
-/// refused: an FD frame that the socket did not ask for as on any interface, the others for it. Its
-/// error counts stay until it is restarted.
+/// An interface that is bus off or down takes part in no attempt. A frame sent on one of its
+/// sockets is refused as `BusOff` or `Down`, or as `FdOff` if it is an FD frame and the socket has
+/// not enabled FD frames. Its error counts stay the same until a restart.
 pub fn silent_interfaces_take_no_part(config: BusConfig)
     ensures wins { (past : List Entry) → (m : ℕ) → (v : Verdict) → (t : Tried) →
         reply.Attempted (attempt.Tried t) ≡ legal_reply config past (event.Attempt m v) → (i : ℕ) →
@@ -237,8 +242,8 @@ pub fn silent_interfaces_take_no_part(config: BusConfig)
         counts_of config (e ∷ past) i ≡ counts_of config past i }
 {}
 
-/// Going down keeps the error counts of an interface, and it stays down until it is restarted by hand: no attempt restarts
-/// it.
+/// Taking an interface down keeps its error counts. The interface stays down until it is restarted
+/// by hand: no attempt restarts it.
 pub fn down_interfaces_stay_down(config: BusConfig)
     ensures goes { (past : List Entry) → (e : Entry) → (i : ℕ) →
         is_taken_down i e.event e.reply ≡ true →
@@ -250,7 +255,7 @@ pub fn down_interfaces_stay_down(config: BusConfig)
         is_down (state_at config past i) ≡ true → is_in i (restarted_next config past) ≡ false }
 {}
 
-/// An attempt tries the frame that was next, of the interface that had it, and is idle where there was none.
+/// An attempt tries the next frame of the next interface, and is idle if there is none.
 pub fn attempts_try_what_is_next(config: BusConfig)
     ensures tried { (past : List Entry) → (m : ℕ) → (v : Verdict) → (t : Tried) →
         reply.Attempted (attempt.Tried t) ≡ legal_reply config past (event.Attempt m v) →
@@ -261,7 +266,7 @@ pub fn attempts_try_what_is_next(config: BusConfig)
         ≡ reply.Attempted (attempt.Idle (restarted_next config past)) }
 {}
 
-/// Nothing is sent on an interface that is not there, and its error counts stay 0/0.
+/// An interface that does not exist sends no frame, and its error counts stay 0/0.
 pub fn no_interface_beyond_the_last(config: BusConfig)
     ensures sent { (past : List Entry) → IsLegal config past → (i : ℕ) →
         config.ifaces ≤ i → sent_by past i ≡ [] }

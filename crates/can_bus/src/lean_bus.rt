@@ -14,11 +14,11 @@ use can_queue::{BoundedQueue, RingQueue};
 use std::alloc::Global;
 use std::marker::Model;
 
-/// A bus that keeps no record: it answers each event as a bus does that had the same ones, and is for those who
-/// have the entries elsewhere, as the text of a record that is audited.
+/// A bus without a record. It answers each event as a `Bus` with the same events does. It serves
+/// callers that have the entries elsewhere, such as the audit of a record's text.
 ///
-/// Contracts name the entries so far, the newest first, as `past`. `new` takes memory for the transmit queues and the
-/// places of 64 sockets, and none for a record.
+/// Contracts name the entries so far, the newest first, as `past`. `new` takes memory for the
+/// transmit queues and the places of 64 sockets, but none for a record.
 #[derive(Drop)]
 pub struct LeanBus<T: BoundedQueue<Pending>, R: BoundedQueue<Received>, A: Arbiter> {
     config: BusConfig,
@@ -26,7 +26,7 @@ pub struct LeanBus<T: BoundedQueue<Pending>, R: BoundedQueue<Received>, A: Arbit
     state: State<T, R, A>,
 }
 
-/// The lean bus of the program: rings for its queues.
+/// The lean bus of the program, with ring buffers as queues.
 pub type LeanRingBus = LeanBus<RingQueue<Pending>, RingQueue<Received>, IndexArbiter>;
 
 impl<T: BoundedQueue<Pending>, R: BoundedQueue<Received>, A: Arbiter> Model for LeanBus<T, R, A> {
@@ -41,7 +41,7 @@ impl<T: BoundedQueue<Pending>, R: BoundedQueue<Received>, A: Arbiter> Model for 
 }
 
 impl<T: BoundedQueue<Pending>, R: BoundedQueue<Received>, A: Arbiter> LeanBus<T, R, A> {
-    /// A bus on which nothing was done.
+    /// Returns a bus without events.
     pub fn new(alloc: Global, config: BusConfig) -> Result<LeanBus<T, R, A>, BusFault>
         ensures made { IfOk result (λ b. IsAfter b []) }
         ensures config { IfOk result (λ b. b.config ≡ config) }
@@ -61,17 +61,18 @@ impl<T: BoundedQueue<Pending>, R: BoundedQueue<Received>, A: Arbiter> LeanBus<T,
         })
     }
 
-    /// What its entries left.
+    /// Returns the state after its entries.
     pub fn state(&self) -> &State<T, R, A>
         ensures { result.now ≡ self.now.parts }
     {
         &self.state
     }
 
-    /// Carries out one event, and answers its reply: `RecordFull` where there were as many entries as the limit
-    /// allows, and `NoMemory` where memory was refused to `open` or `set_filters`. Neither changes anything.
+    /// Carries out one event and returns its reply. It returns `RecordFull` if the limit of entries
+    /// is reached, and `NoMemory` if `open` or `set_filters` gets no memory. Neither of these
+    /// replies changes anything.
     ///
-    /// It costs what the call on a bus costs.
+    /// The cost is that of the call on a bus.
     pub fn answer(&mut self, alloc: Global, event: &Event) -> Reply
         ensures answer { (past : List AnEntry) → IsAfter self.old past →
             IsAnswer self.old.config past event.now result }

@@ -1,9 +1,9 @@
-//! A simulated CAN bus: interfaces with transmit queues, sockets with receive queues, and the record of
-//! all that was done.
+//! A simulated CAN bus: interfaces with transmit queues, sockets with receive queues, and the
+//! record of all events.
 //!
-//! Each call is one event. Its reply is fixed by the events before it: `specs/Legal.antt` says which
-//! reply that is, by filtering and counting the one list of entries, and each call is proved to give it.
-//! `run` carries that over every list of events.
+//! Each call is one event, and the events before it fix its reply. `specs/Legal.antt` defines that
+//! reply by filtering and counting the list of entries, and each call is proved to return it. `run`
+//! extends this to every list of events.
 #![tactic(auto)]
 
 pub mod attempted;

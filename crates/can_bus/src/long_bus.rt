@@ -22,17 +22,19 @@ use std::alloc::Global;
 use std::marker::Model;
 use std::mem;
 
-/// How many entries the tail of a long run's bus holds.
+/// The number of entries that the tail of a long run's bus holds.
 pub const TAIL_SIZE: u32 = 262_144;
 
-/// The bus of a long run: it answers each event as a `Bus` does that had the same ones, and keeps in memory only the
-/// entries that were not handed out yet, its tail.
+/// The bus of a long run. It answers each event as a `Bus` with the same events does. Its memory
+/// holds only its tail, the entries that were not yet handed out.
 ///
-/// Who takes entries lends an empty block for those that it gets, and the block is the tail from then on. A call needs a
-/// place in the tail (`places`): that it is full is never a refusal. Contracts see the configuration, the whole history,
-/// how many of its entries were handed out, and how many the tail has memory for.
+/// A caller that takes entries lends an empty block in exchange for them, and that block becomes
+/// the tail. A call needs a place in the tail (`places`); a full tail is never a reason to refuse.
+/// Contracts see the configuration, the whole history, the number of entries handed out, and the
+/// capacity of the tail.
 ///
-/// `new` reserves the tail, of 32 bytes an entry and 76 for its FD frame, the transmit queues and the places of 64 sockets.
+/// `new` reserves the tail (32 bytes per entry and 76 for its FD frame), the transmit queues and
+/// the places of 64 sockets.
 #[derive(Drop)]
 pub struct LongBus<T: BoundedQueue<Pending>, R: BoundedQueue<Received>, A: Arbiter> {
     alloc: Global,
@@ -43,7 +45,7 @@ pub struct LongBus<T: BoundedQueue<Pending>, R: BoundedQueue<Received>, A: Arbit
     handed: u64,
 }
 
-/// The long run's bus of the program: rings for its queues.
+/// The long run's bus of the program, with ring buffers as queues.
 pub type LongRingBus = LongBus<RingQueue<Pending>, RingQueue<Received>, IndexArbiter>;
 
 impl<T: BoundedQueue<Pending>, R: BoundedQueue<Received>, A: Arbiter> Model for LongBus<T, R, A> {
@@ -62,7 +64,8 @@ impl<T: BoundedQueue<Pending>, R: BoundedQueue<Received>, A: Arbiter> Model for 
 }
 
 impl<T: BoundedQueue<Pending>, R: BoundedQueue<Received>, A: Arbiter> LongBus<T, R, A> {
-    /// A bus on which nothing was done, whose tail holds this many entries: `TAIL_SIZE`, but for tests.
+    /// Returns a bus without events whose tail holds this many entries. Only tests use another
+    /// number than `TAIL_SIZE`.
     pub fn new(alloc: Global, config: BusConfig, size: u32) -> Result<LongBus<T, R, A>, BusFault>
         ensures made { IfOk result (λ b. journal_of b ≡ record { config = config; history = [] }) }
         ensures tail { IfOk result (λ b. (b.handed ≡ 0) × (size ≤ b.room)) }
@@ -86,14 +89,14 @@ impl<T: BoundedQueue<Pending>, R: BoundedQueue<Received>, A: Arbiter> LongBus<T,
         })
     }
 
-    /// What the bus was made with.
+    /// Returns the configuration of the bus.
     pub fn config(&self) -> BusConfig
         ensures { result ≡ self.now.config }
     {
         self.config
     }
 
-    /// How many entries there are, those that were handed out included.
+    /// Returns the number of entries, including those that were handed out.
     pub fn len(&self) -> u64
         ensures len { result ≡ length self.now.history }
         ensures proper { IsLongConfig self.now.config }
@@ -103,28 +106,28 @@ impl<T: BoundedQueue<Pending>, R: BoundedQueue<Received>, A: Arbiter> LongBus<T,
         self.handed + self.tail.len() as u64
     }
 
-    /// What it keeps beside its entries.
+    /// Returns the state that the bus keeps besides its entries.
     pub(crate) fn state(&self) -> &State<T, R, A>
         ensures { IsKept (record_of self.now.config self.now.history) result.now }
     {
         &self.state
     }
 
-    /// How many entries more the tail takes.
+    /// Returns the number of entries that the tail still takes.
     pub fn places(&self) -> usize
         ensures { result ≡ places_left self.now }
     {
         self.tail.room().saturating_sub(self.tail.len())
     }
 
-    // Whether there are as many entries as the limit allows.
+    // Returns whether the limit of entries is reached.
     fn is_full(&self) -> bool
         ensures { IsTrue result ↔ (self.now.config.limit ≤ length self.now.history) }
     {
         self.len() >= u64::from(self.config.limit)
     }
 
-    /// Carries out an event, and returns its reply, as `Bus::answer` does.
+    /// Carries out an event and returns its reply, as `Bus::answer` does.
     pub fn answer(&mut self, alloc: Global, event: &Event) -> Reply
         requires { HasPlace self.old }
         ensures answered { IsAnswered (journal_of self.old) event.now result (journal_of self.new) }
@@ -146,7 +149,8 @@ impl<T: BoundedQueue<Pending>, R: BoundedQueue<Received>, A: Arbiter> LongBus<T,
         reply
     }
 
-    // Sets the filters of a socket where there is room: all memory is taken before anything changes.
+    // Sets the filters of a socket if there is room: it takes all memory before it changes
+    // anything.
     #[inline(never)]
     fn answer_filters(&mut self, alloc: Global, id: SocketId, filters: &FilterSet) -> Reply
         requires place { HasPlace self.old }
@@ -169,7 +173,7 @@ impl<T: BoundedQueue<Pending>, R: BoundedQueue<Received>, A: Arbiter> LongBus<T,
         reply
     }
 
-    /// Takes the oldest item of a socket into the room, as `Bus::receive_into` does.
+    /// Takes the oldest item of a socket into `room`, as `Bus::receive_into` does.
     pub fn receive_into(&mut self, id: SocketId, room: &mut Received) -> Result<bool, Refusal>
         requires { HasPlace self.old }
         ensures answer { Answers (taken_reply room.new) (journal_of self.old) (event.Receive id)
@@ -187,9 +191,10 @@ impl<T: BoundedQueue<Pending>, R: BoundedQueue<Received>, A: Arbiter> LongBus<T,
         outcome
     }
 
-    /// Hands out the entries that were not handed out yet, in order, for an empty block, which is the tail from then on.
+    /// Hands out the entries that were not yet handed out, in order, in exchange for an empty
+    /// block. That block becomes the tail.
     ///
-    /// It costs nothing but two pointers. No memory is taken.
+    /// It only swaps two pointers, and takes no memory.
     pub fn take_entries(&mut self, block: &mut PackedRecord)
         requires { block.old.entries ≡ [] }
         ensures handed { HandsOut self.old block.old.room block.new.entries self.new }
@@ -201,7 +206,7 @@ impl<T: BoundedQueue<Pending>, R: BoundedQueue<Received>, A: Arbiter> LongBus<T,
         self.handed = handed;
     }
 
-    /// What is left at the end of a run: the entries that were not handed out.
+    /// Returns the rest at the end of a run: the entries that were not handed out.
     pub fn into_left(self) -> LongEnd
         ensures { result ≡ self }
     {
@@ -222,7 +227,8 @@ impl<T: BoundedQueue<Pending>, R: BoundedQueue<Received>, A: Arbiter> LongBus<T,
     }
 }
 
-/// What is left of a long run's bus: its last entries, those that were not handed out. Contracts see it as the bus.
+/// The rest of a long run's bus: its last entries, which were not handed out. Contracts see it as
+/// the bus.
 #[derive(Drop)]
 pub struct LongEnd {
     config: BusConfig,
@@ -247,7 +253,7 @@ impl Model for LongEnd {
 }
 
 impl LongEnd {
-    /// What the bus was made with.
+    /// Returns the configuration of the bus.
     pub fn config(&self) -> BusConfig
         ensures config { result ≡ self.now.config }
         ensures proper { IsLongConfig result }
@@ -255,21 +261,22 @@ impl LongEnd {
         self.config
     }
 
-    /// How many entries the bus had.
+    /// Returns the number of entries of the bus.
     pub fn len(&self) -> u64
         ensures { result ≡ length self.now.history }
     {
         self.handed + self.tail.len() as u64
     }
 
-    /// How many entries were handed out before the end.
+    /// Returns the number of entries that were handed out before the end.
     pub fn handed(&self) -> u64
         ensures { result ≡ self.now.handed }
     {
         self.handed
     }
 
-    /// The entries that were not handed out, in order: they are the last of a legal history.
+    /// Returns the entries that were not handed out, in order. They are the last entries of a legal
+    /// history.
     pub fn entries(&self) -> &PackedRecord
         ensures entries { result.now.entries ≡ held_back self.now }
         ensures legal { IsLegal self.now.config self.now.history }

@@ -33,7 +33,8 @@ fn post_error<R: BoundedQueue<Received>>(
     }
 }
 
-/// Posts the frame that was tried to a socket, if it is to have it; `pending` is the frame as it waited.
+/// Posts the tried frame to a socket, if its interface gets the frame; `pending` is the frame as it
+/// was queued.
 fn post_frame_to<R: BoundedQueue<Received>>(
     socket: &mut Socket<R>,
     tried: &Tried,
@@ -49,7 +50,8 @@ fn post_frame_to<R: BoundedQueue<Received>>(
     }
 }
 
-/// Posts the frame that was tried to every socket that is to have it; `pending` is the frame as it waited.
+/// Posts the tried frame to every socket whose interface gets it; `pending` is the frame as it was
+/// queued.
 fn post_frame<R: BoundedQueue<Received>>(
     sockets: &mut [Socket<R>],
     tried: &Tried,
@@ -64,8 +66,8 @@ fn post_frame<R: BoundedQueue<Received>>(
     }
 }
 
-/// Posts to a socket the error message frames of an attempt: of its fault, where the socket's interface is reporting,
-/// and of a change of state.
+/// Posts the error message frames of an attempt to a socket: for its fault, if the socket's
+/// interface reports faults, and for a change of state.
 fn post_faults_to<R: BoundedQueue<Received>>(
     socket: &mut Socket<R>,
     attempted: &Attempted,
@@ -97,8 +99,8 @@ fn post_faults<R: BoundedQueue<Received>>(
     }
 }
 
-/// Posts all items of an attempt to every socket; `pending` is the frame as it waited. Where nothing could go wrong
-/// (`is_fault_free`), nobody looks for faults.
+/// Posts all items of an attempt to every socket; `pending` is the frame as it was queued. If
+/// `is_fault_free` holds, it does not look for faults.
 pub fn post_attempt<R: BoundedQueue<Received>>(
     sockets: &mut [Socket<R>],
     attempted: &Attempted,
@@ -119,7 +121,7 @@ pub fn post_attempt<R: BoundedQueue<Received>>(
     }
 }
 
-/// Posts the restart of an interface to every socket of it.
+/// Posts the restart of an interface to every socket on it.
 pub fn post_restart<R: BoundedQueue<Received>>(
     sockets: &mut [Socket<R>],
     iface: Iface,
@@ -131,7 +133,7 @@ pub fn post_restart<R: BoundedQueue<Received>>(
     post_restarts(sockets, IfaceSet::empty().with(iface), moment)
 }
 
-/// Posts its restart to a socket, if its interface is among these.
+/// Posts a restart to a socket, if its interface is in this set.
 fn post_restarts_to<R: BoundedQueue<Received>>(
     socket: &mut Socket<R>,
     restarted: IfaceSet,
@@ -145,7 +147,7 @@ fn post_restarts_to<R: BoundedQueue<Received>>(
     }
 }
 
-/// Posts the restarts of these interfaces by an attempt to every socket of them.
+/// Posts the restarts of these interfaces by an attempt to every socket on them.
 pub fn post_restarts<R: BoundedQueue<Received>>(
     sockets: &mut [Socket<R>],
     restarted: IfaceSet,

@@ -11,7 +11,7 @@ use can_queue::BoundedQueue;
 use std::alloc::Global;
 use thiserror::Error;
 
-/// Why no event of a list was done.
+/// Why a list of events was not carried out.
 #[derive(Debug, Clone, Copy, PartialEq, Eq, Error)]
 pub enum RunFault {
     /// Memory for the list of replies was refused.
@@ -19,7 +19,7 @@ pub enum RunFault {
     NoMemory,
 }
 
-/// Adds a reply where there is room for it.
+/// Adds a reply to a list with room for it.
 fn note(replies: &mut Vec<Reply>, reply: Reply)
     requires { vec_len replies.old < vec_capacity replies.old }
     ensures items { replies.new.items ≡ replies.old.items ++ reply ∷ [] }
@@ -30,18 +30,19 @@ fn note(replies: &mut Vec<Reply>, reply: Reply)
     let _ = replies.push(reply);
 }
 
-/// Carries out events in order, and answers each one's reply.
+/// Carries out events in order, and returns the reply of each.
 ///
-/// The record is a legal history before and after, the entries added are the events with these replies,
-/// but for those that were refused for a full record or for want of memory, and each reply is the one that
-/// the entries before it allow. `RunFault` comes before the first event, and then nothing was done.
+/// The record is a legal history before and after. The added entries are the events with these
+/// replies, except for events that were refused for a full record or for lack of memory. Each reply
+/// is the one that the entries before it require. `RunFault` comes before the first event, so
+/// nothing was done.
 ///
-/// Every accepted frame, exactly: so for every list of events, the data frames queued to a socket from each
-/// sending interface are, in order sent, exactly those that its interface accepted while the socket was
-/// open (or, on the sender's own interface, looped back once done), that passed its filters and options and
-/// found room, each once, and again only for each attempt whose sole fault was the last bit of end of
-/// frame; every lost frame is counted; nothing is queued after close. `specs/Headline.antt` says it part by
-/// part.
+/// Every accepted frame, exactly: for every list of events, the data frames queued to a socket from
+/// each sending interface are, in order sent, exactly those that its interface accepted while the
+/// socket was open (or, on the sender's own interface, looped back once done), that passed its
+/// filters and options and found room. Each is queued once, and again only for each attempt whose
+/// sole fault was the last bit of end of frame. Every lost frame is counted. Nothing is queued
+/// after close. `specs/Headline.antt` states each part.
 pub fn run<T: BoundedQueue<Pending>, R: BoundedQueue<Received>, A: Arbiter>(
     bus: &mut Bus<T, R, A>,
     alloc: Global,
@@ -59,7 +60,7 @@ pub fn run<T: BoundedQueue<Pending>, R: BoundedQueue<Received>, A: Arbiter>(
     ensures headline { Headline bus.new.config bus.new.history }
     ensures err { OnErr result (bus.new ≡ bus.old) }
 {
-    // Looking at the record shows the proof that it is a legal history, before and after.
+    // Reading the record shows the prover that it is a legal history, before and after.
     let _before = bus.record().len();
     let Ok(mut replies) = Vec::with_capacity(alloc, events.len()) else {
         return Err(RunFault::NoMemory);

@@ -81,7 +81,7 @@ impl<R: BoundedQueue<Received>> Socket<R> {
         self.options
     }
 
-    /// Whether the frame is an FD frame, and the option for such is off.
+    /// Returns whether the frame is an FD frame and the socket has not enabled FD frames.
     pub fn lacks_fd(&self, frame: &Frame) -> bool
         ensures { result ≡ lacks_fd frame.now self.now.options }
     {
@@ -94,7 +94,7 @@ impl<R: BoundedQueue<Received>> Socket<R> {
         self.taken
     }
 
-    /// Puts other filters in place of its own.
+    /// Replaces the filters of the socket.
     pub fn set_filters(&mut self, filters: FilterSet)
         ensures { self.new ≡ record self.old { filters = filters } }
     {
@@ -108,7 +108,7 @@ impl<R: BoundedQueue<Received>> Socket<R> {
         self.options = option.set_in(self.options);
     }
 
-    /// Takes the oldest item into the room, if there is one. Returns whether there was.
+    /// Takes the oldest item into `room`, if there is one, and returns whether there was one.
     pub fn receive_into(&mut self, room: &mut Received) -> bool
         requires { self.old.taken + 1 < 2 ^ 64 }
         ensures taken { taken_item room.new result ≡ slice_get self.old.waiting 0 }
@@ -124,7 +124,7 @@ impl<R: BoundedQueue<Received>> Socket<R> {
         true
     }
 
-    /// How many items wait, and how many found no room.
+    /// Returns the number of waiting items and of dropped items.
     pub fn counts(&self) -> Closed
         ensures { result ≡ record { unread = length self.now.waiting; dropped = self.now.dropped } }
     {
@@ -134,7 +134,8 @@ impl<R: BoundedQueue<Received>> Socket<R> {
         }
     }
 
-    /// Takes an item that it wants, or counts it as dropped where there is no room.
+    /// Queues an item that passes the filters and options, or counts it as dropped if the queue is
+    /// full.
     pub fn post(&mut self, received: &Received, sender: Option<SocketId>)
         requires { self.old.dropped + 1 < 2 ^ 64 }
         ensures { self.new ≡ offered (post_of received.now sender ∷ []) self.old }
@@ -152,7 +153,7 @@ impl<R: BoundedQueue<Received>> Socket<R> {
 }
 
 impl Socket<RingQueue<Received>> {
-    /// The item that waits with this many before it.
+    /// Returns the waiting item at this place.
     pub fn item_at(&self, place: usize) -> Option<&Received>
         ensures { option_copied result ≡ slice_get self.now.waiting place }
     {

@@ -18,7 +18,7 @@ use can_queue::{BoundedQueue, RingQueue};
 use can_record::receive_reply;
 use std::alloc::Global;
 
-/// The place of a socket: that of its number, as long as none before it was closed.
+/// Finds the place of a socket: it equals its number until an earlier socket is closed.
 pub fn find<R: BoundedQueue<Received>>(sockets: &[Socket<R>], id: SocketId) -> Option<usize>
     ensures found { IfSome result (λ k.
         IsSomeAnd (slice_get sockets.now k) (λ v. v.number ≡ id.0)) }
@@ -74,7 +74,8 @@ impl<T: BoundedQueue<Pending>, R: BoundedQueue<Received>, A: Arbiter> State<T, R
         Reply::Closed(socket.counts())
     }
 
-    /// Sets the filters of a socket to a copy of these, for which memory is taken before the socket is looked up.
+    /// Sets the filters of a socket to a copy of these. It takes memory before it looks up the
+    /// socket.
     pub(crate) fn set_filters(&mut self, alloc: Global, id: SocketId, filters: &FilterSet) -> Reply
         ensures { Refilters self.old id.0 filters.now result self.new }
     {
@@ -102,7 +103,8 @@ impl<T: BoundedQueue<Pending>, R: BoundedQueue<Received>, A: Arbiter> State<T, R
         Reply::Done
     }
 
-    /// Takes the oldest item of a socket into the room, if there is one. Returns whether there was.
+    /// Takes the oldest item of a socket into `room`, if there is one, and returns whether there
+    /// was one.
     pub(crate) fn receive_into(
         &mut self,
         id: SocketId,
@@ -129,14 +131,15 @@ impl<T: BoundedQueue<Pending>, R: BoundedQueue<Received>, A: Arbiter> State<T, R
         receive_reply(outcome, &room)
     }
 
-    /// How many sockets are open.
+    /// Returns the number of open sockets.
     pub fn open_count(&self) -> usize
         ensures { result ≡ length self.now.sockets }
     {
         self.sockets.len()
     }
 
-    /// The number of the open socket with this many before it, and how many items wait there and found no room.
+    /// Returns the number of the open socket at this place, with the number of its waiting and of
+    /// its dropped items.
     pub fn socket_at(&self, place: usize) -> Option<(SocketId, Closed)>
         ensures { result ≡ option_map numbered_counts (slice_get self.now.sockets place) }
     {
@@ -144,7 +147,7 @@ impl<T: BoundedQueue<Pending>, R: BoundedQueue<Received>, A: Arbiter> State<T, R
         Some((SocketId(socket.number()), socket.counts()))
     }
 
-    /// The counts of an open socket.
+    /// Returns the counts of an open socket.
     pub fn socket_stats(&self, id: SocketId) -> Option<SocketStats>
         requires { All (λ v. v.taken + length v.waiting < 2 ^ 64) self.now.sockets }
         ensures { ReportsSocket self.now.sockets id.0 result }
@@ -164,7 +167,7 @@ impl<T: BoundedQueue<Pending>, R: BoundedQueue<Received>, A: Arbiter> State<T, R
 }
 
 impl<T: BoundedQueue<Pending>, A: Arbiter> State<T, RingQueue<Received>, A> {
-    /// The item with this many before it that waits on the open socket with that many before it.
+    /// Returns the waiting item at place `place` on the open socket at place `before`.
     pub fn item_at(&self, place: usize, before: usize) -> Option<&Received>
         ensures { option_copied result ≡ slice_get (waiting_at self.now.sockets place) before }
     {

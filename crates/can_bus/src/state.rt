@@ -21,28 +21,28 @@ use can_record::sent_reply;
 use std::alloc::Global;
 use std::marker::Model;
 
-/// What a bus keeps beside its record, so that no call has to look through the entries.
+/// The state that a bus keeps besides its record, so that no call has to search the entries.
 ///
 /// There is always room for 64 sockets.
 #[derive(Drop)]
 pub struct State<T: BoundedQueue<Pending>, R: BoundedQueue<Received>, A: Arbiter> {
     /// The interfaces, by number.
     pub(crate) interfaces: Vec<Interface<T>>,
-    /// By which keys they set_key.
+    /// The arbitration keys of the interfaces.
     pub(crate) arbiter: A,
-    /// Their error counters.
+    /// The error counters of the interfaces.
     pub(crate) nodes: Nodes,
-    /// How many attempts are left until each of them is restarted.
+    /// The number of attempts until the restart of each interface.
     pub(crate) countdown: Countdown,
-    /// The open sockets, by rising number.
+    /// The open sockets, by increasing number.
     pub(crate) sockets: Vec<Socket<R>>,
-    /// How many sockets were ever opened: the number of the next one.
+    /// The number of sockets ever opened, which is the number of the next socket.
     pub(crate) opened: u32,
-    /// How many frames were tried: the number of the next attempt.
+    /// The number of frames tried, which is the number of the next attempt.
     pub(crate) tried: u64,
 }
 
-/// What the buses of the program keep: rings for its queues.
+/// The state of the program's buses, with ring buffers as queues.
 pub type RingState = State<RingQueue<Pending>, RingQueue<Received>, IndexArbiter>;
 
 impl<T: BoundedQueue<Pending>, R: BoundedQueue<Received>, A: Arbiter> Model for State<T, R, A> {
@@ -65,7 +65,7 @@ impl<T: BoundedQueue<Pending>, R: BoundedQueue<Received>, A: Arbiter> Model for 
 }
 
 impl<T: BoundedQueue<Pending>, R: BoundedQueue<Received>, A: Arbiter> State<T, R, A> {
-    /// The state of a bus on which nothing was done.
+    /// Returns the state of a bus without events.
     pub(crate) fn new(alloc: Global, config: BusConfig) -> Result<State<T, R, A>, QueueError>
         ensures { IfOk result (λ s. s ≡ kept_parts config []) }
     {
@@ -85,9 +85,10 @@ impl<T: BoundedQueue<Pending>, R: BoundedQueue<Received>, A: Arbiter> State<T, R
         })
     }
 
-    /// Carries out an event where the record has room for one more entry, and returns its reply.
+    /// Carries out an event if the record has room for one more entry, and returns its reply.
     ///
-    /// Only `Open` and `SetFilters` take memory. Where it was refused the reply is `NoMemory`, and nothing has changed.
+    /// Only `Open` and `SetFilters` take memory. If memory is refused, the reply is `NoMemory` and
+    /// nothing has changed.
     pub(crate) fn answer(&mut self, alloc: Global, config: BusConfig, event: &Event) -> Reply
         requires { IsReady config self.old }
         ensures { (past : List AnEntry) →
@@ -109,14 +110,14 @@ impl<T: BoundedQueue<Pending>, R: BoundedQueue<Received>, A: Arbiter> State<T, R
         }
     }
 
-    /// How many frames were tried.
+    /// Returns the number of frames tried.
     pub fn tried(&self) -> u64
         ensures { result ≡ self.now.tried }
     {
         self.tried
     }
 
-    /// The interface that wins the bus, if any competes.
+    /// Returns the interface that wins the bus, if any competes.
     pub fn winner(&self) -> Option<Iface>
         ensures first { IfSome result (λ w. IsWinner self.now.keys w) }
         ensures none { IsNone result ↔ IsIdle self.now.keys }
@@ -124,7 +125,7 @@ impl<T: BoundedQueue<Pending>, R: BoundedQueue<Received>, A: Arbiter> State<T, R
         self.arbiter.winner()
     }
 
-    /// The interface that wins the bus, with the frame at the head of its queue, if any competes.
+    /// Returns the interface that wins the bus, with the first frame of its queue, if any competes.
     pub fn next_head(&self) -> Option<(Iface, Frame)>
         requires { AreReady self.now }
         ensures { ReportsNext self.now result }
@@ -135,14 +136,14 @@ impl<T: BoundedQueue<Pending>, R: BoundedQueue<Received>, A: Arbiter> State<T, R
         Some((winner, pending.frame))
     }
 
-    /// Whether an interface counts the attempts until it is restarted.
+    /// Returns whether an interface counts attempts until its restart.
     pub fn is_counting(&self) -> bool
         ensures { result ≡ list_any (λ n. not (n == 0)) self.now.left }
     {
         self.countdown.is_running()
     }
 
-    /// The error counters of all 16 places.
+    /// Returns the error counters of all 16 places.
     pub fn counters(&self) -> [Counters; 16]
         ensures { result ≡ self.now.nodes.counters }
     {
