@@ -21,7 +21,7 @@ use Rattle.can_bus.specs.State.{InterfaceState, SocketState, Parts, kept_interfa
 use Rattle.can_bus.proofs.InterfaceFacts.{length-kept_interfaces}
 use Rattle.can_bus.proofs.Lawful.{sent_by-le, gone-le-sent, done-le-gone, refused-le, dropped-le, queued-le, taken_from-le-queued, open-iface}
 
--- The counts of a bus are small: it has no more entries than its limit.
+-- The counts of a bus are small, because its entries are within the limit.
 
 pub legal-short : (c : BusConfig) (past : List Entry) → IsLegal c past → length past ≤ c.limit
 legal-short c [] legal = omega arith

@@ -19,9 +19,9 @@ use Rattle.can_bus.proofs.Opening.{no_memory, opened_follows}
 use Rattle.can_bus.proofs.Refusing.{never_full, never_no_memory}
 use Rattle.can_bus.proofs.Setting.{filters_follow}
 
--- An event that is carried out has the reply that the entries before it give, and leaves what its entry leaves.
+-- A carried-out event has the reply that the entries before it require, and results in the state after its entry.
 
--- a legal reply is an answer, and is noted
+-- A legal reply is an answer, and is noted.
 record IsNoted (c : BusConfig) (past : List Entry) (e : Event) (r : Reply) : Type 0 where
   answer : IsAnswer c past e r
   after : history_after e r past ≡ record { event = e; reply = r } ∷ past
@@ -31,7 +31,7 @@ noted c past e (reply.Refused refusal.RecordFull) room lawful = absurd (never_fu
 noted c past e (reply.Refused refusal.NoMemory) room lawful = absurd (never_no_memory c past e lawful)
 noted c past e _ room lawful = record { answer = (room, lawful); after = refl }
 
--- the parts changed in this way, and this is the reply
+-- The parts changed in this way, and this is the reply.
 pub carried : {w r : Reply} {parts parts' : Parts} (c : BusConfig) (past : List Entry) (e called : Event) (Changed : Parts → Type 0)
     → called ≡ e → IsKept (record_of c past) parts → length past < c.limit → Changed parts → w ≡ r
     → (Changed (kept_parts c past) → Follows c past (record { event = e; reply = r }) parts')
@@ -49,12 +49,12 @@ carried {w} {r} {parts} {parts'} c past e called Changed is_event kept room chan
       });
     }))
 
--- memory was refused, and nothing has changed
+-- Memory was refused, and nothing has changed.
 carried-no_memory : (c : BusConfig) (past : List Entry) (e : Event) (parts parts' : Parts) → IsKept (record_of c past) parts → length past < c.limit
     → parts' ≡ parts → TakesMemory e (legal_reply c past e) → Carries c past e (reply.Refused refusal.NoMemory) parts'
 carried-no_memory c past e parts parts' kept room same takes = record { answer = (room, takes); after = subst (IsKept (record_of c past)) (sym same) kept }
 
--- a socket was opened, or that was refused
+-- A socket was opened, or the open was refused.
 pub carried-open : (c : BusConfig) (past : List Entry) (i k : ℕ) (r : Reply) (parts parts' : Parts) → IsKept (record_of c past) parts → length past < c.limit
     → Opens parts i k r parts' → Carries c past (Open i k) r parts'
 carried-open c past i k (reply.Refused refusal.NoMemory) parts parts' kept room opens =
@@ -62,7 +62,7 @@ carried-open c past i k (reply.Refused refusal.NoMemory) parts parts' kept room 
 carried-open c past i k r parts parts' kept room opens =
     carried c past (Open i k) (Open i k) (λ (p : Parts). Opens p i k r parts') refl kept room opens refl (opened_follows c past i k r parts' (λ is. cc) kept.legal)
 
--- filters were set, or that was refused
+-- Filters were set, or the call was refused.
 pub carried-filters : (c : BusConfig) (past : List Entry) (s : SocketId) (fs : List CanFilter) (r : Reply) (parts parts' : Parts) → IsKept (record_of c past) parts → length past < c.limit
     → Refilters parts s.0 fs r parts' → Carries c past (SetFilters s fs) r parts'
 carried-filters c past s fs (reply.Refused refusal.NoMemory) parts parts' kept room same = carried-no_memory c past (SetFilters s fs) parts parts' kept room same tt

@@ -19,7 +19,7 @@ use Rattle.can_bus.proofs.InterfaceFacts.{IsInterface-at}
 use Rattle.can_bus.proofs.Lists.{slice_get-drop}
 use Rattle.can_bus.proofs.Winning.{winner-is, idle-is}
 
--- What is kept of the next attempt's frame is what the history says.
+-- The state of a bus and its history agree on the next attempt's frame.
 
 head-kept : (c : BusConfig) (past : List Entry) (head : ℕ × CanFrame) → IsNext (kept_parts c past) head → with_frame head.0 (head_of past head.0) ≡ Some head
 head-kept c past head next =
@@ -27,7 +27,7 @@ head-kept c past head next =
     let oldest : head_of past head.0 ≡ Some next.pending = sym (slice_get-drop (gone_count past head.0) (sent_by past head.0)) ∙ ap (λ (l : InterfaceState). slice_get l.waiting 0) (sym interface.left) ∙ next.oldest in
     ap (with_frame head.0) oldest ∙ ap (λ (f : CanFrame). Some (head.0, f)) (sym next.frame)
 
--- what the state tells of the next attempt is what the history says
+-- The reported next attempt is the one that follows from the history.
 pub told_head : (c : BusConfig) (past : List Entry) (head : Option (ℕ × CanFrame)) → IsLegal c past → c.ifaces ≤ 16 → ReportsNext (kept_parts c past) head → head ≡ next_head c past
 told_head c past None legal few idle = ap (head_at past) (sym (idle-is c past few idle))
 told_head c past (Some head) legal few next =
@@ -39,7 +39,7 @@ tried-head : (c : BusConfig) (past : List Entry) (m : ℕ) (v : Verdict) (t : Tr
 tried-head c past m v t w =
     ap (head_at past) w.won ∙ ap (with_frame w.place) w.head ∙ ap (λ (u : Tried). Some (u.winner, u.frame)) (sym w.is)
 
--- the frame that an attempt tries is the one that was next
+-- The frame that an attempt tries was the next frame.
 pub tried_is_next : (c : BusConfig) (past : List Entry) (m : ℕ) (v : Verdict) (t : Tried) → reply.Attempted (attempt.Tried t) ≡ legal_reply c past (Attempt m v) → next_head c past ≡ Some (t.winner, t.frame)
 tried_is_next c past m v t law = tried-head c past m v t (was_tried c past m v t law)
 
@@ -51,6 +51,6 @@ idle-of : (c : BusConfig) (past : List Entry) (m : ℕ) (v : Verdict) (w : Optio
 idle-of c past m v None none = refl
 idle-of c past m v (Some w) none = idle-at c past m v w (head_of past w) none
 
--- where none is next an attempt is idle
+-- If there is no next frame, an attempt is idle.
 pub idle_without_next : (c : BusConfig) (past : List Entry) (m : ℕ) (v : Verdict) → next_head c past ≡ None → legal_reply c past (Attempt m v) ≡ reply.Attempted (attempt.Idle (restarted_next c past))
 idle_without_next c past m v none = idle-of c past m v (winner c past) none

@@ -40,7 +40,7 @@ use Rattle.can_bus.proofs.Lawful.{was_tried, sent_by-le, gone-le-sent}
 use Rattle.can_bus.proofs.Bounds.{short}
 use Rattle.can_bus.proofs.OffFacts.{winner-contends}
 
--- What a bus answers is not wide, but for filters: its numbers are small, and at most the winner goes off.
+-- The replies of a bus are narrow, except for filters: their numbers are small, and at most the winner goes bus off.
 
 not_large : (n : ℕ) → n < 2 ^ 32 → is_large n ≡ false
 not_large n h = grind (arith, nat_tests)
@@ -81,7 +81,7 @@ attempt-posts reporting sending t p i h =
 auto_restart-posts : (restarted : IfaceSet) (m i : ℕ) → AreShort (auto_restart_posts restarted m i)
 auto_restart-posts restarted m i = if-holds AreShort (is_in i restarted) _ _ (error-posts i m (Some restart_message)) no-posts
 
--- as many frames are gone as there are entries at most
+-- At most as many frames are gone as there are entries.
 gone-short : (c : BusConfig) (past : List Entry) → IsLegal c past → length past ≤ max_long_limit → (i : ℕ) → gone_count past i < 2 ^ 32
 gone-short c past legal few i = omega (arith, gone-le-sent c past legal i, sent_by-le past i)
 
@@ -114,7 +114,7 @@ queued-short c (e ∷ past) s legal few =
     (All-take IsShort (capacity_of past s + length (taken_from past s) - length (queued_to c past s)) (candidates_of c past s e.event e.reply)
     (if-holds (All IsShort) (is_open past s) _ _ (passing-short (filters_of past s) (options_of past s) s (posts_of c past (iface_of past s) e.event e.reply) (posts-short c past (iface_of past s) e.event e.reply legal.2 fewer legal.1)) (All-nil IsShort)))
 
--- ---- at most the winner goes off
+-- ---- at most the winner goes bus off
 
 single-below : (w n : ℕ) → n ≤ w → bits_where (λ i. is_among i (w ∷ [])) n ≡ 0
 single-below w zero h = refl
@@ -168,7 +168,7 @@ attempt-narrow c past m v (Some w) who legal few most =
     let b = (winner-contends c past w who).below in
     head-narrow c past m v w (head_of past w) (gone-short c past legal few w) (omega (arith, b, most))
 
--- the event sets the filters of a socket
+-- The event sets the filters of a socket.
 abbrev pub SetsFilters : Event → Type 0
 SetsFilters (SetFilters s f) = Unit {0}
 SetsFilters _ = ⊥
@@ -188,6 +188,6 @@ legal-narrow c past (Attempt m v) legal few most other = attempt-narrow c past m
 legal-narrow c past (Restart i m) legal few most other = narrow-if (Restart i m) (nat_le c.ifaces i) _ _ refl (narrow-if (Restart i m) (is_silent (state_at c past i)) _ _ refl refl)
 legal-narrow c past (Down i m) legal few most other = narrow-if (Down i m) (nat_le c.ifaces i) _ _ refl refl
 
--- a bus answers nothing wide but to a set of filters
+-- Except when it sets filters, a bus gives no wide reply.
 pub legal_fits : (j : Kept) (parts : Parts) (e : Event) (r : Reply) → IsKept j parts → ¬ SetsFilters e → r ≡ legal_reply j.config j.history e → needs_box e r ≡ false
 legal_fits j parts e r kept other law = ap (needs_box e) law ∙ legal-narrow j.config j.history e kept.legal (short j parts kept) kept.proper.few_ifaces other
