@@ -306,16 +306,16 @@ impl<N: BusName, F: FaultSource + Drop, G: Gate + Drop, B: Journaled> Station<N,
     /// Takes the rule with this text, whose interfaces have these names. It counts from the next
     /// attempt on, after the rules that are left. It is no event, and wakes no thread.
     ///
-    /// Errors, in this order: `BadRule` if a word is wrong, `UnknownInterface` if only a name is
-    /// unknown, `TooManyRules` if 64 rules are left, `NoMemory`. `NoMemory` also comes if 64 MiB of
-    /// lines wait for `take_changes`. After an error all is as before.
+    /// The errors, in this order: `BadRule` if a word is wrong, `UnknownInterface` if only a name
+    /// is unknown, `TooManyRules` if 64 rules are left, `NoMemory`. `NoMemory` also means that 64
+    /// MiB of lines wait for `take_changes`. An error changes nothing.
     pub fn inject<R: Wait>(&self, rt: &R, text: &[u8], names: &Names) -> Result<(), RuleRefusal>
         ensures { InjectsIn F self.now names.now text.now result }
     {
         self.hold(rt).inject(text, names)
     }
 
-    /// Returns how many rules are left, at most 64.
+    /// Returns the number of rules that are left, at most 64.
     pub fn rules<R: Wait>(&self, rt: &R) -> usize
         ensures rules { InSome F self.now (λ held. result ≡ length held.plan.rules) }
         ensures few { result ≤ 64 }
@@ -323,13 +323,13 @@ impl<N: BusName, F: FaultSource + Drop, G: Gate + Drop, B: Journaled> Station<N,
         self.hold(rt).rules()
     }
 
-    /// Ends all rules. The lines of the plan stay.
+    /// Ends all rules. The script lines of the plan remain.
     pub fn end_rules<R: Wait>(&self, rt: &R) {
         self.hold(rt).end_rules();
     }
 
-    /// Keeps no lines about the rules from now on, because nothing will take them; else they would
-    /// pile up. Lines that wait are let go.
+    /// Drops the waiting lines about the rules, and keeps none from now on. Without a thread that
+    /// takes them the lines would accumulate.
     pub fn keep_no_changes<R: Wait>(&self, rt: &R) {
         self.hold(rt).keep_no_changes();
     }
