@@ -10,7 +10,7 @@ use Rattle.can_bus.specs.Answer.{Answers}
 use Rattle.can_record.specs.Journal.{Journal}
 use Rattle.can_bus.specs.Run.{IsAnswer, history_after}
 
--- The bus after a receive into a room.
+-- The bus after a receive call.
 
 module _ (room : Received) (s : SocketId) (old new : Journal) where
   leaves : (outcome : Result Bool Refusal) → Answers (taken_reply room) old (event.Receive s) outcome new → new ≡ record old { history = history_after (event.Receive s) (receive_reply room outcome) old.history }

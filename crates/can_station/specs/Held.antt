@@ -16,17 +16,17 @@ use Rattle.can_roll.specs.Seen.{RollSeen, SlipSeen, roll_seen, slip_seen}
 
 -- A station, and the state under its lock (own).
 
--- a station: its number, and the configuration of its bus
+-- A station: its number, and the configuration of its bus.
 pub record StationSeen : Type 0 where
   pub number : ℕ
   pub config : BusConfig
 
--- the station with this number and this configuration
+-- The station with this number and this configuration.
 abbrev pub station_seen : ℕ → BusConfig → StationSeen
 station_seen number config = record { number = number; config = config }
 
--- the state under the lock: the station's number, its bus, the calls of each pass, the source of verdicts, the plan of
--- faults, the lines about its rules, and whether waits end
+-- The state under the lock: the station's number, its bus, the calls of each pass, the source of verdicts, the plan of
+-- faults, the lines about its rules, and whether waits end.
 pub record Held (F : Type 0) : Type 0 where
   pub number : ℕ
   pub journal : Journal
@@ -36,11 +36,11 @@ pub record Held (F : Type 0) : Type 0 where
   pub changes : LinesSeen
   pub stopped : Bool
 
--- a bus with this journal has no place for an entry until some are taken
+-- A bus with this journal has no place for an entry until some are taken.
 abbrev pub HasNoPlace : {B : Type 0} → (B → Journal) → (B → ℕ) → Journal → Type 0
 HasNoPlace {B} journal places j = (bus : B) × (journal bus ≡ j) × (places bus ≡ 0)
 
--- a station that nobody has entered, and whose waits do not end
+-- The state of a new station: no pass has entered, and waits do not end.
 abbrev pub new_held : {F : Type 0} → ℕ → Journal → F → PlanSeen → Held F
 new_held number journal source plan = record {
   number = number;
@@ -52,40 +52,40 @@ new_held number journal source plan = record {
   stopped = false;
 }
 
--- the same with this plan of faults, and these lines about its rules
+-- The same state with this plan of faults, and these lines about its rules.
 abbrev pub with_plan_lines : {F : Type 0} → PlanSeen → LinesSeen → Held F → Held F
 with_plan_lines plan changes h = record h { plan = plan; changes = changes }
 
--- the number of attempts that tried a frame; the next such attempt has this number
+-- The number of attempts that tried a frame, which is the number of the next such attempt.
 abbrev pub next_number : {F : Type 0} → Held F → ℕ
 next_number h = length (tape h.journal.history)
 
--- a rule with this text: it is taken and its line follows the others, or nothing changes
+-- A rule with this text is taken, and its line follows the others; or nothing changes.
 abbrev pub TakesRule : {F : Type 0} → List ℕ → Held F → Result (Unit {0}) RuleRefusal → Held F → Type 0
 TakesRule words old (Ok done) new = new ≡ with_plan_lines new.plan (with_given (next_number old) words old.changes) old
 TakesRule words old (Err why) new = new ≡ old
 
--- all rules end; if there were any, a line for their end follows the others
+-- All rules end; if there were any, a line for their end follows the others.
 abbrev pub after_end : {F : Type 0} → Held F → Held F
 after_end h =
     if length h.plan.rules == 0 then h
     else with_plan_lines (without_rules h.plan) (with_end (next_number h) h.changes) h
 
--- the lines about the rules are taken out, or none if memory is refused
+-- The lines about the rules are taken out, or none if memory is refused.
 abbrev pub LinesTaken : {F : Type 0} → Held F → List ℕ → Held F → Type 0
 LinesTaken old lines new =
     ((lines ≡ text_of_lines old.changes) × (new ≡ with_plan_lines old.plan (with_none_left old.changes) old))
     ⊎ ((lines ≡ []) × (new ≡ old))
 
--- the calls of each pass, after a call of pass p
+-- The calls of each pass, after a call of pass p.
 abbrev pub lists_after : ℕ → Event → Reply → List (List Entry) → List (List Entry)
 lists_after p e r lists = if enters r then call_added lists p (entry_of e r) else lists
 
--- the roll after a call of pass p
+-- The roll after a call of pass p.
 abbrev pub roll_after : ℕ → Event → Reply → RollSeen → RollSeen
 roll_after p e r roll = roll_seen roll.number (lists_after p e r roll.lists) roll.called
 
--- the state after a call of pass p, which is one event of the bus
+-- The state after a call of pass p, which is one event of the bus.
 abbrev pub held_after : {F : Type 0} → ℕ → Event → Reply → Held F → Held F
 held_after p e r h = record {
   number = h.number;
@@ -97,19 +97,19 @@ held_after p e r h = record {
   stopped = h.stopped;
 }
 
--- a pass's part of the roll after a call of its own
+-- A pass's part of the roll after its own call.
 abbrev pub slip_after : Event → Reply → SlipSeen → SlipSeen
 slip_after e r s = record { number = s.number; pass = s.pass; calls = history_after e r s.calls }
 
--- with one pass more, which has made no call
+-- The state with one more pass, which has made no call.
 abbrev pub with_pass : {F : Type 0} → Held F → Held F
 with_pass h = record h { lists = h.lists ++ [] ∷ [] }
 
--- no pass is left: 4,096 passes have entered
+-- No pass is left: 4,096 passes have entered.
 abbrev pub NoPassLeft : {F : Type 0} → Held F → Type 0
 NoPassLeft h = 4096 ≤ length h.lists
 
--- the next pass enters, numbered from 0, with this slip
+-- The next pass enters with this slip; passes are numbered from 0.
 pub record HasEntered {F : Type 0} (old : Held F) (slip : SlipSeen) (new : Held F) : Type 0 where
   pub left : length old.lists < 4096
   pub next : slip ≡ slip_seen old.number (length old.lists) []

@@ -31,113 +31,113 @@ use Rattle.can_station.specs.Marks.{IsMarked, marked}
 use Rattle.can_station.specs.declared.refusals.StationRefusal.{StationRefusal}
 use Rattle.can_station.specs.declared.refusals.StationRefusal.TheVariants as station
 
--- The passes as their callers see them, and the effect of a station's calls on them (own).
+-- Passes as their callers see them, and the effect of a station's calls on them (own).
 
--- a pass: its station's number, its own number, its calls, the newest first, and whether a program can read them as a
--- list
+-- A pass: its station's number, its own number, its calls (the newest first), and whether a program can read them as a
+-- list.
 pub record PassSeen : Type 0 where
   pub number : ℕ
   pub pass : ℕ
   pub calls : List Entry
   pub keeps : Bool
 
--- a pass with which no call was made
+-- A pass that has made no call.
 abbrev pub new_pass : ℕ → ℕ → PassSeen
 new_pass number pass = record { number = number; pass = pass; calls = []; keeps = true }
 
--- the same, of a light pass, which keeps no list
+-- A light pass that has made no call; it keeps no list.
 abbrev pub new_light_pass : ℕ → ℕ → PassSeen
 new_light_pass number pass = record { number = number; pass = pass; calls = []; keeps = false }
 
--- a pass with this slip and, if it keeps one, this list
+-- The pass with this slip and, if it keeps one, this list.
 abbrev pub pass_seen : SlipSeen → Option (List Entry) → PassSeen
 pass_seen slip listed = record { number = slip.number; pass = slip.pass; calls = slip.calls; keeps = is_some listed }
 
--- the calls that a pass keeps, the newest first: all of them, or none
+-- The calls that a pass keeps, the newest first: all of them, or none.
 abbrev pub kept_calls : PassSeen → List Entry
 kept_calls p = if p.keeps then p.calls else []
 
--- after a call: it is noted with its reply, unless the record was full or memory was refused
+-- The pass after a call: the call is noted with its reply, unless the record was full or memory was refused.
 abbrev pub pass_after : Event → Reply → PassSeen → PassSeen
 pass_after e r p = record p { calls = history_after e r p.calls }
 
--- the caller's part of a reply: its value, or the bus's refusal
+-- The caller's part of a reply: its value, or the bus's refusal.
 abbrev pub ReportsReply : {A : Type 0} → (A → Reply) → Result A StationRefusal → Reply → Type 0
 ReportsReply told (Ok a) r = r ≡ told a
 ReportsReply told (Err (station.Bus why)) r = r ≡ reply.Refused why
 ReportsReply told (Err station.WrongStation) r = ⊥
 
--- the entries of a pass's list, the newest first, if it keeps one
+-- The entries of a pass's list, the newest first, if it keeps one.
 abbrev pub calls_listed : Option ListedEntries → Option (List Entry)
 calls_listed None = None
 calls_listed (Some calls) = Some (reverse calls.entries)
 
--- these calls are in the list, if there is one
+-- These calls are in the list, if there is one.
 abbrev pub AreListedCalls : Option (List Entry) → List Entry → Type 0
 AreListedCalls None calls = Unit {0}
 AreListedCalls (Some listed) calls = listed ≡ calls
 
--- the memory for a call that does not close: a place, one more that is left for a close, and the memory of a wide
--- entry; a pass without a list needs none
+-- There is memory for a call other than a close: a place, another place left for a close, and the memory of a wide
+-- entry. A pass without a list needs none.
 abbrev pub HasMemoryForCall : Option ListedEntries → Type 0
 HasMemoryForCall None = Unit {0}
 HasMemoryForCall (Some calls) = (length calls.entries + 1 < calls.room) × (calls.spare ≡ true)
 
--- the list, if there is one, has a place for one call more
+-- The list, if there is one, has a place for one more call.
 abbrev pub HasPlaceForCall : Option ListedEntries → Type 0
 HasPlaceForCall None = Unit {0}
 HasPlaceForCall (Some calls) = length calls.entries < calls.room
 
--- the memory for a call: a close takes one place, and is never wide
+-- There is memory for this call; a close takes one place, and is never wide.
 abbrev pub IsReadyFor : Event → Option ListedEntries → Type 0
 IsReadyFor (event.Close s) calls = HasPlaceForCall calls
 IsReadyFor e calls = HasMemoryForCall calls
 
--- there is a place left for a close
+-- There is a place left for a close.
 abbrev pub CanClose : Event → Option ListedEntries → Type 0
 CanClose (event.Close s) calls = HasPlaceForCall calls
 CanClose e calls = ⊥
 
--- the result of a call of the station with this number, and the caller's pass after it
+-- The result of a call on the station with this number, and the caller's pass after it.
 abbrev pub Called : {A : Type 0} → (A → Reply) → ℕ → PassSeen → Event → Result A StationRefusal → PassSeen → Type 0
 Called told number old e (Ok a) new = (old.number ≡ number) × (new ≡ pass_after e (told a) old)
 Called told number old e (Err (station.Bus why)) new =
     ((why ≡ refusal.NoMemory) ⊎ (old.number ≡ number)) × (new ≡ pass_after e (reply.Refused why) old)
 Called told number old e (Err station.WrongStation) new = ¬ (old.number ≡ number) × (new ≡ old)
 
--- the result of an event in this state of a station
+-- The event has this reply in this state of a station.
 abbrev pub IsAnsweredIn : {F : Type 0} → Held F → Event → Reply → Type 0
 IsAnsweredIn held e r = IsAnswer held.journal.config held.journal.history e r
 
--- an event is carried out for the pass of a slip: the bus gives its reply, and both are noted in the record and in the
--- slip
+-- The event is carried out for the pass of a slip. The bus gives its reply, and both are noted in the record and in the
+-- slip.
 pub record IsCarriedOutForSlip {F : Type 0} (old : Held F) (slip : SlipSeen) (e : Event) (r : Reply) (new : Held F)
     (slip' : SlipSeen) : Type 0 where
   pub answer : IsAnsweredIn old e r
   pub after : new ≡ held_after slip.pass e r old
   pub noted : slip' ≡ slip_after e r slip
 
--- a receive is carried out in the same way: it came to this, and an item is in the room
+-- A receive call with this outcome is carried out in the same way, and `room` holds the item.
 abbrev pub IsReceivedForSlip :
     {F : Type 0} → Held F → SlipSeen → SocketId → Received → Result Bool Refusal → Held F → SlipSeen → Type 0
 IsReceivedForSlip old slip socket room outcome new slip' =
     IsCarriedOutForSlip old slip (event.Receive socket) (receive_reply room outcome) new slip'
 
--- nothing changes: neither the station's state, nor a slip, nor the list of its pass
+-- Nothing changes: the station's state, the slip and the list of its pass are the same.
 abbrev pub ChangesNothing :
     {F : Type 0} → Held F → SlipSeen → Option ListedEntries → Held F → SlipSeen → Option ListedEntries → Type 0
 ChangesNothing old slip calls new slip' calls' = (new ≡ old) × (slip' ≡ slip) × (calls' ≡ calls)
 
--- a pass's list after a call: the call is kept with its reply, unless the record was full or memory was refused
+-- A pass's list after a call: the call is kept with its reply, unless the record was full or memory was refused.
 abbrev pub listed_after : Event → Reply → Option (List Entry) → Option (List Entry)
 listed_after e r None = None
 listed_after e r (Some listed) = Some (history_after e r listed)
 
--- a pass's list, if it keeps one, has this call more
+-- A pass's list, if it keeps one, has this call in addition.
 abbrev pub Keeps : Option ListedEntries → Event → Reply → Option ListedEntries → Type 0
 Keeps old e r new = calls_listed new ≡ listed_after e r (calls_listed old)
 
--- a call that is carried out: the bus gives its reply, and both are noted in the record and in the caller's pass
+-- The call is carried out. The bus gives its reply, and both are noted in the record and in the caller's pass.
 pub record IsMade {F : Type 0} (old : Held F) (pass : PassSeen) (e : Event) (r : Reply) (new : Held F)
     (pass' : PassSeen) : Type 0 where
   pub own : pass.number ≡ old.number
@@ -145,12 +145,12 @@ pub record IsMade {F : Type 0} (old : Held F) (pass : PassSeen) (e : Event) (r :
   pub after : new ≡ held_after pass.pass e r old
   pub kept : pass' ≡ pass_after e r pass
 
--- nothing changes
+-- Nothing changes.
 abbrev pub IsUnchanged : {F : Type 0} → Held F → PassSeen → Held F → PassSeen → Type 0
 IsUnchanged old pass new pass' = (new ≡ old) × (pass' ≡ pass)
 
--- a call in one hold of the lock: it is carried out, or nothing changes, since the pass's list can't grow, or the
--- pass is another station's
+-- A call under the lock is carried out, or changes nothing: the pass's list cannot grow, or the pass belongs to another
+-- station.
 abbrev pub Made : {F : Type 0} {A : Type 0} → (A → Reply) → Held F → PassSeen → Event → Result A StationRefusal
     → Held F → PassSeen → Type 0
 Made told old pass e (Ok a) new pass' = IsMade old pass e (told a) new pass'
@@ -159,46 +159,46 @@ Made told old pass e (Err (station.Bus why)) new pass' =
 Made told old pass e (Err station.WrongStation) new pass' =
     ¬ (pass.number ≡ old.number) × IsUnchanged old pass new pass'
 
--- the number of the next attempt
+-- The number of the next attempt.
 abbrev pub next_number : {F : Type 0} → Held F → ℕ
 next_number held = length (tape held.journal.history)
 
--- the verdict that the source has for it
+-- The verdict of the source for the next attempt.
 abbrev pub source_verdict : {F : Type 0} → (F → VerdictMap) → Held F → Verdict
 source_verdict verdicts held = verdict_in (verdicts held.source) (next_number held)
 
--- the interface and the frame that the next attempt on a bus tries
+-- The interface and the frame that the next attempt on a bus tries.
 abbrev pub next_try : Journal → Option (ℕ × CanFrame)
 next_try journal = next_head journal.config journal.history
 
--- the verdict of the next attempt: the source's if it is a fault, else the plan's
+-- The verdict of the next attempt: the source's if it is a fault, or else the plan's.
 abbrev pub next_verdict : {F : Type 0} → (F → VerdictMap) → Held F → Verdict
 next_verdict verdicts held = given (source_verdict verdicts held) held.plan (next_number held) (next_try held.journal)
 
--- the plan after it gave that verdict
+-- The plan after it gave that verdict.
 abbrev pub next_plan : {F : Type 0} → (F → VerdictMap) → Held F → PlanSeen
 next_plan verdicts held = plan_after (source_verdict verdicts held) held.plan (next_number held) (next_try held.journal)
 
--- the state after this source and the plan were asked for the next attempt, before the attempt is made
+-- The state after this source and the plan were asked about the next attempt, before the attempt.
 abbrev pub asked_for_attempt : {F : Type 0} → (F → VerdictMap) → F → Held F → Held F
 asked_for_attempt verdicts source held = record held { source = source; plan = next_plan verdicts held }
 
--- an attempt at the moment, with that verdict
+-- An attempt at this moment, with that verdict.
 abbrev pub next_attempt : {F : Type 0} → (F → VerdictMap) → Held F → ℕ → Event
 next_attempt verdicts held moment = event.Attempt moment (next_verdict verdicts held)
 
--- such an attempt is carried out for the pass of a slip, once the source and the plan were asked
+-- Such an attempt is carried out for the pass of a slip, after the source and the plan were asked.
 abbrev pub IsStepped : {F : Type 0} → (F → VerdictMap) → Held F → SlipSeen → ℕ → Reply → Held F → SlipSeen → Type 0
 IsStepped verdicts old slip moment r new slip' =
     IsCarriedOutForSlip (asked_for_attempt verdicts new.source old) slip (next_attempt verdicts old moment) r new slip'
 
--- the same for a pass
+-- Such an attempt is carried out for a pass.
 abbrev pub IsStepMade : {F : Type 0} → (F → VerdictMap) → Held F → PassSeen → ℕ → Reply → Held F → PassSeen → Type 0
 IsStepMade verdicts old pass moment r new pass' =
     IsMade (asked_for_attempt verdicts new.source old) pass (next_attempt verdicts old moment) r new pass'
 
--- a step in one hold of the lock: such an attempt is carried out, or nothing changes. It fails if the pass's list can't
--- grow, the bus has no place for an entry, or the pass is another station's
+-- A step under the lock carries out such an attempt, or changes nothing. It fails if the pass's list cannot grow, the
+-- bus has no place for an entry, or the pass belongs to another station.
 abbrev pub MadeStep : {F : Type 0} → (F → VerdictMap) → Held F → PassSeen → ℕ → Result Attempt StationRefusal
     → Held F → PassSeen → Type 0
 MadeStep verdicts old pass moment (Ok a) new pass' = IsStepMade verdicts old pass moment (reply.Attempted a) new pass'
@@ -208,20 +208,19 @@ MadeStep verdicts old pass moment (Err (station.Bus why)) new pass' =
 MadeStep verdicts old pass moment (Err station.WrongStation) new pass' =
     ¬ (pass.number ≡ old.number) × IsUnchanged old pass new pass'
 
--- the outcome of an attempt, without its verdict
+-- The outcome of an attempt, without its verdict.
 abbrev pub without_verdict : Result (Verdict × Attempt) StationRefusal → Result Attempt StationRefusal
 without_verdict (Ok r) = Ok r.1
 without_verdict (Err why) = Err why
 
--- a step in one hold of the lock that returns its verdict too
+-- A step under the lock that also returns its verdict.
 abbrev pub MadeJudged : {F : Type 0} → (F → VerdictMap) → Held F → PassSeen → ℕ
     → Result (Verdict × Attempt) StationRefusal → Held F → PassSeen → Type 0
 MadeJudged verdicts old pass moment outcome new pass' =
     MadeStep verdicts old pass moment (without_verdict outcome) new pass'
 
--- a state that this station can be in: it has its number and its configuration, which is within the limits; the
--- history is legal, and its entries can be marked with passes so that the calls of each are the entries marked
--- with it
+-- A possible state of this station. It has the station's number and configuration, which is within the limits. The
+-- history is legal, and its entries can be marked so that each pass has made exactly the entries with its mark.
 pub record IsStateOf {F : Type 0} (station : StationSeen) (held : Held F) : Type 0 where
   pub number : held.number ≡ station.number
   pub config : held.journal.config ≡ station.config
@@ -231,33 +230,33 @@ pub record IsStateOf {F : Type 0} (station : StationSeen) (held : Held F) : Type
   pub marks : List ℕ
   pub marked : IsMarked held.lists marks held.journal.history
 
--- some state of the station
+-- The claim holds in some state of the station.
 abbrev pub InSome : (F : Type 0) → StationSeen → (Held F → Type 0) → Type 0
 InSome F station P = (held : Held F) × IsStateOf station held × P held
 
--- the pass that enters next in some state of the station
+-- The pass is the next to enter in some state of the station.
 abbrev pub IsNewPass : (F : Type 0) → StationSeen → PassSeen → Type 0
 IsNewPass F station p =
     InSome F station (λ held. (length held.lists < 4096) × (p ≡ new_pass station.number (length held.lists)))
 
--- the same, of a pass that keeps no list
+-- The same for a pass that keeps no list.
 abbrev pub IsNewLightPass : (F : Type 0) → StationSeen → PassSeen → Type 0
 IsNewLightPass F station p =
     InSome F station (λ held. (length held.lists < 4096) × (p ≡ new_light_pass station.number (length held.lists)))
 
--- in some state of the station no pass is left
+-- In some state of the station no pass is left.
 abbrev pub HadNoPassLeft : (F : Type 0) → StationSeen → Type 0
 HadNoPassLeft F station = InSome F station (λ held. NoPassLeft held)
 
--- the result of a call is the result in some state of the station, unless memory is refused or the pass is another
--- station's
+-- The result of a call is its result in some state of the station, unless memory is refused or the pass belongs to
+-- another station.
 abbrev pub Answered : (F : Type 0) {A : Type 0} → (A → Reply) → StationSeen → Event → Result A StationRefusal → Type 0
 Answered F told seen e (Ok a) = InSome F seen (λ held. IsAnsweredIn held e (told a))
 Answered F told seen e (Err (station.Bus refusal.NoMemory)) = Unit {0}
 Answered F told seen e (Err (station.Bus why)) = InSome F seen (λ held. IsAnsweredIn held e (reply.Refused why))
 Answered F told seen e (Err station.WrongStation) = Unit {0}
 
--- a step that is carried out in some state of the station: an attempt with the source's verdict
+-- A step is carried out in some state of the station, as an attempt with the verdict of the source or the plan.
 abbrev pub StepsIn : {F : Type 0} → (F → VerdictMap) → StationSeen → PassSeen → ℕ → Reply → PassSeen → Type 0
 StepsIn {F} verdicts seen old moment r new =
     (old.number ≡ seen.number)
@@ -265,7 +264,7 @@ StepsIn {F} verdicts seen old moment r new =
     IsAnsweredIn held (next_attempt verdicts held moment) r
     × (new ≡ pass_after (next_attempt verdicts held moment) r old))
 
--- a step: it is carried out, or nothing changes, since the pass's list can't grow, or the pass is another station's
+-- A step is carried out, or changes nothing: the pass's list cannot grow, or the pass belongs to another station.
 abbrev pub Stepped :
     {F : Type 0} → (F → VerdictMap) → StationSeen → PassSeen → ℕ → Result Attempt StationRefusal → PassSeen → Type 0
 Stepped verdicts seen old moment (Ok a) new = StepsIn verdicts seen old moment (reply.Attempted a) new
@@ -273,39 +272,39 @@ Stepped verdicts seen old moment (Err (station.Bus refusal.NoMemory)) new = new 
 Stepped verdicts seen old moment (Err (station.Bus why)) new = StepsIn verdicts seen old moment (reply.Refused why) new
 Stepped verdicts seen old moment (Err station.WrongStation) new = ¬ (old.number ≡ seen.number) × (new ≡ old)
 
--- the outcome of a rule in some state of the station whose interfaces have these names
+-- The outcome of a rule in some state of the station whose interfaces have these names.
 abbrev pub InjectsIn : (F : Type 0) → StationSeen → List (List ℕ) → List ℕ → Result (Unit {0}) RuleRefusal → Type 0
 InjectsIn F seen names text outcome =
     InSome F seen (λ held. (after : PlanSeen) × Injected names text held.plan outcome after)
 
--- the reply itself, for a call that returns the bus's reply
+-- The reply itself, for a call that returns the bus's reply.
 abbrev pub same : Reply → Reply
 same r = r
 
 -- ---- the end of a station
 
--- the numbers of passes
+-- The numbers of passes.
 abbrev pub numbers_of : List PassSeen → List ℕ
 numbers_of own = map (λ v. v.pass) own
 
--- all passes are of the station with this number
+-- All passes belong to the station with this number.
 abbrev pub AllOf : ℕ → List PassSeen → Type 0
 AllOf number own = All (λ v. v.number ≡ number) own
 
--- some pass is of another station
+-- Some pass belongs to another station.
 abbrev pub SomeOther : ℕ → List PassSeen → Type 0
 SomeOther number own = ¬ AllOf number own
 
--- the calls of each pass are the entries marked with it, in order
+-- The calls of each pass are the entries marked with it, in order.
 abbrev pub AllMarked : List ℕ → List Entry → List PassSeen → Type 0
 AllMarked marks past own = All (λ v. marked v.pass marks past ≡ v.calls) own
 
--- the roll's list of each pass is its calls
+-- The roll's list for each pass is the list of its calls.
 abbrev pub AllMatch : List (List Entry) → List PassSeen → Type 0
 AllMatch lists own = All (λ v. row lists v.pass ≡ v.calls) own
 
--- the history is legal, and its entries can be marked with passes so that, for each of these passes, its calls are the
--- entries marked with it; there were this many passes, and these are different ones
+-- The history is legal. Its entries can be marked with passes so that the calls of each of these passes are its
+-- entries. There were this many passes, and these are different ones.
 pub record SettlesIn (left : Journal) (passes : ℕ) (own : List PassSeen) : Type 0 where
   pub legal : IsLegal left.config left.history
   pub marks : List ℕ
@@ -315,6 +314,6 @@ pub record SettlesIn (left : Journal) (passes : ℕ) (own : List PassSeen) : Typ
   pub different : Distinct (numbers_of own)
   pub entered : AllBelow passes (numbers_of own)
 
--- the same of a record
+-- The same for a record.
 abbrev pub Settles : Kept → ℕ → List PassSeen → Type 0
 Settles left passes own = SettlesIn (record { config = left.config; history = left.history }) passes own

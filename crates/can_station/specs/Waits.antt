@@ -10,51 +10,51 @@ use Rattle.can_station.specs.Held.{Held}
 use Rattle.can_station.specs.declared.waits.WakeReason.{WakeReason}
 use Rattle.can_station.specs.declared.waits.WakeReason.TheVariants as wake
 
--- How a wait ends, whether it ends, and the reports that a station makes without an event (own).
+-- The ends of waits, and the reports of a station that are no events (own).
 
--- the signals of a stop to all that wait
+-- The signal of a stop to all waiting threads.
 abbrev pub stopped_wake : Bool → Option WakeReason
 stopped_wake stopped = if stopped then Some wake.Stopped else None
 
--- a wait for an item: the socket is not open, or items are left that were not taken, or the station was stopped
+-- A wait for an item ends if the socket is not open, an item is left to take, or the station was stopped.
 abbrev pub item_wake : Option SocketStats → Bool → Option WakeReason
 item_wake None stopped = Some wake.Closed
 item_wake (Some counts) stopped = if nat_lt counts.taken counts.queued then Some wake.Ready else stopped_wake stopped
 
--- the same, of socket s of a station
+-- The same for socket s of a station.
 abbrev pub frame_wake : {F : Type 0} → Held F → ℕ → Option WakeReason
 frame_wake h s = item_wake (socket_stats_of h.journal.config h.journal.history s) h.stopped
 
--- a bus has work for its driver: some interface wins it, or counts towards its restart
+-- A bus has work for its driver: an interface has a frame to send, or counts towards its restart.
 abbrev pub has_work : Journal → Bool
 has_work j = is_some (winner j.config j.history) || is_counting j.config j.history
 
--- the bus has nine tenths or more of the entries that it may have
+-- The bus has nine tenths or more of the entries that it may have.
 abbrev pub IsNearlyFull : Journal → Type 0
 IsNearlyFull j = j.config.limit - j.config.limit / 10 ≤ length j.history
 
--- a wait for work: there is some, or the station was stopped
+-- A wait for work ends if there is work, or if the station was stopped.
 abbrev pub work_wake : {F : Type 0} → Held F → Option WakeReason
 work_wake h = if has_work h.journal then Some wake.Ready else stopped_wake h.stopped
 
--- there is no work, and the station was stopped: a driver ends
+-- There is no work and the station was stopped, so a driver ends.
 abbrev pub IsIdleAndStopped : {F : Type 0} → Held F → Type 0
 IsIdleAndStopped h = (has_work h.journal ≡ false) × (h.stopped ≡ true)
 
--- the items that were queued and not taken
+-- The number of items that were queued and not taken.
 abbrev pub items_left : Option SocketStats → ℕ
 items_left None = 0
 items_left (Some counts) = counts.queued - counts.taken
 
--- the number of items that wait at socket s
+-- The number of items that wait at socket s.
 abbrev pub items_waiting_at : Journal → ℕ → ℕ
 items_waiting_at j s = items_left (socket_stats_of j.config j.history s)
 
--- a wait for an item of socket s ends so, with this many items that wait there
+-- A wait for an item of socket s ends with this reason and this number of waiting items.
 abbrev pub EndsItemWait : {F : Type 0} → Held F → ℕ → WakeReason × ℕ → Type 0
 EndsItemWait h s end = (frame_wake h s ≡ Some end.0) × (end.1 ≡ items_waiting_at h.journal s)
 
--- the counts of socket s and of interface i
+-- The counts of socket s and of interface i.
 abbrev pub AreCounts : Journal → ℕ → ℕ → Option SocketStats × Option IfaceStats → Type 0
 AreCounts j s i counts =
     (counts.0 ≡ socket_stats_of j.config j.history s) × (counts.1 ≡ iface_stats_of j.config j.history i)

@@ -15,11 +15,11 @@ use can_frame::{Frame, Iface, Moment};
 use std::alloc::Global;
 use std::sync::Wait;
 
-// The nine calls of a pass. Each is one event of the bus. The station refuses before the bus does:
-// with `NoMemory` if the pass's list of calls can't grow, with `WrongStation` if the pass is
-// another station's. Neither changes anything.
+// The nine calls of a pass. Each call is one event of the bus. The station refuses before the bus
+// does: `NoMemory` if the pass's list of calls cannot grow, `WrongStation` if the pass belongs to
+// another station. These refusals change nothing.
 impl<N: BusName, F: FaultSource + Drop, G: Gate + Drop, B: Journaled> Station<N, F, G, B> {
-    /// Opens a socket on an interface; up to `capacity` items may wait there. Refusals of the bus:
+    /// Opens a socket on an interface, with room for `capacity` waiting items. Refusals of the bus:
     /// `RecordFull`, `NoInterface`, `BadCapacity`, `TooManySockets`, `NoMemory`.
     pub fn open<R: Wait>(
         &self,
@@ -38,7 +38,7 @@ impl<N: BusName, F: FaultSource + Drop, G: Gate + Drop, B: Journaled> Station<N,
             .map_err(StationRefusal::Bus)
     }
 
-    /// Closes a socket, and counts the items that were not taken and those that did not fit.
+    /// Closes a socket, and returns the number of its unread items and of its dropped items.
     /// Refusals of the bus: `RecordFull`, `NoSocket`.
     pub fn close<R: Wait>(
         &self,
@@ -56,7 +56,8 @@ impl<N: BusName, F: FaultSource + Drop, G: Gate + Drop, B: Journaled> Station<N,
             .map_err(StationRefusal::Bus)
     }
 
-    /// Sets the filters of a socket, to a copy of these. Refusals of the bus: `RecordFull`, `NoMemory`, `NoSocket`.
+    /// Sets the filters of a socket to a copy of these. Refusals of the bus: `RecordFull`,
+    /// `NoMemory`, `NoSocket`.
     pub fn set_filters<R: Wait>(
         &self,
         rt: &R,
@@ -115,7 +116,7 @@ impl<N: BusName, F: FaultSource + Drop, G: Gate + Drop, B: Journaled> Station<N,
             .map_err(StationRefusal::Bus)
     }
 
-    /// Takes the oldest item of a socket: `None` if nothing waits. Refusals of the bus:
+    /// Takes the oldest item of a socket, or returns `None` if no item waits. Refusals of the bus:
     /// `RecordFull`, `NoSocket`.
     pub fn receive<R: Wait>(
         &self,
@@ -133,10 +134,10 @@ impl<N: BusName, F: FaultSource + Drop, G: Gate + Drop, B: Journaled> Station<N,
             .map_err(StationRefusal::Bus)
     }
 
-    /// Tries the frame that wins the bus, with this verdict instead of the source's: `Idle` if no
-    /// live interface has a frame to send. Interfaces whose count has run out are restarted. An
-    /// attempt that tries a frame takes the next number, and the source's verdict for that number
-    /// is never used. Refusal of the bus: `RecordFull`.
+    /// Tries the frame that wins the bus, with this verdict instead of the source's. Returns `Idle`
+    /// if no live interface has a frame to send. Interfaces whose count has run out are restarted.
+    /// An attempt that tries a frame takes the next number, and the source's verdict for that
+    /// number is never used. Refusal of the bus: `RecordFull`.
     pub fn attempt<R: Wait>(
         &self,
         rt: &R,
@@ -155,8 +156,8 @@ impl<N: BusName, F: FaultSource + Drop, G: Gate + Drop, B: Journaled> Station<N,
             .map_err(StationRefusal::Bus)
     }
 
-    /// Brings an interface that is bus off or down back, at a moment. Refusals of the bus: `RecordFull`, `NoInterface`,
-    /// `NotBusOff`.
+    /// Restarts an interface that is bus off or down, at a moment. Refusals of the bus:
+    /// `RecordFull`, `NoInterface`, `NotBusOff`.
     pub fn restart<R: Wait>(
         &self,
         rt: &R,
@@ -174,8 +175,8 @@ impl<N: BusName, F: FaultSource + Drop, G: Gate + Drop, B: Journaled> Station<N,
             .map_err(StationRefusal::Bus)
     }
 
-    /// Takes an interface down, at a moment. It takes no part until it is restarted, and the frames
-    /// in its transmit queue are lost. Refusals of the bus: `RecordFull`, `NoInterface`.
+    /// Takes an interface down, at a moment. The interface takes no part until its restart, and the
+    /// frames in its transmit queue are lost. Refusals of the bus: `RecordFull`, `NoInterface`.
     pub fn down<R: Wait>(
         &self,
         rt: &R,

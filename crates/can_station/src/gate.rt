@@ -1,17 +1,17 @@
-/// The places at which a station asks its gate.
+/// The points at which a station calls its gate.
 #[derive(Debug, Clone, Copy, PartialEq, Eq)]
 pub enum Point {
     /// In `step` and `hold_work`, before the lock is taken.
     BeforeStep,
-    /// In each step, with the lock taken.
+    /// In each step, while the lock is held.
     InStep,
-    /// In each call of a pass that takes the lock for itself, once it is free again.
+    /// In each call of a pass that takes the lock itself, after the lock is free again.
     AfterReply,
 }
 
-/// A gate, at which a test may hold a thread.
+/// A gate, where a test can hold a thread.
 pub trait Gate {
-    /// Returns once the thread may go on.
+    /// Returns when the thread may continue.
     fn at(&self, point: Point);
 }
 

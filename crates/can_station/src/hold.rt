@@ -26,10 +26,11 @@ use std::alloc::Global;
 use std::marker::Model;
 use std::sync::MutexGuard;
 
-/// A station's lock, taken for several calls. Each is one event of the bus, as a call of the station itself is.
+/// A station's lock, held for several calls. Each call is one event of the bus, like a call of the
+/// station itself.
 ///
-/// Contracts see it as the state under the lock. Threads for which the calls have made work are
-/// woken once the lock is free again.
+/// Contracts see it as the state under the lock. When the lock is free again, the threads with new
+/// work are woken.
 pub struct Hold<'s, N: BusName, F: FaultSource + Drop, G: Gate + Drop, B: Journaled = RingBus> {
     pub(crate) station: &'s Station<N, F, G, B>,
     pub(crate) state: MutexGuard<'s, StationState<N, F, B>>,
@@ -51,7 +52,7 @@ impl<'s, N: BusName, F: FaultSource + Drop, G: Gate + Drop, B: Journaled> Model
 }
 
 impl<'s, N: BusName, F: FaultSource + Drop, G: Gate + Drop, B: Journaled> Hold<'s, N, F, G, B> {
-    /// The number of the station.
+    /// Returns the number of the station.
     pub fn number(&self) -> u8
         ensures { result ≡ self.now.number }
     {
@@ -66,22 +67,22 @@ impl<'s, N: BusName, F: FaultSource + Drop, G: Gate + Drop, B: Journaled> Hold<'
         self.state.has_work()
     }
 
-    /// Returns whether nine tenths of the entries that the bus may have are there, or more.
+    /// Returns whether the bus has nine tenths or more of the entries that it may have.
     pub fn is_nearly_full(&self) -> bool
         ensures { IsTrue result ↔ IsNearlyFull self.now.journal }
     {
         self.state.is_nearly_full()
     }
 
-    /// The interface and the frame that the next attempt tries: `None` if no live interface has one
-    /// to send.
+    /// Returns the interface and the frame that the next attempt tries, or `None` if no live
+    /// interface has a frame to send.
     pub fn next_head(&self) -> Option<(Iface, Frame)>
         ensures { result ≡ next_head self.now.journal.config self.now.journal.history }
     {
         self.state.next_head()
     }
 
-    /// Makes an event with a pass, as the station's `call` does.
+    /// Carries out an event with a pass, as the station's `call` does.
     pub fn call(
         &mut self,
         alloc: Global,
@@ -102,8 +103,8 @@ impl<'s, N: BusName, F: FaultSource + Drop, G: Gate + Drop, B: Journaled> Hold<'
             .ok_or(StationRefusal::Bus(Refusal::NoMemory))
     }
 
-    /// Carries out an event for the pass of this slip, and keeps it among its calls. `None` if the
-    /// bus has no place for an entry: then nothing changes.
+    /// Carries out an event for the pass of this slip, and adds it to the calls of the pass.
+    /// Returns `None` if the bus has no place for an entry; then nothing changes.
     pub(crate) fn carry_out(
         &mut self,
         alloc: Global,
@@ -126,8 +127,8 @@ impl<'s, N: BusName, F: FaultSource + Drop, G: Gate + Drop, B: Journaled> Hold<'
         Some(reply)
     }
 
-    /// Receives into the caller's room, as the station's `receive` does: whether there was an item.
-    /// The room stays if there was none.
+    /// Receives an item into the caller's `room`, as the station's `receive` does, and returns
+    /// whether there was one. If there was none, `room` does not change.
     pub fn receive_into(
         &mut self,
         alloc: Global,
@@ -154,7 +155,8 @@ impl<'s, N: BusName, F: FaultSource + Drop, G: Gate + Drop, B: Journaled> Hold<'
         }
     }
 
-    /// Carries out a receive into the room for the pass of this slip, and keeps it among its calls.
+    /// Receives an item into `room` for the pass of this slip, and adds the call to the calls of
+    /// the pass.
     fn carry_out_receive(
         &mut self,
         slip: &mut Slip<N>,
@@ -202,7 +204,7 @@ impl<'s, N: BusName, F: FaultSource + Drop, G: Gate + Drop, B: Journaled> Hold<'
         reply.into_attempted().map_err(StationRefusal::Bus)
     }
 
-    /// Tries the frame that wins the bus, as `step` does, and returns the attempt's verdict too.
+    /// Tries the frame that wins the bus, as `step` does, and also returns the attempt's verdict.
     pub fn step_judged(
         &mut self,
         alloc: Global,
@@ -226,7 +228,8 @@ impl<'s, N: BusName, F: FaultSource + Drop, G: Gate + Drop, B: Journaled> Hold<'
         with_verdict(verdict, reply.into_attempted().map_err(StationRefusal::Bus))
     }
 
-    /// Carries out an attempt at a moment, with the verdict of the source or the plan, for the pass of this slip.
+    /// Carries out an attempt at a moment for the pass of this slip, with the verdict of the source
+    /// or the plan.
     pub(crate) fn carry_out_step(
         &mut self,
         alloc: Global,
@@ -249,7 +252,7 @@ impl<'s, N: BusName, F: FaultSource + Drop, G: Gate + Drop, B: Journaled> Hold<'
         Some(reply)
     }
 
-    /// Carries out an attempt as `carry_out_step` does, and returns its verdict too.
+    /// Carries out an attempt as `carry_out_step` does, and also returns its verdict.
     fn carry_out_judged(
         &mut self,
         alloc: Global,
@@ -286,7 +289,7 @@ impl<'s, N: BusName, F: FaultSource + Drop, G: Gate + Drop, B: Journaled> Hold<'
         self.state.inject(text, names)
     }
 
-    /// Returns how many rules are left.
+    /// Returns the number of rules that are left.
     pub fn rules(&self) -> usize
         ensures rules { result ≡ length self.now.plan.rules }
         ensures few { result ≤ 64 }
@@ -294,7 +297,7 @@ impl<'s, N: BusName, F: FaultSource + Drop, G: Gate + Drop, B: Journaled> Hold<'
         self.state.rules()
     }
 
-    /// Ends all rules. The lines of the plan stay.
+    /// Ends all rules. The script lines of the plan remain.
     pub fn end_rules(&mut self)
         ensures { self.new ≡ after_end self.old }
     {

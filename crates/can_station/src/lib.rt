@@ -1,20 +1,22 @@
-//! A bus that threads share.
+//! A bus that several threads share.
 //!
-//! A caller enters the station and gets a pass. Each call with a pass is one event of the bus, made under the
-//! station's lock, and the pass keeps it with its reply; a light pass keeps no list, and has its calls in contracts only.
-//! A [`Hold`] of the lock makes several calls. At the end `settle` takes the passes back and hands out the record: a
-//! legal history in which each pass's calls are in the order that it made them.
+//! A caller enters the station and gets a pass. Each call with a pass is one event of the bus, made
+//! under the station's lock. The pass keeps each call with its reply; a light pass keeps no list,
+//! and only contracts see its calls. A [`Hold`] of the lock makes several calls. At the end
+//! `settle` takes the passes back and returns the record. The record is a legal history in which
+//! the calls of each pass are in order.
 //!
-//! A station is over any [`Journaled`](can_bus::Journaled) bus, by default over one with its whole
-//! record. On the bus of a long run (`new_long`) another thread takes the entries in a [`Block`] at
-//! a time, and calls wait if it is late. That thread has the station's [`Scroll`], and by
-//! `settle_scroll` all blocks together are the first entries of the history.
+//! A station works over any [`Journaled`](can_bus::Journaled) bus, by default over one with its
+//! whole record. On the bus of a long run (`new_long`) another thread takes the entries, a
+//! [`Block`] at a time. Calls wait if that thread is late. The thread holds the station's
+//! [`Scroll`]. By the contract of `settle_scroll`, all its blocks together are the first entries of
+//! the history.
 //!
-//! The lock holds a [`StationState`], whose calls carry the proofs. A [`Station`] adds the lock and
-//! the waiting. A thread that waits sleeps, and only a call that can matter to it wakes it.
+//! The lock holds a [`StationState`], whose methods carry the proofs. A [`Station`] adds the lock
+//! and the waiting. A waiting thread sleeps, and only a call that can matter to it wakes it.
 //!
-//! Nothing is promised of how long a call waits for the lock, of the order of the threads, or that
-//! no two wait for each other.
+//! There is no promise about the time that a call waits for the lock, or about the order of the
+//! threads. Deadlock between threads is not excluded either.
 #![tactic(auto)]
 
 mod attempts;

@@ -1,4 +1,4 @@
-//! Stations of long runs: the calls of `Station` that make one and take its record in blocks.
+//! Stations of long runs: the methods of `Station` that make one and take its record in blocks.
 
 ghost use Rattle.std.specs.Prelude.{◌≡◌, ◌≢◌, [], Err, IfOk, OnErr, OnOk, ◌↔◌};
 ghost use Rattle.can_event.specs.Events.{IsLongConfig};
@@ -20,20 +20,20 @@ use std::alloc::{AllocError, Global};
 use std::sync::Wait;
 use std::time::{Clock, Duration};
 
-/// Entries that a station handed out, in order, and the lines about its rules of faults.
+/// Entries that a station handed out, in order, and the lines about its fault rules.
 #[derive(Drop)]
 pub struct Block {
-    /// The number of the station's entries before these.
+    /// The number of the station's entries before this block.
     pub start: u64,
     pub entries: PackedRecord,
-    /// The lines of the rules that were given since the previous block, as `take_changes` returns
-    /// them: all that count for these entries. If memory is refused, a later block has them.
+    /// The lines about rules since the previous block, as `take_changes` returns them. They include
+    /// all lines that matter for these entries. If memory is refused, a later block has them.
     pub changes: Vec<u8>,
 }
 
 impl Block {
-    /// A block without entries, which has memory for this many: 32 bytes for each, and 76 for its
-    /// FD frame. `AllocError` if there is none.
+    /// Returns a block without entries and with memory for this many: 32 bytes for each, and 76 for
+    /// its FD frame. Returns `AllocError` if memory is refused.
     pub fn new(alloc: Global, size: u32) -> Result<Block, AllocError>
         ensures { IfOk result (λ b. b.entries.entries ≡ []) }
     {
@@ -46,12 +46,13 @@ impl Block {
 }
 
 impl<N: BusName, F: FaultSource + Drop, G: Gate + Drop> Station<N, F, G, LongRingBus> {
-    /// A station over the bus of a long run, and the scroll for the thread that takes its entries.
-    /// It keeps in memory only the entries that were not taken yet. It takes memory for this many:
-    /// `TAIL_SIZE`, except in tests.
+    /// Returns a station over the bus of a long run, and the scroll for the thread that takes its
+    /// entries. In memory it keeps only the entries that were not yet taken. It takes memory for
+    /// `size` entries, which is `TAIL_SIZE` except in tests.
     ///
-    /// `BadConfig` exactly if the configuration is outside the limits of a long run, or has another
-    /// number of interfaces than the blanks; else `NoMemory` if memory was refused.
+    /// Returns `BadConfig` exactly if the configuration is outside the limits of a long run, or its
+    /// number of interfaces differs from that of the blanks. Returns `NoMemory` if memory was
+    /// refused.
     pub fn new_long(
         alloc: Global,
         blanks: Blanks,
@@ -78,15 +79,16 @@ impl<N: BusName, F: FaultSource + Drop, G: Gate + Drop> Station<N, F, G, LongRin
 }
 
 impl<N: BusName, F: FaultSource + Drop, G: Gate + Drop, B: Journaled> Station<N, F, G, B> {
-    /// Takes the entries that were not taken yet into a block, in order, and appends them to the
-    /// scroll's. The block's own entries are let go, and it gets the lines about the rules. Calls
-    /// that wait for a place go on. A bus with its whole record gives no entries.
+    /// Takes the entries that were not yet taken into a block, in order, and appends them to those
+    /// of the scroll. The block's own entries are dropped, and it gets the lines about the rules.
+    /// Calls that wait for a place continue. A bus with its whole record hands out no entries.
     ///
-    /// `WrongStation` exactly if the scroll is another station's; then nothing changes.
+    /// Returns `WrongStation` exactly if the scroll belongs to another station; then nothing
+    /// changes.
     ///
-    /// The lock is held only while two pointers are swapped. No memory is taken, except for a line
-    /// of `nofaults`. From then on the station's entries go where the block had memory for its own.
-    /// If it had none, each call is refused with `NoMemory`.
+    /// The lock is held only while two pointers are swapped. No memory is taken, except for a
+    /// `nofaults` line. From then on the station's entries use the memory of the block. If the
+    /// block had no memory, each call is refused with `NoMemory`.
     pub fn take_entries<R: Wait>(
         &self,
         rt: &R,
@@ -110,9 +112,9 @@ impl<N: BusName, F: FaultSource + Drop, G: Gate + Drop, B: Journaled> Station<N,
         Ok(())
     }
 
-    /// Waits until this many entries were not taken yet, until there are too few places for a call,
-    /// or this long. `Stopped` after `end_entries`, else `Ready`. A bus with its whole record
-    /// always has places.
+    /// Waits until this many entries can be taken, until there are too few places for a call, or
+    /// for this long. Returns `Stopped` after `end_entries`, or else `Ready`. A bus with its whole
+    /// record always has places.
     pub fn wait_entries<R: Wait + Clock>(
         &self,
         rt: &R,
@@ -130,8 +132,8 @@ impl<N: BusName, F: FaultSource + Drop, G: Gate + Drop, B: Journaled> Station<N,
         }
     }
 
-    /// Ends the waits for entries, now and from now on, once no more calls are made. A call that is
-    /// made later waits for no place: if there is none, it is refused with `NoMemory`.
+    /// Ends the waits for entries, now and from now on, after the last call. A later call does not
+    /// wait for a place: if there is none, it is refused with `NoMemory`.
     pub fn end_entries<R: Wait>(&self, rt: &R) {
         self.state.lock(rt).end_entries();
         self.written.notify_all();

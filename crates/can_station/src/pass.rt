@@ -9,8 +9,8 @@ use can_roll::{Roll, RollName, Slip};
 use std::alloc::{AllocError, Global};
 use std::marker::Model;
 
-/// A caller's pass, with the calls that were made with it, in 32 bytes each. A light pass keeps no list: contracts
-/// know its calls all the same.
+/// A caller's pass, with the calls made with it; each call takes 32 bytes. A light pass keeps no
+/// list, but contracts still see its calls.
 #[derive(Drop)]
 pub struct Pass<N: RollName> {
     pub(crate) slip: Slip<N>,
@@ -28,14 +28,14 @@ impl<N: RollName> Model for Pass<N> {
 }
 
 impl<N: RollName> Pass<N> {
-    /// The number of its station.
+    /// Returns the number of the pass's station.
     pub fn number(&self) -> u8
         ensures { result ≡ self.now.number }
     {
         self.slip.number()
     }
 
-    /// Returns how many calls it keeps: all that were made with it, none if it is light.
+    /// Returns the number of calls that the pass keeps: all of them, or 0 for a light pass.
     pub fn len(&self) -> usize
         ensures { result ≡ length (kept_calls self.now) }
     {
@@ -45,14 +45,15 @@ impl<N: RollName> Pass<N> {
         }
     }
 
-    /// Returns whether it keeps no call.
+    /// Returns whether the pass keeps no call.
     pub fn is_empty(&self) -> bool
         ensures { result ≡ (length (kept_calls self.now) == 0) }
     {
         self.len() == 0
     }
 
-    /// The call at a place with its reply, from 0 for the oldest, if it keeps one there. No memory is taken.
+    /// Returns the call at this place with its reply, if the pass keeps one there. The oldest is at
+    /// 0. No memory is taken.
     pub fn call(&self, place: usize) -> Option<EntryRef<'_>>
         ensures { result ≡ slice_get (reverse (kept_calls self.now)) place }
     {
@@ -62,7 +63,7 @@ impl<N: RollName> Pass<N> {
         }
     }
 
-    /// Only its slip.
+    /// Returns the slip of the pass.
     fn into_slip(self) -> Slip<N>
         ensures number { result.number ≡ self.number }
         ensures pass { result.pass ≡ self.pass }
@@ -73,16 +74,15 @@ impl<N: RollName> Pass<N> {
     }
 }
 
-/// The rest of a station at its end: what its bus left, a record if it had one, and the number of
-/// passes.
+/// The rest of a station at its end: the record or other rest of its bus, and the number of passes.
 #[derive(Drop)]
 pub struct Settled<L: Drop = Record> {
     pub history: L,
     pub passes: u32,
 }
 
-/// Takes the memory for a call that does not close. A place is left for a close, so closing a
-/// socket that the pass opened is never refused for memory. A light pass takes none.
+/// Takes the memory for a call other than a close. It leaves a place for a close, so the close of a
+/// socket that the pass opened is never refused for lack of memory. A light pass takes no memory.
 pub(crate) fn make_ready(calls: &mut Option<PackedList>, alloc: Global) -> Result<(), AllocError>
     ensures same { calls_listed calls.new ≡ calls_listed calls.old }
     ensures ready { OnOk result (HasMemoryForCall calls.new) }
@@ -106,7 +106,7 @@ fn make_ready_for_close(calls: &mut Option<PackedList>) -> Result<(), AllocError
     }
 }
 
-/// Takes the memory for a call. A close takes what is left for it.
+/// Takes the memory for a call. A close takes the memory that was left for it.
 pub(crate) fn make_ready_for(
     calls: &mut Option<PackedList>,
     alloc: Global,
@@ -122,7 +122,8 @@ pub(crate) fn make_ready_for(
     }
 }
 
-/// Keeps a call with its reply, if the pass keeps a list and it is an entry. No memory is taken.
+/// Adds a call with its reply, if the pass keeps a list and the call is an entry. No memory is
+/// taken.
 pub(crate) fn keep(calls: &mut Option<PackedList>, event: Event, reply: &Reply)
     requires ready { IsReadyFor event calls.old }
     requires suits { Suits event reply.now }
@@ -136,14 +137,14 @@ pub(crate) fn keep(calls: &mut Option<PackedList>, event: Event, reply: &Reply)
     }
 }
 
-/// Returns whether all are passes of the station with this number.
+/// Returns whether all passes belong to the station with this number.
 pub(crate) fn are_all_of<N: RollName>(passes: &[Pass<N>], number: u8) -> bool
     ensures { IsTrue result ↔ AllOf number passes.now }
 {
     passes.iter().all(|pass| pass.number() == number)
 }
 
-/// Takes all passes in: the calls of each are the roll's list of it.
+/// Takes all passes back. The calls of each pass are the roll's list for it.
 pub(crate) fn recall_all<N: RollName>(roll: &mut Roll<N>, passes: Vec<Pass<N>>)
     requires number { AllOf roll.old.number passes.items }
     requires none { roll.old.called ≡ [] }

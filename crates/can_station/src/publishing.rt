@@ -7,7 +7,8 @@ use can_bus::{Event, Journaled, Reply};
 use can_confine::Counters;
 use can_meter::{Keeper, MeterName};
 
-/// The error counters of a bus before an event that can change them: an attempt, a restart or a down.
+/// Returns the error counters of a bus before an event that can change them: an attempt, a restart
+/// or a down.
 pub(crate) fn counters_before<B: Journaled>(bus: &B, event: &Event) -> Option<[Counters; 16]>
     ensures { result ≡ counts_before (B.journal bus.now) event.now }
 {
@@ -17,8 +18,8 @@ pub(crate) fn counters_before<B: Journaled>(bus: &B, event: &Event) -> Option<[C
     }
 }
 
-/// Publishes the counters that a call changed, if it left an entry. All get the record's length
-/// with that entry.
+/// Publishes the counters that a call changed, if it left an entry. Each publication has the
+/// record's length with that entry.
 pub(crate) fn publish_changes<N: MeterName>(
     keeper: &mut Keeper<N>,
     reply: &Reply,
@@ -39,7 +40,7 @@ pub(crate) fn publish_changes<N: MeterName>(
     }
 }
 
-/// Publishes each interface's counters that differ.
+/// Publishes the counters of each interface that changed.
 fn publish_all<N: MeterName>(
     keeper: &mut Keeper<N>,
     at: u32,
@@ -57,7 +58,7 @@ fn publish_all<N: MeterName>(
     }
 }
 
-/// Publishes an interface's counters if they changed.
+/// Publishes the counters of an interface if they changed.
 fn publish_change<N: MeterName>(
     keeper: &mut Keeper<N>,
     place: usize,

@@ -7,7 +7,7 @@ ghost use Rattle.can_station.specs.Passes.{HasMemoryForCall, Keeps};
 use can_bus::{Received, Refusal, SocketId};
 use can_record::PackedList;
 
-/// Returns whether a receive that came to this leaves an entry.
+/// Returns whether a receive call with this outcome leaves an entry.
 fn leaves_entry(outcome: Result<bool, Refusal>) -> bool
     ensures { (room : Received) → result ≡ enters (receive_reply room outcome) }
 {
@@ -17,7 +17,8 @@ fn leaves_entry(outcome: Result<bool, Refusal>) -> bool
     }
 }
 
-/// Keeps a receive that came to this with the room, if the pass keeps a list and it is an entry. No memory is taken.
+/// Adds a receive call with this outcome and `room`, if the pass keeps a list and the call is an
+/// entry. No memory is taken.
 pub(crate) fn keep_receive(
     calls: &mut Option<PackedList>,
     socket: SocketId,

@@ -4,20 +4,20 @@ use thiserror::Error;
 /// Why a station refuses a call.
 #[derive(Debug, Clone, Copy, PartialEq, Eq, Error)]
 pub enum StationRefusal {
-    /// The bus refuses, or memory was refused.
+    /// The bus refused, or memory was refused.
     #[error("{0}")]
     Bus(Refusal),
-    /// The pass is another station's.
+    /// The pass belongs to another station.
     #[error("wrong station")]
     WrongStation,
 }
 
-/// All 4,096 passes of the station have entered.
+/// All 4,096 passes of the station have been given out.
 #[derive(Debug, Clone, Copy, PartialEq, Eq, Error)]
 #[error("too many passes")]
 pub struct TooManyPasses;
 
-/// A pass or a gauge is another station's.
+/// A pass or a gauge belongs to another station.
 #[derive(Debug, Clone, Copy, PartialEq, Eq, Error)]
 #[error("wrong station")]
 pub struct WrongStation;

@@ -35,7 +35,7 @@ pub struct Blanks {
 }
 
 impl Blanks {
-    /// Blanks for a bus of 1 to 16 interfaces. `AllocError` if there is no memory.
+    /// Returns blanks for a bus of 1 to 16 interfaces, or `AllocError` if memory is refused.
     pub fn new(alloc: Global, ifaces: usize) -> Result<Blanks, AllocError>
         requires { (0 < ifaces) × (ifaces ≤ 16) }
         ensures { IfOk result (λ b. b.meter.words ≡ ifaces) }
@@ -47,10 +47,10 @@ impl Blanks {
     }
 }
 
-/// A bus that threads share. Contracts see it as its number with its configuration.
+/// A bus that several threads share. Contracts see it as its number and its configuration.
 ///
-/// Each of the eight calls of a pass, and `step`, is one event of the bus in one hold of the lock.
-/// The lock holds a [`StationState`].
+/// Each call of a pass, and each `step`, is one event of the bus and holds the lock once. The lock
+/// holds a [`StationState`].
 #[derive(Drop)]
 pub struct Station<N: BusName, F: FaultSource + Drop, G: Gate + Drop, B: Journaled = RingBus> {
     pub(crate) state: Mutex<StationState<N, F, B>>,
@@ -67,7 +67,7 @@ pub struct Station<N: BusName, F: FaultSource + Drop, G: Gate + Drop, B: Journal
     pub(crate) gate: G,
     pub(crate) number: u8,
     config: BusConfig,
-    /// Whether a call met a full record, and whether that was reported.
+    /// Whether a call met a full record, and whether this was reported.
     pub(crate) fullness: AtomicU8,
 }
 
@@ -81,11 +81,13 @@ impl<N: BusName, F: FaultSource + Drop, G: Gate + Drop, B: Journaled> Model
 }
 
 impl<N: BusName, F: FaultSource + Drop, G: Gate + Drop> Station<N, F, G> {
-    /// A station with an empty record, named by `N` under this number, and with no plan of faults:
-    /// the source gives the verdicts of its attempts. It takes memory for all `limit` entries.
+    /// Returns a station with an empty record, named by `N` under this number. It has no plan of
+    /// faults: the source gives the verdicts of its attempts. It takes memory for all `limit`
+    /// entries.
     ///
-    /// `BadConfig` exactly if the configuration is outside the limits of a bus, or has another
-    /// number of interfaces than the blanks; else `NoMemory` if memory was refused.
+    /// Returns `BadConfig` exactly if the configuration is outside the limits of a bus, or its
+    /// number of interfaces differs from that of the blanks. Returns `NoMemory` if memory was
+    /// refused.
     pub fn new(
         alloc: Global,
         blanks: Blanks,
@@ -111,8 +113,8 @@ impl<N: BusName, F: FaultSource + Drop, G: Gate + Drop> Station<N, F, G> {
 }
 
 impl<N: BusName, F: FaultSource + Drop, G: Gate + Drop, B: Journaled> Station<N, F, G, B> {
-    /// A station over a fresh bus with this configuration and this plan of faults, and the scroll
-    /// for the thread that takes its entries. `NoMemory` if memory was refused.
+    /// Returns a station over a new bus with this configuration and this plan of faults, and the
+    /// scroll for the thread that takes its entries. Returns `NoMemory` if memory was refused.
     pub fn over(
         alloc: Global,
         blanks: Blanks,
@@ -155,29 +157,29 @@ impl<N: BusName, F: FaultSource + Drop, G: Gate + Drop, B: Journaled> Station<N,
         Ok((station, scroll))
     }
 
-    /// The number of the station.
+    /// Returns the number of the station.
     pub fn number(&self) -> u8
         ensures { result ≡ self.now.number }
     {
         self.number
     }
 
-    /// The configuration of its bus.
+    /// Returns the configuration of the station's bus.
     pub fn config(&self) -> BusConfig
         ensures { result ≡ self.now.config }
     {
         self.config
     }
 
-    /// The state under the lock. Since `new` it has the station's number and configuration. No type
-    /// guarantees that: on any other state this would wait for ever.
+    /// Locks the state. Since `new` it has the station's number and configuration, but no type
+    /// guarantees this: on any other state this method would wait for ever.
     pub(crate) fn hold<R: Wait>(&self, rt: &R) -> MutexGuard<'_, StationState<N, F, B>>
         ensures { IsStateOf self.now (mutex_guard_value result) }
     {
         self.own(rt, self.state.lock(rt))
     }
 
-    /// The state under the lock, which is the station's.
+    /// Locks the state, which is the station's.
     pub(crate) fn own<'s, R: Wait>(
         &'s self,
         rt: &R,
@@ -193,10 +195,11 @@ impl<N: BusName, F: FaultSource + Drop, G: Gate + Drop, B: Journaled> Station<N,
         unreachable!()
     }
 
-    /// Takes the lock for several calls. Until the hold is dropped, all other calls of the station wait.
+    /// Takes the lock for several calls. All other calls of the station wait until the hold is
+    /// dropped.
     ///
-    /// On the bus of a long run it waits first for places in the tail: 512, or half of a smaller
-    /// tail. A call of the hold that still finds none is refused with `NoMemory`.
+    /// On the bus of a long run it first waits for places in the tail: 512, or half of a smaller
+    /// tail. If a call of the hold still finds no place, it is refused with `NoMemory`.
     pub fn lock<R: Wait>(&self, rt: &R) -> Hold<'_, N, F, G, B>
         ensures { IsStateOf self.now result }
     {
@@ -210,7 +213,8 @@ impl<N: BusName, F: FaultSource + Drop, G: Gate + Drop, B: Journaled> Station<N,
         }
     }
 
-    /// The next pass, with which no call was made. Passes are numbered from 0; the 4,097th is `TooManyPasses`.
+    /// Returns the next pass, which has made no call. Passes are numbered from 0; the 4,097th call
+    /// returns `TooManyPasses`.
     pub fn enter<R: Wait>(&self, rt: &R, alloc: Global) -> Result<Pass<N>, TooManyPasses>
         ensures ok { IfOk result (λ pass. IsNewPass F self.now pass) }
         ensures err { OnErr result (HadNoPassLeft F self.now) }
@@ -222,7 +226,8 @@ impl<N: BusName, F: FaultSource + Drop, G: Gate + Drop, B: Journaled> Station<N,
         })
     }
 
-    /// The next pass, like `enter`, but one that keeps no list: its calls take no memory.
+    /// Returns the next pass, as `enter` does, but this pass keeps no list: its calls take no
+    /// memory.
     pub fn enter_light<R: Wait>(&self, rt: &R) -> Result<Pass<N>, TooManyPasses>
         ensures ok { IfOk result (λ pass. IsNewLightPass F self.now pass) }
         ensures err { OnErr result (HadNoPassLeft F self.now) }
@@ -231,17 +236,17 @@ impl<N: BusName, F: FaultSource + Drop, G: Gate + Drop, B: Journaled> Station<N,
         Ok(Pass { slip, calls: None })
     }
 
-    /// Another gauge of the station's meter, which reads the error counters without the lock.
-    /// `AllocError` if there is no memory.
+    /// Returns another gauge of the station's meter, which reads the error counters without the
+    /// lock. Returns `AllocError` if memory is refused.
     pub fn gauge<R: Wait>(&self, rt: &R) -> Result<Gauge<N>, AllocError>
         ensures { IfOk result (λ g. g.number ≡ self.now.number) }
     {
         self.hold(rt).gauge()
     }
 
-    /// Makes an event with a pass, in one hold of the lock, and returns the bus's reply. The reply
-    /// is of the event's kind, or a refusal. `Err` if the event did not reach the bus: `NoMemory`
-    /// if the pass's list of calls can't grow, then `WrongStation`.
+    /// Carries out an event with a pass under the lock, and returns the bus's reply. The reply is
+    /// of the event's kind, or a refusal. Returns `Err` if the event did not reach the bus:
+    /// `NoMemory` if the pass's list of calls cannot grow, or else `WrongStation`.
     pub fn call<R: Wait>(
         &self,
         rt: &R,
@@ -301,16 +306,16 @@ impl<N: BusName, F: FaultSource + Drop, G: Gate + Drop, B: Journaled> Station<N,
     /// Takes the rule with this text, whose interfaces have these names. It counts from the next
     /// attempt on, after the rules that are left. It is no event, and wakes no thread.
     ///
-    /// Errors, in this order: `BadRule` if a word is wrong, `UnknownInterface` if only a name is
-    /// unknown, `TooManyRules` if 64 rules are left, `NoMemory`. `NoMemory` also comes if 64 MiB of
-    /// lines wait for `take_changes`. After an error all is as before.
+    /// The errors, in this order: `BadRule` if a word is wrong, `UnknownInterface` if only a name
+    /// is unknown, `TooManyRules` if 64 rules are left, `NoMemory`. `NoMemory` also means that 64
+    /// MiB of lines wait for `take_changes`. An error changes nothing.
     pub fn inject<R: Wait>(&self, rt: &R, text: &[u8], names: &Names) -> Result<(), RuleRefusal>
         ensures { InjectsIn F self.now names.now text.now result }
     {
         self.hold(rt).inject(text, names)
     }
 
-    /// Returns how many rules are left, at most 64.
+    /// Returns the number of rules that are left, at most 64.
     pub fn rules<R: Wait>(&self, rt: &R) -> usize
         ensures rules { InSome F self.now (λ held. result ≡ length held.plan.rules) }
         ensures few { result ≤ 64 }
@@ -318,21 +323,21 @@ impl<N: BusName, F: FaultSource + Drop, G: Gate + Drop, B: Journaled> Station<N,
         self.hold(rt).rules()
     }
 
-    /// Ends all rules. The lines of the plan stay.
+    /// Ends all rules. The script lines of the plan remain.
     pub fn end_rules<R: Wait>(&self, rt: &R) {
         self.hold(rt).end_rules();
     }
 
-    /// Keeps no lines about the rules from now on, because nothing will take them; else they would
-    /// pile up. Lines that wait are let go.
+    /// Drops the waiting lines about the rules, and keeps none from now on. Without a thread that
+    /// takes them the lines would accumulate.
     pub fn keep_no_changes<R: Wait>(&self, rt: &R) {
         self.hold(rt).keep_no_changes();
     }
 
-    /// Takes out the lines about the rules of the bus since the start or the last such call, as
-    /// [`RunFaults`](can_rules::RunFaults) reads them. There is a line for each rule that was taken
-    /// and for each end of all rules, with the number of the next attempt that tries a frame.
-    /// `AllocError` if memory is refused: then they stay.
+    /// Takes out the lines about the rules since the start or the last such call, as
+    /// [`RunFaults`](can_rules::RunFaults) reads them. There is a line for each rule taken and for
+    /// each end of all rules. Each line has the number of the next attempt that tries a frame.
+    /// Returns `AllocError` if memory is refused; then the lines remain.
     pub fn take_changes<R: Wait>(&self, rt: &R) -> Result<Vec<u8>, AllocError>
         ensures { IfOk result (λ lines.
             InSome F self.now (λ held. lines.items ≡ text_of_lines held.changes)) }
@@ -340,13 +345,13 @@ impl<N: BusName, F: FaultSource + Drop, G: Gate + Drop, B: Journaled> Station<N,
         self.hold(rt).take_changes()
     }
 
-    /// Takes passes and gauges back, and hands out the record, or what else the bus leaves. It is a
-    /// legal history of the station's configuration, whose entries can be marked with passes so
-    /// that the calls of each of these passes are its entries, in order. The gauges have seen
-    /// publications of that history.
+    /// Takes passes and gauges back, and returns the record, or the other rest of the bus. It is a
+    /// legal history of the station's configuration. Its entries can be marked with passes so that
+    /// the calls of each returned pass are its entries, in order. The gauges have seen publications
+    /// of that history.
     ///
-    /// `WrongStation` exactly if some pass or gauge is another station's; then nothing is handed
-    /// back.
+    /// Returns `WrongStation` exactly if a pass or gauge belongs to another station; then nothing
+    /// is returned.
     pub fn settle<R: Wait>(
         self,
         rt: &R,
@@ -361,10 +366,10 @@ impl<N: BusName, F: FaultSource + Drop, G: Gate + Drop, B: Journaled> Station<N,
         self.into_state(rt).settle(passes, gauges)
     }
 
-    /// Takes the scroll back as well. The scroll got what the bus handed out of the one history
-    /// that settles all passes, so its entries are the first ones of a long run.
+    /// Takes the scroll back as well. The scroll has the entries that the bus handed out, from the
+    /// same history that settles all passes. So its entries are the first entries of a long run.
     ///
-    /// `WrongStation` also exactly if the scroll is another station's.
+    /// Also returns `WrongStation` exactly if the scroll belongs to another station.
     pub fn settle_scroll<R: Wait>(
         self,
         rt: &R,
@@ -382,7 +387,7 @@ impl<N: BusName, F: FaultSource + Drop, G: Gate + Drop, B: Journaled> Station<N,
         self.into_state(rt).settle_scroll(scroll, passes, gauges)
     }
 
-    /// Returns the state that the lock kept, which is the station's state, as `own` has it.
+    /// Returns the state that the lock kept, which is the station's state, as in `own`.
     fn into_state<R: Wait>(self, rt: &R) -> StationState<N, F, B>
         ensures { IsStateOf self result }
     {

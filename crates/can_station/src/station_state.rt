@@ -36,11 +36,11 @@ use can_rules::{Plan, RuleLines, RuleRefusal, spelled_rule};
 use std::alloc::{AllocError, Global};
 use std::marker::Model;
 
-/// The most passes of a station.
+/// The largest number of passes of a station.
 const MAX_PASSES: u32 = 4096;
 
-/// The state under a station's lock: the bus with the source of its verdicts, the plan of its
-/// faults with the lines about its rules, the roll, and the keeper of its meter.
+/// The state under a station's lock: the bus, the source of its verdicts, the plan of its faults,
+/// the lines about its rules, the roll, and the keeper of its meter.
 ///
 /// Whenever the lock is free, four things hold. The record is a legal history. Its entries can be
 /// marked with passes so that the roll's list of each pass is the entries marked with it. The
@@ -92,7 +92,8 @@ impl<N: BusName, F: FaultSource + Drop, B: Journaled> Model for StationState<N, 
 }
 
 impl<N: BusName, F: FaultSource + Drop> StationState<N, F> {
-    /// The record: a legal history, whose entries can be marked with the passes that made them.
+    /// Returns the record: a legal history whose entries can be marked with the passes that made
+    /// them.
     pub fn record(&self) -> &Record
         ensures config { result.now.config ≡ self.now.journal.config }
         ensures history { result.now.history ≡ self.now.journal.history }
@@ -104,7 +105,7 @@ impl<N: BusName, F: FaultSource + Drop> StationState<N, F> {
 }
 
 impl<N: BusName, F: FaultSource + Drop, B: Journaled> StationState<N, F, B> {
-    /// The state of a station whose bus has no entry, and its scroll.
+    /// Returns the state of a station whose bus has no entry, and its scroll.
     pub(crate) fn new(
         alloc: Global,
         blank: RollBlank,
@@ -143,22 +144,22 @@ impl<N: BusName, F: FaultSource + Drop, B: Journaled> StationState<N, F, B> {
         (state, scroll)
     }
 
-    /// The number of the station.
+    /// Returns the number of the station.
     pub fn number(&self) -> u8
         ensures { result ≡ self.now.number }
     {
         self.roll.number()
     }
 
-    /// Returns whether it is a state of the station with this number and this configuration.
+    /// Returns whether this is a state of the station with this number and this configuration.
     pub(crate) fn is_of(&self, number: u8, config: &BusConfig) -> bool
         ensures { result ≡ true → IsStateOf (station_seen number config.now) self.now }
     {
         self.roll.number() == number && self.config == *config
     }
 
-    /// Returns how many entries there are: those of a legal history, which can be marked with the
-    /// passes that made them.
+    /// Returns the number of entries. They are a legal history, and can be marked with the passes
+    /// that made them.
     pub fn count(&self) -> u64
         ensures count { result ≡ length self.now.journal.history }
         ensures legal { IsLegal self.now.journal.config self.now.journal.history }
@@ -167,15 +168,16 @@ impl<N: BusName, F: FaultSource + Drop, B: Journaled> StationState<N, F, B> {
         self.bus.len()
     }
 
-    /// The keeper of the station's meter: it has published each change of an interface's error counters.
+    /// Returns the keeper of the station's meter, which has published each change of an interface's
+    /// error counters.
     pub fn keeper(&self) -> &Keeper<N>
         ensures { IsPublished result.now self.now.number self.now.journal }
     {
         &self.keeper
     }
 
-    /// The next pass, numbered from 0, which has made no call. `TooManyPasses` exactly if there are
-    /// 4,096.
+    /// Returns the next pass, numbered from 0, which has made no call. Returns `TooManyPasses`
+    /// exactly if there are 4,096.
     pub fn enter(&mut self) -> Result<Slip<N>, TooManyPasses>
         ensures ok { IfOk result (λ slip. HasEntered self.old slip self.new) }
         ensures err { OnErr result (NoPassLeft self.old × (self.new ≡ self.old)) }
@@ -186,7 +188,7 @@ impl<N: BusName, F: FaultSource + Drop, B: Journaled> StationState<N, F, B> {
         Ok(self.roll.enter())
     }
 
-    /// Another gauge of the station's meter, or `AllocError` if there is no memory for it.
+    /// Returns another gauge of the station's meter, or `AllocError` if memory is refused.
     pub fn gauge(&mut self) -> Result<Gauge<N>, AllocError>
         ensures same { self.new ≡ self.old }
         ensures gauge { IfOk result (λ g. g.number ≡ self.old.number) }
@@ -194,9 +196,9 @@ impl<N: BusName, F: FaultSource + Drop, B: Journaled> StationState<N, F, B> {
         self.spare.another()
     }
 
-    /// Carries out an event for the pass of this slip. The bus gives its reply; both are noted in
-    /// the record and in the pass's list, and changes of the error counters are published. `None`
-    /// if the bus has no place for an entry until some are taken: then nothing changes.
+    /// Carries out an event for the pass of this slip. The bus gives its reply, and both are noted
+    /// in the record and in the pass's list. Changes of the error counters are published. Returns
+    /// `None` if the bus has no place for an entry until some are taken; then nothing changes.
     pub fn call(&mut self, alloc: Global, slip: &mut Slip<N>, event: &Event) -> Option<Reply>
         requires { slip.old.number ≡ self.old.number }
         ensures carried { IfSome result (λ r.
@@ -218,9 +220,9 @@ impl<N: BusName, F: FaultSource + Drop, B: Journaled> StationState<N, F, B> {
         ))
     }
 
-    /// Carries out a receive into the caller's room for the pass of this slip, as `call` does:
-    /// whether there was an item. The room stays if there was none. No error counter changes.
-    /// `None` as in `call`.
+    /// Receives an item into the caller's `room` for the pass of this slip, as `call` does, and
+    /// returns whether there was one. If there was none, `room` does not change. No error counter
+    /// changes. Returns `None` as `call` does.
     pub fn receive_into(
         &mut self,
         slip: &mut Slip<N>,
@@ -244,9 +246,9 @@ impl<N: BusName, F: FaultSource + Drop, B: Journaled> StationState<N, F, B> {
         Some(outcome)
     }
 
-    /// Carries out an attempt at a moment, and returns its verdict and the reply. The verdict is
-    /// the source's for its number if that is a fault, else the plan's, whose rules count it.
-    /// `None` as in `call`: then neither was asked.
+    /// Carries out an attempt at a moment, and returns its verdict and the reply. A fault of the
+    /// source for this number comes first, then the verdict of the plan, whose rules count the
+    /// attempt. Returns `None` as `call` does; then neither was asked.
     pub fn step(
         &mut self,
         alloc: Global,
@@ -280,10 +282,10 @@ impl<N: BusName, F: FaultSource + Drop, B: Journaled> StationState<N, F, B> {
         Some((verdict, reply))
     }
 
-    /// Takes the rule with this text, whose interfaces have these names. It counts from the next
-    /// attempt on, after the rules that are left. Errors, in this order: `BadRule`,
-    /// `UnknownInterface`, `TooManyRules` if 64 are left, `NoMemory`. `NoMemory` also comes if 64
-    /// MiB of lines wait to be taken. After an error all is as before.
+    /// Takes the rule with this text, whose interfaces have these names. It applies from the next
+    /// attempt on, after the rules that are left. The errors, in this order: `BadRule`,
+    /// `UnknownInterface`, `TooManyRules` if 64 are left, `NoMemory`. `NoMemory` also means that 64
+    /// MiB of lines wait to be taken. An error changes nothing.
     pub fn inject(&mut self, text: &[u8], names: &Names) -> Result<(), RuleRefusal>
         ensures injected { Injected names.now text.now self.old.plan result self.new.plan }
         ensures takes { TakesRule text.now self.old result self.new }
@@ -293,7 +295,7 @@ impl<N: BusName, F: FaultSource + Drop, B: Journaled> StationState<N, F, B> {
         self.changes.give(&mut self.plan, rule, attempt, text)
     }
 
-    /// Returns how many rules are left.
+    /// Returns the number of rules that are left.
     pub fn rules(&self) -> usize
         ensures rules { result ≡ length self.now.plan.rules }
         ensures few { result ≤ 64 }
@@ -301,7 +303,7 @@ impl<N: BusName, F: FaultSource + Drop, B: Journaled> StationState<N, F, B> {
         self.plan.rules()
     }
 
-    /// Ends all rules. The lines of the plan stay.
+    /// Ends all rules. The script lines of the plan remain.
     pub fn end_rules(&mut self)
         ensures { self.new ≡ after_end self.old }
     {
@@ -312,16 +314,16 @@ impl<N: BusName, F: FaultSource + Drop, B: Journaled> StationState<N, F, B> {
         self.changes.end(self.bus.next_attempt());
     }
 
-    /// Keeps no lines about the rules from now on, since nothing takes them, and lets go of those
-    /// that wait.
+    /// Drops the waiting lines about the rules, and keeps none from now on, since no thread takes
+    /// them.
     pub fn keep_no_changes(&mut self)
         ensures { self.new ≡ with_plan_lines self.old.plan never_lines self.old }
     {
         self.changes.keep_none();
     }
 
-    /// Takes out the lines about the rules since the start or the last such call. `AllocError` if
-    /// memory is refused: then they stay.
+    /// Takes out the lines about the rules since the start or the last such call. Returns
+    /// `AllocError` if memory is refused; then the lines remain.
     pub fn take_changes(&mut self) -> Result<Vec<u8>, AllocError>
         ensures taken { IfOk result (λ lines. lines.items ≡ text_of_lines self.old.changes) }
         ensures after { OnOk result (self.new
@@ -331,7 +333,7 @@ impl<N: BusName, F: FaultSource + Drop, B: Journaled> StationState<N, F, B> {
         self.changes.take()
     }
 
-    /// The counts of a socket and of an interface.
+    /// Returns the counts of a socket and of an interface.
     pub(crate) fn stats(
         &self,
         socket: SocketId,
@@ -342,7 +344,7 @@ impl<N: BusName, F: FaultSource + Drop, B: Journaled> StationState<N, F, B> {
         (self.bus.socket_stats(socket), self.bus.iface_stats(iface))
     }
 
-    /// Returns how many items are queued to this socket: 0 if it is not open.
+    /// Returns the number of items that wait on this socket, or 0 if it is not open.
     pub(crate) fn waiting(&self, socket: SocketId) -> u64
         ensures { result ≡ items_waiting_at self.now.journal socket.0 }
     {
@@ -365,8 +367,8 @@ impl<N: BusName, F: FaultSource + Drop, B: Journaled> StationState<N, F, B> {
         wake
     }
 
-    /// The queues in which a wait for an item may be over. From now on no thread counts as waiting
-    /// there.
+    /// Returns the queues in which a wait for an item may be over. From now on no thread counts as
+    /// waiting there.
     pub(crate) fn take_woken(&mut self) -> QueueSet
         ensures { self.new ≡ self.old }
     {
@@ -401,7 +403,7 @@ impl<N: BusName, F: FaultSource + Drop, B: Journaled> StationState<N, F, B> {
         }
     }
 
-    /// The interface and the frame that the next attempt tries, if there is one.
+    /// Returns the interface and the frame that the next attempt tries, if there is one.
     pub(crate) fn next_head(&self) -> Option<(Iface, Frame)>
         ensures { result ≡ next_head self.now.journal.config self.now.journal.history }
     {
@@ -416,7 +418,7 @@ impl<N: BusName, F: FaultSource + Drop, B: Journaled> StationState<N, F, B> {
         self.bus.next_winner().is_some() || self.bus.is_counting()
     }
 
-    /// Returns whether nine tenths of the entries that the bus may have are there, or more.
+    /// Returns whether the bus has nine tenths or more of the entries that it may have.
     pub(crate) fn is_nearly_full(&self) -> bool
         ensures { IsTrue result ↔ IsNearlyFull self.now.journal }
     {
@@ -434,7 +436,7 @@ impl<N: BusName, F: FaultSource + Drop, B: Journaled> StationState<N, F, B> {
         }
     }
 
-    /// Returns the signals of a stop to all that wait.
+    /// Returns the signal of a stop to all waiting threads, if the station was stopped.
     fn stopped_wake(&self) -> Option<WakeReason>
         ensures { result ≡ stopped_wake self.now.stopped }
     {
@@ -459,8 +461,8 @@ impl<N: BusName, F: FaultSource + Drop, B: Journaled> StationState<N, F, B> {
         self.stopped = true;
     }
 
-    /// Returns the rest of the bus, with all these passes and gauges taken in. `WrongStation`
-    /// exactly if some of them is another station's.
+    /// Returns the rest of the bus, and takes all these passes and gauges back. Returns
+    /// `WrongStation` exactly if one of them belongs to another station.
     pub fn settle(
         self,
         passes: Vec<Pass<N>>,
@@ -481,9 +483,9 @@ impl<N: BusName, F: FaultSource + Drop, B: Journaled> StationState<N, F, B> {
         settle_bus(bus, roll, keeper, passes, gauges)
     }
 
-    /// Returns the rest of the bus, as `settle` does, with the scroll taken in as well. The scroll
-    /// has what the bus handed out: the first entries of its history. `WrongStation` also exactly
-    /// if the scroll is another station's.
+    /// Returns the rest of the bus, as `settle` does, and also takes the scroll back. The scroll
+    /// has the entries that the bus handed out: the first entries of its history. Also returns
+    /// `WrongStation` exactly if the scroll belongs to another station.
     pub fn settle_scroll(
         self,
         scroll: Scroll<N>,
@@ -512,8 +514,8 @@ impl<N: BusName, F: FaultSource + Drop, B: Journaled> StationState<N, F, B> {
     }
 }
 
-/// Returns the rest of a bus, with all these passes and gauges taken in. `WrongStation` exactly if
-/// some of them is of another station than the roll.
+/// Returns the rest of a bus, and takes all these passes and gauges back. Returns `WrongStation`
+/// exactly if one of them belongs to another station than the roll.
 fn settle_bus<N: BusName, B: Journaled>(
     bus: B,
     mut roll: Roll<N>,
@@ -544,8 +546,8 @@ fn settle_bus<N: BusName, B: Journaled>(
     })
 }
 
-/// The verdict of the bus's next attempt, which has this number. The source has this verdict for
-/// it, and the plan counts it.
+/// Returns the verdict of the bus's next attempt, which has this number. The source has this
+/// verdict for it, and the plan counts the attempt.
 fn next_verdict<B: Journaled>(plan: &mut Plan, bus: &B, attempt: u64, source: Verdict) -> Verdict
     ensures verdict { result ≡ given source plan.old attempt (next_try (B.journal bus.now)) }
     ensures after { plan.new ≡ plan_after source plan.old attempt (next_try (B.journal bus.now)) }

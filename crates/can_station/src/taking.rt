@@ -1,4 +1,4 @@
-//! How blocks of the record are taken from the state of a station.
+//! How a station hands out its record in blocks.
 
 ghost use Rattle.std.specs.Prelude.{◌≡◌, [], false, is_none};
 ghost use Rattle.can_bus.specs.Long.{HasTail};
@@ -14,22 +14,22 @@ use can_bus::Journaled;
 use can_fault::FaultSource;
 use can_roll::Scroll;
 
-/// The number of places that a call waits for. A hold of a server makes fewer entries.
+/// The number of places for which a call waits. A hold of a server makes fewer entries.
 const HOLD_PLACES: usize = 512;
 
-/// A station's knowledge of the threads that take its entries.
+/// The threads that take entries, as far as a station knows them.
 #[derive(Drop)]
 pub(crate) struct Taking {
-    /// The number of entries that were taken.
+    /// The number of entries taken so far.
     taken: u64,
     /// The smallest number of entries for which a thread waits, if one waits.
     wanted: Option<u64>,
-    /// Whether entries are no longer taken.
+    /// Whether no more entries will be taken.
     is_over: bool,
 }
 
 impl Taking {
-    /// Nothing was taken, and no thread waits.
+    /// Returns a value for no entries taken and no waiting thread.
     pub(crate) fn none() -> Taking {
         Taking {
             taken: 0,
@@ -49,20 +49,20 @@ impl Taking {
 
 // Places for entries, and the threads that take entries. Contracts see none of this.
 impl<N: BusName, F: FaultSource + Drop, B: Journaled> StationState<N, F, B> {
-    /// Returns how many entries were not taken yet.
+    /// Returns the number of entries that were not yet taken.
     fn held_back(&self) -> u64 {
         self.bus.len().saturating_sub(self.taking.taken)
     }
 
-    /// Returns whether calls wait for a place: there are fewer than 512, and fewer than entries
-    /// that can be taken.
+    /// Returns whether calls wait for a place: there are fewer than 512 places, and fewer than
+    /// entries to take.
     pub(crate) fn is_short(&self) -> bool {
         let places = self.bus.places();
         places < HOLD_PLACES && (places as u64) < self.held_back() && !self.taking.is_over
     }
 
-    /// Returns whether a driver goes on waiting: there is no work, or there are too few places for
-    /// it.
+    /// Returns whether a driver continues to wait: there is no work, or there are too few places
+    /// for it.
     pub(crate) fn is_idle_or_short(&self) -> bool
         ensures { result ≡ false → is_none (work_wake self.now) ≡ false }
     {
@@ -73,7 +73,8 @@ impl<N: BusName, F: FaultSource + Drop, B: Journaled> StationState<N, F, B> {
         }
     }
 
-    /// Returns whether a thread goes on waiting for this many entries; then it is noted as waiting.
+    /// Returns whether a thread continues to wait for this many entries. If so, it notes the thread
+    /// as waiting.
     pub(crate) fn waits_for(&mut self, many: u64) -> bool
         ensures { self.new ≡ self.old }
     {
@@ -84,7 +85,7 @@ impl<N: BusName, F: FaultSource + Drop, B: Journaled> StationState<N, F, B> {
         waits
     }
 
-    /// Returns whether to wake the threads that wait for entries. From now on none counts as
+    /// Returns whether to wake the threads that wait for entries. From now on no thread counts as
     /// waiting.
     pub(crate) fn take_awaited(&mut self) -> bool
         ensures { self.new ≡ self.old }
@@ -99,21 +100,21 @@ impl<N: BusName, F: FaultSource + Drop, B: Journaled> StationState<N, F, B> {
         is_over
     }
 
-    /// Returns whether entries are no longer taken.
+    /// Returns whether no more entries will be taken.
     pub(crate) fn are_entries_over(&self) -> bool {
         self.taking.is_over
     }
 
-    /// Entries are no longer taken from now on.
+    /// Notes that no more entries will be taken.
     pub(crate) fn end_entries(&mut self)
         ensures { self.new ≡ self.old }
     {
         self.taking.is_over = true;
     }
 
-    /// Hands out the entries that were not handed out yet, in order, to the holder of the scroll:
-    /// they go into a block without entries. The block also gets the lines about the rules, unless
-    /// memory is refused.
+    /// Hands out the entries that were not yet handed out, in order, to the holder of the scroll,
+    /// in a block without entries. The block also gets the lines about the rules, unless memory is
+    /// refused.
     pub(crate) fn take_entries(&mut self, scroll: &mut Scroll<N>, block: &mut Block)
         requires own { scroll.old.number ≡ self.old.number }
         requires empty { block.old.entries.entries ≡ [] }

@@ -4,11 +4,11 @@ use can_bus::SocketId;
 use std::array;
 use std::sync::Condvar;
 
-/// The number of queues: as many as sockets can be open at once.
+/// The number of queues, which is the number of sockets that can be open at once.
 pub(crate) const QUEUES: usize = 64;
 
-/// The queues in which receivers wait for items, so that a call wakes only those whose sockets got
-/// one. Each socket has a queue, which it shares with those opened 64 before or after it.
+/// The queues in which receivers wait for items. A call wakes only the receivers whose sockets got
+/// an item. Each socket has a queue, which it shares with the sockets opened 64 before or after it.
 #[derive(Drop)]
 pub(crate) struct WaitQueues {
     queues: [Condvar; QUEUES],
@@ -21,12 +21,12 @@ impl WaitQueues {
         }
     }
 
-    /// The queue of a socket.
+    /// Returns the queue of a socket.
     pub(crate) fn queue(&self, socket: SocketId) -> &Condvar {
         &self.queues[place_of(socket)]
     }
 
-    /// Wakes those who wait in these queues.
+    /// Wakes the threads that wait in these queues.
     pub(crate) fn wake(&self, which: QueueSet) {
         if which == QueueSet::none() {
             return;
@@ -46,7 +46,7 @@ impl WaitQueues {
     }
 }
 
-/// The place of a socket's queue.
+/// Returns the place of a socket's queue.
 fn place_of(socket: SocketId) -> usize
     ensures { result < 64 }
 {
@@ -98,7 +98,7 @@ impl Waiters {
         }
     }
 
-    /// The threads that wait in a queue.
+    /// Returns the threads that wait in a queue.
     pub(crate) fn waiter(&self, place: usize) -> Waiter
         requires { place < 64 }
     {

@@ -21,13 +21,14 @@ pub(crate) const ROOM: u8 = 0;
 /// A call met a full record.
 const FULL: u8 = 1;
 
-/// A call met a full record, and that was reported.
+/// A call met a full record, and this was reported.
 const REPORTED: u8 = 2;
 
 /// Why a wait ended.
 #[derive(Debug, Clone, Copy, PartialEq, Eq)]
 pub enum WakeReason {
-    /// There is something to do: an item waits, or a frame, or an interface counts towards its restart.
+    /// There is something to do: an item or a frame waits, or an interface counts towards its
+    /// restart.
     Ready,
     /// The socket is not open.
     Closed,
@@ -47,7 +48,7 @@ pub(crate) struct Wakeups {
 }
 
 impl Wakeups {
-    /// Nothing changed.
+    /// Returns a value without changes.
     pub(crate) fn none() -> Wakeups {
         Wakeups {
             has_work: false,
@@ -56,10 +57,10 @@ impl Wakeups {
         }
     }
 
-    /// Adds the changes that a call can have made. Only `send` makes a frame to send. Attempts and
-    /// restarts make items, and `close` closes a socket. An interface begins to count towards its
-    /// restart when a frame is tried, and the `send` of that frame has woken the driver. An
-    /// interface that goes down only leaves less to do.
+    /// Adds the possible changes by a call. Only `send` adds a frame to send. Attempts and restarts
+    /// add items, and `close` closes a socket. An interface begins to count towards its restart
+    /// when a frame is tried, and the `send` of that frame has woken the driver. An interface that
+    /// goes down only reduces the work.
     pub(crate) fn add(&mut self, event: &Event, reply: &Reply) {
         match (event, reply) {
             (_, Reply::Refused(why)) => self.add_refusal(*why),
@@ -72,7 +73,7 @@ impl Wakeups {
         }
     }
 
-    /// Adds that a call was refused.
+    /// Adds a refusal.
     pub(crate) fn add_refusal(&mut self, why: Refusal) {
         if why == Refusal::RecordFull {
             self.is_full = true;
@@ -81,7 +82,7 @@ impl Wakeups {
 }
 
 impl Wakeups {
-    /// The queues of those for whom there is an item, or whose socket is closed.
+    /// Returns the queues of the threads that have an item, or whose socket is closed.
     pub(crate) fn woken<N: BusName, F: FaultSource + Drop, B: Journaled>(
         self,
         state: &mut StationState<N, F, B>,
@@ -96,10 +97,10 @@ impl Wakeups {
     }
 }
 
-// The signals of a station that are no events. All of these may wait for the lock.
+// Methods of a station that are no events. Each of them may wait for the lock.
 impl<N: BusName, F: FaultSource + Drop, G: Gate + Drop, B: Journaled> Station<N, F, G, B> {
-    /// The counts of a socket and of an interface, both of one moment: `None` exactly if the socket
-    /// is not open, and if there is no such interface.
+    /// Returns the counts of a socket and of an interface, both of one moment. The first is `None`
+    /// exactly if the socket is not open, the second exactly if there is no such interface.
     pub fn stats<R: Wait>(
         &self,
         rt: &R,
@@ -111,17 +112,18 @@ impl<N: BusName, F: FaultSource + Drop, G: Gate + Drop, B: Journaled> Station<N,
         self.hold(rt).stats(socket, iface)
     }
 
-    /// Waits until an item is queued to the socket. `Closed` if it is not open, else `Ready` if an
-    /// item is queued, else `Stopped` after `stop`; else it sleeps until a call changes that.
+    /// Waits until an item is queued to the socket. Returns `Closed` if the socket is not open,
+    /// `Ready` if an item is queued, or `Stopped` after `stop`. Otherwise it sleeps until a call
+    /// changes this.
     pub fn wait_frame<R: Wait>(&self, rt: &R, socket: SocketId) -> WakeReason
         ensures { InSome F self.now (λ held. frame_wake held socket.0 ≡ Some result) }
     {
         self.wait_items(rt, socket).0
     }
 
-    /// Waits as `wait_frame` does, and counts the items that are queued to the socket when it
-    /// wakes, both of one moment. There is at least one if it is `Ready`, and none if it is
-    /// `Closed` or `Stopped`.
+    /// Waits as `wait_frame` does, and returns the number of items queued to the socket at that
+    /// moment. There is at least one if the result is `Ready`, and none if it is `Closed` or
+    /// `Stopped`.
     pub fn wait_items<R: Wait>(&self, rt: &R, socket: SocketId) -> (WakeReason, u64)
         ensures { InSome F self.now (λ held. EndsItemWait held socket.0 result) }
     {
@@ -140,8 +142,8 @@ impl<N: BusName, F: FaultSource + Drop, G: Gate + Drop, B: Journaled> Station<N,
     }
 
     /// Waits until a live interface has a frame to send, or an interface counts towards its
-    /// restart. `Ready` if one does, else `Stopped` after `stop`; else it sleeps until a call
-    /// changes that.
+    /// restart. Returns `Ready` in that case, or `Stopped` after `stop`. Otherwise it sleeps until
+    /// a call changes this.
     pub fn wait_work<R: Wait>(&self, rt: &R) -> WakeReason
         ensures { InSome F self.now (λ held. work_wake held ≡ Some result) }
     {
@@ -159,9 +161,9 @@ impl<N: BusName, F: FaultSource + Drop, G: Gate + Drop, B: Journaled> Station<N,
         wake
     }
 
-    /// Waits as `wait_work` does, and keeps the lock for the driver's steps. `None` after `stop` if
-    /// there is no work. If there is work, it waits for places in the bus's tail as well, as `lock`
-    /// does.
+    /// Waits as `wait_work` does, and keeps the lock for the driver's steps. Returns `None` after
+    /// `stop` if there is no work. If there is work, it also waits for places in the bus's tail, as
+    /// `lock` does.
     pub fn hold_work<R: Wait>(&self, rt: &R) -> Option<Hold<'_, N, F, G, B>>
         ensures state { IfSome result (λ h. IsStateOf self.now h) }
         ensures work { IfSome result (λ h. has_work h.journal ≡ true) }
@@ -186,8 +188,8 @@ impl<N: BusName, F: FaultSource + Drop, G: Gate + Drop, B: Journaled> Station<N,
         })
     }
 
-    /// Waits this long, or until `stop`. If the duration is 0 it returns at once, without the lock.
-    /// No call of a pass ends it.
+    /// Waits this long, or until `stop`. If the duration is 0, it returns at once, without the
+    /// lock. No call of a pass ends the wait.
     pub fn rest<R: Wait + Clock>(&self, rt: &R, duration: Duration) {
         if !duration.is_zero() {
             self.ends
@@ -197,20 +199,20 @@ impl<N: BusName, F: FaultSource + Drop, G: Gate + Drop, B: Journaled> Station<N,
         }
     }
 
-    /// Returns whether a call was refused because the record is full. It is true only once, for the
-    /// first thread that asks, and waits for none.
+    /// Returns whether a call was refused because the record is full. It returns true only once, to
+    /// the first thread that asks, and never waits.
     pub fn became_full(&self) -> bool {
         self.fullness
             .compare_exchange(FULL, REPORTED, SeqCst, SeqCst)
             .is_ok()
     }
 
-    /// Returns whether a call was refused because the record is full. It waits for no thread.
+    /// Returns whether a call was refused because the record is full. It never waits.
     pub fn is_full(&self) -> bool {
         self.fullness.load(SeqCst) != ROOM
     }
 
-    /// Ends all waits, now and from now on. Calls have the same replies as before.
+    /// Ends all waits, now and from now on. The replies to calls do not change.
     pub fn stop<R: Wait>(&self, rt: &R) {
         self.state.lock(rt).stop();
         self.work.notify_all();
@@ -218,8 +220,8 @@ impl<N: BusName, F: FaultSource + Drop, G: Gate + Drop, B: Journaled> Station<N,
         self.ends.notify_all();
     }
 
-    /// Wakes the threads that calls gave something to do: those that wait for work, and those that
-    /// wait for items in these queues. The lock has to be free.
+    /// Wakes the threads with new work: the threads that wait for work, and the threads that wait
+    /// for items in these queues. The lock has to be free.
     pub(crate) fn wake(&self, wakeups: Wakeups, woken: QueueSet) {
         if wakeups.is_full {
             let _ = self.fullness.compare_exchange(ROOM, FULL, SeqCst, SeqCst);

@@ -6,7 +6,7 @@ use Rattle.can_station.specs.Waits.{stopped_wake, has_work, work_wake}
 use Rattle.can_station.specs.declared.waits.WakeReason.TheVariants as wake
 use Rattle.can_station.proofs.station.Station.hold_work.Goals as goal
 
--- a wait for work that ends without work means that the station was stopped
+-- If a wait for work ends without work, the station was stopped.
 ended : (work stopped : Bool) → is_none (if work then Some wake.Ready else stopped_wake stopped) ≡ false → work ≡ false → stopped ≡ true
 ended true stopped some none = absurd (true≢false none)
 ended false true some none = refl
