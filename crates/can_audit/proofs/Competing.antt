@@ -23,9 +23,9 @@ use Rattle.can_audit.specs.inner.Counted.{IsLive}
 use Rattle.can_audit.specs.inner.Replied.{tried_reply}
 use Rattle.can_audit.proofs.Counting.{live-kept}
 
--- The interface that wins the bus, and the reply to the attempt.
+-- The interface that wins arbitration, and the reply to the attempt.
 
--- one place more of a list is filled
+-- one more place of a list is filled
 pub set_more : (f : ℕ → Option ℕ) (keys new : List (Option ℕ)) (i : ℕ) → i < length keys → ((k : ℕ) → k < i → get_or keys k None ≡ f k) → new ≡ slice_set keys i (f i) → (k : ℕ) → k < i + 1 → get_or new k None ≡ f k
 set_more f keys new i lt so_far is =
     below_more (λ k. get_or new k None ≡ f k) i
@@ -35,7 +35,7 @@ set_more f keys new i lt so_far is =
 pub long_more : (keys new : List (Option ℕ)) (i : ℕ) (x : Option ℕ) → length keys ≡ 16 → new ≡ slice_set keys i x → length new ≡ 16
 long_more keys new i x long is = ap length is ∙ length-set keys i x ∙ long
 
--- the key of an interface's head is set at its place
+-- the key of an interface's oldest frame is set at its place
 pub competed : (past : List Entry) (keys new : List (Option ℕ)) (place i : ℕ) (head : Option Pending) → i ≡ place → head ≡ head_of past i → new ≡ slice_set keys i (key_in head) → new ≡ slice_set keys place (key_in (head_of past place))
 competed past keys new place i head same head_is set =
     set ∙ ap (λ (p : Option Pending). slice_set keys i (key_in p)) head_is ∙ ap (λ (k : ℕ). slice_set keys k (key_in (head_of past k))) same

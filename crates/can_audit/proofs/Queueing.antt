@@ -18,9 +18,9 @@ use Rattle.can_replay.proofs.EntriesBefore.{before_more}
 use Rattle.can_audit.proofs.Counting.{earlier}
 use Rattle.can_audit.proofs.Replying.{IsOn}
 
--- The items that reach a socket, one entry after another.
+-- The items that reach a socket, after one entry and the next.
 
--- an entry, the history that it makes, and the one before
+-- an entry, the history before it, and the history with it
 pub record Reads (c : BusConfig) (es : List Entry) (k : ℕ) (e : Entry) : Type 0 where
   pub more : before es (k + 1) ≡ e ∷ before es k
   pub now : IsHistory c (e ∷ before es k)
@@ -72,7 +72,7 @@ candidates-are c past s e r i fs os ps on filters_are options_are posts_are =
 pub none-offered : (c : BusConfig) (past : List Entry) (s : ℕ) (e : Event) (r : Reply) → is_open past s ≡ false → [] ≡ candidates_of c past s e r
 none-offered c past s e r shut = sym (cond-false (is_open past s) _ _ shut)
 
--- one item more is kept or not
+-- one more item is kept or not kept
 pub kept_more : (test : Received → Bool) (items : List Received) (k : ℕ) (x : Received) (is_kept : Bool) (old new : List Received) → k < length items
     → x ≡ get_or items k x → is_kept ≡ test x → old ≡ filter test (take k items) → new ≡ (if is_kept then old ++ x ∷ [] else old) → new ≡ filter test (take (k + 1) items)
 kept_more test items k x is_kept old new lt read asked so_far stepped =

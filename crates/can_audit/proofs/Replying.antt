@@ -28,7 +28,7 @@ use Rattle.can_event.specs.Replies.{entry_of}
 use Rattle.can_replay.specs.Histories.{IsHistory}
 use Rattle.can_replay.specs.Replies.{reply_after, entries_after, replies_after}
 
--- Each reply is the one that the entries before it give.
+-- Each reply follows from the entries before it.
 
 -- ---- restarts
 
@@ -44,7 +44,7 @@ restart-live c past i m nodes silent h below are is live =
 
 -- ---- calls on an open socket
 
--- the socket is open, by the numbers that were found
+-- the socket is open, since its number is in the list
 pub opened : (past : List Entry) (numbers : List ℕ) (s : ℕ) (found : Bool) → numbers ≡ open_sockets past → found ≡ list_any (λ k. k == s) numbers → found ≡ is_open past s
 opened past numbers s found are is = is ∙ ap (list_any (λ k. k == s)) are
 
@@ -64,7 +64,7 @@ received c past s queued taken there queued_are taken_are =
 
 -- ---- sends
 
--- the socket is open, and its interface is this one
+-- the socket is open on this interface
 pub record IsOn (past : List Entry) (s i : ℕ) : Type 0 where
   pub there : is_open past s ≡ true
   pub iface : i ≡ iface_of past s
@@ -75,7 +75,7 @@ is-on past numbers ps s i found numbers_are places_are is is_true iface_is = rec
   iface = iface_is ∙ ap (λ (qs : List Place). iface_in (slice_get qs s)) places_are;
 }
 
--- its interface is there
+-- the interface of the socket exists
 few-on : (c : BusConfig) (past : List Entry) (s i : ℕ) → IsHistory c past → IsOn past s i → i < 16
 few-on c past s i h on = omega (arith, on.iface, is_open-iface c past h.legal s on.there, h.proper.few_ifaces)
 
@@ -90,7 +90,7 @@ on-open c past s f i on may = ap (send_as c past) on.iface ∙ sym (cond-true (i
 pub sent-fd-off : (c : BusConfig) (past : List Entry) (s : SocketId) (f : CanFrame) → is_open past s.0 ≡ true → lacks_fd f (options_of past s.0) ≡ true → reply.Refused refusal.FdOff ≡ legal_reply c past (event.Send s f)
 sent-fd-off c past s f there lacks = sym (cond-true (is_open past s.0) _ _ there ∙ cond-true (lacks_fd f (options_of past s.0)) _ _ lacks)
 
--- the state of its interface
+-- the state of the socket's interface
 pub state-on : (c : BusConfig) (past : List Entry) (s i : ℕ) (nodes : Nodes) (counts : ErrorCounts) (state : State) → IsHistory c past → IsOn past s i → nodes ≡ kept_nodes c past → counts ≡ counts_at nodes i → state ≡ state_of counts → state ≡ state_at c past i
 state-on c past s i nodes counts state h on are counted is = is ∙ ap state_of counted ∙ state-kept c past nodes i (few-on c past s i h on) are
 
@@ -107,7 +107,7 @@ sent-down c past s f i state off down on may at is not_off is_too is_true =
     let here : is_down (state_at c past i) ≡ true = ap is_down (sym at) ∙ sym is_too ∙ is_true in
     sym (cond-false (is_off (state_at c past i)) _ _ on_bus ∙ cond-true (is_down (state_at c past i)) _ _ here) ∙ on-open c past s f i on may
 
--- its interface is neither bus off nor down
+-- the interface is neither bus off nor down
 pub record IsUp (c : BusConfig) (past : List Entry) (i : ℕ) : Type 0 where
   pub off : is_off (state_at c past i) ≡ false
   pub down : is_down (state_at c past i) ≡ false
@@ -115,7 +115,7 @@ pub record IsUp (c : BusConfig) (past : List Entry) (i : ℕ) : Type 0 where
 pub is-up : (c : BusConfig) (past : List Entry) (i : ℕ) (state : State) (off down : Bool) → state ≡ state_at c past i → off ≡ is_off state → off ≡ false → down ≡ is_down state → down ≡ false → IsUp c past i
 is-up c past i state off down at is not_off is_too not_down = record { off = ap is_off (sym at) ∙ sym is ∙ not_off; down = ap is_down (sym at) ∙ sym is_too ∙ not_down }
 
--- the frames to send, and how many of them have left
+-- the frames accepted for sending, and the number of frames that have left
 pub record IsQueue (past : List Entry) (i sent gone : ℕ) : Type 0 where
   pub sent_is : sent ≡ length (sent_by past i)
   pub gone_is : gone ≡ gone_count past i

@@ -16,9 +16,9 @@ use Rattle.can_bus.specs.AutoRestart.{attempts_off, attempts_off_after, is_due, 
 use Rattle.can_replay.proofs.EntriesBefore.{before_more}
 use Rattle.can_replay.specs.Histories.{before}
 
--- Which interfaces the next attempt restarts.
+-- The interfaces that the next attempt restarts.
 
--- the interfaces that are there and due
+-- the interface exists and is due for a restart
 abbrev pub is_due_at : BusConfig → List Entry → ℕ → Bool
 is_due_at c past i = nat_lt i c.ifaces && is_due c past i
 

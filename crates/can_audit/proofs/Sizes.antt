@@ -10,7 +10,7 @@ use Rattle.can_bus.specs.Sockets.{Place, places, places_after}
 use Rattle.can_bus.specs.Transmit.{sent_by}
 use Rattle.can_bus.proofs.Lawful.{sent_by-le}
 
--- There are no more frames and sockets than entries.
+-- There are no more frames or sockets than entries.
 
 pub sent-short : (es : List Entry) (i : ℕ) (ps : List Pending) → ps ≡ sent_by (reverse es) i → length ps ≤ length es
 sent-short es i ps are = omega (arith, ap length are, sent_by-le (reverse es) i, length-reverse es)

@@ -4,25 +4,25 @@ use Rattle.can_event.specs.declared.entry.Entry.{Entry}
 use Rattle.can_record.specs.Journal.{Kept}
 use Rattle.can_replay.specs.Histories.{IsHistory}
 
--- The result of a function of the reference. can_bus defines it on histories, the newest entry first; the reference
--- returns it for a list of entries, the oldest first (own choice).
+-- The results of the reference. can_bus defines them on histories, which begin with the newest entry. The reference
+-- computes them from a list of entries, which begins with the oldest (own choice).
 
--- the call returned this value, unless memory was refused
+-- the call returned this value, or there was no memory
 abbrev pub Yields : {A E : Type 0} → Result A E → A → Type 0
 Yields result value = IfOk result (λ r. r ≡ value)
 
--- the call returned these values, unless memory was refused
+-- the call returned these values, or there was no memory
 abbrev pub ReturnsList : {A G E : Type 0} → Result (Vec A G) E → List A → Type 0
 ReturnsList result values = IfOk result (λ rs. rs.items ≡ values)
 
--- the statement holds of the history of these entries, if a bus can have it
+-- the statement holds for the history of these entries, if a bus can have it
 abbrev pub OnHistory : BusConfig → List Entry → (List Entry → Type 0) → Type 0
 OnHistory c entries P = IsHistory c (reverse entries) → P (reverse entries)
 
--- the statement holds of the history of these entries, if a bus can have it with this entry after them
+-- the statement holds for the history of these entries, if a bus can have it and this entry after it
 abbrev pub BeforeEntry : BusConfig → List Entry → Entry → (List Entry → Type 0) → Type 0
 BeforeEntry c entries e P = IsHistory c (e ∷ reverse entries) → P (reverse entries)
 
--- the statement holds of the configuration and the history of this record, if a bus can have them
+-- the statement holds for the configuration and the history of this record, if a bus can have them
 abbrev pub OnRecord : Kept → (BusConfig → List Entry → Type 0) → Type 0
 OnRecord r P = IsHistory r.config r.history → P r.config r.history

@@ -18,9 +18,9 @@ use can_fault::Verdict;
 use can_frame::{Iface, IfaceSet, Moment};
 use std::alloc::{AllocError, Global};
 
-// The reply to an attempt, by the entries before it.
+// The reply to an attempt, computed from the entries before it.
 
-/// Gives an arbiter the frame that an interface competes with, if any.
+/// Gives an arbiter the frame with which an interface competes, or none.
 fn compete<A: Arbiter>(arbiter: &mut A, iface: Iface, head: Option<Pending>)
     ensures { A.keys_of arbiter.new ≡ slice_set (A.keys_of arbiter.old) iface (key_in head) }
 {
@@ -30,7 +30,7 @@ fn compete<A: Arbiter>(arbiter: &mut A, iface: Iface, head: Option<Pending>)
     }
 }
 
-/// The interface whose frame goes first. One that is bus off or down has no frame to send.
+/// Returns the interface whose frame wins arbitration. An interface that is bus off or down has no frame to send.
 fn first_of<A: Arbiter>(alloc: Global, past: &[Entry]) -> Result<Option<Iface>, AllocError>
     ensures first { IfOk result (λ w. IfSome w (λ i. IsWinner (kept_keys (reverse past.now)) i)) }
     ensures none { IfOk result (λ w. IsNone w → IsIdle (kept_keys (reverse past.now))) }
@@ -44,7 +44,7 @@ fn first_of<A: Arbiter>(alloc: Global, past: &[Entry]) -> Result<Option<Iface>, 
     Ok(arbiter.winner())
 }
 
-/// The interface that wins the bus, if one has a frame to send.
+/// Returns the interface that wins arbitration, if one has a frame to send.
 fn winner(alloc: Global, past: &[Entry]) -> Result<Option<Iface>, AllocError>
     ensures { (c : BusConfig) → OnHistory c past.now (λ h. Yields result (winner c h)) }
 {
@@ -52,7 +52,7 @@ fn winner(alloc: Global, past: &[Entry]) -> Result<Option<Iface>, AllocError>
     Ok(first)
 }
 
-/// The reply to an attempt that was judged.
+/// Returns the reply to an attempt with this outcome.
 fn tried_as(
     moment: Moment,
     winner: Iface,
@@ -75,7 +75,7 @@ fn tried_as(
     }))
 }
 
-/// The reply of an attempt after these entries.
+/// Returns the reply to an attempt after these entries.
 pub fn attempt_reply(
     alloc: Global,
     config: BusConfig,

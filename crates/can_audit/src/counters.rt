@@ -15,9 +15,9 @@ use can_confine::Counters;
 use can_fault::Verdict;
 use can_frame::{Iface, IfaceSet};
 
-// The error counters of a bus's interfaces, by its entries.
+// The error counters of a bus's interfaces, computed from its entries.
 
-/// The outcome of an attempt, if the interface that sends is there, and neither bus off nor down.
+/// Returns the outcome of an attempt, if the sending interface exists and is neither bus off nor down.
 pub fn judgement_of(
     nodes: &Nodes,
     winner: Iface,
@@ -35,21 +35,21 @@ pub fn judgement_of(
     Some(judge(nodes, winner, verdict, ack))
 }
 
-/// Takes the counters that an attempt leaves.
+/// Sets the error counters to those after an attempt.
 fn count(nodes: &mut Nodes, judgement: &Judgement)
     ensures { nodes.new ≡ record nodes.old { counters = judgement.now.counters } }
 {
     nodes.counters = judgement.counters;
 }
 
-/// Counts an attempt that restarts these interfaces in the end.
+/// Resets the error counters of the interfaces that an attempt restarted.
 fn note_restarts(nodes: &mut Nodes, restarted: IfaceSet)
     ensures { nodes.new ≡ begun_anew restarted nodes.old }
 {
     nodes.counters = begun_anew(nodes, restarted);
 }
 
-/// Counts a frame that was tried.
+/// Updates the error counters after a frame was tried.
 fn note_frame(config: BusConfig, nodes: &mut Nodes, winner: Iface, verdict: Verdict)
     ensures { IsLive nodes.old winner →
         nodes.new ≡ judged_nodes nodes.old winner verdict config.ack }
@@ -59,7 +59,7 @@ fn note_frame(config: BusConfig, nodes: &mut Nodes, winner: Iface, verdict: Verd
     }
 }
 
-/// Counts an attempt that tried a frame.
+/// Updates the error counters after an attempt that tried a frame.
 fn note_tried(config: BusConfig, nodes: &mut Nodes, tried: &Tried, verdict: Verdict)
     ensures { CountsTried config tried.now verdict nodes.old nodes.new }
 {
@@ -67,7 +67,7 @@ fn note_tried(config: BusConfig, nodes: &mut Nodes, tried: &Tried, verdict: Verd
     note_restarts(nodes, tried.restarted);
 }
 
-/// Counts an attempt.
+/// Updates the error counters after an attempt.
 fn note_attempt(config: BusConfig, nodes: &mut Nodes, attempt: &Attempt, verdict: Verdict)
     ensures { (moment : ℕ) → Counts config (event.Attempt moment verdict)
         (reply.Attempted attempt.now) nodes.old nodes.new }
@@ -78,7 +78,7 @@ fn note_attempt(config: BusConfig, nodes: &mut Nodes, attempt: &Attempt, verdict
     }
 }
 
-/// Counts a restart.
+/// Updates the error counters after a restart.
 fn note_restart(nodes: &mut Nodes, iface: Iface)
     ensures { nodes.new
         ≡ record nodes.old { counters = slice_set nodes.old.counters iface at_start } }
@@ -86,7 +86,7 @@ fn note_restart(nodes: &mut Nodes, iface: Iface)
     nodes.counters[iface.number() as usize] = Counters::zero();
 }
 
-/// Counts an interface that is taken down.
+/// Updates the error counters after an interface was taken down.
 fn note_down(nodes: &mut Nodes, iface: Iface)
     ensures { nodes.new
         ≡ record nodes.old {
@@ -97,7 +97,7 @@ fn note_down(nodes: &mut Nodes, iface: Iface)
     nodes.counters[iface.number() as usize] = nodes.counters_of(iface).take_down();
 }
 
-/// Counts an entry.
+/// Updates the error counters after an entry.
 fn note(config: BusConfig, entry: &Entry, nodes: &mut Nodes)
     ensures { Counts config entry.now.event entry.now.reply nodes.old nodes.new }
 {
@@ -120,7 +120,7 @@ fn note(config: BusConfig, entry: &Entry, nodes: &mut Nodes)
     }
 }
 
-/// The interfaces with the error counters that the entries leave.
+/// Returns the error counters of all interfaces after these entries.
 pub fn nodes_of(config: BusConfig, past: &[Entry]) -> Nodes
     ensures { OnHistory config past.now (λ h. result ≡ kept_nodes config h) }
 {

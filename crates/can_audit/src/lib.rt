@@ -1,13 +1,13 @@
-//! Records that anybody can check: their text and their audit, each from a crate of its own, and the slow answer.
+//! A reference for tests, and the text and the audit of records, which have their own crates.
 //!
-//! The program uses `can_record_text` and `can_replay` themselves, so that no build of it has to prove the slow answer.
+//! The program uses `can_record_text` and `can_replay` directly, so its build does not have to prove this reference.
 //!
-//! The slow answer is a reference for tests: the list of entries is filtered and counted anew for each question, by one
-//! function for each definition of `can_bus`.
+//! The reference is slow: it filters and counts the list of entries anew for each question. It has one function for
+//! each definition of `can_bus`.
 //!
-//! `replies_of` replies to a list of events as a bus would, by other means. `queued`, `candidates`
-//! and `projected` return the items of a record that reached a socket. The time grows at least with
-//! the square of the entries.
+//! `replies_of` computes the replies of a bus to a list of events in another way than the bus does. `queued`,
+//! `candidates` and `projected` return items of a record that reached a socket. The time grows at least with the square
+//! of the number of entries.
 #![tactic(auto)]
 
 mod attempts;

@@ -22,7 +22,7 @@ use can_frame::{ErrorFrame, Iface, IfaceSet, Item, Moment};
 use std::alloc::{AllocError, Global};
 use std::marker::Model;
 
-// The items that an entry puts to the sockets of an interface.
+// The items that an entry posts to the sockets of an interface.
 
 /// An item for the sockets of an interface, and the number of the socket that sent it.
 #[derive(Debug, Clone, Copy)]
@@ -41,7 +41,7 @@ impl Model for Post {
     ghost inverse = { λ v. record { received = v.received; sender = v.sender } };
 }
 
-/// The number of the socket that sent a frame.
+/// Returns the number of the socket that sent a frame.
 fn sender_in(pending: &Option<Pending>) -> Option<u32>
     ensures { result ≡ sender_in pending.now }
 {
@@ -51,7 +51,7 @@ fn sender_in(pending: &Option<Pending>) -> Option<u32>
     }
 }
 
-/// Adds the frame that was tried, if it comes to the interface.
+/// Adds the frame that was tried, if the interface posts it to its sockets.
 fn add_frame_post(
     posts: &mut Vec<Post>,
     attempted: &Attempted,
@@ -99,7 +99,7 @@ fn put_error(
     Ok(())
 }
 
-/// Returns the items that an attempt puts to the sockets of an interface, in order.
+/// Returns the items that an attempt posts to the sockets of an interface, in order.
 fn attempt_posts(
     alloc: Global,
     reporting: IfaceSet,
@@ -121,7 +121,7 @@ fn attempt_posts(
     Ok(posts)
 }
 
-/// Adds what an attempt that restarted these interfaces posts at an interface.
+/// Adds the item that an interface posts if an attempt restarted it.
 fn put_restarted(
     posts: &mut Vec<Post>,
     restarted: IfaceSet,
@@ -137,7 +137,7 @@ fn put_restarted(
     Ok(())
 }
 
-/// Returns the items that an idle attempt puts to the sockets of an interface.
+/// Returns the items that an idle attempt posts to the sockets of an interface.
 fn idle_posts(
     alloc: Global,
     restarted: IfaceSet,
@@ -151,8 +151,7 @@ fn idle_posts(
     Ok(posts)
 }
 
-/// Returns the items that an attempt at this moment which tried a frame puts to the sockets of an
-/// interface.
+/// Returns the items that an attempt at this time, which tried a frame, posts to the sockets of an interface.
 fn tried_posts(
     alloc: Global,
     config: BusConfig,
@@ -179,7 +178,7 @@ fn tried_posts(
     Ok(posts)
 }
 
-/// Returns the items that an attempt at this moment puts to the sockets of an interface.
+/// Returns the items that an attempt at this time posts to the sockets of an interface.
 fn posts_at(
     alloc: Global,
     config: BusConfig,
@@ -198,7 +197,7 @@ fn posts_at(
     }
 }
 
-/// Returns the items that a restart puts to the sockets of an interface.
+/// Returns the items that a restart posts to the sockets of an interface.
 fn restart_posts(
     alloc: Global,
     restarted: Iface,
@@ -214,8 +213,7 @@ fn restart_posts(
     Ok(posts)
 }
 
-/// Returns the items that an entry puts to the sockets of an interface, in order, after the entries
-/// before it.
+/// Returns the items that an entry posts to the sockets of an interface, in order, after the entries before it.
 pub fn posts_of(
     alloc: Global,
     config: BusConfig,
@@ -240,7 +238,7 @@ pub fn posts_of(
     }
 }
 
-/// Returns whether a socket sent it.
+/// Returns whether this socket sent the item of a post.
 fn is_own(post: &Post, id: SocketId) -> bool
     ensures { result ≡ is_own post.now.sender id.0 }
 {
@@ -250,7 +248,7 @@ fn is_own(post: &Post, id: SocketId) -> bool
     }
 }
 
-/// The item of a post.
+/// Returns the item of a post.
 fn item_of(post: &Post) -> Received
     ensures { result ≡ post.now.received }
 {
@@ -265,7 +263,7 @@ fn is_wanted(filters: &FilterSet, options: &Options, id: SocketId, post: &Post) 
     wants(filters, options, &post.received.item, is_own(post, id))
 }
 
-/// The posts that pass these filters and options.
+/// Returns the items of the posts that pass these filters and options.
 pub fn passing_posts(
     alloc: Global,
     filters: &FilterSet,

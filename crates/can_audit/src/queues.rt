@@ -11,7 +11,7 @@ use can_bus::{BusConfig, Entry, Event, Received, Record, Reply, SocketId};
 use can_frame::{Iface, Item};
 use std::alloc::{AllocError, Global};
 
-// The receive queues of a bus's sockets, by its entries.
+// The receive queues of a bus's sockets, computed from its entries.
 
 /// Returns the items that an entry offers to a socket, after the entries before it.
 fn candidates_of(
@@ -32,7 +32,7 @@ fn candidates_of(
     passing_posts(alloc, &filters, &options_of(past, id), id, &posts)
 }
 
-/// All that these entries offered a socket, in order.
+/// Returns all items that these entries offer to a socket, in order.
 fn candidates_for(
     alloc: Global,
     config: BusConfig,
@@ -49,7 +49,7 @@ fn candidates_for(
     Ok(offered)
 }
 
-/// Returns the items that an entry adds to those taken from a socket.
+/// Adds the item that an entry took from a socket, if any.
 fn note_taken(entry: &Entry, id: SocketId, taken: &mut Vec<Received>) -> Result<(), AllocError>
     ensures { OnOk result (taken.new.items ≡
         taken_after entry.now.event entry.now.reply id.0 taken.old.items) }
@@ -67,7 +67,7 @@ fn note_taken(entry: &Entry, id: SocketId, taken: &mut Vec<Received>) -> Result<
     Ok(())
 }
 
-/// The items that were taken from a socket, in order.
+/// Returns the items that were taken from a socket, in order.
 pub(crate) fn taken_from(
     alloc: Global,
     past: &[Entry],
@@ -82,14 +82,14 @@ pub(crate) fn taken_from(
     Ok(taken)
 }
 
-/// The candidates of a socket that found room, and the others.
+/// The items offered to a socket: those that were queued, and those that were dropped.
 #[derive(Drop)]
 pub(crate) struct Arrivals {
     pub queued: Vec<Received>,
     pub dropped: Vec<Received>,
 }
 
-/// Returns how many more items may wait on a socket to which this many were queued.
+/// Returns the number of items that may still be queued on a socket, after this many were queued.
 fn room_of(alloc: Global, past: &[Entry], id: SocketId, queued: usize) -> Result<u128, AllocError>
     ensures { Yields result (room_after (reverse past.now) id.0 queued) }
 {
@@ -98,7 +98,7 @@ fn room_of(alloc: Global, past: &[Entry], id: SocketId, queued: usize) -> Result
     Ok((capacity as u128 + taken as u128).saturating_sub(queued as u128))
 }
 
-/// Queues as many candidates as there is room for.
+/// Queues as many items as fit, and drops the others.
 fn admit(arrivals: &mut Arrivals, room: u128, candidates: &[Received]) -> Result<(), AllocError>
     ensures queued { OnOk result (arrivals.new.queued.items ≡ arrivals.old.queued.items ++
         take room candidates.now) }
@@ -114,14 +114,14 @@ fn admit(arrivals: &mut Arrivals, room: u128, candidates: &[Received]) -> Result
     Ok(())
 }
 
-/// The item at this place, if there is one.
+/// Returns the item at this place, if there is one.
 pub(crate) fn item_at(items: &[Received], place: usize) -> Option<Received>
     ensures { result ≡ slice_get items.now place }
 {
     items.get(place).copied()
 }
 
-/// Returns the items that found room on a socket, and those that did not, in order.
+/// Returns the items that were queued on a socket and those that were dropped, in order.
 pub(crate) fn arrivals_at(
     alloc: Global,
     config: BusConfig,
@@ -145,11 +145,11 @@ pub(crate) fn arrivals_at(
     Ok(arrivals)
 }
 
-/// The items that found room on a socket, in order: those that were taken and those that were not. A socket
-/// that was never opened has none.
+/// Returns the items that were queued on a socket, in order, whether they were taken or not. A socket that was never
+/// opened has none.
 ///
-/// Of a record that no bus could have made, nothing is said. The time grows with the cube of the number of
-/// entries.
+/// For a record that no bus could have made, nothing is proved of the result. The time grows with the cube of the
+/// number of entries.
 pub fn queued(alloc: Global, record: &Record, id: SocketId) -> Result<Vec<Received>, AllocError>
     ensures { OnRecord «record».now (λ c h. ReturnsList result (queued_to c h id.0)) }
 {
@@ -157,11 +157,11 @@ pub fn queued(alloc: Global, record: &Record, id: SocketId) -> Result<Vec<Receiv
     Ok(arrivals_at(alloc, record.config(), &entries, id)?.queued)
 }
 
-/// The items that came to a socket's interface while it was open and passed its filters and options, in
-/// order, whether they found room or not. A socket that was never opened has none.
+/// Returns the items that came to a socket's interface while the socket was open, and that passed its filters and
+/// options. They are in order, and include items that were dropped. A socket that was never opened has none.
 ///
-/// Of a record that no bus could have made, nothing is said. The time grows with the cube of the number of
-/// entries.
+/// For a record that no bus could have made, nothing is proved of the result. The time grows with the cube of the
+/// number of entries.
 pub fn candidates(alloc: Global, record: &Record, id: SocketId) -> Result<Vec<Received>, AllocError>
     ensures { OnRecord «record».now (λ c h. ReturnsList result (candidates_for c h id.0)) }
 {
@@ -169,7 +169,7 @@ pub fn candidates(alloc: Global, record: &Record, id: SocketId) -> Result<Vec<Re
     candidates_for(alloc, record.config(), &entries, id)
 }
 
-/// Returns whether it is a data frame that an interface sent.
+/// Returns whether the item is a data frame from this interface.
 fn is_from(iface: Iface, received: &Received) -> bool
     ensures { result ≡ is_from iface received.now }
 {
@@ -179,10 +179,11 @@ fn is_from(iface: Iface, received: &Received) -> bool
     }
 }
 
-/// The data frames of one interface that found room on a socket, in order, each with its number there.
+/// Returns the data frames of one interface that were queued on a socket, in order, each with its number at that
+/// interface.
 ///
-/// Of a record that no bus could have made, nothing is said. The time grows with the cube of the number of
-/// entries.
+/// For a record that no bus could have made, nothing is proved of the result. The time grows with the cube of the
+/// number of entries.
 pub fn projected(
     alloc: Global,
     record: &Record,

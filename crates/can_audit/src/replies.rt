@@ -22,18 +22,18 @@ use can_frame::{Frame, Iface, Item};
 use std::alloc::{AllocError, Global};
 use thiserror::Error;
 
-/// Why no replies were given.
+/// The fault for which there are no replies.
 #[derive(Debug, Clone, Copy, PartialEq, Eq, Error)]
 pub enum ReplayFault {
     /// The configuration is outside the limits of a bus.
     #[error("bad bus")]
     BadConfig,
-    /// Memory was refused.
+    /// There was no memory.
     #[error("no memory")]
     NoMemory,
 }
 
-/// The reply of an open.
+/// Returns the reply to an open.
 fn open_reply(
     alloc: Global,
     config: BusConfig,
@@ -57,7 +57,7 @@ fn open_reply(
     Ok(Reply::Opened(SocketId(sockets.places.len() as u32)))
 }
 
-/// The reply of a close.
+/// Returns the reply to a close.
 fn close_reply(
     alloc: Global,
     config: BusConfig,
@@ -77,7 +77,7 @@ fn close_reply(
     }))
 }
 
-/// The reply of an event that sets the filters or an option of a socket.
+/// Returns the reply to an event that sets the filters or an option of a socket.
 fn set_reply(alloc: Global, past: &[Entry], id: SocketId) -> Result<Reply, AllocError>
     ensures { Yields result (if_open (reverse past.now) id.0 reply.Done) }
 {
@@ -87,14 +87,14 @@ fn set_reply(alloc: Global, past: &[Entry], id: SocketId) -> Result<Reply, Alloc
     Ok(Reply::Done)
 }
 
-/// Returns whether it is an FD frame, and the socket's option for such is off.
+/// Returns whether the frame is an FD frame and the socket's option for FD frames is off.
 fn lacks_fd(past: &[Entry], id: SocketId, frame: Frame) -> bool
     ensures { result ≡ lacks_fd frame (options_of (reverse past.now) id.0) }
 {
     frame.is_fd() && !options_of(past, id).fd
 }
 
-/// The reply of a send.
+/// Returns the reply to a send.
 fn send_reply(
     alloc: Global,
     config: BusConfig,
@@ -127,7 +127,7 @@ fn send_reply(
     Ok(Reply::Sent(sent as u64))
 }
 
-/// The reply of a receive.
+/// Returns the reply to a receive.
 fn receive_reply(
     alloc: Global,
     config: BusConfig,
@@ -144,7 +144,7 @@ fn receive_reply(
     Ok(Reply::Received(item_at(&arrivals.queued, taken)))
 }
 
-/// The reply of a restart.
+/// Returns the reply to a restart.
 fn restart_reply(config: BusConfig, past: &[Entry], iface: Iface) -> Reply
     ensures { (m : ℕ) →
         OnHistory config past.now (λ h. result ≡ legal_reply config h (event.Restart iface m)) }
@@ -159,7 +159,7 @@ fn restart_reply(config: BusConfig, past: &[Entry], iface: Iface) -> Reply
     }
 }
 
-/// The reply if an interface is taken down.
+/// Returns the reply to an event that takes an interface down.
 fn down_reply(config: BusConfig, iface: Iface) -> Reply
     ensures { (past : List AnEntry) (m : ℕ) →
         result ≡ legal_reply config past (event.Down iface m) }
@@ -171,7 +171,7 @@ fn down_reply(config: BusConfig, iface: Iface) -> Reply
     }
 }
 
-/// The one reply that an event has after these entries, while there is room for it.
+/// Returns the reply to an event after these entries, if the record has room for it.
 fn legal_reply(
     alloc: Global,
     config: BusConfig,
@@ -198,13 +198,13 @@ fn legal_reply(
 fn note(past: &mut Vec<Entry>, event: Event, reply: Reply) -> Result<(), AllocError>
     ensures { OnOk result (past.new.items ≡ past.old.items ++ entry_of event reply ∷ []) }
 {
-    // The checker has to meet the types inside a reply before a vector takes one.
+    // The checker must meet the types inside a reply before a vector takes one.
     let _types: Option<(Attempt, Item, Received)> = None;
     past.push(Entry { event, reply })?;
     Ok(())
 }
 
-/// Replies to one event, and adds it to the entries unless there are as many as the limit.
+/// Returns the reply to one event. Adds both to the entries, unless these have reached the limit.
 fn answer(
     alloc: Global,
     config: BusConfig,
@@ -224,7 +224,7 @@ fn answer(
     Ok(reply)
 }
 
-/// The replies that the entries before each event give.
+/// Returns the replies to these events, each given the entries before it.
 fn replies(alloc: Global, events: &[Event], config: BusConfig) -> Result<Vec<Reply>, AllocError>
     requires { IsConfig config }
     ensures { ReturnsList result (replies_after config [] events.now) }
@@ -239,11 +239,11 @@ fn replies(alloc: Global, events: &[Event], config: BusConfig) -> Result<Vec<Rep
     Ok(replies)
 }
 
-/// The replies that these events have on a new bus of this configuration, one for each, in order.
+/// Returns the replies of a new bus with this configuration to these events, one for each, in order.
 ///
-/// Each is what the entries before it give; once there are as many entries as the limit, it is
-/// `RecordFull`. `BadConfig` comes exactly if no bus has this configuration. The time grows with
-/// the fourth power of the number of events.
+/// Each reply follows from the entries before it. After the entries have reached the limit, each reply is `RecordFull`.
+/// The result is `BadConfig` exactly if no bus can have this configuration. The time grows with the fourth power of the
+/// number of events.
 pub fn replies_of(
     alloc: Global,
     events: &[Event],

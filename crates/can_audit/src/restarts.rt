@@ -6,9 +6,9 @@ use crate::sockets::iface_at;
 use can_bus::{Attempt, BusConfig, Entry, Event, Reply};
 use can_frame::{Iface, IfaceSet};
 
-// The interfaces that an attempt restarts, by the entries before it.
+// The interfaces that an attempt restarts, computed from the entries before it.
 
-/// One attempt more, if attempts count.
+/// Adds one attempt to the count, if there is a count.
 fn one_more(before: Option<usize>) -> Option<usize>
     requires { IfSome before (λ k. k < 2 ^ 63) }
     ensures { result ≡ option_map suc before }
@@ -19,8 +19,8 @@ fn one_more(before: Option<usize>) -> Option<usize>
     }
 }
 
-/// Returns how many attempts there were since the interface went bus off, after one entry more;
-/// none if it is brought up or taken down.
+/// Returns the number of attempts since the interface went bus off, after one more entry. Returns none if the entry
+/// restarts the interface or takes it down.
 fn attempts_off_after(entry: &Entry, iface: Iface, before: Option<usize>) -> Option<usize>
     requires { IfSome before (λ k. k < 2 ^ 63) }
     ensures { result ≡ attempts_off_after entry.now.event entry.now.reply iface before }
@@ -50,8 +50,7 @@ fn attempts_off_after(entry: &Entry, iface: Iface, before: Option<usize>) -> Opt
     }
 }
 
-/// Returns how many attempts there were since the interface went bus off; none if it is not bus
-/// off.
+/// Returns the number of attempts since the interface went bus off, or none if it is not bus off.
 fn attempts_off(past: &[Entry], iface: Iface) -> Option<usize>
     ensures count { result ≡ attempts_off (reverse past.now) iface }
     ensures few { IfSome result (λ k. k ≤ length past.now) }
@@ -73,7 +72,7 @@ fn is_due(config: BusConfig, past: &[Entry], iface: Iface) -> bool
     }
 }
 
-/// The interfaces that the next attempt restarts.
+/// Returns the interfaces that the next attempt restarts.
 pub fn restarted_next(config: BusConfig, past: &[Entry]) -> IfaceSet
     ensures { result ≡ restarted_next config (reverse past.now) }
 {

@@ -10,7 +10,7 @@ use can_frame::Iface;
 use std::alloc::{AllocError, Global};
 use std::marker::Model;
 
-// The sockets of a bus, by its entries.
+// The sockets of a bus, computed from its entries.
 
 /// The interface on which a socket was opened, and the number of items that may wait there.
 #[derive(Debug, Clone, Copy)]
@@ -29,14 +29,14 @@ impl Model for Place {
     ghost inverse = { λ v. record { iface = v.iface; capacity = v.capacity } };
 }
 
-/// The sockets opened so far, and the numbers of those that are open.
+/// The sockets opened so far, and the numbers of those that are still open.
 #[derive(Drop)]
 pub struct Sockets {
     pub places: Vec<Place>,
     pub numbers: Vec<usize>,
 }
 
-/// The interface of this number.
+/// Returns the interface of this number.
 pub fn iface_at(number: u8) -> Iface
     requires { number < 16 }
     ensures { result ≡ number }
@@ -52,14 +52,14 @@ impl Sockets {
     ghost use Rattle.std.specs.List.{list_any};
     ghost use Rattle.can_bus.specs.Sockets.{iface_in, capacity_in};
 
-    /// Returns whether the socket was opened and not closed.
+    /// Returns whether the socket is open.
     pub fn is_open(&self, id: SocketId) -> bool
         ensures { result ≡ list_any (λ k. k == id.0) self.now.numbers.items }
     {
         self.numbers.iter().any(|number| *number == id.0 as usize)
     }
 
-    /// The interface that the socket was opened on.
+    /// Returns the interface on which the socket was opened.
     pub fn iface_of(&self, id: SocketId) -> Iface
         ensures { result ≡ iface_in (slice_get self.now.places.items id.0) }
     {
@@ -69,7 +69,7 @@ impl Sockets {
         }
     }
 
-    /// Returns how many items may wait on the socket.
+    /// Returns the number of items that may wait on the socket.
     pub fn capacity_of(&self, id: SocketId) -> u32
         ensures { result ≡ capacity_in (slice_get self.now.places.items id.0) }
     {
@@ -80,14 +80,14 @@ impl Sockets {
     }
 }
 
-/// Takes a number out.
+/// Removes a number from the list.
 fn take_out(numbers: &mut Vec<usize>, closed: usize)
     ensures { numbers.new.items ≡ filter (λ k. not (k == closed)) numbers.old.items }
 {
     numbers.retain(|number| *number != closed);
 }
 
-/// Returns the effect of an entry on the sockets.
+/// Updates the sockets after an entry.
 fn note(sockets: &mut Sockets, entry: &Entry) -> Result<(), AllocError>
     ensures { OnOk result (IsNoted entry.now sockets.old sockets.new) }
 {
@@ -113,7 +113,7 @@ fn note(sockets: &mut Sockets, entry: &Entry) -> Result<(), AllocError>
     Ok(())
 }
 
-/// The sockets after these entries, the oldest first.
+/// Returns the sockets after these entries. The entries begin with the oldest.
 pub fn sockets_of(alloc: Global, past: &[Entry]) -> Result<Sockets, AllocError>
     ensures places { IfOk result (λ s. s.places.items ≡ places (reverse past.now)) }
     ensures open { IfOk result (λ s. s.numbers.items ≡ open_sockets (reverse past.now)) }
@@ -128,7 +128,7 @@ pub fn sockets_of(alloc: Global, past: &[Entry]) -> Result<Sockets, AllocError>
     Ok(sockets)
 }
 
-/// Returns the effect of an entry on the options of a socket.
+/// Returns the options of a socket after an entry.
 fn options_after(entry: &Entry, id: SocketId, before: Options) -> Options
     ensures { result ≡ options_after entry.now.event entry.now.reply id.0 before }
 {
@@ -144,7 +144,7 @@ fn options_after(entry: &Entry, id: SocketId, before: Options) -> Options
     }
 }
 
-/// The options of a socket as last set.
+/// Returns the options of a socket as they were last set.
 pub fn options_of(past: &[Entry], id: SocketId) -> Options
     ensures { result ≡ options_of (reverse past.now) id.0 }
 {
@@ -155,7 +155,7 @@ pub fn options_of(past: &[Entry], id: SocketId) -> Options
     options
 }
 
-/// Returns the effect of an entry on the filters of a socket.
+/// Returns the filters of a socket after an entry.
 fn filters_after(
     alloc: Global,
     entry: &Entry,
@@ -176,7 +176,7 @@ fn filters_after(
     }
 }
 
-/// The filters of a socket as last set.
+/// Returns the filters of a socket as they were last set.
 pub fn filters_of(alloc: Global, past: &[Entry], id: SocketId) -> Result<FilterSet, AllocError>
     ensures { Yields result (filters_of (reverse past.now) id.0) }
 {

@@ -9,9 +9,9 @@ use can_bus::{Attempt, Entry, Event, Pending, Reply};
 use can_frame::Iface;
 use std::alloc::{AllocError, Global};
 
-// The transmit queues of a bus's interfaces, by its entries.
+// The transmit queues of a bus's interfaces, computed from its entries.
 
-/// Returns the frames that an entry adds to those accepted for sending on an interface.
+/// Adds the frame that an entry accepts for sending on an interface, if any.
 fn note_sent(
     alloc: Global,
     past: &[Entry],
@@ -40,7 +40,7 @@ fn note_sent(
     Ok(())
 }
 
-/// The frames accepted for sending on an interface, in order.
+/// Returns the frames that were accepted for sending on an interface, in order.
 pub fn sent_by(alloc: Global, past: &[Entry], iface: Iface) -> Result<Vec<Pending>, AllocError>
     ensures { ReturnsList result (sent_by (reverse past.now) iface) }
 {
@@ -51,7 +51,7 @@ pub fn sent_by(alloc: Global, past: &[Entry], iface: Iface) -> Result<Vec<Pendin
     Ok(sent)
 }
 
-/// Returns how many frames of an interface have left its transmit queue after one entry more.
+/// Returns the number of frames that have left the transmit queue of an interface, after one more entry.
 fn gone_after(
     alloc: Global,
     past: &[Entry],
@@ -81,7 +81,7 @@ fn gone_after(
     }
 }
 
-/// The same for an event that was done: if it takes the interface down, all of them have left.
+/// Returns the same number after an event that was done. If the event takes the interface down, all frames have left.
 fn gone_down(
     alloc: Global,
     past: &[Entry],
@@ -100,7 +100,7 @@ fn gone_down(
     }
 }
 
-/// Returns how many frames of an interface have left its transmit queue.
+/// Returns the number of frames that have left the transmit queue of an interface.
 pub fn gone_count(alloc: Global, past: &[Entry], iface: Iface) -> Result<usize, AllocError>
     ensures { Yields result (gone_count (reverse past.now) iface) }
 {
@@ -111,14 +111,14 @@ pub fn gone_count(alloc: Global, past: &[Entry], iface: Iface) -> Result<usize, 
     Ok(gone)
 }
 
-/// The frame with this number, if there is one.
+/// Returns the frame with this number, if there is one.
 pub fn frame_at(sent: &[Pending], number: usize) -> Option<Pending>
     ensures { result ≡ slice_get sent.now number }
 {
     sent.get(number).copied()
 }
 
-/// The oldest frame in the transmit queue of an interface.
+/// Returns the oldest frame in the transmit queue of an interface.
 pub fn head_of(alloc: Global, past: &[Entry], iface: Iface) -> Result<Option<Pending>, AllocError>
     ensures { Yields result (head_of (reverse past.now) iface) }
 {

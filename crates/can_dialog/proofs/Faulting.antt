@@ -17,7 +17,7 @@ use Rattle.can_dialog.specs.Calls.{Call, Reply}
 use Rattle.can_dialog.specs.Plans.{Plan, Plays}
 use Rattle.can_dialog.specs.Turns.{mode_of, may_lack_memory, without_memory, read_as, answering, heard, unless_over, turn}
 
--- memory may be refused to a value that is kept on the heap
+-- a command that needs the heap may lack memory
 lacking : (c : Command) → IsTrue (keeps_on_heap c) → may_lack_memory c ≡ true
 lacking (command.Open name) h = refl
 lacking (command.SetFilters filters) h = refl
@@ -28,7 +28,7 @@ lost : (r : Result Command ProtoFault) → GivesBut keeps_on_heap (Err NoMemory)
 lost (Ok c) h = rw (lacking c h) refl
 lost (Err e) h = absurd h
 
--- a fault is that of the message, or it is lack of memory for a command that is kept on the heap
+-- a fault is that of the message, or it is `NoMemory` for a command that needs the heap
 pub reads : (r : Result Command ProtoFault) (e : ProtoFault) → GivesBut keeps_on_heap (Err e) r → (forgot : Bool) × (read_as forgot r ≡ Err e)
 reads r NoMemory h = (true, lost r h)
 reads r InvalidFilter h = (false, h)

@@ -10,7 +10,7 @@ use Rattle.can_dialog.specs.Sessions.{Turns}
 use Rattle.can_dialog.specs.Lives.{Act, TurnDoes, Lives, CallDoes, IsCalled, kept_after, turns_of, heard_in}
 use Rattle.can_dialog.specs.Lives.Act.{Greet, Hear, Deliver, End}
 
--- turns over items, and then further turns
+-- the turns of items, then further turns
 turns_and_more : {P : Type 0} (step : P → (call : Call) → Reply call → P → Type 0) (moment : ℕ) (d : Dialog) (forgotten more : List Bool) (items : List Incoming) (acts : List (Act Incoming)) (p q r : P) (text others : List ℕ) (mid after : Dialog)
     → Turns step moment d forgotten items p q text mid → Lives step mid more acts q r others after → Lives step d (forgotten ++ more) (map (Hear moment) items ++ acts) p r (text ++ others) after
 turns_and_more {P} step moment d [] more [] acts p q r text others mid after h k =
@@ -36,7 +36,7 @@ rest : {P : Type 0} (step : P → (call : Call) → Reply call → P → Type 0)
 rest {P} step capacity [] p = (refl, refl, refl)
 rest {P} step capacity (act ∷ acts) p = ([], over capacity, p, [], idle step capacity act p, rest step capacity acts p, refl)
 
--- and at any call
+-- a session that is over does nothing at any call
 refused : {P : Type 0} (step : P → (call : Call) → Reply call → P → Type 0) (capacity : ℕ) (kept : List ℕ) (acts : List (Act (List ℕ))) (p q : P) (text : List ℕ) (after : Dialog)
     → IsCalled step (over capacity) kept acts p q text after → (q ≡ p) × (text ≡ []) × (after ≡ over capacity)
 refused {P} step capacity kept [] p q text after h = h
@@ -45,7 +45,7 @@ refused {P} step capacity kept (act ∷ acts) p q text after h =
     let again = refused step capacity (kept_after kept act) acts h.2 q h.3 after same in
     (again.0 ∙ h.4.0, h.6 ∙ ap (λ (t : List ℕ). t ++ h.3) h.4.1 ∙ again.1, again.2)
 
--- one call and those that follow it
+-- one call and the calls after it
 on : {P : Type 0} (step : P → (call : Call) → Reply call → P → Type 0) (d : Dialog) (kept : List ℕ) (act : Act (List ℕ)) (acts : List (Act (List ℕ))) (p port q : P) (first others text : List ℕ) (mid after : Dialog)
     → CallDoes step d kept act p port first mid → (forgotten : List Bool) → Lives step mid forgotten (turns_of (kept_after kept act) acts) port q others after → text ≡ first ++ others
     → (forgotten : List Bool) × Lives step d forgotten (turns_of kept (act ∷ acts)) p q text after

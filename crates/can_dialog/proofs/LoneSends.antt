@@ -1,4 +1,4 @@
--- A piece that asks for one frame to be sent: its turn sends the frame.
+-- The turn of a piece that is a single `send`: it sends the frame.
 use Rattle.std.proofs.Common.{◌≡◌, ℕ, List, [], ◌∷◌, Option, Result, Ok, Err, false, refl, sym, ap, subst, ◌∙◌}
 use Rattle.std.specs.Prelude.{OnOk}
 use Rattle.std.proofs.lemmas.List.{append-nil}

@@ -10,7 +10,7 @@ spaced-more names n lt =
     ∙ flat_map-append (λ (name : List ℕ). 32 ∷ name) (take n names) (get_or names n [] ∷ [])
     ∙ ap (λ (t : List ℕ). spaced (take n names) ++ t) (append-nil (32 ∷ get_or names n []))
 
--- one name more
+-- one more name
 pub one_more : (names : List (List ℕ)) (n : ℕ) (old text more : List ℕ) → n < length names → text ≡ old ++ spaced (take n names) → more ≡ text ++ 32 ∷ get_or names n [] → more ≡ old ++ spaced (take (n + 1) names)
 one_more names n old text more lt before is =
     is
@@ -18,6 +18,6 @@ one_more names n old text more lt before is =
     ∙ append_assoc old (spaced (take n names)) (32 ∷ get_or names n [])
     ∙ ap (λ (t : List ℕ). old ++ t) (sym (spaced-more names n lt))
 
--- all of them
+-- all names
 pub all_put : (names : List (List ℕ)) (n : ℕ) (old text : List ℕ) → length names ≤ n → text ≡ old ++ spaced (take n names) → text ≡ old ++ spaced names
 all_put names n old text le h = h ∙ ap (λ (ns : List (List ℕ)). old ++ spaced ns) (take_all n names le)

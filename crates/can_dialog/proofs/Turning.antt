@@ -1,4 +1,4 @@
--- The turns of one item more, and of two lists one after the other.
+-- The turns of one more item, and of two lists one after the other.
 use Rattle.std.proofs.Common.{◌≡◌, ℕ, Bool, List, [], ◌∷◌, ◌++◌, refl, sym, ap, subst, ◌∙◌, append_assoc, ◌+◌, ◌<◌, length, take, get_or, Result, Ok, Err, false}
 use Rattle.std.specs.Prelude.{OnOk}
 use Rattle.std.specs.Result.{is_err}
@@ -10,7 +10,7 @@ use Rattle.can_dialog.specs.Plans.{Plays}
 use Rattle.can_dialog.specs.Turns.{turn}
 use Rattle.can_dialog.specs.Sessions.{Turns}
 
--- one item more
+-- one more item
 pub turns_more : {P : Type 0} (step : P → (call : Call) → Reply call → P → Type 0) (moment : ℕ) (d : Dialog) (forgotten : List Bool) (items : List Incoming) (p q r : P) (text more : List ℕ) (mid after : Dialog) (forgot : Bool) (item : Incoming)
     → Turns step moment d forgotten items p q text mid → Plays step (turn forgot moment mid item) q r more after → Turns step moment d (forgotten ++ forgot ∷ []) (items ++ item ∷ []) p r (text ++ more) after
 turns_more {P} step moment d [] [] p q r text more mid after forgot item h k =

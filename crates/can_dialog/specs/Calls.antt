@@ -26,8 +26,8 @@ use Rattle.can_dialog.specs.declared.port.PortRefusal.TheVariants as port
 
 -- The calls of a port, and the replies that it may give (own choice).
 
--- a call of a port, with its arguments: interfaces and moments are numbers, a rule of faults is its text. `Names`
--- asks for the names of all interfaces that may be attached, in order. No session tries frames
+-- A call of a port with its arguments. Interfaces and timestamps are numbers, and a fault rule is its text. `Names`
+-- returns the names of all interfaces that may be attached, in order. No session makes an `Attempt`.
 pub data Call : Type 0 where
   Names : Call
   Attach : List ℕ → Call
@@ -48,7 +48,7 @@ pub data Call : Type 0 where
   EndsRules : Call
   Down : ℕ → ℕ → Call
 
--- the replies that a call can have
+-- the type of the reply to a call
 abbrev pub Reply : Call → Type 0
 Reply Names = List (List ℕ)
 Reply (Attach name) = Result ℕ PortRefusal
@@ -69,7 +69,7 @@ Reply CountsRules = ℕ
 Reply EndsRules = Unit {0}
 Reply (Down iface moment) = Result (Unit {0}) PortRefusal
 
--- the report of a port's refusal to a client
+-- the cause that a client reads for a port's refusal
 abbrev pub cause_of_port : PortRefusal → Cause
 cause_of_port (port.Bus why) = cause_of_refusal why
 cause_of_port port.TooManyPasses = cause.TooManyPasses
@@ -77,19 +77,19 @@ cause_of_port port.WrongStation = cause.WrongStation
 cause_of_port port.BadRule = cause.BadRule
 cause_of_port port.TooManyRules = cause.TooManyRules
 
--- the refusal of a fault rule, by the plan's refusal
+-- a port's refusal of a fault rule, given the refusal of the fault plan
 abbrev pub port_of_rule : RuleRefusal → PortRefusal
 port_of_rule rule.BadRule = port.BadRule
 port_of_rule rule.UnknownInterface = port.Bus refusal.NoInterface
 port_of_rule rule.TooManyRules = port.TooManyRules
 port_of_rule rule.NoMemory = port.Bus refusal.NoMemory
 
--- a plan's reply to a rule of faults, as a port gives it
+-- a port's reply to a fault rule, given the reply of the fault plan
 abbrev pub reply_to_rule : Result (Unit {0}) RuleRefusal → Result (Unit {0}) PortRefusal
 reply_to_rule (Ok done) = Ok done
 reply_to_rule (Err why) = Err (port_of_rule why)
 
--- an event that is refused is a step with that refusal
+-- a refused event is a step with that refusal
 abbrev pub Denies : {P : Type 0} → (P → (call : Call) → Reply call → P → Type 0) → P → Event → PortRefusal → P → Type 0
 Denies step old (event.Open iface capacity) why new = step old (Open iface capacity) (Err why) new
 Denies step old (event.Close socket) why new = step old (Close socket) (Err why) new
@@ -101,7 +101,7 @@ Denies step old (event.Attempt moment verdict) why new = step old (Attempt momen
 Denies step old (event.Restart iface moment) why new = step old (Restart iface moment) (Err why) new
 Denies step old (event.Down iface moment) why new = step old (Down iface moment) (Err why) new
 
--- an event with its reply is a step with what the reply gives: a reply is of the event's kind, or the bus's refusal
+-- an event and its reply are a step; the reply is of the event's kind, or a refusal of the bus
 abbrev pub Replies : {P : Type 0} → (P → (call : Call) → Reply call → P → Type 0) → P → Event → EventReply → P → Type 0
 Replies step old e (reply.Refused why) new = Denies step old e (port.Bus why) new
 Replies step old (event.Open iface capacity) (reply.Opened socket) new = step old (Open iface capacity) (Ok socket) new
@@ -115,7 +115,7 @@ Replies step old (event.Restart iface moment) reply.Done new = step old (Restart
 Replies step old (event.Down iface moment) reply.Done new = step old (Down iface moment) (Ok tt) new
 Replies step old e r new = ⊥
 
--- a call by an event: it has a reply, or it is refused before the bus has the event
+-- a call that makes an event: it has a reply of the bus, or a refusal before the event reaches the bus
 abbrev pub Steps : {P : Type 0} → (P → (call : Call) → Reply call → P → Type 0) → P → Event
     → Result EventReply PortRefusal → P → Type 0
 Steps step old e (Ok r) new = Replies step old e r new

@@ -9,27 +9,27 @@ use Rattle.can_dialog.specs.Calls.{Call, Reply}
 use Rattle.can_dialog.specs.Plans.{Plays}
 use Rattle.can_dialog.specs.Turns.{delivery, origin_of}
 
--- The items that receives give to a client (own choice).
+-- The items that a client receives (own choice).
 
--- its text, if an item is in this room
+-- the text of a delivery, with this item in the buffer
 abbrev pub delivery_text : Delivery → Received → List ℕ
 delivery_text Nothing room = []
 delivery_text (Item errdata) room = item_text errdata room.item room.moment
 delivery_text (ItemFrom errdata same) room = item_text_from errdata (origin_of same room.number) room.item room.moment
 delivery_text (Refused why) room = answer_text (answer.Refused why)
 
--- whether it is an item
+-- whether the delivery is an item
 abbrev pub is_item : Delivery → Bool
 is_item (Item errdata) = true
 is_item (ItemFrom errdata same) = true
 is_item _ = false
 
--- the port goes through a delivery, which gives this if an item is in this room
+-- the port makes a delivery at this stage, with this result and this item in the buffer
 abbrev pub ReceivesInto :
     {P : Type 0} → (P → (call : Call) → Reply call → P → Type 0) → Stage → P → P → Delivery → Received → Type 0
 ReceivesInto {P} step stage p q given room = Plays step (delivery stage) p q (delivery_text given room) (is_item given)
 
--- this many items are given to a client, one after another
+-- a client receives this many items, one after another
 abbrev pub AreGiven : {P : Type 0} → (P → (call : Call) → Reply call → P → Type 0) → ℕ → Stage → P → List ℕ → P → Type 0
 AreGiven {P} step zero stage p text q = (text ≡ []) × (q ≡ p)
 AreGiven {P} step (suc n) stage p text q =
@@ -38,7 +38,7 @@ AreGiven {P} step (suc n) stage p text q =
     × Plays step (delivery stage) mid q last true
     × (text ≡ before ++ last)
 
--- as many receives as these give an item; or fewer do, and the next one gives none
+-- a client receives this many items, or fewer if the next receive has none
 abbrev pub GivesItems :
     {P : Type 0} → (P → (call : Call) → Reply call → P → Type 0) → ℕ → Stage → P → List ℕ → P → Bool → Type 0
 GivesItems {P} step most stage p text q true = AreGiven step most stage p text q

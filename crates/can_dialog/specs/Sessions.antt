@@ -19,12 +19,12 @@ use Rattle.can_dialog.specs.Turns.{voiced, read_as, answering, turn, at_stage, s
 
 -- The output of a session, over any port.
 
--- a session between calls: the text of a message begun, and its stage
+-- a session between calls: the text of a message begun, and the state of the dialog
 pub record SessionState : Type 0 where
   pub kept : List ℕ
   pub dialog : Dialog
 
--- a session at its start, whose socket is to hold this many items
+-- a session at its start, with this capacity for its socket
 abbrev pub beginning : ℕ → SessionState
 beginning capacity = record { kept = []; dialog = record { capacity = capacity; stage = NoBus } }
 
@@ -32,7 +32,7 @@ beginning capacity = record { kept = []; dialog = record { capacity = capacity; 
 abbrev pub IsSessionOver : SessionState → Type 0
 IsSessionOver s = s.dialog.stage ≡ Ended
 
--- the same session, ended
+-- the same session after its end
 abbrev pub ended_session : SessionState → SessionState
 ended_session s = record s { dialog = at_stage Ended s.dialog }
 
@@ -41,34 +41,34 @@ abbrev pub IsNotRaw : Stage → Type 0
 IsNotRaw (Raw raw) = ⊥
 IsNotRaw _ = Unit {0}
 
--- the port goes through a plan, and this is the reply to the client, if there is one
+-- the port takes the calls of a plan, with this reply to the client, if any
 abbrev pub Replies : {P : Type 0} → (P → (call : Call) → Reply call → P → Type 0) → Plan Dialog → P → P
     → Option Answer → Dialog → Type 0
 Replies {P} step plan p q answer after = Plays step plan p q (voiced answer) after
 
--- the turn of one item, and its text; memory may be refused for its command
+-- the turn of one item with its text, with or without memory for its command
 abbrev pub TakesTurn : {P : Type 0} → (P → (call : Call) → Reply call → P → Type 0) → ℕ → Dialog → Incoming → P → P
     → List ℕ → Dialog → Type 0
 TakesTurn {P} step moment d item p q text after =
     (forgot : Bool) × Plays step (turn forgot moment d item) p q text after
 
--- a command is carried out, with this text; memory may be refused for it
+-- a command is carried out with this text, with or without memory for it
 abbrev pub CarriesOut : {P : Type 0} → (P → (call : Call) → Reply call → P → Type 0) → ℕ → Dialog → Command → P → P
     → List ℕ → Dialog → Type 0
 CarriesOut {P} step moment d command p q text after =
     (forgot : Bool) × Plays step (answering moment d (read_as forgot (Ok command))) p q text after
 
--- a list of names is told, with this text, or memory was refused for that
+-- the reply lists the names of all interfaces, or reports that there was no memory
 abbrev pub ReportsNames : {P : Type 0} → (P → (call : Call) → Reply call → P → Type 0) → P → List ℕ → Type 0
 ReportsNames {P} step p text =
     ((names : List (List ℕ)) × step p Names names p × (text ≡ interfaces_text names))
     ⊎ (text ≡ answer_text (Refused NoMemory))
 
--- the session ends over the port without a text
+-- the session ends over the port and writes no text
 abbrev pub Finishes : {P : Type 0} → (P → (call : Call) → Reply call → P → Type 0) → Dialog → P → P → Dialog → Type 0
 Finishes {P} step d p q after = Plays step (ending d.stage d) p q [] after
 
--- the turns of items, one after another, with the places if memory was refused for a command
+-- the turns of items, one after another; each flag is true if there was no memory for that command
 abbrev pub Turns : {P : Type 0} → (P → (call : Call) → Reply call → P → Type 0) → ℕ → Dialog → List Bool
     → List Incoming → P → P → List ℕ → Dialog → Type 0
 Turns {P} step moment d [] [] p q text after = (q ≡ p) × (text ≡ []) × (after ≡ d)
@@ -79,18 +79,18 @@ Turns {P} step moment d (forgot ∷ more) (item ∷ items) p q text after =
     × (text ≡ first ++ others)
 Turns {P} step moment d _ _ p q text after = ⊥
 
--- the turns of items, one after another; memory may be refused for a command
+-- the turns of items, one after another, with or without memory for each command
 abbrev pub TakesTurns : {P : Type 0} → (P → (call : Call) → Reply call → P → Type 0) → ℕ → Dialog → List Incoming
     → P → P → List ℕ → Dialog → Type 0
 TakesTurns {P} step moment d items p q text after =
     (forgotten : List Bool) × Turns step moment d forgotten items p q text after
 
--- a writer takes a text; an empty text leaves it as it is
+-- a writer takes a text; an empty text leaves the writer unchanged
 pub record Wrote {W : Type 0} (contents : W → Option (List ℕ)) (old : W) (text : List ℕ) (new : W) : Type 0 where
   pub grows : Appends (contents old) (contents new) text
   pub alone : text ≡ [] → new ≡ old
 
--- the items are carried out over the port, and the writer takes what is said
+-- the session takes these items over the port, and the writer takes their text
 pub record Says {P W : Type 0} (step : P → (call : Call) → Reply call → P → Type 0) (contents : W → Option (List ℕ))
     (moment : ℕ) (before : Dialog) (items : List Incoming) (p q : P) (out new : W) (after : Dialog) : Type 0 where
   pub forgotten : List Bool
@@ -98,7 +98,7 @@ pub record Says {P W : Type 0} (step : P → (call : Call) → Reply call → P 
   pub turns : Turns step moment before forgotten items p q text after
   pub wrote : Wrote contents out text new
 
--- the items are carried out over the port, the text does not reach the client, and the session ends
+-- the session takes these items over the port, but the text does not reach the client and the session ends
 pub record Cut {P : Type 0} (step : P → (call : Call) → Reply call → P → Type 0) (moment : ℕ) (before : Dialog)
     (items : List Incoming) (p q : P) (after : Dialog) : Type 0 where
   pub forgotten : List Bool
@@ -109,20 +109,20 @@ pub record Cut {P : Type 0} (step : P → (call : Call) → Reply call → P →
   pub turns : Turns step moment before forgotten items p port text mid
   pub ends : Finishes step mid port q after
 
--- a frame is sent over the port, and the writer takes the text
+-- the session sends a frame over the port, and the writer takes the text
 abbrev pub SendsFrame : {P W : Type 0} → (P → (call : Call) → Reply call → P → Type 0) → (W → Option (List ℕ)) → Dialog
     → RawSocket → CanFrame → P → P → W → W → Dialog → Type 0
 SendsFrame {P} {W} step contents before raw frame p q out new after =
     (text : List ℕ) × Plays step (sending_frame before raw frame) p q text after × Wrote contents out text new
 
--- a frame is sent over the port, the text does not reach the client, and the session ends
+-- the session sends a frame over the port, but the text does not reach the client and the session ends
 abbrev pub SendCut : {P : Type 0} → (P → (call : Call) → Reply call → P → Type 0) → Dialog → RawSocket → CanFrame
     → P → P → Dialog → Type 0
 SendCut {P} step before raw frame p q after =
     (text : List ℕ) × (mid : Dialog) × (port : P) × (text ≢ [])
     × Plays step (sending_frame before raw frame) p port text mid × Finishes step mid port q after
 
--- one delivery over the port, and the writer takes its text; `more`: it was an item
+-- one delivery over the port, whose text the writer takes; `more` is true if it is an item
 pub record Delivers {P W : Type 0} (step : P → (call : Call) → Reply call → P → Type 0)
     (contents : W → Option (List ℕ)) (stage : Stage) (p q : P) (out new : W) (more : Bool) : Type 0 where
   pub text : List ℕ
@@ -139,7 +139,7 @@ pub record DeliveryCut {P : Type 0} (step : P → (call : Call) → Reply call �
   pub plays : Plays step (delivery before.stage) p port text more
   pub ends : Finishes step before port q after
 
--- pieces are fed one after another, from the text kept before
+-- pieces are fed one after another; `before` is the text kept at first
 abbrev pub Feeds : {P : Type 0} → (P → (call : Call) → Reply call → P → Type 0) → ℕ → Dialog → List ℕ
     → List (List ℕ) → P → P → List ℕ → Dialog → Type 0
 Feeds {P} step moment d before [] p q text after = (q ≡ p) × (text ≡ []) × (after ≡ d)
@@ -149,6 +149,6 @@ Feeds {P} step moment d before (piece ∷ pieces) p q text after =
     × Feeds step moment mid (kept_of (before ++ piece)) pieces port q others after
     × (text ≡ first ++ others)
 
--- the number of messages that a text begins
+-- the number of messages that begin in a text
 abbrev pub messages_begun : List ℕ → ℕ
 messages_begun text = count_by is_open_mark text

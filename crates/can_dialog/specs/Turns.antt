@@ -38,130 +38,130 @@ use Rattle.can_dialog.specs.Calls.Call.{CountersOfIface, LoadAt, Inject, CountsR
 use Rattle.can_dialog.specs.Plans.{Plan}
 use Rattle.can_dialog.specs.Plans.Plan.{Tell, Ask}
 
--- The turns of a session: for each command its calls, the text for the client, and the session after it (the commands
--- are those of socketcand's raw mode; filter and the ones after it are own choice).
+-- The turns of a session. Each command has its calls, a text for the client, and the state after it (socketcand's raw
+-- mode; filter and the later commands are own choice).
 
--- the mode that a stage has
+-- the mode of a stage
 abbrev pub mode_of : Stage → Mode
 mode_of NoBus = mode.NoBus
 mode_of (Opened iface) = mode.Opened
 mode_of (Raw raw) = mode.Raw
 mode_of Ended = mode.Ended
 
--- the text of a reply, if there is one
+-- the text of a reply, or no text if there is none
 abbrev pub voiced : Option Answer → List ℕ
 voiced None = []
 voiced (Some a) = answer_text a
 
--- a reply without a call
+-- a plan with a reply and no call
 abbrev pub tells : Answer → Dialog → Plan Dialog
 tells a d = Tell (answer_text a) d
 
--- no reply
+-- a plan with no reply and no call
 abbrev pub silent : Dialog → Plan Dialog
 silent d = Tell [] d
 
--- a refusal of the port: it is reported, and nothing changes
+-- a refusal of the port, which is reported and changes nothing
 abbrev pub refused : PortRefusal → Dialog → Plan Dialog
 refused why d = tells (answer.Refused (cause_of_port why)) d
 
--- a command that the stage does not have
+-- the reply to a command that the stage does not allow
 abbrev pub misplaced : Dialog → Plan Dialog
 misplaced d = tells (answer.Refused cause.WrongState) d
 
--- the same session at another stage
+-- the same session in another stage
 abbrev pub at_stage : Stage → Dialog → Dialog
 at_stage stage d = record d { stage = stage }
 
--- after the port was asked for an interface
+-- the plan after the port's reply to `Attach`
 abbrev pub attached : Dialog → Result ℕ PortRefusal → Plan Dialog
 attached d (Ok iface) = tells answer.Done (at_stage (Opened iface) d)
 attached d (Err why) = refused why d
 
--- after the port was asked for a socket; at first the client gets no data of error message frames, no numbers of sent
--- frames and no origins
+-- the plan after the port's reply to `Open`; at first the client receives no data of error message frames, no frame
+-- numbers and no origins
 abbrev pub entered : Dialog → ℕ → Result SocketId PortRefusal → Plan Dialog
 entered d iface (Ok socket) =
     tells answer.Done
     (at_stage (Raw (record { iface = iface; socket = socket; errdata = false; acks = false; origins = false })) d)
 entered d iface (Err why) = refused why d
 
--- after a frame was sent: its number is reported if the client asked for that, and a refusal in any case
+-- the plan after a frame was sent: its number is reported if the client asked for numbers, and a refusal always
 abbrev pub sent : Dialog → RawSocket → Result ℕ PortRefusal → Plan Dialog
 sent d raw (Ok number) = if raw.acks then tells (answer.Sent number) d else silent d
 sent d raw (Err why) = refused why d
 
--- a frame is sent
+-- the plan to send a frame
 abbrev pub sending_frame : Dialog → RawSocket → CanFrame → Plan Dialog
 sending_frame d raw frame = Ask (Send raw.socket frame) (sent d raw)
 
--- the text of a call that was done and has nothing else to say
+-- the reply to a call that has no result of its own: done or refused
 abbrev pub told_when_done : Result (Unit {0}) PortRefusal → Answer
 told_when_done (Ok _) = answer.Done
 told_when_done (Err why) = answer.Refused (cause_of_port why)
 
--- after such a call
+-- the plan after such a call
 abbrev pub done : Dialog → Result (Unit {0}) PortRefusal → Plan Dialog
 done d outcome = tells (told_when_done outcome) d
 
--- after the port was asked for an interface's counts, with those of the socket known
+-- the plan after the counts of the interface; those of the socket are known
 abbrev pub counted : Dialog → SocketStats → Option IfaceStats → Plan Dialog
 counted d s None = refused (port.Bus refusal.NoInterface) d
 counted d s (Some i) = tells (answer.Stats s i) d
 
--- after the port was asked for a socket's counts: without them the interface's are not asked for
+-- the plan after the counts of the socket; without them it does not ask for the counts of the interface
 abbrev pub looked_up : Dialog → ℕ → Option SocketStats → Plan Dialog
 looked_up d iface None = refused (port.Bus refusal.NoSocket) d
 looked_up d iface (Some s) = Ask (CountsOfIface iface) (counted d s)
 
--- the counts are asked for
+-- the plan for the counts
 abbrev pub looking_up : Dialog → RawSocket → Plan Dialog
 looking_up d raw = Ask (CountsOfSocket raw.socket) (looked_up d raw.iface)
 
--- after the port was asked for the interface's error counters
+-- the plan after the error counters of the interface
 abbrev pub metered : Dialog → ErrorCounts → Plan Dialog
 metered d counters = tells (answer.Status counters) d
 
--- after the port was asked how busy the bus was
+-- the plan after the load of the bus
 abbrev pub loaded : Dialog → BusLoad → Plan Dialog
 loaded d load = tells (answer.Load load) d
 
--- after the client had the socket closed: then the session is over
+-- the plan after the client closed the socket: the session is over
 abbrev pub closed : Dialog → Result Closed PortRefusal → Plan Dialog
 closed d (Ok c) = tells (answer.Closing c) (at_stage Ended d)
 closed d (Err why) = refused why d
 
--- the client has the socket closed
+-- the plan to close the socket for the client
 abbrev pub closing_socket : Dialog → RawSocket → Plan Dialog
 closing_socket d raw = Ask (Close raw.socket) (closed d)
 
--- a rule of faults is given to the bus
+-- the plan to add a fault rule to the bus
 abbrev pub injecting : Dialog → List ℕ → Plan Dialog
 injecting d rule = Ask (Inject rule) (done d)
 
--- after the port was asked how many rules of faults the bus has
+-- the plan after the number of fault rules
 abbrev pub told_rules : Dialog → ℕ → Plan Dialog
 told_rules d left = tells (answer.Faults left) d
 
--- the rules of faults are counted
+-- the plan to count the fault rules
 abbrev pub counting_rules : Dialog → Plan Dialog
 counting_rules d = Ask CountsRules (told_rules d)
 
--- the rules of faults are ended
+-- the plan to remove all fault rules
 abbrev pub ending_rules : Dialog → Plan Dialog
 ending_rules d = Ask EndsRules (λ _. tells answer.Done d)
 
--- the names of all interfaces are asked for
+-- the plan to report the names of all interfaces
 abbrev pub naming : Dialog → Plan Dialog
 naming d = Ask Names (λ names. Tell (interfaces_text names) d)
 
--- a command before an interface is opened
+-- the plan of a command before an interface is opened
 abbrev pub doing_unopened : Dialog → Command → Plan Dialog
 doing_unopened d command.Echo = tells answer.Echo d
 doing_unopened d (command.Open name) = Ask (Attach name) (attached d)
 doing_unopened d _ = misplaced d
 
--- a command with an interface opened
+-- the plan of a command once an interface is opened
 abbrev pub doing_opened : Dialog → ℕ → Command → Plan Dialog
 doing_opened d iface command.Echo = tells answer.Echo d
 doing_opened d iface command.Rawmode = Ask (Open iface d.capacity) (entered d iface)
@@ -170,7 +170,7 @@ doing_opened d iface command.Faults = counting_rules d
 doing_opened d iface command.NoFaults = ending_rules d
 doing_opened d iface _ = misplaced d
 
--- a command in raw mode, at a moment
+-- the plan of a command in raw mode, at this time
 abbrev pub doing_raw : ℕ → Dialog → RawSocket → Command → Plan Dialog
 doing_raw moment d raw command.Echo = tells answer.Echo d
 doing_raw moment d raw (command.Open name) = misplaced d
@@ -192,77 +192,77 @@ doing_raw moment d raw command.NoFaults = ending_rules d
 doing_raw moment d raw command.Close = closing_socket d raw
 doing_raw moment d raw command.Down = Ask (Down raw.iface moment) (done d)
 
--- a command, by the stage of the session
+-- the plan of a command, by the stage of the session
 abbrev pub doing : ℕ → Dialog → Stage → Command → Plan Dialog
 doing moment d NoBus c = doing_unopened d c
 doing moment d (Opened iface) c = doing_opened d iface c
 doing moment d (Raw raw) c = doing_raw moment d raw c
 doing moment d Ended c = silent d
 
--- memory may be refused for the command, which is kept on the heap, or for its reply
+-- whether there may be no memory for the command itself, which needs the heap, or for its reply
 abbrev pub may_lack_memory : Command → Bool
 may_lack_memory command.Interfaces = true
 may_lack_memory c = keeps_on_heap c
 
--- the command, or a fault if memory was refused for it: only such a command is lost by that
+-- the command, or `NoMemory` in its place; only such a command may be lost for lack of memory
 abbrev pub without_memory : Result Command ProtoFault → Result Command ProtoFault
 without_memory (Ok c) = if may_lack_memory c then Err fault.NoMemory else Ok c
 without_memory (Err e) = Err e
 
--- the command or the fault of a message; `forgot`: memory was refused for it
+-- the command or the fault of a message; `forgot` means that there was no memory for it
 abbrev pub read_as : Bool → Result Command ProtoFault → Result Command ProtoFault
 read_as false read = read
 read_as true read = without_memory read
 
--- a command is carried out: names are asked for at each stage, all else depends on the stage. A fault of a message is
--- reported, and nothing is done
+-- the plan of a command: `interfaces` does the same at each stage, all other commands depend on the stage. A fault of a
+-- message is reported and does nothing else.
 abbrev pub answering : ℕ → Dialog → Result Command ProtoFault → Plan Dialog
 answering moment d (Ok command.Interfaces) = naming d
 answering moment d (Ok c) = doing moment d d.stage c
 answering moment d (Err e) = tells (answer.Refused (cause_of_fault e)) d
 
--- the input of a client
+-- the plan of one item of a client's stream
 abbrev pub heard : Bool → ℕ → Dialog → Incoming → Plan Dialog
 heard forgot moment d TooLong = tells (answer.Refused cause.MessageTooLong) d
 heard forgot moment d (Message inside) =
     answering moment d (read_as forgot (reading (mode_of d.stage) (words_of inside)))
 
--- a session that is over does nothing and writes nothing
+-- the plan of a turn; a session that is over does nothing and writes nothing
 abbrev pub unless_over : Stage → Plan Dialog → Dialog → Plan Dialog
 unless_over Ended plan d = silent d
 unless_over _ plan d = plan
 
--- one item of the client's stream
+-- the turn of one item of a client's stream
 abbrev pub turn : Bool → ℕ → Dialog → Incoming → Plan Dialog
 turn forgot moment d item = unless_over d.stage (heard forgot moment d item) d
 
--- after the socket of a session that ends was closed, whatever the port replied
+-- the plan after the socket was closed at the end of a session, whatever the port replied
 abbrev pub ended_by : Dialog → Result Closed PortRefusal → Plan Dialog
 ended_by d _ = silent (at_stage Ended d)
 
--- the end of a session: a raw socket is closed
+-- the plan for the end of a session, which closes the raw socket
 abbrev pub ending : Stage → Dialog → Plan Dialog
 ending (Raw raw) d = Ask (Close raw.socket) (ended_by d)
 ending _ d = silent (at_stage Ended d)
 
--- the origin of a frame of this number: from the same interface, or from another one
+-- the origin of a frame with this number: the same interface, or another one
 abbrev pub origin_of : Bool → ℕ → Origin
 origin_of true number = origin.Same number
 origin_of false number = origin.Other number
 
--- the text of a received item, with its origin if the client asked for that
+-- the text of a received item, with its origin if the client asked for origins
 abbrev pub received_text : RawSocket → Received → List ℕ
 received_text raw r =
     if raw.origins then item_text_from raw.errdata (origin_of (r.from == raw.iface) r.number) r.item r.moment
     else item_text raw.errdata r.item r.moment
 
--- after one receive: an item is written, and there may be more
+-- the plan after one receive: an item is written, and there may be more
 abbrev pub delivered : RawSocket → Result (Option Received) PortRefusal → Plan Bool
 delivered raw (Ok (Some r)) = Tell (received_text raw r) true
 delivered raw (Ok None) = Tell [] false
 delivered raw (Err why) = Tell (answer_text (answer.Refused (cause_of_port why))) false
 
--- a delivery: one receive in raw mode, and no call elsewhere
+-- the plan of a delivery: one receive in raw mode, and no call in other modes
 abbrev pub delivery : Stage → Plan Bool
 delivery (Raw raw) = Ask (Receive raw.socket) (delivered raw)
 delivery _ = Tell [] false

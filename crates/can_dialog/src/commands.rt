@@ -9,14 +9,14 @@ use can_event::Refusal;
 use can_frame::{Frame, Iface, Moment};
 use can_proto::{Answer, Cause, Command};
 
-/// The text of a refusal.
+/// Returns the reply to a refused call.
 fn refused(refusal: PortRefusal) -> Option<Answer>
     ensures { result ≡ Some (Answer.Refused (cause_of_port refusal)) }
 {
     Some(Answer::Refused(refusal.cause()))
 }
 
-/// The text of a call that was done and has nothing else to say.
+/// Returns the reply to a call that has no result of its own: done or refused.
 fn told(outcome: Result<(), PortRefusal>) -> Option<Answer>
     ensures { result ≡ Some (told_of outcome) }
 {
@@ -26,7 +26,7 @@ fn told(outcome: Result<(), PortRefusal>) -> Option<Answer>
     }
 }
 
-/// Ends all rules of faults.
+/// Removes all fault rules of the bus.
 fn end_rules<P: Port>(dialog: Dialog, port: &mut P) -> Option<Answer>
     ensures { Replies P.step (ending_rules dialog) port.old port.new result dialog }
 {
@@ -34,7 +34,7 @@ fn end_rules<P: Port>(dialog: Dialog, port: &mut P) -> Option<Answer>
     Some(Answer::Done)
 }
 
-/// A command before an interface is opened.
+/// Carries out a command before an interface is opened.
 fn do_unopened<P: Port>(dialog: &mut Dialog, command: &Command, port: &mut P) -> Option<Answer>
     ensures { Replies P.step (doing_unopened dialog.old command.now)
         port.old port.new result dialog.new }
@@ -52,7 +52,7 @@ fn do_unopened<P: Port>(dialog: &mut Dialog, command: &Command, port: &mut P) ->
     }
 }
 
-/// A command with an interface opened.
+/// Carries out a command once an interface is opened.
 fn do_opened<P: Port>(
     dialog: &mut Dialog,
     iface: Iface,
@@ -84,7 +84,7 @@ fn do_opened<P: Port>(
     }
 }
 
-/// Sends a frame. Its number is reported if the client asked for that, and a refusal in any case.
+/// Sends a frame. The reply is the frame's number if the client asked for numbers. A refusal is always reported.
 pub fn send<P: Port>(dialog: Dialog, raw: RawSocket, frame: Frame, port: &mut P) -> Option<Answer>
     ensures { Replies P.step (sending_frame dialog raw frame) port.old port.new result dialog }
 {
@@ -95,7 +95,7 @@ pub fn send<P: Port>(dialog: Dialog, raw: RawSocket, frame: Frame, port: &mut P)
     }
 }
 
-/// The counts of the socket and of its interface.
+/// Returns the counts of the socket and of its interface.
 fn look_up<P: Port>(dialog: Dialog, raw: RawSocket, port: &mut P) -> Option<Answer>
     ensures { Replies P.step (looking_up dialog raw) port.old port.new result dialog }
 {
@@ -108,7 +108,7 @@ fn look_up<P: Port>(dialog: Dialog, raw: RawSocket, port: &mut P) -> Option<Answ
     }
 }
 
-/// The socket is closed, and the session is over.
+/// Closes the socket and ends the session.
 fn close<P: Port>(dialog: &mut Dialog, raw: RawSocket, port: &mut P) -> Option<Answer>
     ensures { Replies P.step (closing_socket dialog.old raw) port.old port.new result dialog.new }
 {
@@ -121,7 +121,7 @@ fn close<P: Port>(dialog: &mut Dialog, raw: RawSocket, port: &mut P) -> Option<A
     }
 }
 
-/// A command in raw mode.
+/// Carries out a command in raw mode.
 fn do_raw<P: Port>(
     dialog: &mut Dialog,
     raw: RawSocket,

@@ -13,28 +13,29 @@ use can_event::Received;
 use can_proto::{Cause, ItemText, Origin, push_item, push_item_from, refusal_text};
 use std::io::Write;
 
-/// The result of one receive into a room, for a client.
+/// The result of one receive for a client. The item itself is in a buffer of the caller.
 #[derive(Debug, Clone, Copy, PartialEq, Eq)]
 pub enum Delivery {
-    /// Nothing.
+    /// The socket had no item.
     Nothing,
-    /// The item in the room, and whether the data of an error message frame are written.
+    /// The buffer has an item. The flag is true if the text includes the data of an error message frame.
     Item(bool),
-    /// The same with a frame's origin, which is the interface of the socket or not.
+    /// The buffer has an item, and its text includes the origin. `is_same` is true if the socket's own interface sent
+    /// the frame.
     ItemFrom { errdata: bool, is_same: bool },
-    /// The port refused it.
+    /// The port refused the receive.
     Refused(Cause),
 }
 
 impl Delivery {
-    /// Returns whether it is an item.
+    /// Returns whether the delivery is an item.
     pub fn is_item(self) -> bool
         ensures { result ≡ is_item self }
     {
         matches!(self, Delivery::Item(_) | Delivery::ItemFrom { .. })
     }
 
-    /// Writes the text of it, if there is one, in one call. Returns whether the writer took it.
+    /// Writes the text of the delivery, if it has one, in one call. Returns whether the writer took it.
     pub fn write<W: Write>(self, room: &Received, out: &mut W) -> bool
         ensures wrote { IsTrue result →
             Wrote W.contents out.old (delivery_text self room.now) out.new }
@@ -53,7 +54,7 @@ impl Delivery {
     }
 }
 
-/// The origin of a frame of this number.
+/// Returns the origin of a frame with this number.
 fn origin_of(is_same: bool, number: u64) -> Origin
     ensures { result ≡ origin_of is_same number }
 {
@@ -92,8 +93,7 @@ fn write_refusal<W: Write>(cause: Cause, out: &mut W) -> bool
     put(out, text.as_bytes())
 }
 
-/// Makes one receive into the room in raw mode, and no call elsewhere. Returns the result for the
-/// client.
+/// Receives one item into the buffer in raw mode, and makes no call in other modes. Returns the result for the client.
 pub fn take_delivery<P: Port>(stage: Stage, port: &mut P, room: &mut Received) -> Delivery
     ensures { ReceivesInto P.step stage port.old port.new result room.new }
 {

@@ -9,8 +9,7 @@ use can_frame::Moment;
 use can_proto::{Answer, Cause, Command, Incoming};
 use std::alloc::Global;
 
-/// One item of the client's stream: the text for the client is added, if there is any, and room is left for this many
-/// replies after it.
+/// Takes one item of the client's stream. It adds the reply, if any, and leaves capacity for this many further replies.
 pub fn take_turn<P: Port>(
     dialog: &mut Dialog,
     alloc: Global,
@@ -40,7 +39,7 @@ pub fn take_turn<P: Port>(
     }
 }
 
-/// Carries out a command: the text for the client is added, if there is any, and room is left for this many replies after it.
+/// Carries out a command. It adds the reply, if any, and leaves capacity for this many further replies.
 fn obey<P: Port>(
     dialog: &mut Dialog,
     alloc: Global,
@@ -65,7 +64,7 @@ fn obey<P: Port>(
     }
 }
 
-/// The end of a session: a raw socket is closed, whatever the port replies.
+/// Ends a session. It closes the raw socket, if there is one, and ignores the reply of the port.
 pub fn finish<P: Port>(dialog: &mut Dialog, port: &mut P)
     ensures { Finishes P.step dialog.old port.old port.new dialog.new }
 {

@@ -1,11 +1,11 @@
-//! The names of interfaces in a reply.
+//! The reply with the names of interfaces.
 ghost use Rattle.std.specs.Prelude.{◌≡◌, ◌<◌, ◌++◌, ◌∷◌, [], length, slice_index_or, OnOk};
 ghost use Rattle.can_proto.specs.Spelling.{spaced};
 
 use can_frame::{Iface, Names};
 use std::alloc::AllocError;
 
-/// Adds a space and a name, for each of the names. `AllocError` if memory is refused.
+/// Adds a space and a name for each of the names. Returns `AllocError` if there is no memory.
 pub fn put_names(text: &mut Vec<u8>, names: &Names) -> Result<(), AllocError>
     ensures { OnOk result (text.new.items ≡ text.old.items ++ spaced names.now) }
 {
@@ -21,7 +21,7 @@ fn put_name(text: &mut Vec<u8>, names: &Names, number: u8) -> Result<(), AllocEr
     ensures { OnOk result
         (text.new.items ≡ text.old.items ++ 32 ∷ slice_index_or names.now number []) }
 {
-    // The proof learns here that there are at most 16 names.
+    // This call shows the proof that there are at most 16 names.
     let _ = names.count();
     let Some(iface) = Iface::new(number) else {
         unreachable!()

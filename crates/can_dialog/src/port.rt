@@ -10,28 +10,28 @@ use can_rules::RuleRefusal;
 use std::alloc::AllocError;
 use thiserror::Error;
 
-/// Why a port refuses a call.
+/// The cause for which a port refuses a call.
 #[derive(Debug, Clone, Copy, PartialEq, Eq, Error)]
 pub enum PortRefusal {
-    /// The port's bus refuses, or memory was refused.
+    /// The bus refused the call, or there was no memory.
     #[error("{0}")]
     Bus(Refusal),
-    /// All passes of the station have entered.
+    /// Each pass of the station has already entered.
     #[error("too many passes")]
     TooManyPasses,
-    /// The pass is another station's.
+    /// The pass belongs to another station.
     #[error("wrong station")]
     WrongStation,
-    /// The text is not a fault rule.
+    /// The text is no fault rule.
     #[error("bad rule")]
     BadRule,
-    /// The bus has 64 rules of faults.
+    /// The bus already has 64 fault rules.
     #[error("too many rules")]
     TooManyRules,
 }
 
 impl PortRefusal {
-    /// Returns the text that a client reads.
+    /// Returns the cause as a client reads it.
     pub fn cause(self) -> Cause
         ensures { result ≡ cause_of_port self }
     {
@@ -61,7 +61,7 @@ impl From<RuleRefusal> for PortRefusal {
     }
 }
 
-/// A plan's reply to a rule of faults, as a port gives it.
+/// Returns a port's reply to a fault rule, given the reply of the fault plan.
 pub fn rule_reply(outcome: Result<(), RuleRefusal>) -> Result<(), PortRefusal>
     ensures { result ≡ reply_to_rule outcome }
 {
@@ -71,12 +71,12 @@ pub fn rule_reply(outcome: Result<(), RuleRefusal>) -> Result<(), PortRefusal>
     }
 }
 
-/// The interface of a session to a bus, or to a way to one.
+/// The interface between a session and a bus, or a connection to a bus.
 ///
-/// A port states by `step` how its state before a call, the call, its reply and the state after it belong
-/// together; each call is one such step. A port may take memory. An implementation writes `call`, `put_names`, `attach`,
-/// the two counts, the status, the load and the three calls of the rules of faults; the calls that are named for an
-/// event make it by `call`.
+/// The relation `step` is the law of a port: it relates the state before a call, the call, its reply and the state
+/// after it. Each call is one such step. A port may allocate memory. An implementation writes `call`, `put_names`,
+/// `attach`, the two counts, the status, the load and the three calls for fault rules. The other calls make one event
+/// each and use `call`.
 pub trait Port {
     ghost use Rattle.can_event.specs.Replies.{received_into};
     ghost use Rattle.can_dialog.specs.Calls.{Call, Reply, Steps};
@@ -84,25 +84,25 @@ pub trait Port {
     ghost use Rattle.can_proto.specs.Spelling.{spaced};
     ghost use Rattle.can_dialog.specs.Calls.Call.{Names, Attach, Open, Close, SetFilters, SetOption, Send, Receive, Restart, CountsOfSocket, CountsOfIface, CountersOfIface, LoadAt, Inject, CountsRules, EndsRules, Down};
 
-    /// The state before, a call, its reply and the state after.
+    /// Relates the state before a call, the call, its reply and the state after it.
     ghost step: { Self → (call : Call) → Reply call → Self → Type 0 };
 
-    /// Makes an event, and returns the bus's reply, which is of the event's kind or a refusal.
-    /// `Err` if the event did not reach the bus.
+    /// Makes an event, and returns the reply of the bus: a reply of the event's kind, or a refusal. Returns `Err` if
+    /// the event did not reach the bus.
     fn call(&mut self, event: Event) -> Result<Reply, PortRefusal>
         ensures { Steps step self.old event result self.new };
 
-    /// Adds a space and the name of each interface that may be attached, in order. `AllocError` if
-    /// memory is refused; then some of them may have been added.
+    /// Adds a space and the name of each interface that may be attached, in order. Returns `AllocError` if there is no
+    /// memory; some names may then have been added.
     fn put_names(&self, text: &mut Vec<u8>) -> Result<(), AllocError>
         ensures { OnOk result ((names : List (List ℕ)) × step self.now Names names self.now
             × (text.new.items ≡ text.old.items ++ spaced names)) };
 
-    /// The interface with this name.
+    /// Returns the interface with this name.
     fn attach(&mut self, name: &[u8]) -> Result<Iface, PortRefusal>
         ensures { step self.old (Attach name.now) result self.new };
 
-    /// Opens a socket on an interface; up to `capacity` items may wait there.
+    /// Opens a socket on an interface. Up to `capacity` items may wait there.
     fn open(&mut self, iface: Iface, capacity: u32) -> Result<SocketId, PortRefusal>
         ensures { step self.old (Open iface capacity) result self.new }
     {
@@ -156,7 +156,7 @@ pub trait Port {
             .map_err(PortRefusal::Bus)
     }
 
-    /// Takes the oldest item of a socket into the room, and returns whether there was one.
+    /// Takes the oldest item of a socket into the buffer, and returns whether there was one.
     fn receive_into(&mut self, socket: SocketId, room: &mut Received) -> Result<bool, PortRefusal>
         ensures { step self.old (Receive socket) (received_into room.new result) self.new }
     {
@@ -169,7 +169,7 @@ pub trait Port {
         }
     }
 
-    /// Brings an interface that is bus off back, or one that is down up, at a moment.
+    /// Restarts an interface that is bus off or down, at this time.
     fn restart(&mut self, iface: Iface, moment: Moment) -> Result<(), PortRefusal>
         ensures { step self.old (Restart iface moment) result self.new }
     {
@@ -178,7 +178,7 @@ pub trait Port {
             .map_err(PortRefusal::Bus)
     }
 
-    /// Takes an interface down, at a moment.
+    /// Takes an interface down, at this time.
     fn down(&mut self, iface: Iface, moment: Moment) -> Result<(), PortRefusal>
         ensures { step self.old (Down iface moment) result self.new }
     {
@@ -187,35 +187,35 @@ pub trait Port {
             .map_err(PortRefusal::Bus)
     }
 
-    /// The outcome of the items offered to an open socket.
+    /// Returns the counts of the items offered to an open socket.
     fn socket_stats(&mut self, socket: SocketId) -> Option<SocketStats>
         ensures { step self.old (CountsOfSocket socket) result self.new };
 
-    /// The outcome of the frames of an interface.
+    /// Returns the counts of the frames of an interface.
     fn iface_stats(&mut self, iface: Iface) -> Option<IfaceStats>
         ensures { step self.old (CountsOfIface iface) result self.new };
 
-    /// The error counters of an interface, as far as the port knows them: 0/0 if it knows none.
+    /// Returns the error counters of an interface, or 0/0 if the port does not know them.
     fn status(&mut self, iface: Iface) -> Counters
         ensures { step self.old (CountersOfIface iface) result self.new };
 
-    /// Returns the load of the bus at a moment, and its bit rates, as far as the port knows them.
-    /// The values are left to the port.
+    /// Returns the load of the bus at this time and its bit rates, as far as the port knows them. The law leaves the
+    /// values to the port.
     fn load(&mut self, moment: Moment) -> BusLoad
         ensures { step self.old (LoadAt moment) result self.new };
 
-    /// Gives the bus a rule of faults, after those that it has.
+    /// Adds a fault rule to the bus, after those that it already has.
     ///
-    /// Refusals: `BadRule`, `NoInterface` if the rule names one that the bus does not have,
-    /// `TooManyRules`, `NoMemory`.
+    /// Refusals: `BadRule`, `NoInterface` if the rule names an interface that the bus does not have, `TooManyRules`,
+    /// `NoMemory`.
     fn inject(&mut self, rule: &[u8]) -> Result<(), PortRefusal>
         ensures { step self.old (Inject rule.now) result self.new };
 
-    /// Returns how many rules of faults the bus has, without those that are used up.
+    /// Returns the number of fault rules of the bus, without those that are used up.
     fn rules(&mut self) -> u64
         ensures { step self.old CountsRules result self.new };
 
-    /// Ends all rules of faults.
+    /// Removes all fault rules.
     fn end_rules(&mut self)
         ensures { step self.old EndsRules tt self.new };
 }

@@ -5,8 +5,8 @@ use can_event::SocketId;
 use can_frame::Iface;
 use can_proto::Mode;
 
-/// The socket of a session in raw mode, its interface, and what its client gets: the data of error message frames, the
-/// number of each frame that it sends, and the origin of each that it receives.
+/// The socket of a session in raw mode, its interface, and the client's choices: the data of error message frames, the
+/// number of each frame sent, and the origin of each frame received.
 #[derive(Debug, Clone, Copy, PartialEq, Eq)]
 pub struct RawSocket {
     pub iface: Iface,
@@ -19,18 +19,18 @@ pub struct RawSocket {
 /// The stage of a session, with its values.
 #[derive(Debug, Clone, Copy, PartialEq, Eq)]
 pub enum Stage {
-    /// No interface is opened.
+    /// The client has opened no interface.
     NoBus,
-    /// This interface is opened, no socket on it.
+    /// The client has opened this interface and has no socket on it.
     Opened(Iface),
-    /// A socket is open.
+    /// The client has an open socket.
     Raw(RawSocket),
     /// The session is over.
     Ended,
 }
 
 impl Stage {
-    /// The mode that decides which commands there are.
+    /// Returns the mode, which decides the commands that are allowed.
     pub fn mode(self) -> Mode
         ensures { result ≡ mode_of self }
     {
@@ -43,8 +43,7 @@ impl Stage {
     }
 }
 
-/// The state of a session between its turns: the capacity of the socket that it is to open, and its
-/// stage.
+/// The state of a session between its turns: its stage, and the capacity of the socket that it will open.
 #[derive(Debug, Clone, Copy, PartialEq, Eq)]
 pub struct Dialog {
     pub capacity: u32,

@@ -1,5 +1,5 @@
--- Values that go from one thread of a server to another, and values that threads share. The list given to a keeper is
--- an enum, and the rules of the language do not cover it.
+-- Values that move from one thread of a server to another, and values that threads share. The list of entries given to
+-- a keeper is an enum, which the rules of the language do not cover.
 use denote.RattleType.{RattleType}
 use denote.Ref.{NamedLft}
 use denote.Param.Send.{IsSend, IsSync, sendable}
@@ -33,7 +33,7 @@ pub given_send : IsSend given.the_row
 given_send = search sendable depth 20
 
 module _ (N F G : RattleType) (g : roll.Ghosts N.Denot) (g' : meter.Ghosts N.Denot) (g'' : source.Ghosts F.Denot) (f : IsSend F) (s : IsSync G) (κ : NamedLft) where
-  -- the values that all threads of a server share
+  -- the values shared by all threads of a server
   pub server_sync : (C R : RattleType) → IsSync C → IsSync R → IsSync (server.the_row κ N F G C R g g' g'')
   server_sync C R c r =
       declared_sync (server.the_type κ N F G C R g g' g'') (
@@ -61,7 +61,7 @@ module _ (N F G : RattleType) (g : roll.Ghosts N.Denot) (g' : meter.Ghosts N.Den
   talk_send R r =
       declared_send (talk.the_type κ N F G R g g' g'') (session.the_send, (port_send N F G g g' g'' f s κ R r, (batch.the_send, (opening.the_send, (search sendable depth 20, tt)))))
 
-  -- the values of the thread that delivers
+  -- the values of the thread that delivers items
   pub delivery_sync : (ν : NamedLft) (C R : RattleType) → IsSync C → IsSync R → IsSync (delivery.the_row ν κ N F G C R g g' g'')
   delivery_sync ν C R c r =
       let talks : IsSync (mutex.the_row (talk.the_row κ N F G R g g' g'')) = mutex_sync.the_sync _ (talk_send R r) in

@@ -7,13 +7,13 @@ abbrev pub the_seen : List (Option Client) → Bool → ClientsSeen
 the_seen xs a = record { places = xs; is_closed = a }
 
 module _ {X : Type 0} (f : X → X) where
-  -- f of each of the first n
+  -- `f` applied to the first `n` elements
   abbrev pub map_first : ℕ → List X → List X
   map_first zero xs = xs
   map_first (suc n) [] = []
   map_first (suc n) (x ∷ xs) = f x ∷ map_first n xs
 
-  -- f of the next
+  -- `f` applied to one more element
   map_one_more : (n m : ℕ) (xs : List X) (d : X) → n < length xs → m ≡ n + 1 → set (map_first n xs) n (f (slice_index_or (map_first n xs) n d)) ≡ map_first m xs
   map_one_more n zero xs d lt e = absurd (omega (arith, e))
   map_one_more n (suc m) [] d lt e = absurd (omega (arith, lt))
@@ -21,19 +21,19 @@ module _ {X : Type 0} (f : X → X) where
   map_one_more zero (suc (suc m)) (x ∷ xs) d lt e = absurd (omega (arith, e))
   map_one_more (suc n) (suc m) (x ∷ xs) d lt e = ap (λ ys. f x ∷ ys) (map_one_more n m xs d (omega (arith, lt)) (omega (arith, e)))
 
-  -- f of the next, written in place of it
+  -- `f` of the next element replaces that element
   pub map_next : (n : ℕ) (xs ys : List X) (x y : X) → ys ≡ map_first n xs → n < length xs → x ≡ slice_index_or ys n x → y ≡ f x → set ys n y ≡ map_first (n + 1) xs
   map_next n xs ys x y same lt is made =
       let at : x ≡ slice_index_or (map_first n xs) n x = is ∙ ap (λ zs. slice_index_or zs n x) same in
       ap (λ zs. set zs n y) same ∙ ap (λ z. set (map_first n xs) n z) (made ∙ ap f at) ∙ map_one_more n (n + 1) xs x lt refl
 
-  -- f of all
+  -- `f` applied to all elements
   pub map_all : (n : ℕ) (xs : List X) → length xs ≤ n → map_first n xs ≡ map f xs
   map_all zero [] e = refl
   map_all (suc n) [] e = refl
   map_all zero (x ∷ xs) e = absurd (omega (arith, e))
   map_all (suc n) (x ∷ xs) e = ap (λ ys. f x ∷ ys) (map_all n xs (omega (arith, e)))
 
--- the clients by their places, and whether nobody is let in
+-- the clients at their places, and whether the server is closed to new clients
 pub seen_as : (xs ys : List (Option Client)) (a b : Bool) → xs ≡ ys → a ≡ b → the_seen xs a ≡ the_seen ys b
 seen_as xs ys a b same closed = ap (λ zs. the_seen zs a) same ∙ ap (the_seen ys) closed

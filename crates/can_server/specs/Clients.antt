@@ -9,30 +9,30 @@ use Rattle.can_server.specs.declared.clients.NotAdmitted.TheVariants as refused
 use Rattle.can_server.specs.declared.clients.Phase.{Phase}
 use Rattle.can_server.specs.declared.clients.Phase.TheVariants as stay
 
--- The clients of a server: the sessions at work (own choice).
+-- The clients of a server, each with a session (own choice).
 
 -- a connection that threads share
 abbrev pub Shared : Type 0
 Shared = Arc Conn Global
 
--- the client at each place, and whether nobody is let in any more
+-- the client at each place, and whether the server is closed to new clients
 pub record ClientsSeen : Type 0 where
   pub places : List (Option Client)
   pub is_closed : Bool
 
--- 64 places, all of them free
+-- 64 free places
 abbrev pub no_clients : ClientsSeen
 no_clients = record { places = replicate 64 None; is_closed = false }
 
--- nobody has this place
+-- no client has this place
 abbrev pub IsFree : List (Option Client) → ℕ → Type 0
 IsFree places place = slice_get places place ≡ Some None
 
--- somebody has each place
+-- each place has a client
 abbrev pub NoneFree : List (Option Client) → Type 0
 NoneFree places = (place : ℕ) → ¬ IsFree places place
 
--- a connection gets a free place; else nothing changes: nobody is let in any more, or no place is free
+-- a connection receives a free place; otherwise nothing changes, because the server is closed or no place is free
 abbrev pub Admits : ClientsSeen → Shared → ℕ → Result ℕ NotAdmitted → ClientsSeen → Type 0
 Admits old conn now (Ok place) new =
     (old.is_closed ≡ false)
@@ -45,32 +45,32 @@ Admits old conn now (Err refused.Closed) new = (old.is_closed ≡ true) × (new 
 Admits old conn now (Err refused.Full) new =
     (old.is_closed ≡ false) × NoneFree old.places × (new ≡ old)
 
--- a client came 60 seconds ago or earlier, and its session has not been raw
+-- whether a client came at least 60 seconds ago and its session has not been raw
 abbrev pub is_idle : ℕ → Phase → Bool
 is_idle now (stay.New came) = nat_le (came + 60000000) now
 is_idle now stay.Raw = false
 is_idle now stay.ShutOut = false
 
--- a client after its session has been raw
+-- the client after its session became raw
 abbrev pub raw : Client → Client
 raw client = record { conn = client.conn; stay = stay.Raw }
 
--- the places after the session of the client at one of them has been raw
+-- the places after the session at one of them became raw
 abbrev pub raw_at : List (Option Client) → ℕ → List (Option Client)
 raw_at places place = set places place (option_map raw (slice_index_or places place None))
 
--- a client after another found no place
+-- a client after another client found no place
 abbrev pub asked_for_room : ℕ → Client → Client
 asked_for_room now client = record {
   conn = client.conn;
   stay = if is_idle now client.stay then stay.ShutOut else client.stay;
 }
 
--- the places after another found none
+-- all clients after another client found no place
 abbrev pub all_asked : ℕ → List (Option Client) → List (Option Client)
 all_asked now places = map (option_map (asked_for_room now)) places
 
--- the client at this place was shut out
+-- the server shut out the client at this place
 abbrev pub IsShutOut : Option Client → Type 0
 IsShutOut None = ⊥
 IsShutOut (Some client) = client.stay ≡ stay.ShutOut

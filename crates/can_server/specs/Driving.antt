@@ -5,14 +5,14 @@ use Rattle.can_attempt.specs.declared.class.Class.TheVariants.{NoAck}
 use Rattle.can_event.specs.declared.attempt.Attempt.{Attempt}
 use Rattle.can_event.specs.declared.attempt.Attempt.TheVariants as attempt
 
--- Which interfaces change in an attempt of a driver, as a server reports it to its host (own choice).
+-- The interfaces that change state in an attempt, as a server reports them to its host (own choice).
 
 -- the interfaces that went bus off
 abbrev pub off_in : Attempt → IfaceSet
 off_in (attempt.Idle restarted) = no_ifaces
 off_in (attempt.Tried tried) = tried.off
 
--- it sent no frame and restarted no interface
+-- the attempt sent no frame and restarted no interface
 abbrev pub IsInVain : Attempt → Type 0
 IsInVain (attempt.Idle restarted) = restarted ≡ no_ifaces
 IsInVain (attempt.Tried tried) = (tried.class ≡ NoAck) × (tried.restarted ≡ no_ifaces)

@@ -13,26 +13,26 @@ use Rattle.can_server.specs.declared.driving.Stepped.{Stepped}
 use Rattle.can_server.specs.declared.driving.Stepped.TheVariants as stepped
 use Rattle.can_wire.specs.Schedules.{Schedule, next_begin, next_moment, after_tried, after_idle}
 
--- How the driver of a bus with bit rates follows its schedule (own choice).
+-- The schedule of a driver on a bus with bit rates (own choice).
 
--- the moment of the next attempt, which tries the frame of this interface, if there is one
+-- the time of the next attempt, which tries the frame of this interface, if there is one
 abbrev pub head_moment : Schedule → Option (ℕ × CanFrame) → ℕ
 head_moment s None = next_moment None s
 head_moment s (Some head) = next_moment (Some head.1) s
 
--- the schedule after what an attempt with this verdict came to
+-- the schedule after an attempt with this verdict and outcome
 abbrev pub after_attempt : Verdict → Attempt → Schedule → Schedule
 after_attempt v (attempt.Tried t) s = after_tried t.frame t.class v s
 after_attempt v (attempt.Idle restarted) s = after_idle s
 
--- an attempt follows a schedule: a frame has the moment of its end, and the schedule advances by the length of the
--- attempt, which depends on its class and verdict
+-- an attempt follows a schedule: a frame has the time of its end, and the schedule advances by the length of the
+-- attempt, which depends on its class and its verdict
 abbrev pub GoesBy : Schedule → Verdict → Attempt → Schedule → Type 0
 GoesBy old v (attempt.Tried t) new =
     (t.moment ≡ next_moment (Some t.frame) old) × (new ≡ after_tried t.frame t.class v old)
 GoesBy old v (attempt.Idle restarted) new = new ≡ after_idle old
 
--- the schedule of a driver at a moment: if its next attempt would have begun more than 100 ms earlier, it begins now
+-- the schedule of a driver at this time; if its next attempt is more than 100 ms late, the attempt begins now
 abbrev pub caught_up : ℕ → Schedule → Schedule
 caught_up now s = if nat_le (now * 1000 - next_begin s) 100000000 then s else record s { since = now }
 
@@ -42,11 +42,11 @@ pub record Driven (F : Type 0) : Type 0 where
   pub pass : PassSeen
   pub schedule : Schedule
 
--- the moment that its schedule has for its next attempt
+-- the scheduled time of the next attempt
 abbrev pub moment_for : {F : Type 0} → Driven F → ℕ
 moment_for d = head_moment d.schedule (next_try d.held.journal)
 
--- there is something to attempt: it makes an attempt at that moment, and the schedule goes on by it
+-- if there is something to attempt, the driver makes an attempt at the scheduled time, and the schedule advances
 abbrev pub Makes : {F : Type 0} → (F → VerdictMap) → Driven F → Driven F → Type 0
 Makes verdicts old new =
     (a : Attempt)
@@ -54,19 +54,19 @@ Makes verdicts old new =
     × MadeStep verdicts old.held old.pass (moment_for old) (Ok a) new.held new.pass
     × GoesBy old.schedule (next_verdict verdicts old.held) a new.schedule
 
--- an attempt at that moment is refused, and the schedule stays
+-- the station refuses an attempt at the scheduled time, and the schedule does not change
 abbrev pub IsAttemptRefused : {F : Type 0} → (F → VerdictMap) → Driven F → Driven F → Type 0
 IsAttemptRefused verdicts old new =
     (why : StationRefusal) × MadeStep verdicts old.held old.pass (moment_for old) (Err why) new.held new.pass
     × (new.schedule ≡ old.schedule)
 
--- it makes this many attempts, one after another
+-- the driver makes this many attempts, one after another
 abbrev pub MakesAll : {F : Type 0} → (F → VerdictMap) → ℕ → Driven F → Driven F → Type 0
 MakesAll verdicts zero old new = new ≡ old
 MakesAll {F} verdicts (suc n) old new = (mid : Driven F) × MakesAll verdicts n old mid × Makes verdicts mid new
 
--- in one hold of the lock it makes up to 64 attempts, and at least one if there is something to attempt; or the next
--- one is refused
+-- under one hold of the lock, the driver makes up to 64 attempts, and at least one if there is something to attempt; or
+-- the station refuses the next one
 abbrev pub MakesDue : {F : Type 0} → (F → VerdictMap) → Stepped → Driven F → Driven F → Type 0
 MakesDue {F} verdicts stepped.Refused old new =
     (n : ℕ) × (mid : Driven F) × (n < 64) × MakesAll verdicts n old mid × IsAttemptRefused verdicts mid new

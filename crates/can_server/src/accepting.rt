@@ -15,17 +15,16 @@ use std::thread::Threads;
 use std::time::Duration;
 use std::{thread, time};
 
-/// How long an acceptor rests after a connection that it could not accept, for example for lack of
-/// file descriptors.
+/// The pause in milliseconds after an acceptor could not accept a connection, for example for lack of file descriptors.
 const AFTER_A_FAULT_MS: u64 = 100;
 
-/// How often an acceptor tries before this counts as a session: for some 6 seconds.
+/// The number of failed tries that count as one session, after about 6 seconds.
 const TRIES: u32 = 64;
 
-/// How often a connection looks for a place while others are shut out, for a second.
+/// The number of times that a connection looks for a place while idle clients leave, for about one second.
 const TURNS: u32 = 1_000;
 
-/// A visit of a client that was taken in: the acceptor, the place among the clients, and the session's number.
+/// The visit of an admitted client: the acceptor, the place among the clients, and the number of the session.
 #[derive(Drop)]
 pub struct Visit<'d> {
     pub acceptor: &'d Acceptor,
@@ -33,18 +32,18 @@ pub struct Visit<'d> {
     pub session: u32,
 }
 
-/// Who comes in at an acceptor.
+/// The outcome of waiting for a client at an acceptor.
 #[derive(Drop)]
 enum Next {
-    /// A client has this place.
+    /// The client has this place.
     Admitted(usize),
-    /// All tries were in vain, or nobody else is let in now.
+    /// All tries failed, or the server could not admit the client.
     Nobody,
     /// The server is closed.
     Closed,
 }
 
-// The acceptors of a server.
+// Methods of a server that run the acceptors.
 impl<
     'a,
     N: BusName + Send + Sync,
@@ -53,9 +52,8 @@ impl<
     C: Clock + Sync,
     R: Threads + Wait + time::Clock + Sync,
 > Server<'a, N, F, G, C, R> {
-    /// Accepts connections until the acceptor has had its sessions. A thread serves each
-    /// connection. Then it closes the acceptor and waits for those threads. It accepts no more once
-    /// the server is closed.
+    /// Accepts connections until the acceptor has had its sessions or the server is closed. A thread serves each
+    /// connection. At the end it closes the acceptor and waits for these threads.
     pub fn accept_all(&self, acceptor: &Acceptor) {
         thread::scope(thread::scope_env(), self.rt, |scope| {
             for before in 0..self.most_connections(acceptor) {
@@ -90,8 +88,8 @@ impl<'a, N: BusName, F: FaultSource + Drop, G: Gate + Drop, C: Clock, R: Wait + 
     C,
     R,
 > {
-    /// Returns how many connections an acceptor accepts. Each counts as one of its sessions, unless
-    /// only those that have been raw count.
+    /// Returns the number of connections that an acceptor accepts. Each counts as one of its sessions, except in a long
+    /// run, where only sessions that became raw count.
     fn most_connections(&self, acceptor: &Acceptor) -> u32 {
         if self.is_long {
             u32::MAX
@@ -100,8 +98,7 @@ impl<'a, N: BusName, F: FaultSource + Drop, G: Gate + Drop, C: Clock, R: Wait + 
         }
     }
 
-    /// Waits at an acceptor for the next connection, and takes it in. After one that could not be accepted the acceptor rests, and
-    /// tries again.
+    /// Waits at an acceptor for the next connection and admits it. After a failed accept it pauses and tries again.
     fn next_client(&self, acceptor: &Acceptor, session: u32) -> Next {
         for _ in 0..TRIES {
             match acceptor.accept() {
@@ -113,7 +110,7 @@ impl<'a, N: BusName, F: FaultSource + Drop, G: Gate + Drop, C: Clock, R: Wait + 
         Next::Nobody
     }
 
-    /// Returns whether nobody is let in at an acceptor any more.
+    /// Returns whether the acceptor admits no more clients.
     fn is_over(&self, acceptor: &Acceptor) -> bool {
         acceptor.is_used_up() || self.clients.lock(self.rt).is_closed()
     }
@@ -132,8 +129,8 @@ impl<'a, N: BusName, F: FaultSource + Drop, G: Gate + Drop, C: Clock, R: Wait + 
         });
     }
 
-    /// Takes a connection in, if the server is not closed. The client gets `too many sessions` if
-    /// as many sessions are at work as a server has, and none of them is idle.
+    /// Admits a connection, if the server is not closed. The client receives `too many sessions` if all places are
+    /// taken and no session is idle.
     fn admit(&self, conn: Conn, session: u32) -> Next {
         let from = if self.host.wants_notices() {
             conn.peer()
@@ -158,8 +155,8 @@ impl<'a, N: BusName, F: FaultSource + Drop, G: Gate + Drop, C: Clock, R: Wait + 
         }
     }
 
-    /// Finds a place among the clients for a connection. If all are taken, it shuts idle clients
-    /// out and waits for one of their places.
+    /// Finds a place among the clients for a connection. If all places are taken, it shuts out idle clients and waits
+    /// for one of their places.
     fn find_place(&self, conn: &Arc<Conn, Global>) -> Result<usize, NotAdmitted> {
         for _ in 0..TURNS {
             let now = self.host.now();

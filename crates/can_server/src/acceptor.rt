@@ -5,10 +5,10 @@ use std::os::fd::OwnedFd;
 use std::os::unix::net::{UnixListener, UnixStream};
 use std::sync::atomic::{AtomicU64, Ordering};
 
-/// The most connections that wait at a listener: Linux's `somaxconn`, as it mostly is.
+/// The most connections that wait at a listener: the usual value of Linux's `somaxconn`.
 const MOST_WAITING: u32 = 4096;
 
-/// An acceptor, at which connections come in.
+/// A listening socket for TCP or for a Unix path.
 #[derive(Drop)]
 pub enum Listener {
     Tcp(TcpListener),
@@ -16,7 +16,7 @@ pub enum Listener {
 }
 
 impl Listener {
-    /// Waits for the next connection. What is written to it over TCP goes out at once.
+    /// Waits for the next connection. Bytes written to a TCP connection are sent without delay.
     fn accept(&self) -> io::Result<Conn> {
         match self {
             Listener::Tcp(listener) => {
@@ -31,7 +31,7 @@ impl Listener {
         }
     }
 
-    /// From now on `accept` is a fault if no connection waits.
+    /// Makes `accept` fail from now on if no connection waits.
     fn never_waits(&self) -> io::Result<()> {
         match self {
             Listener::Tcp(listener) => listener.set_nonblocking(true),
@@ -39,7 +39,7 @@ impl Listener {
         }
     }
 
-    /// A second handle of the listening socket, to shut it down by.
+    /// Returns a second handle of the listening socket, which is used to shut it down.
     fn shutdown_handle(&self) -> io::Result<Conn> {
         match self {
             Listener::Tcp(listener) => {
@@ -54,18 +54,18 @@ impl Listener {
     }
 }
 
-/// A listener, with how many sessions it takes.
+/// An acceptor: a listener with the number of sessions that it accepts.
 #[derive(Drop)]
 pub struct Acceptor {
     listener: Listener,
     shutdown_handle: Conn,
     sessions: u32,
-    /// The number of sessions that have been raw, if those count.
+    /// The number of sessions that became raw, in a run that counts them.
     raw: AtomicU64,
 }
 
 impl Acceptor {
-    /// An acceptor for this many sessions. It takes a file descriptor.
+    /// Returns an acceptor for this many sessions. It takes a file descriptor.
     pub fn new(listener: Listener, sessions: u32) -> io::Result<Acceptor> {
         let shutdown_handle = listener.shutdown_handle()?;
         Ok(Acceptor {
@@ -76,13 +76,13 @@ impl Acceptor {
         })
     }
 
-    /// Returns how many sessions it takes.
+    /// Returns the number of sessions that the acceptor accepts.
     pub fn sessions(&self) -> u32 {
         self.sessions
     }
 
-    /// Counts a session that is raw now, and returns whether it is one of those that the acceptor takes. The last of them
-    /// closes the acceptor.
+    /// Counts a session that became raw. Returns whether the acceptor accepts it. The last accepted session closes the
+    /// acceptor.
     pub(crate) fn count_raw(&self) -> bool {
         let before = self.raw.fetch_add(1, Ordering::SeqCst);
         let sessions = u64::from(self.sessions);
@@ -92,7 +92,7 @@ impl Acceptor {
         before < sessions
     }
 
-    /// Returns whether as many sessions have been raw as it takes.
+    /// Returns whether as many sessions became raw as the acceptor accepts.
     pub(crate) fn is_used_up(&self) -> bool {
         self.raw.load(Ordering::SeqCst) >= u64::from(self.sessions)
     }
@@ -102,15 +102,14 @@ impl Acceptor {
         self.listener.accept()
     }
 
-    /// Lets nobody in any more: the system refuses connections that come later. A thread that waits
-    /// for a connection returns, because Linux refuses an `accept` on a listening socket that was
-    /// shut down.
+    /// Closes the acceptor: the system refuses later connections. A thread that waits for a connection returns, because
+    /// Linux fails `accept` on a listening socket that was shut down.
     pub(crate) fn close(&self) {
         self.shutdown_handle.shutdown();
     }
 
-    /// Closes the connections that came before the acceptor was closed and that were not accepted.
-    /// Linux still gives those of a Unix path.
+    /// Closes the connections that came before the acceptor was closed and that nobody accepted. Linux still returns
+    /// those of a Unix path.
     pub(crate) fn turn_away(&self) {
         if self.listener.never_waits().is_err() {
             return;

@@ -1,4 +1,4 @@
-//! The output to a client. It is made while the bus is called, and written once the bus is let go.
+//! The output to a client. It is prepared under the lock of the bus and written after the lock is released.
 ghost use Rattle.std.specs.Prelude.{◌≡◌, ◌+◌, ◌++◌, ◌<◌, ◌≤◌, [], length, take, drop, min, vec_len, IsTrue, false, true, OnOk, IfOk};
 ghost use Rattle.std.specs.Io.KnownBytes.{Appends};
 ghost use Rattle.can_proto.specs.Messages.{messages_of, kept_of};
@@ -12,23 +12,22 @@ use can_frame::Moment;
 use std::alloc::{AllocError, Global};
 use std::io::Write;
 
-/// The most items of a batch.
+/// The largest number of items in a batch.
 const MOST_ITEMS: usize = 256;
 
-/// The most bytes of an item's text.
+/// The largest number of bytes in an item's text.
 const LONGEST: usize = 256;
 
-/// The items that were received at once.
+/// The result of receiving a batch of items.
 #[derive(Debug, Clone, Copy, PartialEq, Eq)]
 pub struct Taken {
-    /// The number of receives in the rooms.
+    /// The number of buffers that have the result of a receive.
     pub rooms: usize,
-    /// Whether each of them gave an item: as many as were asked for, or as a batch has. There may
-    /// be more.
+    /// Whether each receive returned an item, up to the number asked for or the size of a batch. More items may wait.
     pub are_items: bool,
 }
 
-/// A room for one receive, and what it gave.
+/// A buffer for one receive, and the result of that receive.
 #[derive(Debug, Clone, Copy)]
 struct Room {
     item: Received,
@@ -44,20 +43,20 @@ impl Room {
     }
 }
 
-/// The texts for a client that are written at once. The texts of a port's replies are made first,
-/// and then written. It keeps its memory for the next time.
+/// The texts that a client receives in one write. They are prepared first and written later. A batch keeps its memory
+/// for the next time.
 #[derive(Drop)]
 pub struct Batch {
     rooms: Vec<Room>,
-    /// The texts that go out in one write.
+    /// The texts of one write.
     text: Vec<u8>,
-    /// The most bytes of these texts, but that one item goes out whole.
+    /// The largest number of bytes of these texts. A single item may be longer: it is never cut.
     most_bytes: usize,
     ghost all_rooms: { vec_len rooms ≡ 256 },
 }
 
 impl Batch {
-    /// A batch that writes at most this many bytes at once, but that one item goes out whole.
+    /// Returns a batch that writes at most this many bytes at once, except that it never cuts an item.
     pub fn new(alloc: Global, most_bytes: usize) -> Result<Batch, AllocError> {
         let text = Vec::with_capacity(alloc, most_bytes.saturating_add(LONGEST))?;
         let rooms = rooms_of(alloc, Room::empty())?;
@@ -68,8 +67,7 @@ impl Batch {
         })
     }
 
-    /// Feeds a session a piece of its client's input. The session's text waits for `write`, and
-    /// nothing else does.
+    /// Gives a session a piece of its client's input. The batch then has only the session's text, which `write` writes.
     ///
     /// Refusals: those of `Session::feed`.
     pub fn hear<P: Port>(
@@ -89,22 +87,22 @@ impl Batch {
         session.feed(alloc, piece, moment, port, &mut self.text)
     }
 
-    /// Returns how many bytes wait to be written.
+    /// Returns the number of bytes to be written.
     pub fn waiting(&self) -> usize
         ensures { result ≡ length self.now.text.items }
     {
         self.text.len()
     }
 
-    /// Writes what waits: whether the writer took it.
+    /// Writes these bytes. Returns whether the writer took them.
     pub fn write<W: Write>(&mut self, out: &mut W) -> bool
         ensures wrote { IsTrue result → Wrote W.contents out.old self.old.text.items out.new }
     {
         write_out(&mut self.text, out)
     }
 
-    /// Takes up to this many of the items that wait for a session's client, at most 256. They are received into rooms, one
-    /// after another, up to the first receive that gives none.
+    /// Receives up to this many items of a session's client, at most 256. It receives one item into each buffer, and
+    /// stops at the first receive that returns none.
     pub fn take<P: Port>(&mut self, session: &Session, waiting: u64, port: &mut P) -> Taken
         ensures within { result.rooms ≤ 256 }
         ensures all { result.are_items ≡ true → result.rooms ≡ min waiting 256 }
@@ -119,7 +117,7 @@ impl Batch {
         }
     }
 
-    /// Writes the texts of what the first rooms have, in order: whether the writer took them.
+    /// Writes the texts of the first buffers, in order. Returns whether the writer took them.
     pub fn write_items<W: Write>(&mut self, taken: Taken, out: &mut W) -> bool
         requires { taken.rooms ≤ 256 }
         ensures wrote { IsTrue result → Appends (W.contents out.old) (W.contents out.new)
@@ -134,15 +132,15 @@ impl Batch {
     }
 }
 
-/// As many rooms as a batch has, each of them like this one.
+/// Returns copies of a buffer, one for each item of a batch.
 fn rooms_of<T: Copy>(alloc: Global, room: T) -> Result<Vec<T>, AllocError>
     ensures { IfOk result (λ v. vec_len v ≡ 256) }
 {
     Vec::from_elem(alloc, room, MOST_ITEMS)
 }
 
-/// Receives into the first rooms, at most this many, one after another, up to the first receive that gives no item: how
-/// many items there are.
+/// Receives items into the first buffers, at most this many, up to the first receive that returns no item. Returns the
+/// number of items.
 fn receive<P: Port>(session: &Session, port: &mut P, rooms: &mut [Room], most: usize) -> usize
     requires { most ≤ length rooms.old }
     ensures within { result ≤ most }
@@ -162,8 +160,8 @@ fn receive<P: Port>(session: &Session, port: &mut P, rooms: &mut [Room], most: u
     most
 }
 
-/// Writes the texts of what was received, in writes of at most this many bytes: whether the writer took them. The room
-/// for texts is empty before and after.
+/// Writes the texts of the items, with at most this many bytes in one write. Returns whether the writer took them. The
+/// text buffer is emptied first and is empty after a success.
 fn write_texts<W: Write>(rooms: &[Room], text: &mut Vec<u8>, most_bytes: usize, out: &mut W) -> bool
     ensures wrote { IsTrue result →
         Appends (W.contents out.old) (W.contents out.new) (texts_of rooms.now) }
@@ -181,7 +179,7 @@ fn write_texts<W: Write>(rooms: &[Room], text: &mut Vec<u8>, most_bytes: usize, 
     write_out(text, out)
 }
 
-/// Writes this many bytes of the texts, and keeps the others: whether the writer took them.
+/// Writes this many bytes of the text and keeps the rest. Returns whether the writer took them.
 #[inline(never)]
 fn write_front<W: Write>(text: &mut Vec<u8>, len: usize, out: &mut W) -> bool
     requires { len ≤ length text.old.items }
@@ -198,7 +196,7 @@ fn write_front<W: Write>(text: &mut Vec<u8>, len: usize, out: &mut W) -> bool
     true
 }
 
-/// Writes the texts, if there are any, and empties them: whether the writer took them.
+/// Writes the text, if there is any, and empties it. Returns whether the writer took it.
 fn write_out<W: Write>(text: &mut Vec<u8>, out: &mut W) -> bool
     ensures wrote { IsTrue result → Wrote W.contents out.old text.old.items out.new }
     ensures empty { text.new.items ≡ [] }

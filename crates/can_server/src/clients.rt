@@ -1,4 +1,4 @@
-//! The clients of a server: the connections of the sessions at work.
+//! The clients of a server, with the connections of their sessions.
 ghost use Rattle.std.specs.Prelude.{◌≡◌, IfOk, IsTrue, ◌↔◌, Any, option_map, MatchOption, None, true, not, set};
 ghost use Rattle.can_server.specs.Clients.{Admits, IsFree, IsShutOut, NoneFree, all_asked, asked_for_room, is_idle, no_clients, raw_at};
 
@@ -8,29 +8,29 @@ use std::alloc::{AllocError, Global};
 use std::marker::Model;
 use std::sync::Arc;
 
-/// The most sessions at once.
+/// The largest number of sessions at the same time.
 const MOST_AT_ONCE: usize = 64;
 
-/// After how many microseconds a client whose session has not been raw may lose its place.
+/// The microseconds after which a client may lose its place if its session never became raw.
 const MOST_IDLE: u64 = 60_000_000;
 
-/// Why a connection has no place.
+/// The cause for which a connection has no place.
 #[derive(Debug, Clone, Copy, PartialEq, Eq)]
 pub enum NotAdmitted {
-    /// Nobody is let in any more.
+    /// The server admits no more clients.
     Closed,
-    /// As many sessions are at work as a server may have.
+    /// The server has as many sessions as it may have.
     Full,
 }
 
-/// How far a client has come.
+/// The phase of a client's visit.
 #[derive(Debug, Clone, Copy, PartialEq, Eq)]
 pub enum Phase {
-    /// It came at this moment, and its session has not been raw.
+    /// The client came at this time, and its session has not been raw.
     New(Moment),
-    /// Its session has been raw.
+    /// The session of the client has been raw.
     Raw,
-    /// It was idle when another client found no place, so its connection was shut down.
+    /// The client was idle when another client needed a place, so the server shut down its connection.
     ShutOut,
 }
 
@@ -46,15 +46,15 @@ impl Phase {
     }
 }
 
-/// A client: its connection, and how far it has come.
+/// A client: its connection, and the phase of its visit.
 #[derive(Drop)]
 pub struct Client {
     conn: Arc<Conn, Global>,
     stay: Phase,
 }
 
-/// The connections of the sessions at work, 64 at most. Contracts see the client at each place, and
-/// whether nobody is let in any more.
+/// The connections of the current sessions, at most 64. Contracts see the client at each place, and whether the server
+/// is closed to new clients.
 #[derive(Drop)]
 pub struct Clients {
     places: Vec<Option<Client>>,
@@ -73,7 +73,7 @@ impl Model for Clients {
 }
 
 impl Clients {
-    /// All places are free. It takes the memory for all of them.
+    /// Returns a list whose places are all free. It allocates the memory for all places.
     pub fn new(alloc: Global) -> Result<Clients, AllocError>
         ensures { IfOk result (λ clients. clients ≡ no_clients) }
     {
@@ -87,8 +87,8 @@ impl Clients {
         })
     }
 
-    /// Takes a connection in at this moment, and returns its place. It gets none if nobody is let
-    /// in any more, however many places are free.
+    /// Admits a connection at this time, and returns its place. It fails if the server is closed to new clients, even
+    /// if places are free.
     pub fn admit(&mut self, conn: Arc<Conn, Global>, now: Moment) -> Result<usize, NotAdmitted>
         ensures { Admits self.old conn now result self.new }
     {
@@ -103,7 +103,7 @@ impl Clients {
         Ok(place)
     }
 
-    /// The connection of the client at this place, if there is one.
+    /// Returns the connection of the client at this place, if there is one.
     pub(crate) fn conn(&self, place: usize) -> Option<Arc<Conn, Global>> {
         if place >= self.places.len() {
             return None;
@@ -114,7 +114,7 @@ impl Clients {
         }
     }
 
-    // A place that is free.
+    // Returns a place that is free.
     fn free_place(&self) -> Option<usize>
         ensures { MatchOption result (NoneFree self.now.places)
             (λ place. IsFree self.now.places place) }
@@ -127,7 +127,7 @@ impl Clients {
         None
     }
 
-    /// The session of the client at this place is raw: it keeps the place for as long as it likes.
+    /// Marks the client at this place as raw: it cannot lose the place any more.
     pub fn keep(&mut self, place: usize)
         ensures { self.new ≡ record self.old { places = raw_at self.old.places place } }
     {
@@ -138,9 +138,9 @@ impl Clients {
         }
     }
 
-    /// Shuts the connections of idle clients down, because another client has found no place. An
-    /// idle client came 60 seconds ago or earlier, and its session has not been raw. Returns
-    /// whether a place is about to get free: that of a client that is shut out.
+    /// Shuts down the connections of idle clients, because another client found no place. An idle client came at least
+    /// 60 seconds ago, and its session has not been raw. Returns whether a client that is shut out will soon free its
+    /// place.
     pub fn make_room(&mut self, now: Moment) -> bool
         ensures clients { self.new ≡ record self.old { places = all_asked now self.old.places } }
         ensures soon { IsTrue result ↔ Any IsShutOut self.new.places }
@@ -160,15 +160,14 @@ impl Clients {
         }
     }
 
-    /// Returns whether nobody is let in any more.
+    /// Returns whether the server is closed to new clients.
     pub fn is_closed(&self) -> bool
         ensures { result ≡ self.now.is_closed }
     {
         self.is_closed
     }
 
-    /// Lets nobody in from now on, and shuts all connections down. Returns whether it was open
-    /// before.
+    /// Closes the server to new clients and shuts down all connections. Returns whether it was open before.
     pub fn close(&mut self) -> bool
         ensures was_open { result ≡ not self.old.is_closed }
         ensures closed { self.new ≡ record self.old { is_closed = true } }
@@ -182,7 +181,7 @@ impl Clients {
     }
 }
 
-/// Shuts the client at a place out, if it is idle.
+/// Shuts out the client at a place, if it is idle.
 fn ask_for_room(place: &mut Option<Client>, now: Moment)
     ensures { place.new ≡ option_map (asked_for_room now) place.old }
 {

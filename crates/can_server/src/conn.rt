@@ -14,7 +14,7 @@ pub enum Conn {
 }
 
 impl Conn {
-    /// Waits for bytes of the client: how many there are, 0 at the end.
+    /// Waits for bytes of the client and returns their number, or 0 at the end.
     pub fn read(&self, piece: &mut [u8]) -> io::Result<usize>
         ensures { IfOk result (λ n. n ≤ length piece.new) }
     {
@@ -30,7 +30,7 @@ impl Conn {
         }
     }
 
-    /// The client's address, if it has one.
+    /// Returns the client's address, if it has one.
     pub fn peer(&self) -> Option<SocketAddr> {
         let Conn::Tcp(stream) = self else {
             return None;
@@ -38,13 +38,13 @@ impl Conn {
         stream.peer_addr().ok()
     }
 
-    /// Writes why the client is refused, as far as it goes out.
+    /// Writes the cause of a refusal to the client. It ignores a failed write.
     pub fn refuse(&self, cause: Cause) {
         let text = refusal_text(cause);
         let _ = Out(self).write_all(text.as_bytes());
     }
 
-    /// Ends both directions: a thread that reads or writes here returns.
+    /// Shuts down both directions. A thread that reads or writes here returns.
     pub fn shutdown(&self) {
         let _ = match self {
             Conn::Tcp(stream) => stream.shutdown(Shutdown::Both),
@@ -53,7 +53,7 @@ impl Conn {
     }
 }
 
-/// A connection, to write to.
+/// The writer of a connection.
 #[derive(Drop)]
 pub struct Out<'a>(pub &'a Conn);
 

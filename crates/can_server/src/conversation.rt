@@ -18,7 +18,7 @@ use std::alloc::{AllocError, Global};
 use std::io::Write;
 use std::sync::{Mutex, Wait};
 
-/// The reply to a command that was carried out and has no other.
+/// The reply to a command that was carried out and has no other reply.
 const DONE: &[u8] = b"< ok >";
 
 /// The socket of a session in raw mode, and the interface of that socket.
@@ -29,20 +29,21 @@ pub struct OpenSocket<'a, N: BusName, F: FaultSource + Drop, G: Gate + Drop> {
     pub socket: SocketId,
 }
 
-/// A session with its port, which its two threads share under a lock.
+/// A session with its port. The two threads of the session share it under a lock.
 #[derive(Drop)]
 pub struct Conversation<'a, N: BusName, F: FaultSource + Drop, G: Gate + Drop, R: Wait> {
     session: Session,
     port: PassPort<'a, N, F, G, R>,
     batch: Batch,
-    /// The connection's beginning.
+    /// The first bytes of the connection, as far as they identify a client.
     opening: Opening,
-    /// Whether the last piece was answered by more than one `< ok >`.
+    /// Whether the replies to the last piece are longer than a single `< ok >`.
     said_more: bool,
 }
 
 impl<'a, N: BusName, F: FaultSource + Drop, G: Gate + Drop, R: Wait> Conversation<'a, N, F, G, R> {
-    /// A session that has just begun, which may have one of these passes, and writes at most this many bytes of items at once.
+    /// Returns a session that has just begun. It may reuse one of these passes. It writes at most this many bytes of
+    /// items at once.
     pub fn new(
         rt: &'a R,
         alloc: Global,
@@ -59,7 +60,7 @@ impl<'a, N: BusName, F: FaultSource + Drop, G: Gate + Drop, R: Wait> Conversatio
         })
     }
 
-    /// Writes the first text: whether the session goes on.
+    /// Writes the first text. Returns whether the session goes on.
     pub fn greet<W: Write>(&mut self, out: &mut W) -> bool
         ensures { IsTrue result → Wrote W.contents out.old greeting out.new }
     {
@@ -69,9 +70,8 @@ impl<'a, N: BusName, F: FaultSource + Drop, G: Gate + Drop, R: Wait> Conversatio
         }
     }
 
-    /// Takes a piece of the client's input, and returns whether the session goes on. If the
-    /// connection begins as no client's does, nothing is carried out. The session ends if its
-    /// client does not take the output.
+    /// Takes a piece of the client's input, and returns whether the session goes on. If no client would begin a
+    /// connection like this, nothing is carried out. The session ends if its client does not take the output.
     pub fn feed<W: Write>(
         &mut self,
         alloc: Global,
@@ -96,7 +96,7 @@ impl<'a, N: BusName, F: FaultSource + Drop, G: Gate + Drop, R: Wait> Conversatio
         self.carry_out(alloc, piece, moment, out)
     }
 
-    /// Carries out a piece of the client's input, as `feed` does.
+    /// Carries out a piece of the client's input, as described at `feed`.
     fn carry_out<W: Write>(
         &mut self,
         alloc: Global,
@@ -127,9 +127,9 @@ impl<'a, N: BusName, F: FaultSource + Drop, G: Gate + Drop, R: Wait> Conversatio
         !self.is_over()
     }
 
-    /// Gives the client up to this many items, at most 256. Returns how many it took, or `None` if
-    /// there can be no more. They are received in one hold of the bus's lock, and their texts are
-    /// written after it. The session ends if its client does not take them.
+    /// Sends the client up to this many items, at most 256. Returns the number that it took, or `None` if there are no
+    /// more. It receives them under one hold of the bus's lock and writes their texts after that. The session ends if
+    /// its client does not take them.
     pub fn deliver<W: Write>(&mut self, waiting: u64, out: &mut W) -> Option<u64>
         ensures { DeliversItems (PassStep F) W.contents waiting self.old.session self.old.port
             out.old result self.new.session self.new.port out.new }
@@ -157,13 +157,13 @@ impl<'a, N: BusName, F: FaultSource + Drop, G: Gate + Drop, R: Wait> Conversatio
         let _ = self.session.end(&mut self.port);
     }
 
-    /// Returns whether the connection began as no client's does.
+    /// Returns whether the connection began in a way that no client uses.
     pub fn is_strangers(&self) -> bool {
         self.opening == Opening::Stranger
     }
 
-    /// Returns whether the last piece was answered by more than one `< ok >`. If so, its client
-    /// reads one text after another.
+    /// Returns whether the replies to the last piece are longer than a single `< ok >`. If they are, the client reads
+    /// one text after another.
     pub fn said_more(&self) -> bool {
         self.said_more
     }
@@ -173,7 +173,7 @@ impl<'a, N: BusName, F: FaultSource + Drop, G: Gate + Drop, R: Wait> Conversatio
         self.session.stage() == Stage::Ended
     }
 
-    /// The station that was entered.
+    /// Returns the station that the session entered.
     pub fn station(&self) -> Option<&'a Station<N, F, G, HubBus>> {
         self.port.station()
     }
@@ -190,24 +190,24 @@ impl<'a, N: BusName, F: FaultSource + Drop, G: Gate + Drop, R: Wait> Conversatio
         }
     }
 
-    /// The interface that the session has restarted since the last look, if any. One that it took
-    /// down later does not count.
+    /// Returns the interface that the session restarted since the last call, if any. An interface that it took down
+    /// later does not count.
     pub fn look_for_restart(&mut self) -> Option<Iface> {
         self.port.take_restarted()
     }
 
-    /// The interface that the session has taken down since the last look, if any. One that it
-    /// restarted later does not count.
+    /// Returns the interface that the session took down since the last call, if any. An interface that it restarted
+    /// later does not count.
     pub fn look_for_down(&mut self) -> Option<Iface> {
         self.port.take_downed()
     }
 
-    /// Returns the outcomes of the session's calls.
+    /// Returns the counts of the session's calls.
     pub fn tally(&self) -> Tally {
         self.port.tally()
     }
 
-    /// The pass, if a station was entered.
+    /// Returns the pass, if the session entered a station.
     pub fn into_pass(self) -> Option<Pass<N>> {
         let Conversation { port, .. } = self;
         port.into_pass()

@@ -1,4 +1,4 @@
-//! The thread of a session that delivers its items.
+//! The thread that delivers the items of a session.
 
 use crate::conn::{Conn, Out};
 use crate::conversation::Conversation;
@@ -10,8 +10,8 @@ use std::sync::{Mutex, Wait};
 use std::time::Duration;
 use std::{thread, time};
 
-/// How many milliseconds the thread waits at first if the reply to `rawmode` went out in a write of
-/// its own. Some clients read that reply, and all that came with it, as one text.
+/// The pause in milliseconds before the first items, if the reply to `rawmode` was written separately. Some clients
+/// read that reply and all bytes after it as one text.
 const BEFORE_ITEMS_MS: u64 = 20;
 
 /// The state of the thread that delivers the items of a session in raw mode.
@@ -22,7 +22,7 @@ pub struct Delivery<'s, 't, N: BusName, F: FaultSource + Drop, G: Gate + Drop, C
     pub buses: &'s Buses<N, F, G>,
     pub talk: &'s Mutex<Conversation<'t, N, F, G, R>>,
     pub conn: &'s Conn,
-    /// Whether the reply to `rawmode` went out in a write of its own.
+    /// Whether the reply to `rawmode` was written separately.
     pub is_reply_apart: bool,
 }
 
@@ -35,9 +35,8 @@ impl<
     C: Clock,
     R: Wait + time::Clock,
 > Delivery<'s, 't, N, F, G, C, R> {
-    /// Gives the client its items, until the session is over, its socket is closed or the record is
-    /// full. The session also ends if items are refused for another reason, such as lack of memory,
-    /// or if the client does not take them.
+    /// Delivers items to the client until the session is over, its socket is closed or the record is full. The session
+    /// also ends if items are refused for another cause, such as lack of memory, or if the client does not take them.
     pub fn deliver_all(&self) {
         if self.is_reply_apart {
             thread::sleep(self.rt, Duration::from_millis(BEFORE_ITEMS_MS));
@@ -59,8 +58,7 @@ impl<
         }
     }
 
-    /// Ends the session, and the connection with it. If the record is full, a session that has not
-    /// ended goes on.
+    /// Ends the session and its connection. If the record is full, a session that is not over goes on.
     fn end_unless_full(&self, station: &Station<N, F, G, HubBus>) {
         let mut talk = self.talk.lock(self.rt);
         if talk.is_over() || !station.is_full() {
@@ -69,8 +67,7 @@ impl<
         }
     }
 
-    /// Waits for the ends of the frames whose items wait, on a bus with bit rates. No lock is held
-    /// meanwhile.
+    /// On a bus with bit rates, waits for the ends of the frames to be delivered. It holds no lock meanwhile.
     fn await_frames(&self, station: &Station<N, F, G, HubBus>) {
         let Some(end) = self.buses.last_end(usize::from(station.number())) else {
             return;
@@ -79,7 +76,7 @@ impl<
         station.rest(self.rt, Duration::from_micros(left));
     }
 
-    /// Gives the client the items that wait, of which there are `waiting`. Returns whether there can be more.
+    /// Delivers the `waiting` items to the client. Returns whether there can be more.
     fn deliver_waiting(&self, waiting: u64) -> bool {
         let mut left = waiting;
         for _ in 0..waiting {
@@ -95,8 +92,8 @@ impl<
     }
 }
 
-/// Ends the waits of a station whose record is full. No call changes such a station, not even one
-/// that closes a socket. Its driver ends, and reports that to the host.
+/// Stops a station whose record is full. Its state no longer changes, not even when a socket is closed. Its driver ends
+/// and reports this to the host.
 pub fn stop_full<N: BusName, F: FaultSource + Drop, G: Gate + Drop, R: Wait>(
     rt: &R,
     station: &Station<N, F, G, HubBus>,

@@ -18,21 +18,21 @@ use std::sync::atomic::Ordering;
 use std::time;
 use std::time::Duration;
 
-/// The most steps of a driver in one hold of the lock.
+/// The largest number of steps of a driver under one hold of the lock.
 pub const MOST_STEPS: u32 = 64;
 
 /// The outcome of a driver's steps.
 #[derive(Drop)]
 pub enum Stepped {
-    /// It goes on, after an attempt in which these interfaces changed.
+    /// The driver goes on. These interfaces changed in its last attempt.
     On(Changes),
-    /// It is over: all sessions are over, and no attempt would change what they see.
+    /// The driver is done: all sessions are over, and a further attempt would not change anything that they see.
     Out,
-    /// A step was refused.
+    /// The station refused a step.
     Refused,
 }
 
-// The driver of a bus.
+// Methods of a server that drive a bus.
 impl<'a, N: BusName, F: FaultSource + Drop, G: Gate + Drop, C: Clock, R: Wait + time::Clock> Server<
     'a,
     N,
@@ -41,9 +41,8 @@ impl<'a, N: BusName, F: FaultSource + Drop, G: Gate + Drop, C: Clock, R: Wait + 
     C,
     R,
 > {
-    /// Steps a bus while an interface has a frame to send or counts towards its restart, until its
-    /// station is stopped. Then it hands the pass back, and reports a full record and refused
-    /// memory to the host.
+    /// Steps a bus until its station is stopped, while an interface has a frame to send or counts towards its restart.
+    /// It then hands back the pass, and reports a full record or a lack of memory to the host.
     pub fn drive(&self, bus: usize) {
         if bus >= self.buses.count() {
             return;
@@ -65,8 +64,8 @@ impl<'a, N: BusName, F: FaultSource + Drop, G: Gate + Drop, C: Clock, R: Wait + 
         }
     }
 
-    /// Steps a bus with this pass, and returns whether a step was refused. A refusal ends it: the
-    /// record is full, memory is refused, or the pass is another station's.
+    /// Steps a bus with this pass. Returns whether the station refused a step, which ends the driver. It does so if the
+    /// record is full, there is no memory, or the pass belongs to another station.
     fn step_all(&self, bus: usize, pass: &mut Pass<N>) -> bool {
         if bus >= self.buses.count() {
             return false;
@@ -77,7 +76,7 @@ impl<'a, N: BusName, F: FaultSource + Drop, G: Gate + Drop, C: Clock, R: Wait + 
         }
     }
 
-    /// Steps a bus without bit rates, as `step_all` does.
+    /// Steps a bus without bit rates, as described at `step_all`.
     fn step_at_pace(&self, bus: usize, pass: &mut Pass<N>) -> bool {
         if bus >= self.buses.count() {
             return false;
@@ -105,9 +104,8 @@ impl<'a, N: BusName, F: FaultSource + Drop, G: Gate + Drop, C: Clock, R: Wait + 
         false
     }
 
-    /// Steps a bus up to this many times in one hold of its lock, while an interface has a frame to
-    /// send or counts towards its restart. It stops after an attempt in which an interface went bus
-    /// off or was restarted.
+    /// Makes up to this many steps of a bus under one hold of its lock, while an interface has a frame to send or
+    /// counts towards its restart. It stops after an attempt in which an interface went bus off or was restarted.
     fn step_some(
         &self,
         mut hold: Hold<'_, N, F, G, HubBus>,
@@ -132,14 +130,14 @@ impl<'a, N: BusName, F: FaultSource + Drop, G: Gate + Drop, C: Clock, R: Wait + 
         Stepped::On(Changes::none())
     }
 
-    /// Reports to the host that a bus has become nearly full, if it has.
+    /// Reports to the host that the record of a bus has become nearly full, if it has.
     pub fn report_nearly_full(&self, bus: usize, has_become: bool) {
         if has_become {
             self.host.notify(Notice::NearlyFull { bus });
         }
     }
 
-    /// Reports to the host which interfaces went bus off in an attempt, and which were restarted.
+    /// Reports to the host the interfaces that went bus off and those that were restarted in an attempt.
     pub fn report_changes(&self, bus: usize, changes: Changes) {
         if !changes.are_some() {
             return;
@@ -157,7 +155,7 @@ impl<'a, N: BusName, F: FaultSource + Drop, G: Gate + Drop, C: Clock, R: Wait + 
     }
 }
 
-/// The interfaces that changed in an attempt.
+/// The interfaces that changed state in an attempt.
 #[derive(Debug, Clone, Copy)]
 pub struct Changes {
     off: IfaceSet,
@@ -165,7 +163,7 @@ pub struct Changes {
 }
 
 impl Changes {
-    /// The changes of no attempt.
+    /// Returns no changes.
     pub fn none() -> Changes {
         Changes {
             off: IfaceSet::empty(),
@@ -173,14 +171,14 @@ impl Changes {
         }
     }
 
-    /// Returns whether an interface changed.
+    /// Returns whether an interface changed state.
     pub fn are_some(&self) -> bool
         ensures { result ≡ false ↔ (self.now.off ≡ no_ifaces) × (self.now.restarted ≡ no_ifaces) }
     {
         !self.off.is_empty() || !self.restarted.is_empty()
     }
 
-    /// The changes of this attempt.
+    /// Returns the changes of this attempt.
     pub fn of(attempt: &Attempt) -> Changes
         ensures off { result.off ≡ off_in attempt.now }
         ensures restarted { result.restarted ≡ restarted_in (reply.Attempted attempt.now) }
@@ -198,8 +196,8 @@ impl Changes {
     }
 }
 
-/// Returns whether an attempt neither sent a frame nor restarted an interface. Once all sessions
-/// are over, such attempts only fill the record.
+/// Returns whether an attempt neither sent a frame nor restarted an interface. After all sessions are over, such
+/// attempts only fill the record.
 pub fn makes_no_progress(attempt: &Attempt) -> bool
     ensures { IsTrue result ↔ IsInVain attempt.now }
 {

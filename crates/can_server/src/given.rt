@@ -7,15 +7,15 @@ use std::snapshot::Snapshot;
 
 const _: () = prove!(size_of::<Given>() == 0);
 
-// The entries as contracts see them. No value of this type is kept.
+// The entries as contracts see them. The program keeps no value of this type.
 #[derive(Drop)]
 enum Chain {
     Empty,
     Block(Snapshot<Chain>, Snapshot<PackedRecord>),
 }
 
-/// The entries given to a keeper, the oldest first. Only contracts see them: it takes no memory,
-/// and its methods do nothing.
+/// The entries given to a keeper, the oldest first. Only contracts see them. The type takes no memory, and its methods
+/// do nothing.
 #[derive(Drop)]
 pub struct Given {
     chain: Snapshot<Chain>,
@@ -32,7 +32,7 @@ impl Model for Given {
 }
 
 impl Given {
-    /// No entries.
+    /// Returns an empty list of entries.
     pub fn new() -> Given
         ensures { result ≡ [] }
     {
@@ -41,7 +41,7 @@ impl Given {
         }
     }
 
-    /// A block was given.
+    /// Notes that the keeper was given a block.
     pub fn note(&mut self, block: &PackedRecord)
         ensures { self.new ≡ self.old ++ block.now.entries }
     {

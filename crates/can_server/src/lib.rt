@@ -1,16 +1,15 @@
-//! A server: the threads that serve the buses of a hub to many clients.
+//! A server: threads that connect many clients to the buses of a hub.
 //!
-//! [`serve`] takes connections in at its acceptors. Each is a session of two threads over a pass of
-//! the bus that it opens: one reads the client's input, the other delivers its items. Each bus has
-//! a driver, which steps it while an interface has a frame to send or counts towards its restart.
-//! At the end all passes are handed back, for the hub to settle.
+//! [`serve`] accepts connections at its acceptors. Each connection is a session with two threads and a pass of the bus
+//! that it opens. One thread reads the client's input, the other delivers its items. Each bus has a driver, which steps
+//! the bus while an interface has a frame to send or counts towards its restart. At the end the server hands back all
+//! passes, and the hub settles them.
 //!
-//! Two facts about the threads are proved. One list of passes is handed back for each bus, and a
-//! server that is closed lets nobody in ([`Clients`]). The sessions are can_dialog's, each with a
-//! pass of its own. Their texts, and the texts of their items, go out in order, each once
-//! ([`Batch`]). [`Opening`] recognizes connections that no client would begin so; they are closed.
-//! It is not promised that a peer gets anything, that a thread waits only so long, or that no two
-//! wait for each other.
+//! Two properties of the threads are proved. The server hands back one list of passes for each bus, and a closed server
+//! admits no client ([`Clients`]). The sessions are those of can_dialog, each with its own pass. The texts of their
+//! replies and items are written in order, each once ([`Batch`]). [`Opening`] recognizes connections that no client
+//! would begin, and the server closes them. It is not proved that a peer receives anything, that a thread waits only
+//! for a limited time, or that no two threads wait for each other.
 #![tactic(auto)]
 
 mod accepting;

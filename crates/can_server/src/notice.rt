@@ -1,22 +1,20 @@
 use can_frame::Iface;
 use std::net::SocketAddr;
 
-/// The reports of a server to its host while it runs. The sessions of an acceptor are numbered from
-/// 1.
+/// A report of a running server to its host. The sessions of an acceptor are numbered from 1.
 #[derive(Debug, Clone, Copy)]
 pub enum Notice {
-    /// A session begins. Its client has this address, or came to a Unix path.
+    /// A session began. Its client has this address, or connected to a Unix path.
     Came {
         session: u32,
         from: Option<SocketAddr>,
     },
-    /// A client was refused because there are too many sessions.
+    /// The server refused a client because it had too many sessions.
     TurnedAway {
         session: u32,
         from: Option<SocketAddr>,
     },
-    /// A connection was closed because it began as no client's does, for example as that of a web
-    /// page.
+    /// The server closed a connection because no client begins like it. A web page may do so, for example.
     Strange {
         session: u32,
     },
@@ -26,8 +24,8 @@ pub enum Notice {
         bus: usize,
         iface: Iface,
     },
-    /// A session is over. This many of its frames were refused, and this many items did not fit at
-    /// its socket, as far as that is known if the record is full.
+    /// A session is over. This many of its frames were refused, and its socket dropped this many items. If the record
+    /// is full, the counts may be incomplete.
     Went {
         session: u32,
         refused: u64,
@@ -43,22 +41,21 @@ pub enum Notice {
         bus: usize,
         iface: Iface,
     },
-    /// The driver of this bus, which has bit rates, was this many milliseconds late, and skipped
-    /// the time that it missed. It is reported at most once in a minute.
+    /// The driver of this bus, which has bit rates, was this many milliseconds late and skipped the time that it
+    /// missed. The server reports it at most once a minute.
     Late {
         bus: usize,
         millis: u64,
     },
-    /// This bus has nine tenths of its entries. It is reported once.
+    /// The record of this bus has nine tenths of its entries. The server reports it once.
     NearlyFull {
         bus: usize,
     },
-    /// The record of this bus is full, so its calls are refused from now on. It is reported once.
+    /// The record of this bus is full, so the bus refuses calls from now on. The server reports it once.
     Full {
         bus: usize,
     },
-    /// The driver of this bus was refused memory, so no frame is tried on it any more. It is
-    /// reported once.
+    /// The driver of this bus had no memory, so it makes no more attempts. The server reports it once.
     NoDriver {
         bus: usize,
     },

@@ -1,24 +1,24 @@
-//! The beginning of a connection: a web page can have its browser send requests to any port of the machine, and no request
-//! begins as a client does.
+//! The first bytes of a connection. A web page can make its browser send requests to any port of the machine, and no
+//! request begins like a client's message.
 ghost use Rattle.std.specs.Prelude.{◌≡◌};
 ghost use Rattle.can_proto.specs.Words.{is_blank};
 ghost use Rattle.can_server.specs.Openings.{is_undecided as is_open_at, after_byte, after_bytes};
 
-/// The beginning of a connection.
+/// The state of the first bytes of a connection.
 #[derive(Debug, Clone, Copy, PartialEq, Eq)]
 pub enum Opening {
-    /// Only blanks so far.
+    /// Only blanks came so far.
     Blank,
-    /// Other bytes too, and no blank after them so far.
+    /// Other bytes came, and no blank after them.
     Word,
-    /// It begins as a client may: its first message has begun.
+    /// The first message began, as a client's does.
     Client,
-    /// It begins as no client does: a control byte that is no blank, or a blank after other bytes,
-    /// came before its first message.
+    /// No client begins like this: before the first message came a control byte that is no blank, or a blank after
+    /// other bytes.
     Stranger,
 }
 
-/// Returns whether the byte is a blank of a message.
+/// Returns whether the byte may separate the words of a message.
 fn is_space(byte: u8) -> bool
     ensures { result ≡ is_blank byte }
 {
@@ -26,14 +26,14 @@ fn is_space(byte: u8) -> bool
 }
 
 impl Opening {
-    /// Returns whether more bytes decide.
+    /// Returns whether more bytes are needed to decide.
     fn is_open(self) -> bool
         ensures { result ≡ is_open_at self }
     {
         matches!(self, Opening::Blank | Opening::Word)
     }
 
-    /// The beginning with one more byte.
+    /// Returns the state after one more byte.
     fn after_byte(self, byte: u8) -> Opening
         ensures { result ≡ after_byte self byte }
     {
@@ -54,7 +54,7 @@ impl Opening {
         }
     }
 
-    /// The beginning with these bytes more.
+    /// Returns the state after these bytes.
     pub fn after(self, bytes: &[u8]) -> Opening
         ensures { result ≡ after_bytes self bytes.now }
     {

@@ -1,5 +1,4 @@
-//! The destination of the entries of long runs while they are served: a thread for each bus takes
-//! them in blocks.
+//! The output of entries in long runs. While the server runs, one thread for each bus takes the entries in blocks.
 ghost use Rattle.std.specs.Prelude.{◌≡◌};
 
 use crate::given::Given;
@@ -12,27 +11,26 @@ use std::marker::Model;
 use std::sync::Wait;
 use std::time::{Clock, Duration};
 
-/// How many seconds a thread waits for the first entry of a block before it looks again.
+/// The seconds that a thread waits for the first entry of a block before it looks again.
 const IDLE_SECONDS: u64 = 1;
 
-/// A destination for the entries of the bus of a long run.
+/// A destination for the entries of one bus in a long run.
 pub trait Keeper {
     ghost use Rattle.std.specs.Prelude.{◌≡◌, ◌++◌, List};
     ghost use Rattle.can_event.specs.declared.entry.Entry.{Entry};
     ghost use Rattle.can_server.specs.Keeping.{AreLegalLast};
 
-    /// The entries that it was given, the oldest first.
+    /// The entries that the keeper was given, the oldest first.
     ghost given: { Self → List Entry };
 
-    /// Keeps the entries of a block, which follow all that it was given before. There may be none:
-    /// then only time has passed. No lock is held meanwhile, and the bus goes on until its tail is
-    /// full.
+    /// Keeps the entries of a block, which follow the entries given before. The block may be empty, if only time has
+    /// passed. No lock is held during the call, and the bus goes on until its tail is full.
     fn keep(&mut self, block: &Block)
         requires { AreLegalLast block.now.entries.entries }
         ensures { given self.new ≡ given self.old ++ block.now.entries.entries };
 }
 
-/// The keeper of a server whose buses keep their records: it has no scribes.
+/// The keeper of a server without scribes, whose buses keep their own records.
 #[derive(Drop)]
 pub struct Discard {
     given: Given,
@@ -46,8 +44,8 @@ impl Keeper for Discard {
     }
 }
 
-/// A keeper with the scroll of its bus. It was given the entries that were handed out to the
-/// scroll, and no others. Contracts see the scroll.
+/// A keeper with the scroll of its bus. The keeper was given exactly the entries handed out to the scroll. Contracts
+/// see the scroll.
 #[derive(Drop)]
 pub struct ScrollKeeper<N: RollName, K: Keeper + Drop> {
     keeper: K,
@@ -66,7 +64,7 @@ impl<N: RollName, K: Keeper + Drop> Model for ScrollKeeper<N, K> {
 }
 
 impl<N: BusName, K: Keeper + Drop> ScrollKeeper<N, K> {
-    /// A keeper that was given the entries handed out to the scroll.
+    /// Pairs a keeper with a scroll. The keeper must have been given the entries handed out to the scroll.
     pub fn new(keeper: K, scroll: Scroll<N>) -> ScrollKeeper<N, K>
         requires { K.given keeper ≡ scroll.entries }
         ensures { result ≡ scroll }
@@ -74,14 +72,14 @@ impl<N: BusName, K: Keeper + Drop> ScrollKeeper<N, K> {
         ScrollKeeper { keeper, scroll }
     }
 
-    /// The number of its bus.
+    /// Returns the number of the bus.
     pub fn bus(&self) -> usize
         ensures { result ≡ self.now.number }
     {
         usize::from(self.scroll.number())
     }
 
-    /// The keeper, and the scroll of the entries that it was given.
+    /// Returns the keeper, and the scroll of the entries that it was given.
     pub fn into_parts(self) -> (K, Scroll<N>)
         ensures given { K.given result.0 ≡ self.entries }
         ensures scroll { result.1 ≡ self }
@@ -90,7 +88,7 @@ impl<N: BusName, K: Keeper + Drop> ScrollKeeper<N, K> {
         (keeper, scroll)
     }
 
-    /// Takes the entries of a station that were not taken yet into a block, and gives them to the keeper.
+    /// Takes the new entries of a station into a block, and gives them to the keeper.
     fn keep_next<F: FaultSource + Drop, G: Gate + Drop, B: Journaled, R: Wait>(
         &mut self,
         rt: &R,
@@ -110,15 +108,14 @@ impl<N: BusName, K: Keeper + Drop> ScrollKeeper<N, K> {
 pub struct Scribe<'k, N: RollName, K: Keeper + Drop> {
     kept: &'k mut ScrollKeeper<N, K>,
     block: Block,
-    /// The number of entries for which it waits, and the longest wait after the first of them.
+    /// The number of entries that it waits for, and below it the longest wait after the first of them.
     many: u64,
     patience: Duration,
 }
 
 impl<'k, N: BusName, K: Keeper + Drop> Scribe<'k, N, K> {
-    /// A scribe of the scroll's bus, with memory for this many entries: one for each place of the
-    /// bus's tail. It gives the keeper a block once half of them are there, or this long after the
-    /// first of them.
+    /// Returns a scribe for the scroll's bus. It has memory for this many entries, one for each place of the bus's
+    /// tail. It gives the keeper a block when half of them are there, or this long after the first entry.
     pub fn new(
         alloc: Global,
         size: u32,
@@ -133,13 +130,13 @@ impl<'k, N: BusName, K: Keeper + Drop> Scribe<'k, N, K> {
         })
     }
 
-    /// The place of its bus among those of a hub.
+    /// Returns the number of the bus in its hub.
     pub fn bus(&self) -> usize {
         self.kept.bus()
     }
 
-    /// Gives the keeper all entries of the station, until no more calls are made. `WrongStation` if
-    /// the scroll is another station's: then the keeper gets nothing.
+    /// Gives the keeper all entries of the station, until the station takes no more calls. Returns `WrongStation`, and
+    /// gives the keeper nothing, if the scroll belongs to another station.
     pub fn keep_all<F: FaultSource + Drop, G: Gate + Drop, B: Journaled, R: Wait + Clock>(
         self,
         rt: &R,

@@ -29,10 +29,10 @@ pub struct Server<'a, N: BusName, F: FaultSource + Drop, G: Gate + Drop, C, R> {
     pub host: &'a C,
     pub clients: &'a Mutex<Clients>,
     pub returned: &'a Mutex<ReturnedPasses<N>>,
-    /// Whether its buses are those of long runs. If so, a session may have the pass of one that is
-    /// over, and counts once it is raw.
+    /// Whether the buses are those of long runs. A session may then reuse the pass of a session that is over, and
+    /// counts only once it is raw.
     pub is_long: bool,
-    /// All sessions are over.
+    /// Whether all sessions are over.
     pub is_ending: &'a AtomicBool,
 }
 
@@ -44,7 +44,7 @@ impl<
     C: Clock + Sync,
     R: Threads + Wait + time::Clock + Sync,
 > Server<'a, N, F, G, C, R> {
-    /// Serves to the end: the drivers run until all sessions are over.
+    /// Runs the server to its end. The drivers run until all sessions are over.
     pub fn run(
         &self,
         acceptors: &[Acceptor],
@@ -94,7 +94,7 @@ impl<'a, N: BusName, F: FaultSource + Drop, G: Gate + Drop, C: Clock, R: Wait + 
     C,
     R,
 > {
-    /// Ends all other threads: no session is at work any more.
+    /// Ends all other threads, after the last session is over.
     fn finish(&self, until: Option<&UnixStream>) {
         let _ = self.clients.lock(self.rt).close();
         if let Some(until) = until {
@@ -104,7 +104,7 @@ impl<'a, N: BusName, F: FaultSource + Drop, G: Gate + Drop, C: Clock, R: Wait + 
         self.buses.stop_all(self.rt);
     }
 
-    /// Waits for the end of a stream, and closes the server.
+    /// Waits for the end of a stream, and then closes the server.
     fn close_after(&self, closing: &Closing<'_>) {
         let mut until = closing.until;
         let mut piece = [0_u8; 64];
@@ -117,7 +117,7 @@ impl<'a, N: BusName, F: FaultSource + Drop, G: Gate + Drop, C: Clock, R: Wait + 
         self.close(closing.acceptors);
     }
 
-    /// Lets nobody in from now on, and ends the sessions at work. Threads that wait at an acceptor are woken.
+    /// Admits no more clients, and ends the current sessions. Threads that wait at an acceptor return.
     fn close(&self, acceptors: &[Acceptor]) {
         if !self.clients.lock(self.rt).close() {
             return;

@@ -16,51 +16,51 @@ use std::sync::{Mutex, Wait};
 use std::thread::Threads;
 use std::{thread, time};
 
-/// The most passes of a bus.
+/// The largest number of passes of a bus.
 const MOST_PASSES: u32 = 4096;
 
-/// Some clients, such as python-can's, read 1,024 bytes at a time and lose a message that is cut.
+/// The default size of a write. Some clients, such as those of python-can, read 1,024 bytes at a time and lose a
+/// message that is cut.
 const DEFAULT_WRITE: usize = 1024;
 
-/// The questions and reports of a server to its host. A host only has to say the time; other
-/// reports are dropped by default. No lock is held during a report.
+/// The host of a server, which gives the time and takes reports. A host must only provide the time; by default it
+/// ignores reports. No lock is held during a report.
 pub trait Clock {
-    /// The moment of a call.
+    /// Returns the time of the call.
     fn now(&self) -> Moment;
 
-    /// Returns whether the host wants reports of sessions, for which each of their calls is looked
-    /// at. It is asked at any time, and the reply stays the same.
+    /// Returns whether the host wants reports of sessions, which cost a check at each call of a session. The server may
+    /// ask at any time, and the answer must not change.
     fn wants_notices(&self) -> bool {
         false
     }
 
-    /// The most bytes of items that a client gets in one write; an item is never cut. It is asked
+    /// Returns the largest number of bytes of items in one write to a client. An item is never cut. The server asks
     /// once for each session.
     fn write_bytes(&self) -> usize {
         DEFAULT_WRITE
     }
 
-    /// Takes a notice. A notice of a session lacks addresses and counts if the host does not want
-    /// them.
+    /// Takes a notice. If the host wants no reports, notices of sessions have no addresses and no counts.
     fn notify(&self, _notice: Notice) {}
 }
 
-/// Serves the sessions of all acceptors over the buses of a hub, and hands their passes back, those
-/// of each bus in a list of its own.
+/// Runs the sessions of all acceptors over the buses of a hub. Returns all passes, in one list for each bus.
 ///
-/// Each bus has a driver, which steps while an interface has a frame to send or counts towards its
-/// restart. Each acceptor has a thread that accepts. Each session has one that reads and, in raw
-/// mode, one that delivers. It returns once as many sessions as the acceptors have were accepted
-/// and are over, or after the end of `until`: then nobody is let in any more, and the sessions at
-/// work are shut down. After the last of its sessions an acceptor is closed, so that the system
-/// refuses later connections. The 65th session at once gets `too many sessions` and counts as
-/// accepted, unless some session has not been raw for 60 seconds by the clock: that one is closed,
-/// and the newcomer gets its place. If no connection can be accepted, for example for lack of file
-/// descriptors, an acceptor tries again every 100 ms. 64 tries in vain count as one session.
+/// Each bus has a driver, which steps while an interface has a frame to send or counts towards its restart. Each
+/// acceptor has a thread that accepts connections. Each session has a thread that reads and, in raw mode, a thread that
+/// delivers items. The function returns after the acceptors have accepted all their sessions and these are over. It
+/// also returns after the end of `until`: the server then admits no more clients and shuts down the current sessions.
 ///
-/// A fault of a session's connection, or memory refused to it, ends only that session. `AllocError`
-/// if memory was refused to the server's own start. Then the threads that were started are over
-/// too, and the stations are stopped.
+/// An acceptor is closed after its last session, so that the system refuses later connections. If 64 sessions are
+/// running, the next client receives `too many sessions` and counts as accepted. But if a session began 60 seconds ago
+/// by the clock and has not been raw, the server closes it and gives its place to the new client. If an acceptor cannot
+/// accept a connection, for example for lack of file descriptors, it tries again every 100 ms. 64 failed tries count as
+/// one session.
+///
+/// A fault of a session's connection, or a lack of memory for a session, ends only that session. The result is
+/// `AllocError` if there was no memory to start the server. All threads that were started are then over, and the
+/// stations are stopped.
 pub fn serve<
     N: BusName + Send + Sync,
     F: FaultSource + Drop + Send,
@@ -81,7 +81,7 @@ pub fn serve<
     serve_with::<_, _, _, _, _, Discard, _>(rt, alloc, hub, acceptors, host, until, None)
 }
 
-/// A server over the buses of long runs, and its scribes that have no thread yet.
+/// A server for the buses of long runs, and its scribes that have no thread yet.
 #[derive(Drop)]
 struct LongServer<
     's,
@@ -111,7 +111,7 @@ impl<
     R: Threads + Wait + time::Clock + Sync,
     K: Keeper + Drop + Send,
 > LongServer<'s, 'a, 'k, N, F, G, C, R, K> {
-    /// Serves to the end, with a scribe for each bus: they go on until all other threads are over.
+    /// Runs the server to its end, with a scribe for each bus. The scribes go on until all other threads are over.
     fn run(&self) -> Result<(), AllocError> {
         thread::scope(thread::scope_env(), self.server.rt, |scope| {
             let mut is_started = true;
@@ -129,7 +129,7 @@ impl<
         })
     }
 
-    /// Gives the keeper of the next scribe all entries of its bus.
+    /// Gives all entries of a bus to the keeper of the next scribe.
     fn keep_all(&self) {
         let next = self.scribes.lock(self.server.rt).pop();
         let Some(scribe) = next else {
@@ -141,20 +141,19 @@ impl<
         }
     }
 
-    /// Serves the sessions of its acceptors.
+    /// Runs the sessions of the acceptors.
     fn serve(&self) -> Result<(), AllocError> {
         self.server.run(self.acceptors, self.until)
     }
 }
 
-/// Serves as `serve` does. Buses of long runs have scribes, one for each: without its scribe the
-/// sessions of a bus wait once its tail is full. With scribes a session may have the pass of one
-/// that is over, so the sessions of a run have no end. A session then counts as one of its
-/// acceptor's only once it is raw. One that becomes raw after the last of these gets `too many
-/// sessions`.
+/// Runs a server as `serve` does. Buses of long runs need one scribe each. Without it, the sessions of a bus wait as
+/// soon as the bus's tail is full. With scribes, a session may reuse the pass of a session that is over, so the number
+/// of sessions in a run has no limit. A session then counts for its acceptor only once it is raw. A session that
+/// becomes raw after the last one that counts receives `too many sessions`.
 ///
-/// The scribes go on until the other threads are over, and then give their keepers the last entries. `AllocError` as by
-/// `serve`; then they are over, too.
+/// The scribes go on until the other threads are over, and then give their keepers the last entries. The result is
+/// `AllocError` as for `serve`; the scribes are then over, too.
 pub fn serve_with<
     'x,
     N: BusName + Send + Sync,
@@ -212,7 +211,7 @@ pub fn serve_with<
     Ok(returned.into_inner().into_lists(hub.count()))
 }
 
-/// The most passes that the sessions of these acceptors and a driver take of one bus.
+/// Returns the most passes that the sessions of these acceptors and a driver take from one bus.
 fn most_passes(acceptors: &[Acceptor]) -> usize {
     let mut most = 1_u32;
     for acceptor in acceptors {

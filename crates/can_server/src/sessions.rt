@@ -14,12 +14,12 @@ use std::sync::{Mutex, Wait};
 use std::thread::Threads;
 use std::{thread, time};
 
-/// The most bytes of a piece that is read.
+/// The largest number of bytes in one read.
 const PIECE: usize = 4096;
 
-/// The outcome of a read.
+/// The outcome of one read.
 enum ReadOutcome {
-    /// A piece was taken, and the session goes on.
+    /// The session took a piece and goes on.
     More,
     /// The session is over.
     Over,
@@ -27,7 +27,7 @@ enum ReadOutcome {
     Gone,
 }
 
-// A session of a server: a thread that reads and, in raw mode, one that delivers.
+// Methods of a server that run a session: one thread reads and, in raw mode, another thread delivers.
 impl<
     'a,
     N: BusName + Send + Sync,
@@ -36,7 +36,7 @@ impl<
     C: Clock + Sync,
     R: Threads + Wait + time::Clock + Sync,
 > Server<'a, N, F, G, C, R> {
-    /// Runs a session to its end, and hands its pass back. Its place is free before the client sees the end.
+    /// Runs a session to its end, and hands back its pass. It frees the place before the client sees the end.
     pub fn run_session(&self, visit: &Visit<'_>) {
         let Some(conn) = self.clients.lock(self.rt).conn(visit.place) else {
             return;
@@ -47,7 +47,7 @@ impl<
         self.report_end(visit.session, tally);
     }
 
-    /// Talks with a client to the end, hands its pass back, and returns the outcomes of its calls.
+    /// Serves a client until its session is over, and hands back the pass. Returns the counts of the session's calls.
     fn converse(&self, visit: &Visit<'_>, conn: &Conn) -> Tally {
         let most = self.host.write_bytes();
         let Ok(mut talk) = Conversation::new(self.rt, self.alloc, self.buses, self.spares(), most)
@@ -68,13 +68,13 @@ impl<
         tally
     }
 
-    /// The passes that a session may have.
+    /// Returns the passes that a session may reuse.
     fn spares(&self) -> Option<&'a Mutex<ReturnedPasses<N>>> {
         self.is_long.then_some(self.returned)
     }
 
-    /// Reads the client's input. Once the session is raw, its client keeps its place, and another
-    /// thread delivers its items.
+    /// Reads the client's input. Once the session is raw, its client keeps its place, and another thread delivers its
+    /// items.
     fn hear_all(&self, talk: &Mutex<Conversation<'_, N, F, G, R>>, visit: &Visit<'_>, conn: &Conn) {
         let Some(place) = self.hear_until_raw(talk, conn) else {
             self.report_stranger(talk, visit.session);
@@ -116,7 +116,7 @@ impl<'a, N: BusName, F: FaultSource + Drop, G: Gate + Drop, C: Clock, R: Wait + 
     C,
     R,
 > {
-    /// Reads to the end while another thread delivers the items, and ends the session.
+    /// Reads to the end while another thread delivers the items, then ends the session.
     fn hear_out(
         &self,
         talk: &Mutex<Conversation<'_, N, F, G, R>>,
@@ -131,7 +131,7 @@ impl<'a, N: BusName, F: FaultSource + Drop, G: Gate + Drop, C: Clock, R: Wait + 
         stop_full(self.rt, place.station);
     }
 
-    /// Reads until the session is raw, and returns its socket, or none if it ended before.
+    /// Reads until the session is raw, and returns its socket, or none if the session ended before.
     fn hear_until_raw<'t>(
         &self,
         talk: &Mutex<Conversation<'t, N, F, G, R>>,
@@ -152,7 +152,8 @@ impl<'a, N: BusName, F: FaultSource + Drop, G: Gate + Drop, C: Clock, R: Wait + 
         unreachable!()
     }
 
-    /// Reads until the session is over, or the client is gone. A write to a client that is gone ends here.
+    /// Reads until the session is over or the client is gone. If the client is gone, it shuts down the connection,
+    /// which also ends a write to it.
     fn hear_on(&self, talk: &Mutex<Conversation<'_, N, F, G, R>>, conn: &Conn) {
         for _ in self.rt.forever() {
             match self.hear(talk, conn) {
@@ -166,7 +167,7 @@ impl<'a, N: BusName, F: FaultSource + Drop, G: Gate + Drop, C: Clock, R: Wait + 
         }
     }
 
-    /// Reports to the host that a session's connection began as no client's does, if it did.
+    /// Reports to the host if a session's connection began in a way that no client uses.
     fn report_stranger(&self, talk: &Mutex<Conversation<'_, N, F, G, R>>, session: u32) {
         let is_strangers = talk.lock(self.rt).is_strangers();
         if is_strangers {
@@ -174,7 +175,7 @@ impl<'a, N: BusName, F: FaultSource + Drop, G: Gate + Drop, C: Clock, R: Wait + 
         }
     }
 
-    /// Reports to the host that a session has restarted an interface, if it has.
+    /// Reports to the host if a session restarted an interface.
     fn report_restart(&self, station: &Station<N, F, G, HubBus>, restarted: Option<Iface>) {
         if let Some(iface) = restarted {
             let bus = usize::from(station.number());
@@ -182,7 +183,7 @@ impl<'a, N: BusName, F: FaultSource + Drop, G: Gate + Drop, C: Clock, R: Wait + 
         }
     }
 
-    /// Reports to the host that a session has taken an interface down, if it has.
+    /// Reports to the host if a session took an interface down.
     fn report_down(&self, station: &Station<N, F, G, HubBus>, downed: Option<Iface>) {
         if let Some(iface) = downed {
             let bus = usize::from(station.number());
@@ -190,7 +191,7 @@ impl<'a, N: BusName, F: FaultSource + Drop, G: Gate + Drop, C: Clock, R: Wait + 
         }
     }
 
-    /// Reads one piece, and carries it out.
+    /// Reads one piece and carries it out.
     fn hear(&self, talk: &Mutex<Conversation<'_, N, F, G, R>>, conn: &Conn) -> ReadOutcome {
         let mut piece = [0_u8; PIECE];
         let count = match conn.read(&mut piece) {

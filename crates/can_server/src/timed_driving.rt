@@ -20,22 +20,21 @@ use std::sync::atomic::Ordering;
 use std::time;
 use std::time::Duration;
 
-/// How late a driver may be and still catch up, in nanoseconds. A driver that is later skips the
-/// time that it missed.
+/// The delay in nanoseconds up to which a late driver catches up. A driver that is later skips the time that it missed.
 const MOST_LATE: u64 = 100_000_000;
 
-/// How many microseconds have to pass between two reports that a driver is late.
+/// The microseconds between two reports that a driver is late.
 const BETWEEN_NOTES: u64 = 60_000_000;
 
-/// The state of a driver of a bus with bit rates between its holds of the lock.
+/// The state of the driver of a bus with bit rates between two holds of the lock.
 #[derive(Drop)]
 struct Timed {
     schedule: Schedule,
-    /// Whether there was something to attempt when it let the lock go.
+    /// Whether there was something to attempt when the driver released the lock.
     has_more: bool,
-    /// How many milliseconds it was too late, if that is to be reported.
+    /// The delay of the driver in milliseconds, if it is to be reported.
     note: Option<u64>,
-    /// The time of the last report that it was too late.
+    /// The time of the last report that the driver was late.
     noted: Option<Moment>,
 }
 
@@ -49,8 +48,8 @@ impl Timed {
         }
     }
 
-    /// If the next attempt is too late, its time counts from now on. That is to be reported at most
-    /// once in a minute.
+    /// If the next attempt is too late, restarts the schedule at this time. The delay is reported at most once a
+    /// minute.
     fn catch_up(&mut self, now: Moment)
         ensures schedule { self.new.schedule ≡ caught_up now self.old.schedule }
         ensures more { self.new.has_more ≡ self.old.has_more }
@@ -79,13 +78,13 @@ impl<'a, N: BusName, F: FaultSource + Drop, G: Gate + Drop, C: Clock, R: Wait + 
     C,
     R,
 > {
-    /// Steps a bus with bit rates while an interface has a frame to send or counts towards its
-    /// restart, each time when the wire is free, until its station is stopped. Returns whether a
-    /// step was refused, which ends it.
+    /// Steps a bus with bit rates until its station is stopped, while an interface has a frame to send or counts
+    /// towards its restart. It makes each step when the wire is free. Returns whether the station refused a step, which
+    /// ends the driver.
     ///
-    /// Each attempt begins at the end of the one before it, by their lengths and not by the clock.
-    /// So a driver that wakes late does not stay late. If it is late, it makes up to 64 attempts in
-    /// one hold of the lock.
+    /// The schedule lets each attempt begin at the end of the one before it, given by the length of the attempt and not
+    /// by the clock. So a driver that wakes late does not stay late. A late driver makes up to 64 attempts under one
+    /// hold of the lock.
     pub fn step_in_time(&self, bus: usize, timing: Timing, pass: &mut Pass<N>) -> bool {
         if bus >= self.buses.count() {
             return false;
@@ -119,8 +118,7 @@ impl<'a, N: BusName, F: FaultSource + Drop, G: Gate + Drop, C: Clock, R: Wait + 
         false
     }
 
-    /// Makes the attempt that is due at this moment, and any others that are due too, in one hold
-    /// of the lock, as `step_all_due` does.
+    /// Makes the attempts that are due at this time, under one hold of the lock, as described at `step_all_due`.
     fn step_due(
         &self,
         mut hold: Hold<'_, N, F, G, HubBus>,
@@ -142,9 +140,9 @@ impl<'a, N: BusName, F: FaultSource + Drop, G: Gate + Drop, C: Clock, R: Wait + 
         self.step_all_due(&mut hold, bus, timed, pass, now, is_ending)
     }
 
-    /// Makes the attempt that is due, and any others that are due too. It stops after an attempt in
-    /// which an interface went bus off or was restarted. Once all sessions are over, an attempt
-    /// need not be due.
+    /// Makes the next attempt, which is due, and all others that are due. It stops after an attempt in which an
+    /// interface went bus off or was restarted. After all sessions are over, it also makes attempts that are not yet
+    /// due.
     fn step_all_due(
         &self,
         hold: &mut Hold<'_, N, F, G, HubBus>,
@@ -179,9 +177,8 @@ impl<'a, N: BusName, F: FaultSource + Drop, G: Gate + Drop, C: Clock, R: Wait + 
         Stepped::On(Changes::none())
     }
 
-    /// Makes the next attempt of a schedule, with the moment that the schedule has for it, and
-    /// notes it there. The thread that delivers its items knows the end of the attempt before the
-    /// items are there.
+    /// Makes the next attempt of a schedule at the scheduled time, and notes it in the schedule. The delivering threads
+    /// know the end of the attempt before its items arrive.
     fn step_once(
         &self,
         hold: &mut Hold<'_, N, F, G, HubBus>,
@@ -203,7 +200,7 @@ impl<'a, N: BusName, F: FaultSource + Drop, G: Gate + Drop, C: Clock, R: Wait + 
         Ok(attempt)
     }
 
-    /// Reports to the host that the driver of a bus was too late, at most once in a minute.
+    /// Reports to the host that the driver of a bus was late, at most once a minute.
     fn report_late(&self, bus: usize, timed: &mut Timed) {
         if let Some(millis) = timed.note.take() {
             self.host.notify(Notice::Late { bus, millis });
@@ -211,7 +208,7 @@ impl<'a, N: BusName, F: FaultSource + Drop, G: Gate + Drop, C: Clock, R: Wait + 
     }
 }
 
-/// The moment of the next attempt of a schedule, which tries this frame, if any.
+/// Returns the time of the next attempt of a schedule, which tries this frame, if any.
 fn head_moment(schedule: &Schedule, head: Option<(Iface, Frame)>) -> Moment
     ensures { result ≡ head_moment schedule.now head }
 {
@@ -221,7 +218,7 @@ fn head_moment(schedule: &Schedule, head: Option<(Iface, Frame)>) -> Moment
     }
 }
 
-/// Notes the outcome of an attempt with this verdict in a schedule.
+/// Notes in a schedule the outcome of an attempt with this verdict.
 fn note_attempt(schedule: &mut Schedule, verdict: Verdict, attempt: &Attempt)
     ensures { schedule.new ≡ after_attempt verdict attempt.now schedule.old }
 {

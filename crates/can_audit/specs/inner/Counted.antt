@@ -15,10 +15,11 @@ use Rattle.can_event.specs.declared.attempt.Tried.{Tried}
 use Rattle.can_event.specs.declared.attempt.Attempt.TheVariants as attempt
 
 -- The effect of an entry on the error counts of all interfaces (Bosch CAN Specification 2.0, fault confinement). An
--- attempt of a live interface counts by its faults. A restart sets one interface's counts to 0, and an attempt those of
--- the interfaces that it restarts. An interface that is taken down keeps its counts, and is down.
+-- attempt of a live interface changes the counts according to its faults. A restart sets the counts of one interface to
+-- 0; an attempt does so for the interfaces that it restarts. An interface that is taken down keeps its counts and is
+-- down.
 
--- the interface is there, and neither bus off nor down
+-- the interface exists and is neither bus off nor down
 pub record IsLive (nodes : Nodes) (i : ℕ) : Type 0 where
   pub few : nodes.count ≤ 16
   pub there : i < nodes.count
@@ -28,11 +29,11 @@ pub record IsLive (nodes : Nodes) (i : ℕ) : Type 0 where
 abbrev pub judged_nodes : Nodes → ℕ → Verdict → AckMode → Nodes
 judged_nodes nodes i v ack = record nodes { counters = (judged (attempt_between nodes i v ack)).counters }
 
--- an attempt that tried a frame, if its winner is there and live
+-- the effect of an attempt that tried a frame, if its winner exists and is live
 abbrev pub CountsTried : BusConfig → Tried → Verdict → Nodes → Nodes → Type 0
 CountsTried c t v old new = IsLive old t.winner → new ≡ begun_anew t.restarted (judged_nodes old t.winner v c.ack)
 
--- an entry
+-- the effect of an entry
 abbrev pub Counts : BusConfig → Event → Reply → Nodes → Nodes → Type 0
 Counts c (Attempt m v) (reply.Attempted (attempt.Tried t)) old new = CountsTried c t v old new
 Counts c (Attempt m v) (reply.Attempted (attempt.Idle restarted)) old new = new ≡ begun_anew restarted old

@@ -6,14 +6,14 @@ use Rattle.can_bus.specs.Posts.{Post, posts_of}
 use Rattle.can_bus.specs.Queues.{candidates_of}
 use Rattle.can_audit.specs.Histories.{BeforeEntry, ReturnsList}
 
--- The items that an entry posts, if a bus can have it after these entries (own choice).
+-- The items that an entry posts, if a bus can have the entry after these entries (own choice).
 
--- the call returned what the entry posts at an interface
+-- the call returned the items that the entry posts at an interface
 abbrev pub ReturnsPosts : {G E : Type 0} → BusConfig → List Entry → ℕ → Entry → Result (Vec Post G) E → Type 0
 ReturnsPosts c entries iface e result =
     BeforeEntry c entries e (λ past. ReturnsList result (posts_of c past iface e.event e.reply))
 
--- the call returned what the entry offers socket s
+-- the call returned the items that the entry offers to socket s
 abbrev pub ReturnsCandidates : {G E : Type 0} → BusConfig → List Entry → ℕ → Entry → Result (Vec Received G) E → Type 0
 ReturnsCandidates c entries s e result =
     BeforeEntry c entries e (λ past. ReturnsList result (candidates_of c past s e.event e.reply))

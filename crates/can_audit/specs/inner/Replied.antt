@@ -11,14 +11,13 @@ use Rattle.can_event.specs.declared.reply.Reply.TheVariants as reply
 use Rattle.can_bus.specs.Legal.{legal_reply}
 use Rattle.can_audit.specs.Histories.{OnHistory, Yields}
 
--- The reply of an event (own choice).
+-- The reply to an event (own choice).
 
--- the call returned the reply of this event after these entries, if a bus can have them
+-- the call returned the reply to this event after these entries, if a bus can have them
 abbrev pub ReturnsReply : {E : Type 0} → BusConfig → List Entry → Event → Result Reply E → Type 0
 ReturnsReply c entries e result = OnHistory c entries (λ past. Yields result (legal_reply c past e))
 
--- the reply of an attempt: the winner, the number of its frame, the frame, its outcome, and the interfaces that were
--- restarted
+-- the reply to an attempt: the winner, the number of its frame, the frame, its outcome, and the restarted interfaces
 abbrev pub tried_reply : ℕ → ℕ → ℕ → Pending → Judgement → IfaceSet → Reply
 tried_reply moment winner number p j restarted =
     reply.Attempted (attempt.Tried (record {

@@ -3,7 +3,7 @@ use Rattle.can_station.specs.Waits.{has_work}
 use Rattle.can_server.specs.Timed.{MakesAll}
 use Rattle.can_server.proofs.server.Server.step_all_due.Given as goal
 
--- so many attempts were made, and whether there is more to attempt is known
+-- the driver made this many attempts, and `has_more` is up to date
 abbrev pub invariant-loop-count : goal.invariant-loop-count
 invariant-loop-count g l =
     MakesAll g.F.FaultSource.verdicts l.count
