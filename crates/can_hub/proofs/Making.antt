@@ -8,22 +8,22 @@ use Rattle.can_hub.specs.Benches.{IsWithin, NamedFrom, bench_names, bus_of, buse
 use Rattle.can_event.specs.declared.bus_config.BusConfig.{BusConfig}
 use Rattle.can_hub.specs.declared.bench.Bench.{Bench}
 
--- a list is its first element and what follows it
+-- A list is its first element and the rest.
 parted : {X : Type 0} (xs : List X) (x : X) → 1 ≤ length xs → x ≡ get_or xs 0 x → xs ≡ x ∷ take (length xs - 1) (drop 1 xs)
 parted [] x some is = absurd (omega (arith, some))
 parted (y ∷ ys) x some is = let rest : take (length (y ∷ ys) - 1) ys ≡ ys = take_all (length (y ∷ ys) - 1) ys (omega arith) in ap (λ z. z ∷ ys) (sym is) ∙ ap (λ zs. x ∷ zs) (sym rest)
 
--- a list of no length is empty
+-- A list of length 0 is empty.
 pub emptied : {X : Type 0} (xs : List X) → length xs ≡ 0 → xs ≡ []
 emptied [] e = refl
 emptied (x ∷ xs) e = absurd (omega (arith, e))
 
 module _ {F G : Type 0} where
-  -- the first bench's names and the others'
+  -- The first bench's names, and the other benches' names.
   pub names_parted : (bs : List (Bench F G)) (b : Bench F G) → 1 ≤ length bs → b ≡ get_or bs 0 b → bench_names bs ≡ b.names ∷ bench_names (take (length bs - 1) (drop 1 bs))
   names_parted bs b some is = ap bench_names (parted bs b some is)
 
-  -- while buses are made: those made, and those that the benches left will make
+  -- While buses are made: the buses made so far, and those that the remaining benches will make.
   pub made_first : (made : List BusSeen) (rest bs : List (Bench F G)) → made ≡ [] → rest ≡ bs → made ++ buses_from (length made) rest ≡ buses_from 0 bs
   made_first made rest bs none same = ap (λ (m : List BusSeen). m ++ buses_from (length m) rest) none ∙ ap (buses_from 0) same
 
@@ -56,7 +56,7 @@ module _ {F G : Type 0} where
   pub made_last : (made : List BusSeen) (rest : List (Bench F G)) (all : List BusSeen) → rest ≡ [] → made ++ buses_from (length made) rest ≡ all → made ≡ all
   made_last made rest all none h = sym (append-nil made) ∙ ap (λ (r : List (Bench F G)). made ++ buses_from (length made) r) (sym none) ∙ h
 
-  -- the buses that are made
+  -- The buses are numbered.
   pub numbered : (n : ℕ) (bs : List (Bench F G)) → NumberedFrom n (buses_from n bs)
   numbered n [] = tt
   numbered n (b ∷ more) = (refl, numbered (suc n) more)
@@ -69,7 +69,7 @@ module _ {F G : Type 0} where
   same_length n [] = refl
   same_length n (b ∷ more) = ap suc (same_length (suc n) more)
 
-  -- each bus that is made has a configuration within the limits
+  -- Each bus has a configuration within the limits.
   pub limited : (Limits : BusConfig → Type 0) (n : ℕ) (bs : List (Bench F G)) (made : List BusSeen) → made ≡ buses_from n bs → All (λ x. IsWithin Limits x) bs → All (λ b. Limits b.config) made
   limited Limits n [] made is h = subst (λ (m : List BusSeen). All (λ b. Limits b.config) m) (sym is) (All-nil (λ (b : BusSeen). Limits b.config))
   limited Limits n (b ∷ more) made is h =

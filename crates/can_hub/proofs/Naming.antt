@@ -6,24 +6,24 @@ use Rattle.can_hub.specs.declared.bench.Bench.{Bench}
 
 -- A hub named after its own benches.
 
--- a table that no bench has
+-- A table that no bench has.
 abbrev pub no_table : TableId
 no_table = record { words = 0; slots = 0; views_name = 0; atom = 0; block = 0; offset = 0; slot_names = [] }
 
 module _ {F G : Type 0} where
-  -- the table of the roll that bench k brings
+  -- The table of the roll of bench k.
   abbrev pub roll_at : List (Bench F G) → ℕ → RollId
   roll_at [] k = no_roll
   roll_at (b ∷ more) zero = b.blanks.roll
   roll_at (b ∷ more) (suc k) = roll_at more k
 
-  -- the table of the meter that bench k brings
+  -- The table of the meter of bench k.
   abbrev pub meter_at : List (Bench F G) → ℕ → TableId
   meter_at [] k = no_table
   meter_at (b ∷ more) zero = b.blanks.meter
   meter_at (b ∷ more) (suc k) = meter_at more k
 
-  -- benches whose tables are those of a shorter list, from n on
+  -- Benches whose tables are those of a shorter list, from n on.
   named_from : (roll : ℕ → RollId) (meter : ℕ → TableId) (n : ℕ) (bs : List (Bench F G)) → ((k : ℕ) → roll (n + k) ≡ roll_at bs k) → ((k : ℕ) → meter (n + k) ≡ meter_at bs k) → NamedFrom roll meter n bs
   named_from roll meter n [] rolls meters = tt
   named_from roll meter n (b ∷ more) rolls meters =
@@ -34,6 +34,6 @@ module _ {F G : Type 0} where
         named_from roll meter (suc n) more (λ k. ap roll (next k) ∙ rolls (suc k)) (λ k. ap meter (next k) ∙ meters (suc k)),
       )
 
-  -- benches are named by their own tables
+  -- Benches are named by their own tables.
   pub named : (bs : List (Bench F G)) → NamedFrom (roll_at bs) (meter_at bs) 0 bs
   named bs = named_from (roll_at bs) (meter_at bs) 0 bs (λ k. ap (roll_at bs) (omega arith)) (λ k. ap (meter_at bs) (omega arith))

@@ -5,13 +5,13 @@ use Rattle.std.proofs.lemmas.Bool.{cases_lt}
 use Rattle.can_wire.specs.Times.{rates_of}
 use Rattle.can_hub.specs.Buses.{BusSeen, bit_rates, config_on, items_on, names_on, rates_on, NumberedFrom, NoneNamed}
 
--- the element at a place
+-- The element at a place.
 pub index_of_get : {X : Type 0} (xs : List X) (k : ℕ) (x d : X) → slice_get xs k ≡ Some x → slice_index_or xs k d ≡ x
 index_of_get [] k x d e = absurd (cc (e))
 index_of_get (y ∷ ys) zero x d e = cc (e)
 index_of_get (y ∷ ys) (suc k) x d e = index_of_get ys k x d e
 
--- a bus's number is its place
+-- A bus's number is its place.
 numbered_from : (n : ℕ) (buses : List BusSeen) (k : ℕ) (d : BusSeen) → NumberedFrom n buses → k < length buses → (slice_index_or buses k d).number ≡ n + k
 numbered_from n [] k d h lt = omega (arith, lt)
 numbered_from n (b ∷ more) zero d h lt = omega (arith, h.0)
@@ -21,70 +21,70 @@ numbered_from n (b ∷ more) (suc k) d h lt =
 pub number_at : (buses : List BusSeen) (k : ℕ) (d : BusSeen) → NumberedFrom 0 buses → k < length buses → (slice_index_or buses k d).number ≡ k
 number_at buses k d h lt = let at = numbered_from 0 buses k d h lt in omega (arith, at)
 
--- an element is the same whatever replaces a missing one
+-- An existing element does not depend on the default.
 index_default : {X : Type 0} (xs : List X) (k : ℕ) (d e : X) → k < length xs → slice_index_or xs k d ≡ slice_index_or xs k e
 index_default [] k d e lt = absurd (omega (arith, lt))
 index_default (x ∷ xs) zero d e lt = refl
 index_default (x ∷ xs) (suc k) d e lt = index_default xs k d e (omega (arith, lt))
 
--- whether a bus has a name, whatever replaces a missing bus
+-- Whether an existing bus has a name does not depend on the default bus.
 pub named_at : (buses : List BusSeen) (k : ℕ) (d e : BusSeen) (name : List ℕ) → k < length buses → place_of (slice_index_or buses k d).names name ≡ place_of (slice_index_or buses k e).names name
 named_at buses k d e name lt = ap (λ (b : BusSeen). place_of b.names name) (index_default buses k d e lt)
 
--- the bit rates of a bus, whatever replaces a missing bus
+-- The bit rates of an existing bus do not depend on the default bus.
 pub timing_at : (buses : List BusSeen) (k : ℕ) (d e : BusSeen) → k < length buses → (slice_index_or buses k d).timing ≡ (slice_index_or buses k e).timing
 timing_at buses k d e lt = ap (λ (b : BusSeen). b.timing) (index_default buses k d e lt)
 
--- the sleep of a bus's driver, whatever replaces a missing bus
+-- The pause of an existing bus's driver does not depend on the default bus.
 pub pace_at : (buses : List BusSeen) (k : ℕ) (d e : BusSeen) → k < length buses → (slice_index_or buses k d).pace_ms ≡ (slice_index_or buses k e).pace_ms
 pace_at buses k d e lt = ap (λ (b : BusSeen). b.pace_ms) (index_default buses k d e lt)
 
--- the number of items that a socket holds on the bus at a place
+-- The number of items that a socket holds on the bus at a place.
 pub items_at : (buses : List BusSeen) (k : ℕ) (b d : BusSeen) → k < length buses → b ≡ slice_index_or buses k d → b.rx_capacity ≡ items_on (slice_get buses k)
 items_at [] k b d lt same = absurd (omega (arith, lt))
 items_at (x ∷ xs) zero b d lt same = ap (λ (s : BusSeen). s.rx_capacity) same
 items_at (x ∷ xs) (suc k) b d lt same = items_at xs k b d (omega (arith, lt)) same
 
--- no bus comes after the last
+-- There is no bus after the last.
 pub items_past : (buses : List BusSeen) (k : ℕ) → length buses ≤ k → 0 ≡ items_on (slice_get buses k)
 items_past [] zero le = refl
 items_past [] (suc k) le = refl
 items_past (x ∷ xs) zero le = absurd (omega (arith, le))
 items_past (x ∷ xs) (suc k) le = items_past xs k (omega (arith, le))
 
--- the bit rates of the bus at a place
+-- The bit rates of the bus at a place.
 pub rates_at : (buses : List BusSeen) (k : ℕ) (b d : BusSeen) → k < length buses → b ≡ slice_index_or buses k d → bit_rates b.timing ≡ rates_on (slice_get buses k)
 rates_at [] k b d lt same = absurd (omega (arith, lt))
 rates_at (x ∷ xs) zero b d lt same = ap (λ (s : BusSeen). bit_rates s.timing) same
 rates_at (x ∷ xs) (suc k) b d lt same = rates_at xs k b d (omega (arith, lt)) same
 
--- no bus after the last has any
+-- There are no bit rates after the last bus.
 pub rates_past : (buses : List BusSeen) (k : ℕ) → length buses ≤ k → rates_of 0 0 ≡ rates_on (slice_get buses k)
 rates_past [] zero le = refl
 rates_past [] (suc k) le = refl
 rates_past (x ∷ xs) zero le = absurd (omega (arith, le))
 rates_past (x ∷ xs) (suc k) le = rates_past xs k (omega (arith, le))
 
--- the names of the bus at a place
+-- The names of the bus at a place.
 pub names_at : (buses : List BusSeen) (k : ℕ) (b d : BusSeen) → k < length buses → b ≡ slice_index_or buses k d → Some b.names ≡ names_on (slice_get buses k)
 names_at [] k b d lt same = absurd (omega (arith, lt))
 names_at (x ∷ xs) zero b d lt same = ap (λ (s : BusSeen). Some s.names) same
 names_at (x ∷ xs) (suc k) b d lt same = names_at xs k b d (omega (arith, lt)) same
 
--- the configuration of the bus at a place
+-- The configuration of the bus at a place.
 pub config_at : (buses : List BusSeen) (k : ℕ) (b d : BusSeen) → k < length buses → b ≡ slice_index_or buses k d → config_on (slice_get buses k) ≡ Some b.config
 config_at [] k b d lt same = absurd (omega (arith, lt))
 config_at (x ∷ xs) zero b d lt same = ap (λ (s : BusSeen). Some s.config) (sym same)
 config_at (x ∷ xs) (suc k) b d lt same = config_at xs k b d (omega (arith, lt)) same
 
--- no names come after those of the last bus
+-- There are no names after those of the last bus.
 pub names_past : (buses : List BusSeen) (k : ℕ) → length buses ≤ k → None ≡ names_on (slice_get buses k)
 names_past [] zero le = refl
 names_past [] (suc k) le = refl
 names_past (x ∷ xs) zero le = absurd (omega (arith, le))
 names_past (x ∷ xs) (suc k) le = names_past xs k (omega (arith, le))
 
--- none before the next bus, if none is before this one and this one has none
+-- No bus before the next has the name, if no bus before this one and not this one has it.
 pub none_next : (n : ℕ) (buses : List BusSeen) (name : List ℕ) (found : Option ℕ) → NoneNamed n buses name → ((d : BusSeen) → found ≡ place_of (slice_index_or buses n d).names name) → found ≡ None → NoneNamed (n + 1) buses name
 none_next n buses name found before at is k d lt = elim (cases_lt k n) [
   | inl less ↦ before k d less

@@ -8,11 +8,11 @@ use Rattle.can_hub.specs.Buses.{BusSeen, AllApart}
 use Rattle.can_hub.specs.HubBuses.{IsOfLongRuns}
 use Rattle.can_hub.specs.declared.bench.Bench.{Bench}
 
--- The parts that the buses of a hub are made of.
+-- The parts of which the buses of a hub are made.
 
 module _ {F G : Type 0} where
-  -- a bus whose configurations have these limits may be made of these parts: the configuration is within them, blanks
-  -- and names are for as many interfaces as it has, and a socket holds 1 to 65,536 items
+  -- A bus with these limits may be made of these parts. The configuration is within the limits, blanks and names are
+  -- for its number of interfaces, and a socket holds 1 to 65,536 items.
   pub record IsWithin (Limits : BusConfig → Type 0) (b : Bench F G) : Type 0 where
     pub config : Limits b.config
     pub words : b.blanks.meter.words ≡ b.config.ifaces
@@ -21,36 +21,36 @@ module _ {F G : Type 0} where
     pub some_items : 1 ≤ b.rx_capacity
     pub few_items : b.rx_capacity ≤ max_rx_capacity
 
-  -- the same of a bus that keeps its whole record
+  -- The same for a bus that keeps its whole record.
   abbrev pub IsProper : Bench F G → Type 0
   IsProper b = IsWithin IsConfig b
 
-  -- the names of each bus
+  -- The names of each bus.
   abbrev pub bench_names : List (Bench F G) → List (List (List ℕ))
   bench_names benches = map (λ b. b.names) benches
 
-  -- a hub of such buses may be made of these parts: 1 to 16 buses, and no name is on two of them
+  -- A hub of such buses may be made of these benches: there are 1 to 16 buses, and no name is on two of them.
   pub record MakeHubWithin (Limits : BusConfig → Type 0) (benches : List (Bench F G)) : Type 0 where
     pub some : 1 ≤ length benches
     pub few : length benches ≤ 16
     pub proper : All (λ b. IsWithin Limits b) benches
     pub apart : AllApart (bench_names benches)
 
-  -- the same of buses that keep their whole records
+  -- The same for buses that keep their whole records.
   abbrev pub MakeHub : List (Bench F G) → Type 0
   MakeHub benches = MakeHubWithin IsConfig benches
 
-  -- the same of the buses of long runs
+  -- The same for the buses of long runs.
   abbrev pub MakeLongHub : List (Bench F G) → Type 0
   MakeLongHub benches = MakeHubWithin IsOfLongRuns benches
 
-  -- the blanks are named by the numbers of their buses, the first of them n
+  -- The blanks are named by the numbers of their buses, starting with n.
   abbrev pub NamedFrom : (ℕ → RollId) → (ℕ → TableId) → ℕ → List (Bench F G) → Type 0
   NamedFrom roll meter n [] = Unit {0}
   NamedFrom roll meter n (b ∷ more) =
       (b.blanks.roll ≡ roll n) × (b.blanks.meter ≡ meter n) × NamedFrom roll meter (suc n) more
 
-  -- the bus that is made under a number
+  -- The bus that is made under this number.
   abbrev pub bus_of : ℕ → Bench F G → BusSeen
   bus_of n b = record {
     number = n;
@@ -61,7 +61,7 @@ module _ {F G : Type 0} where
     rx_capacity = b.rx_capacity;
   }
 
-  -- the buses that are made, the first of them under the number n
+  -- The buses that are made, starting with number n.
   abbrev pub buses_from : ℕ → List (Bench F G) → List BusSeen
   buses_from n [] = []
   buses_from n (b ∷ more) = bus_of n b ∷ buses_from (suc n) more

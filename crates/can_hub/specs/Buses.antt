@@ -8,8 +8,8 @@ use Rattle.can_wire.specs.Timings.{BusTiming}
 
 -- The buses of a hub, and their names.
 
--- a bus: its number, its configuration, the names of its interfaces, its bit rates, if any, the milliseconds that its
--- driver sleeps after each step if it has none, and the number of items that its sockets hold
+-- A bus: its number, its configuration, the names of its interfaces, its bit rates if it has any, the milliseconds that
+-- its driver sleeps after each step if not, and the number of items that its sockets hold.
 pub record BusSeen : Type 0 where
   pub number : ℕ
   pub config : BusConfig
@@ -18,65 +18,65 @@ pub record BusSeen : Type 0 where
   pub pace_ms : ℕ
   pub rx_capacity : ℕ
 
--- the number of items that a socket holds on a bus, none if there is no bus
+-- The number of items that a socket holds on a bus; 0 if there is no bus.
 abbrev pub items_on : Option BusSeen → ℕ
 items_on None = 0
 items_on (Some bus) = bus.rx_capacity
 
--- the names of the interfaces of a bus, if it is there
+-- The names of the interfaces of a bus, if it exists.
 abbrev pub names_on : Option BusSeen → Option (List (List ℕ))
 names_on bus = option_map (λ b. b.names) bus
 
--- the bit rates of a bus; both are 0 if it has none
+-- The bit rates of a bus; both are 0 if it has none.
 abbrev pub bit_rates : Option BusTiming → BitRates
 bit_rates None = rates_of 0 0
 bit_rates (Some t) = t.rates
 
--- the bit rates of a bus, both 0 if it has none, or there is no bus
+-- The bit rates of a bus; both are 0 if it has none, or there is no bus.
 abbrev pub rates_on : Option BusSeen → BitRates
 rates_on None = rates_of 0 0
 rates_on (Some bus) = bit_rates bus.timing
 
--- the configuration of a bus, if it is there
+-- The configuration of a bus, if it exists.
 abbrev pub config_on : Option BusSeen → Option BusConfig
 config_on bus = option_map (λ b. b.config) bus
 
--- a station belongs to the bus with its number
+-- The station belongs to the bus with its number.
 abbrev pub IsStationOn : List BusSeen → StationSeen → Type 0
 IsStationOn buses station = config_on (slice_get buses station.number) ≡ Some station.config
 
--- the buses are numbered by their places, and the first is n
+-- The buses are numbered by their places, starting with n.
 abbrev pub NumberedFrom : ℕ → List BusSeen → Type 0
 NumberedFrom n [] = Unit {0}
 NumberedFrom n (bus ∷ more) = (bus.number ≡ n) × NumberedFrom (suc n) more
 
--- no name of the first list is in the second
+-- No name of the first list is in the second.
 abbrev pub ShareNoName : List (List ℕ) → List (List ℕ) → Type 0
 ShareNoName names others = (k : ℕ) → k < length names → ¬ Contains others (slice_index_or names k [])
 
--- no name of this list is in one of the others
+-- No name of this list is in one of the others.
 abbrev pub ApartFrom : List (List ℕ) → List (List (List ℕ)) → Type 0
 ApartFrom names [] = Unit {0}
 ApartFrom names (others ∷ more) = ShareNoName names others × ApartFrom names more
 
--- no name is in two of the lists
+-- No name is in two of the lists.
 abbrev pub AllApart : List (List (List ℕ)) → Type 0
 AllApart [] = Unit {0}
 AllApart (names ∷ more) = ApartFrom names more × AllApart more
 
--- the names of each bus
+-- The names of each bus.
 abbrev pub names_of : List BusSeen → List (List (List ℕ))
 names_of buses = map (λ b. b.names) buses
 
--- the names of all interfaces, in order
+-- The names of all interfaces, in order.
 abbrev pub all_names : List BusSeen → List (List ℕ)
 all_names buses = flat_map (λ b. b.names) buses
 
--- none of the buses before the n-th has an interface of this name
+-- No bus before the n-th has an interface of this name.
 abbrev pub NoneNamed : ℕ → List BusSeen → List ℕ → Type 0
 NoneNamed n buses name = (k : ℕ) (d : BusSeen) → k < n → place_of (slice_index_or buses k d).names name ≡ None
 
--- the first bus that has an interface of this name, and that interface; or no bus has one
+-- The first bus that has an interface of this name, and that interface; or None if no bus has one.
 abbrev pub IsFirstNamed : List BusSeen → List ℕ → Option (ℕ × ℕ) → Type 0
 IsFirstNamed buses name None = NoneNamed (length buses) buses name
 IsFirstNamed buses name (Some at) =

@@ -32,48 +32,48 @@ use Rattle.can_hub.specs.Buses.{BusSeen, IsFirstNamed, IsStationOn, items_on, na
 
 -- A pass as a port. Each call is an event of the station, except look-ups and the calls about rules.
 
--- a station that was entered, the publications that its gauge has seen, and the pass
+-- An entered station, the publications that its gauge has seen, and the pass.
 pub record EnteredSeen : Type 0 where
   pub station : StationSeen
   pub gauge : Readings
   pub pass : PassSeen
 
--- a port: the buses of its hub, and the station that was entered
+-- A port: the buses of its hub, and the entered station.
 pub record PortSeen : Type 0 where
   pub buses : List BusSeen
   pub entered : Option EnteredSeen
 
--- a station that was entered with this gauge and this pass
+-- An entered station with this gauge and this pass.
 abbrev pub entered_with : StationSeen → Readings → PassSeen → EnteredSeen
 entered_with station gauge pass = record { station = station; gauge = gauge; pass = pass }
 
--- the number of items that a socket holds on the bus that was entered
+-- The number of items that a socket holds on the entered bus.
 abbrev pub socket_room_in : List BusSeen → Option EnteredSeen → ℕ
 socket_room_in buses None = 0
 socket_room_in buses (Some e) = items_on (slice_get buses e.station.number)
 
--- an event as a pass makes it: a socket holds as many items as the bus lays down
+-- The event that a pass makes: the bus sets the number of items that a socket holds.
 abbrev pub with_socket_room : Event → ℕ → Event
 with_socket_room (event.Open iface asked) room = event.Open iface room
 with_socket_room e room = e
 
--- whether an event may be made in one hold of the lock with others
+-- The event may share one hold of the lock with others.
 abbrev pub is_shared : Event → Bool
 is_shared (event.Send socket frame) = true
 is_shared (event.Receive socket) = true
 is_shared e = false
 
--- a station's refusal, as a port returns it
+-- The port's refusal for a station's refusal.
 abbrev pub refused_as : StationRefusal → PortRefusal
 refused_as (station.Bus why) = port.Bus why
 refused_as station.WrongStation = port.WrongStation
 
--- a station's reply, as a port returns it
+-- The port's reply for a station's reply.
 abbrev pub reply_of_station : {A : Type 0} → Result A StationRefusal → Result A PortRefusal
 reply_of_station (Ok a) = Ok a
 reply_of_station (Err why) = Err (refused_as why)
 
--- a call of the station that was entered; if none was, there is no socket
+-- A call of the entered station; if none was entered, there is no socket.
 abbrev pub OnPass :
     {A : Type 0} → (A → Reply) → Option EnteredSeen → Event → Result A PortRefusal → Option EnteredSeen → Type 0
 OnPass {A} told None e answer new = (answer ≡ Err (port.Bus refusal.NoSocket)) × (new ≡ None)
@@ -83,15 +83,15 @@ OnPass {A} told (Some old) e answer new =
     × Called told old.station.number old.pass e outcome pass
     × (new ≡ Some (record old { pass = pass }))
 
--- a call of the station on the port of a hub, which stays as it was
+-- A call of the station through the port of a hub, whose buses do not change.
 abbrev pub OnPort : {A : Type 0} → (A → Reply) → PortSeen → Event → Result A PortRefusal → PortSeen → Type 0
 OnPort told old e answer new = OnPass told old.entered e answer new.entered × (new.buses ≡ old.buses)
 
--- some bus has an interface of this name
+-- Some bus has an interface of this name.
 abbrev pub SomeNamed : List BusSeen → List ℕ → Type 0
 SomeNamed buses name = (bus : ℕ) × (iface : ℕ) × IsFirstNamed buses name (Some (bus, iface))
 
--- some bus that has an interface of this name had no pass left
+-- Some bus that has an interface of this name had no pass left.
 abbrev pub SomeNamedFull : Type 0 → List BusSeen → List ℕ → Type 0
 SomeNamedFull F buses name =
     (at : StationSeen) × (iface : ℕ)
@@ -99,8 +99,8 @@ SomeNamedFull F buses name =
     × IsStationOn buses at
     × HadNoPassLeft F at
 
--- the station of the bus with this name is entered, and a gauge of its meter and a pass are taken; else nothing
--- changes: no bus has the name, memory was refused to the gauge, or no pass was left
+-- The port enters the station of the bus with this name, and takes a gauge and a pass. Otherwise nothing changes: no
+-- bus has the name, the gauge got no memory, or no pass was left.
 abbrev pub Attaches : Type 0 → PortSeen → List ℕ → Result ℕ PortRefusal → PortSeen → Type 0
 Attaches F old name (Ok iface) new =
     (at : StationSeen) × (gauge : Readings) × (pass : PassSeen)
@@ -114,8 +114,8 @@ Attaches F old name (Err (port.Bus refusal.NoMemory)) new = SomeNamed old.buses 
 Attaches F old name (Err port.TooManyPasses) new = SomeNamedFull F old.buses name × (new ≡ old)
 Attaches F old name (Err _) new = ⊥
 
--- a gauge returns the newest publication of an interface's error counters that it knows, and knows no less than before;
--- for an interface that its meter lacks it returns 0/0
+-- A gauge returns the newest publication that it knows of an interface's error counters, and knows at least as many as
+-- before. For an interface that its meter lacks it returns 0/0.
 abbrev pub GaugeReports : Readings → ℕ → ErrorCounts → Readings → Type 0
 GaugeReports old iface answer new =
     ((iface < old.ifaces)
@@ -124,33 +124,35 @@ GaugeReports old iface answer new =
     × (new ≡ knowing_of old iface (published new.lists iface)))
     ⊎ ((old.ifaces ≤ iface) × (answer ≡ at_start) × (new ≡ old))
 
--- the gauge of the station that was entered returns the error counters of an interface; if none was, they are 0/0
+-- The gauge of the entered station returns the error counters of an interface; if none was entered, they are 0/0.
 abbrev pub ReportsCounters : Option EnteredSeen → ℕ → ErrorCounts → Option EnteredSeen → Type 0
 ReportsCounters None iface answer new = (answer ≡ at_start) × (new ≡ None)
 ReportsCounters (Some old) iface answer new =
     (gauge : Readings) × GaugeReports old.gauge iface answer gauge × (new ≡ Some (record old { gauge = gauge }))
 
--- a load has the bit rates of the bus that was entered; if none was, all is 0 (how busy the bus was is left open)
+-- The load has the bit rates of the entered bus, or is all 0 if none was entered. The definition leaves open how busy
+-- the bus was.
 abbrev pub ReportsRates : List BusSeen → Option EnteredSeen → BusLoad → Type 0
 ReportsRates buses None answer = answer ≡ no_bus_load
 ReportsRates buses (Some e) answer =
     rates_of answer.bitrate answer.dbitrate ≡ rates_on (slice_get buses e.station.number)
 
--- the counts of the socket with this number in some state of the station that was entered (which state is left open);
--- if none was, it is not open
+-- The counts of this socket in some state of the entered station; the definition leaves open which state. If none was
+-- entered, the socket is not open.
 abbrev pub CountsSocket : Type 0 → Option EnteredSeen → ℕ → Option SocketStats → Type 0
 CountsSocket F None socket answer = answer ≡ None
 CountsSocket F (Some e) socket answer =
     InSome F e.station (λ held. answer ≡ socket_stats_of held.journal.config held.journal.history socket)
 
--- the counts of this interface in some state of the station that was entered (which state is left open); if none was,
--- there is no such interface
+-- The counts of this interface in some state of the entered station; the definition leaves open which state. If none
+-- was entered, there is no such interface.
 abbrev pub CountsIface : Type 0 → Option EnteredSeen → ℕ → Option IfaceStats → Type 0
 CountsIface F None iface answer = answer ≡ None
 CountsIface F (Some e) iface answer =
     InSome F e.station (λ held. answer ≡ iface_stats_of held.journal.config held.journal.history iface)
 
--- the outcome of a rule in some state of a station whose interfaces have these names (which state is left open)
+-- The outcome of a rule in some state of a station whose interfaces have these names; the definition leaves open which
+-- state.
 abbrev pub InjectsNamed :
     Type 0 → StationSeen → Option (List (List ℕ)) → List ℕ → Result (Unit {0}) PortRefusal → Type 0
 InjectsNamed F station None rule answer = answer ≡ Err (port.Bus refusal.NoSocket)
@@ -159,19 +161,19 @@ InjectsNamed F station (Some names) rule answer =
     × InjectsIn F station names rule outcome
     × (answer ≡ reply_to_rule outcome)
 
--- the same of the station that was entered; if none was, there is no socket
+-- The same for the entered station; if none was entered, there is no socket.
 abbrev pub Injects : Type 0 → List BusSeen → Option EnteredSeen → List ℕ → Result (Unit {0}) PortRefusal → Type 0
 Injects F buses None rule answer = answer ≡ Err (port.Bus refusal.NoSocket)
 Injects F buses (Some e) rule answer =
     InjectsNamed F e.station (names_on (slice_get buses e.station.number)) rule answer
 
--- the number of rules left in some state of the station that was entered (which state is left open); if none was, there
--- are none
+-- The number of rules left in some state of the entered station; the definition leaves open which state. If none was
+-- entered, there are no rules.
 abbrev pub RulesLeft : Type 0 → Option EnteredSeen → ℕ → Type 0
 RulesLeft F None answer = answer ≡ 0
 RulesLeft F (Some e) answer = InSome F e.station (λ held. answer ≡ length held.plan.rules)
 
--- a call on a port over a pass of a station whose verdicts come from an F
+-- A call on a port over a pass of a station whose verdicts come from an F.
 abbrev pub PassStep : Type 0 → PortSeen → (call : Call) → CallReply call → PortSeen → Type 0
 PassStep F old Names answer new = (answer ≡ all_names old.buses) × (new ≡ old)
 PassStep F old (Attach name) answer new = Attaches F old name answer new

@@ -4,26 +4,26 @@ use Rattle.can_station.specs.Passes.{PassSeen}
 
 -- The passes that the threads of a server hand back (own choice).
 
--- a pass is appended to a list; it is lost if there is no room for it
+-- A pass is appended to a list, or lost if the list is full.
 abbrev pub AddsPass : {A : Type 0} → Vec PassSeen A → PassSeen → Vec PassSeen A → Type 0
 AddsPass old pass new =
     (new.items ≡ old.items ++ pass ∷ []) ⊎ ((vec_capacity old ≤ vec_len old) × (new.items ≡ old.items))
 
--- it is appended to the list of its bus in this way
+-- A pass is appended to the list of its bus in this way.
 abbrev pub AddsOwn : {A : Type 0} → List (Vec PassSeen A) → PassSeen → List (Vec PassSeen A) → Type 0
 AddsOwn {A} old pass new =
     (d : Vec PassSeen A) → AddsPass (slice_index_or old pass.number d) pass (slice_index_or new pass.number d)
 
--- the last pass of a list is taken out of it, or the list stays
+-- The last pass is taken out of a list, or the list does not change.
 abbrev pub RemovesPass : {A : Type 0} → Vec PassSeen A → Option PassSeen → Vec PassSeen A → Type 0
 RemovesPass old (Some pass) new = old.items ≡ new.items ++ pass ∷ []
 RemovesPass old None new = new.items ≡ old.items
 
--- the same with the list of a bus
+-- The same for the list of a bus.
 abbrev pub RemovesOwn : {A : Type 0} → List (Vec PassSeen A) → ℕ → Option PassSeen → List (Vec PassSeen A) → Type 0
 RemovesOwn {A} old bus pass new =
     (d : Vec PassSeen A) → RemovesPass (slice_index_or old bus d) pass (slice_index_or new bus d)
 
--- no list has a pass
+-- No list has a pass.
 abbrev pub AllEmpty : {A : Type 0} → List (Vec PassSeen A) → Type 0
 AllEmpty lists = All (λ own. own.items ≡ []) lists

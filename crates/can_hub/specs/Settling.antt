@@ -9,27 +9,27 @@ use Rattle.can_station.specs.Passes.{PassSeen, AllOf, SomeOther, SettlesIn}
 
 -- The end of a hub: each bus is settled with its list of passes.
 
--- each list has only passes of its own bus, and the first is that of bus n
+-- Each list has only passes of its own bus; the first list belongs to bus n.
 abbrev pub AllOwn : {A : Type 0} → ℕ → List (Vec PassSeen A) → Type 0
 AllOwn n [] = Unit {0}
 AllOwn n (own ∷ more) = AllOf n own.items × AllOwn (suc n) more
 
--- each bus leaves a history that settles its list of passes
+-- Each bus leaves a history that settles its list of passes.
 abbrev pub AllSettleIn : {A L : Type 0} → (L → Journal) → List (Vec PassSeen A) → List (Settled L) → Type 0
 AllSettleIn left [] [] = Unit {0}
 AllSettleIn left (own ∷ more) (s ∷ rest) = SettlesIn (left s.history) s.passes own.items × AllSettleIn left more rest
 AllSettleIn left [] (s ∷ rest) = ⊥
 AllSettleIn left (own ∷ more) [] = ⊥
 
--- each bus leaves a record that settles its list
+-- Each bus leaves a record that settles its list.
 abbrev pub AllSettle : {A : Type 0} → List (Vec PassSeen A) → List (Settled Kept) → Type 0
 AllSettle passes settled = AllSettleIn (λ (r : Kept). record { config = r.config; history = r.history }) passes settled
 
--- each bus leaves a history of its configuration
+-- Each bus leaves a history of its configuration.
 abbrev pub AllConfigured : {L : Type 0} → (L → Journal) → List BusSeen → List (Settled L) → Type 0
 AllConfigured left buses settled = AllZip (λ bus s. (left s.history).config ≡ bus.config) buses settled
 
--- the list of this bus is the first with a pass of another station
+-- The list of this bus is the first with a pass of another station.
 pub record FirstForeign {A : Type 0} (passes : List (Vec PassSeen A)) (bus : ℕ) : Type 0 where
   pub before : List (Vec PassSeen A)
   pub own : Vec PassSeen A
@@ -39,21 +39,21 @@ pub record FirstForeign {A : Type 0} (passes : List (Vec PassSeen A)) (bus : ℕ
   pub earlier : AllOwn 0 before
   pub foreign : SomeOther bus own.items
 
--- a scroll for each bus, the first that of bus n; nothing was handed out to any
+-- There is a new scroll for each bus, starting with bus n, and no entry was handed out.
 abbrev pub AreNewScrolls : ℕ → List ScrollSeen → Type 0
 AreNewScrolls n [] = Unit {0}
 AreNewScrolls n (scroll ∷ more) = (scroll ≡ scroll_seen n []) × AreNewScrolls (suc n) more
 
--- each scroll belongs to its bus, the first to bus n
+-- Each scroll belongs to its bus, starting with bus n.
 abbrev pub AllOwnScrolls : ℕ → List ScrollSeen → Type 0
 AllOwnScrolls n [] = Unit {0}
 AllOwnScrolls n (scroll ∷ more) = (scroll.number ≡ n) × AllOwnScrolls (suc n) more
 
--- each scroll has what its bus had handed out
+-- Each scroll has the entries that its bus had handed out.
 abbrev pub AllHanded : {L : Type 0} → (L → List Entry) → List ScrollSeen → List (Settled L) → Type 0
 AllHanded handed scrolls settled = AllZip (λ scroll s. scroll.entries ≡ handed s.history) scrolls settled
 
--- this bus is the first with another station's scroll, or with a pass of another station in its list
+-- This bus is the first with the scroll of another station, or with a pass of another station in its list.
 pub record FirstForeignScroll {A : Type 0} (passes : List (Vec PassSeen A)) (scrolls : List ScrollSeen)
     (bus : ℕ) : Type 0 where
   pub before : List (Vec PassSeen A)

@@ -14,18 +14,19 @@ use can_wire::Timing;
 /// The parts of a bus of a hub.
 #[derive(Drop)]
 pub struct Bench<F: FaultSource + Drop, G: Gate + Drop> {
-    /// The names of its interfaces: one for each that the configuration has.
+    /// The names of the bus's interfaces, one for each interface of the configuration.
     pub names: Names,
-    /// Blanks for as many interfaces.
+    /// Blanks for the same number of interfaces.
     pub blanks: Blanks,
     pub config: BusConfig,
-    /// The verdicts of its attempts, if they are faults.
+    /// The source of verdicts for the bus's attempts, if they are faults.
     pub source: F,
-    /// The faults of the attempts for which the source has none.
+    /// The faults of attempts for which the source has no fault.
     pub plan: Plan,
-    /// The gate at which a test may hold a thread.
+    /// The gate where a test can hold a thread.
     pub gate: G,
-    /// The bit rates of the bus, if it has any: then its driver makes each attempt when the network is free.
+    /// The bit rates of the bus, if it has any. In that case its driver makes each attempt when the
+    /// network is free.
     pub timing: Option<Timing>,
     /// The milliseconds that its driver sleeps after each step, if the bus has no bit rates.
     pub pace_ms: u32,
@@ -59,14 +60,14 @@ pub(crate) fn make_hub<L: Leaves, F: FaultSource + Drop, G: Gate + Drop>(
         && have_distinct_names(benches)
 }
 
-/// Returns whether each of these may become a bus.
+/// Returns whether each of these benches may become a bus.
 fn are_proper<L: Leaves, F: FaultSource + Drop, G: Gate + Drop>(benches: &[Bench<F, G>]) -> bool
     ensures { IsTrue result ↔ All (λ b. IsWithin L.limits b) benches.now }
 {
     benches.iter().all(|bench| bench.is_proper::<L>())
 }
 
-/// Returns whether no name is on two of these.
+/// Returns whether no name is on two of these benches.
 fn have_distinct_names<F: FaultSource + Drop, G: Gate + Drop>(benches: &[Bench<F, G>]) -> bool
     ensures { IsTrue result ↔ AllApart (bench_names benches.now) }
 {
@@ -86,7 +87,7 @@ fn is_apart<F: FaultSource + Drop, G: Gate + Drop>(names: &Names, benches: &[Ben
     }
 }
 
-/// Returns whether no name is in both.
+/// Returns whether no name is in both lists.
 fn are_apart(names: &Names, others: &Names) -> bool
     ensures { IsTrue result ↔ ShareNoName names.now others.now }
 {
@@ -98,13 +99,13 @@ fn are_apart(names: &Names, others: &Names) -> bool
     true
 }
 
-/// Returns whether no other interface has the name of this one.
+/// Returns whether no interface of the other bus has this interface's name.
 #[tactic(auto, using(crate::proofs::Places::index_of_get))]
 fn is_free(names: &Names, number: u8, others: &Names) -> bool
     requires { number < length names.now }
     ensures { IsTrue result ↔ (¬ Contains others.now (slice_index_or names.now number [])) }
 {
-    // The proof learns here that there are at most 16 names.
+    // This call shows the prover that there are at most 16 names.
     let _ = names.count();
     let Some(iface) = Iface::new(number) else {
         unreachable!()

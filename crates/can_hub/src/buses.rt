@@ -50,8 +50,9 @@ impl<N: BusName, F: FaultSource + Drop, G: Gate + Drop> Model for Network<N, F, 
 }
 
 impl<N: BusName, F: FaultSource + Drop, G: Gate + Drop> Network<N, F, G> {
-    /// Makes the bus of a bench under a number, and its scroll. The bus leaves an `L`. In a long
-    /// run it has memory for this many entries at once. `NoMemory` if memory was refused.
+    /// Makes the bus of a bench under a number, and its scroll. The bus leaves an `L` at its end.
+    /// In a long run it has memory for this many entries at once. Returns `NoMemory` if memory was
+    /// refused.
     fn new<L: Leaves>(
         alloc: Global,
         number: u8,
@@ -92,7 +93,7 @@ impl<N: BusName, F: FaultSource + Drop, G: Gate + Drop> Network<N, F, G> {
     }
 }
 
-/// Buses, each with a station of its own. A bus's number is its place.
+/// Buses, each with its own station. A bus's number is its place.
 #[derive(Drop)]
 pub struct Buses<N: BusName, F: FaultSource + Drop, G: Gate + Drop> {
     pub(crate) networks: Vec<Network<N, F, G>>,
@@ -112,15 +113,16 @@ impl<N: BusName, F: FaultSource + Drop, G: Gate + Drop> Model for Buses<N, F, G>
 }
 
 impl<N: BusName, F: FaultSource + Drop, G: Gate + Drop> Buses<N, F, G> {
-    /// The bus that has an interface of this name, and that interface. No other bus has the name.
-    /// `None` exactly if no bus has it. It reads the names of the buses up to that one.
+    /// Returns the bus that has an interface of this name, and that interface. No other bus has the
+    /// name. Returns `None` exactly if no bus has it. The search stops at the first bus with the
+    /// name.
     pub fn find(&self, name: &str) -> Option<(usize, Iface)>
         ensures { IsFirstNamed self.now name.now result }
     {
         self.find_bytes(name.as_bytes())
     }
 
-    /// Like `find`; bytes that are not UTF-8 are no name.
+    /// Does the same as `find` for bytes; bytes that are not UTF-8 are no name.
     pub fn find_bytes(&self, name: &[u8]) -> Option<(usize, Iface)>
         ensures { IsFirstNamed self.now name.now result }
     {
@@ -132,7 +134,7 @@ impl<N: BusName, F: FaultSource + Drop, G: Gate + Drop> Buses<N, F, G> {
         None
     }
 
-    /// The interface of a bus that has this name.
+    /// Returns the interface of a bus that has this name.
     #[tactic(auto, using(crate::proofs::Places::named_at))]
     fn interface(&self, bus: usize, name: &[u8]) -> Option<Iface>
         requires { bus < length self.now }
@@ -141,7 +143,7 @@ impl<N: BusName, F: FaultSource + Drop, G: Gate + Drop> Buses<N, F, G> {
         self.networks[bus].names.find_bytes(name)
     }
 
-    /// Returns how many buses there are, 1 to 16.
+    /// Returns the number of buses, 1 to 16.
     pub fn count(&self) -> usize
         ensures count { result ≡ length self.now }
         ensures few { result ≤ 16 }
@@ -149,7 +151,7 @@ impl<N: BusName, F: FaultSource + Drop, G: Gate + Drop> Buses<N, F, G> {
         self.networks.len()
     }
 
-    /// The station of a bus.
+    /// Returns the station of a bus.
     #[tactic(auto, using(crate::proofs::Places::number_at, crate::proofs::Places::config_at))]
     pub fn station(&self, bus: usize) -> &Station<N, F, G, HubBus>
         requires { bus < length self.now }
@@ -159,7 +161,7 @@ impl<N: BusName, F: FaultSource + Drop, G: Gate + Drop> Buses<N, F, G> {
         &self.networks[bus].station
     }
 
-    /// The bit rates of a bus, if it has any.
+    /// Returns the bit rates of a bus, if it has any.
     #[tactic(auto, using(crate::proofs::Places::timing_at))]
     pub fn timing(&self, bus: usize) -> Option<Timing>
         requires { bus < length self.now }
@@ -168,7 +170,7 @@ impl<N: BusName, F: FaultSource + Drop, G: Gate + Drop> Buses<N, F, G> {
         self.networks[bus].timing
     }
 
-    /// Returns how many milliseconds the driver of a bus sleeps after each step, if the bus has no
+    /// Returns the milliseconds that the driver of a bus sleeps after each step, if the bus has no
     /// bit rates.
     #[tactic(auto, using(crate::proofs::Places::pace_at))]
     pub fn pace_ms(&self, bus: usize) -> u32
@@ -178,7 +180,7 @@ impl<N: BusName, F: FaultSource + Drop, G: Gate + Drop> Buses<N, F, G> {
         self.networks[bus].pace_ms
     }
 
-    /// Returns how many items a socket of a bus holds.
+    /// Returns the number of items that a socket of a bus holds.
     #[tactic(auto, using(crate::proofs::Places::items_at, crate::proofs::Places::items_past))]
     pub fn rx_capacity(&self, bus: usize) -> u32
         ensures { result ≡ items_on (slice_get self.now bus) }
@@ -190,30 +192,30 @@ impl<N: BusName, F: FaultSource + Drop, G: Gate + Drop> Buses<N, F, G> {
         }
     }
 
-    /// Shows the moment of an attempt on a bus, if there is one with this number. The attempt's items may be received only
-    /// after that.
+    /// Publishes the moment of an attempt on a bus, if there is a bus with this number. Call it
+    /// before any receive can return an item of the attempt.
     pub fn show_end(&self, bus: usize, moment: Moment) {
         if let Some(network) = self.networks.get(bus) {
             network.shown.show_end(moment);
         }
     }
 
-    /// The moment of the last attempt on a bus that was shown: `None` if none was, or there is no
+    /// Returns the moment of the last published attempt on a bus, or `None` if there is none, or no
     /// such bus. It takes no lock.
     pub fn last_end(&self, bus: usize) -> Option<Moment> {
         self.networks.get(bus)?.shown.end()
     }
 
-    /// Shows how busy a bus is, if there is one with this number.
+    /// Publishes the load of a bus, if there is a bus with this number.
     pub fn show_load(&self, bus: usize, load: Load) {
         if let Some(network) = self.networks.get(bus) {
             network.shown.show_load(load);
         }
     }
 
-    /// Returns the load of a bus at a moment, as it was shown last, and its bit rates. The load is
-    /// 0 and 0 if none was shown; the bit rates are 0 if the bus has none. All are 0 if there is no
-    /// such bus. It takes no lock.
+    /// Returns the last published load of a bus, as of this moment, and its bit rates. The load is
+    /// 0 and 0 if none was published; the bit rates are 0 if the bus has none. All are 0 if there
+    /// is no such bus. It takes no lock.
     #[tactic(auto, using(crate::proofs::Places::rates_at, crate::proofs::Places::rates_past))]
     pub fn load_at(&self, bus: usize, moment: Moment) -> BusLoad
         ensures { rates_of result.bitrate result.dbitrate ≡ rates_on (slice_get self.now bus) }
@@ -226,7 +228,7 @@ impl<N: BusName, F: FaultSource + Drop, G: Gate + Drop> Buses<N, F, G> {
         }
     }
 
-    /// The names of the interfaces of a bus, if there is one with this number.
+    /// Returns the names of the interfaces of a bus, if there is a bus with this number.
     #[tactic(auto, using(crate::proofs::Places::names_at, crate::proofs::Places::names_past))]
     pub fn names(&self, bus: usize) -> Option<&Names>
         ensures { option_map (λ n. n.now) result ≡ names_on (slice_get self.now bus) }
@@ -238,8 +240,8 @@ impl<N: BusName, F: FaultSource + Drop, G: Gate + Drop> Buses<N, F, G> {
         }
     }
 
-    /// Adds a space and a name for each interface of each bus, in order. `AllocError` if memory is
-    /// refused.
+    /// Adds a space and a name for each interface of each bus, in order. Returns `AllocError` if
+    /// memory is refused.
     pub fn put_names(&self, text: &mut Vec<u8>) -> Result<(), AllocError>
         ensures { OnOk result (text.new.items ≡ text.old.items ++ spaced (all_names self.now)) }
     {
@@ -256,15 +258,15 @@ impl<N: BusName, F: FaultSource + Drop, G: Gate + Drop> Buses<N, F, G> {
         }
     }
 
-    /// Ends the waits for entries of all buses, once no calls are made any more.
+    /// Ends the waits for entries of all buses, after the last call.
     pub fn end_entries<R: Wait>(&self, rt: &R) {
         for network in &self.networks {
             network.station.end_entries(rt);
         }
     }
 
-    /// Another gauge of a bus's meter, which reads the error counters without the lock.
-    /// `AllocError` if there is no memory. It may wait for the lock.
+    /// Returns another gauge of a bus's meter, which reads the error counters without the lock.
+    /// Returns `AllocError` if memory is refused. It may wait for the lock.
     pub fn gauge<R: Wait>(&self, rt: &R, bus: usize) -> Result<Gauge<N>, AllocError>
         requires { bus < length self.now }
         ensures { IfOk result (λ g. g.number ≡ bus) }
@@ -273,7 +275,7 @@ impl<N: BusName, F: FaultSource + Drop, G: Gate + Drop> Buses<N, F, G> {
     }
 }
 
-/// The buses that these benches make, numbered from 0, and the scroll of each.
+/// Makes the buses of these benches, numbered from 0, and the scroll of each.
 pub(crate) fn networks_of<N: BusName, F: FaultSource + Drop, G: Gate + Drop, L: Leaves>(
     alloc: Global,
     benches: Vec<Bench<F, G>>,

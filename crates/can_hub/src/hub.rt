@@ -17,8 +17,8 @@ use std::marker::Model;
 use std::sync::Wait;
 use thiserror::Error;
 
-/// The first bus that can't be settled. A pass of another station is in its list, or its scroll is
-/// another station's.
+/// The first bus that cannot be settled: its list has a pass of another station, or its scroll
+/// belongs to another station.
 #[derive(Debug, Clone, Copy, PartialEq, Eq, Error)]
 #[error("bus {bus}: wrong station")]
 pub struct SettleFault {
@@ -30,7 +30,7 @@ pub struct SettleFault {
 #[derive(Drop)]
 pub struct Hub<N: BusName, F: FaultSource + Drop, G: Gate + Drop, L: Leaves = Record> {
     buses: Buses<N, F, G>,
-    // Room for the rest of each bus at its end.
+    // A buffer for the rest of each bus at its end.
     settled: Vec<Settled<L>>,
 }
 
@@ -48,13 +48,14 @@ impl<N: BusName, F: FaultSource + Drop, G: Gate + Drop, L: Leaves> Model for Hub
 }
 
 impl<N: BusName, F: FaultSource + Drop, G: Gate + Drop> Hub<N, F, G> {
-    /// Makes a station for each bench, with an empty record. The buses are numbered from 0 in this
+    /// Makes a station with an empty record for each bench. The buses are numbered from 0 in this
     /// order. It takes memory for all entries of each record, and for the results of `settle`.
     ///
-    /// `BadConfig` exactly if there are no benches or more than 16, or one of them is wrong: its
-    /// configuration is outside the limits of a bus, it has another number of interfaces than the
-    /// blanks or the names, its receive capacity is outside the limits of a socket, or one of its
-    /// names is on another bench. Else `NoMemory` if memory was refused.
+    /// Returns `BadConfig` exactly if there are no benches or more than 16, or if a bench is wrong.
+    /// A bench is wrong in four cases: its configuration is outside the limits of a bus, its number
+    /// of interfaces differs from that of its blanks or names, its receive capacity is outside the
+    /// limits of a socket, or another bench has one of its names. Returns `NoMemory` if memory was
+    /// refused.
     pub fn new(alloc: Global, benches: Vec<Bench<F, G>>) -> Result<Hub<N, F, G>, BusFault>
         requires { NamedFrom N.roll N.meter 0 benches.items }
         ensures made { IfOk result (λ h. h ≡ buses_from 0 benches.items) }
@@ -66,12 +67,12 @@ impl<N: BusName, F: FaultSource + Drop, G: Gate + Drop> Hub<N, F, G> {
 }
 
 impl<N: BusName, F: FaultSource + Drop, G: Gate + Drop> Hub<N, F, G, LongEnd> {
-    /// The same with buses of long runs, and the scroll of each. Each bus keeps in memory only the
-    /// entries that were not taken yet. It takes memory for this many entries of each: `TAIL_SIZE`,
-    /// except in tests.
+    /// Makes a hub with buses of long runs, and the scroll of each. In memory each bus keeps only
+    /// the entries that were not yet taken. It takes memory for `size` entries of each bus, which
+    /// is `TAIL_SIZE` except in tests.
     ///
-    /// `BadConfig` as in `new`, with the limits of a long run instead; a limit that a record may
-    /// have is refused too.
+    /// Returns `BadConfig` as `new` does, but with the limits of a long run. A limit that a record
+    /// may have is refused too.
     pub fn new_long(
         alloc: Global,
         benches: Vec<Bench<F, G>>,
@@ -88,8 +89,8 @@ impl<N: BusName, F: FaultSource + Drop, G: Gate + Drop> Hub<N, F, G, LongEnd> {
 }
 
 impl<N: BusName, F: FaultSource + Drop, G: Gate + Drop, L: Leaves> Hub<N, F, G, L> {
-    /// Makes a station over a fresh bus for each bench, and the scroll of each, as `new` and
-    /// `new_long` do, for either kind. In a long run there is memory for this many entries at once.
+    /// Makes a station over a new bus for each bench, and the scroll of each, for either kind of
+    /// bus. In a long run there is memory for `size` entries at once.
     pub fn make(
         alloc: Global,
         benches: Vec<Bench<F, G>>,
@@ -110,7 +111,7 @@ impl<N: BusName, F: FaultSource + Drop, G: Gate + Drop, L: Leaves> Hub<N, F, G, 
         Ok((Hub { buses, settled }, scrolls))
     }
 
-    /// Its buses.
+    /// Returns the buses of the hub.
     pub fn buses(&self) -> &Buses<N, F, G>
         ensures { result.now ≡ self.now }
     {
@@ -140,12 +141,12 @@ impl<N: BusName, F: FaultSource + Drop, G: Gate + Drop, L: Leaves> Hub<N, F, G, 
         self.buses.gauge(rt, bus)
     }
 
-    /// Takes the passes of each bus back, and hands out the rest of each bus. It is a legal history
-    /// of its configuration, whose entries can be marked with passes so that the calls of each of
-    /// its passes are its entries, in order. It takes no memory.
+    /// Takes the passes of each bus back, and returns the rest of each bus. It is a legal history
+    /// of the bus's configuration. Its entries can be marked with passes so that the calls of each
+    /// returned pass are its entries, in order. No memory is taken.
     ///
-    /// `SettleFault` exactly if some list has a pass of another station, with the first such bus;
-    /// then nothing is handed back.
+    /// Returns `SettleFault` exactly if some list has a pass of another station, with the first
+    /// such bus; then nothing is returned.
     pub fn settle<R: Wait>(
         self,
         rt: &R,
@@ -175,10 +176,10 @@ impl<N: BusName, F: FaultSource + Drop, G: Gate + Drop, L: Leaves> Hub<N, F, G, 
         Ok(settled)
     }
 
-    /// Takes the scroll of each bus back as well. A scroll got what its bus handed out of the
-    /// history that it leaves: the first entries of a long run.
+    /// Takes the scroll of each bus back as well. A scroll has the entries that its bus handed out:
+    /// the first entries of a long run.
     ///
-    /// `SettleFault` also exactly if some scroll is another station's.
+    /// Also returns `SettleFault` exactly if some scroll belongs to another station.
     pub fn settle_scrolls<R: Wait>(
         self,
         rt: &R,
@@ -216,7 +217,7 @@ impl<N: BusName, F: FaultSource + Drop, G: Gate + Drop, L: Leaves> Hub<N, F, G, 
     }
 }
 
-/// Returns the rest of a bus, as that of its kind.
+/// Returns the rest of a bus as the type for its kind.
 fn settled_as<L: Leaves>(left: Settled<HubEnd>) -> Settled<L>
     requires { L.limits (left_in left.history).config }
     ensures history { L.journal result.history ≡ left_in left.history }

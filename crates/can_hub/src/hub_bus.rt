@@ -1,4 +1,4 @@
-//! The buses of a hub, and what they leave at their end.
+//! The buses of a hub, and the rest of each at its end.
 ghost use Rattle.std.specs.Prelude.{IsTrue, ◌↔◌};
 ghost use Rattle.can_hub.specs.HubBuses.{IsOfLongRuns};
 
@@ -11,8 +11,7 @@ use can_record::PackedRecord;
 use std::alloc::Global;
 use std::marker::Model;
 
-/// A bus of a hub: one that keeps its whole record, or that of a long run, which has a higher
-/// limit.
+/// A bus of a hub. It keeps its whole record, or it is the bus of a long run with a higher limit.
 #[derive(Drop)]
 pub struct HubBus {
     bus: AnyBus,
@@ -58,7 +57,7 @@ impl Model for HubEnd {
     ghost invariant = { λ e. EndsAtItsLength e.end };
 }
 
-/// Returns whether a configuration is that of a long run with a higher limit than a record may
+/// Returns whether this is the configuration of a long run, with a higher limit than a record may
 /// have.
 fn is_of_long_runs(config: &BusConfig) -> bool
     ensures { IsTrue result ↔ IsOfLongRuns config.now }
@@ -133,8 +132,8 @@ impl Journaled for HubBus {
     }
 }
 
-/// The rest of the buses of a hub at their end, and thereby their kind: buses with records, or
-/// buses of long runs.
+/// The rest of a hub's buses at their end. The type fixes their kind: buses with records, or buses
+/// of long runs.
 pub trait Leaves: Drop {
     ghost use Rattle.std.specs.Prelude.{◌≡◌, ◌↔◌, [], List, IfErr, IfOk, IsTrue, OnOk};
     ghost use Rattle.can_bus.specs.declared.bus.BusFault.TheVariants as BusFault;
@@ -144,7 +143,7 @@ pub trait Leaves: Drop {
     ghost use Rattle.can_hub.specs.HubBuses.{handed_by, handed_in, journal_in, left_in};
     ghost use Rattle.can_record.specs.Journal.{Journal};
 
-    /// The configuration and the entries of the bus that left it.
+    /// The configuration and the entries of the bus from which this value remains.
     ghost journal: { Self → Journal };
 
     /// The entries that the bus had handed out, the oldest first.
@@ -153,12 +152,12 @@ pub trait Leaves: Drop {
     /// The configurations that these buses may have.
     ghost limits: { BusConfig → Type 0 };
 
-    /// Returns whether they may have this one.
+    /// Returns whether these buses may have this configuration.
     fn may_have(config: &BusConfig) -> bool
         ensures { IsTrue result ↔ limits config.now };
 
-    /// A fresh bus. It takes memory for all of its entries, or in a long run for this many at once.
-    /// `NoMemory` if that was refused.
+    /// Returns a new bus. It takes memory for all its entries, or in a long run for this many at
+    /// once. Returns `NoMemory` if memory was refused.
     fn bus(alloc: Global, config: BusConfig, size: u32) -> Result<HubBus, BusFault>
         requires { limits config }
         ensures made { IfOk result (λ b. journal_in b ≡ record { config = config; history = [] }) }

@@ -1,9 +1,9 @@
-//! A hub of buses, and a session's way to the bus that it opens.
+//! A hub of buses, and the connection of a session to the bus that it opens.
 //!
-//! A [`Hub`] has a station for each bus, numbered by its place. A [`PassPort`] is the port of a
-//! session. It enters the station whose bus has the name that the session opens, and makes each
-//! call with that pass. A [`LockedPort`] makes its sends and receives in one hold of the lock. At
-//! the end [`Hub::settle`] takes the passes back and hands out the record of each bus, or the
+//! A [`Hub`] has a station for each bus; a bus's number is its place. A [`PassPort`] is the port of
+//! a session. It enters the station whose bus has the name that the session opens, and makes each
+//! call with the pass. A [`LockedPort`] makes its sends and receives while it holds the lock once.
+//! At the end [`Hub::settle`] takes the passes back. It returns the record of each bus, or the
 //! entries of a long run that were not taken.
 #![tactic(auto)]
 

@@ -15,9 +15,8 @@ use std::alloc::AllocError;
 use std::marker::Model;
 use std::sync::Wait;
 
-/// A [`PassPort`] for a few calls. Sends and receives that follow one another are made in one hold
-/// of the station's lock. The first of them takes the lock; any other call, and the end of the
-/// port, frees it.
+/// A [`PassPort`] for a few calls. Successive sends and receives share one hold of the station's
+/// lock. The first of them takes the lock; any other call, or the end of the port, frees it.
 #[derive(Drop)]
 pub struct LockedPort<'a, N: BusName, F: FaultSource + Drop, G: Gate + Drop, R: Wait> {
     port: PassPort<'a, N, F, G, R>,
@@ -34,14 +33,14 @@ impl<'a, N: BusName, F: FaultSource + Drop, G: Gate + Drop, R: Wait> Model
 }
 
 impl<'a, N: BusName, F: FaultSource + Drop, G: Gate + Drop, R: Wait> LockedPort<'a, N, F, G, R> {
-    /// The same port, before it takes the lock.
+    /// Returns the same port, which has not yet taken the lock.
     pub fn new(port: PassPort<'a, N, F, G, R>) -> LockedPort<'a, N, F, G, R>
         ensures { result ≡ port.entry }
     {
         LockedPort { port, hold: None }
     }
 
-    /// The port, once the lock is free.
+    /// Frees the lock and returns the port.
     pub fn into_port(self) -> PassPort<'a, N, F, G, R>
         ensures { result ≡ self.entry }
     {
@@ -51,8 +50,8 @@ impl<'a, N: BusName, F: FaultSource + Drop, G: Gate + Drop, R: Wait> LockedPort<
     }
 }
 
-/// The hold of this station. If there is none, a hold of another station is dropped and the lock is
-/// taken.
+/// Returns the hold of this station. If there is none, it drops a hold of another station and takes
+/// the lock.
 fn hold_of<'h, 'a, N: BusName, F: FaultSource + Drop, G: Gate + Drop, R: Wait>(
     rt: &R,
     station: &'a Station<N, F, G, HubBus>,
@@ -71,7 +70,7 @@ fn hold_of<'h, 'a, N: BusName, F: FaultSource + Drop, G: Gate + Drop, R: Wait>(
     taken.as_mut().unwrap()
 }
 
-/// Returns whether an event may be made in one hold with others: it is a send or a receive.
+/// Returns whether an event may share a hold with others: it is a send or a receive.
 fn is_shared(event: &Event) -> bool
     ensures { result ≡ is_shared event.now }
 {
@@ -100,7 +99,7 @@ impl<'a, N: BusName, F: FaultSource + Drop, G: Gate + Drop, R: Wait> Port
         pass_on(outcome)
     }
 
-    // The call that a session makes most, without an event and a reply between.
+    // The most frequent call of a session, without an event and a reply value.
     fn receive_into(&mut self, socket: SocketId, room: &mut Received) -> Result<bool, PortRefusal> {
         let port = &mut self.port;
         let Some(entered) = &mut port.entered else {
@@ -110,7 +109,7 @@ impl<'a, N: BusName, F: FaultSource + Drop, G: Gate + Drop, R: Wait> Port
         pass_on(hold.receive_into(port.alloc, &mut entered.pass, socket, room))
     }
 
-    // No lock is needed for it.
+    // This method needs no lock.
     fn put_names(&self, text: &mut Vec<u8>) -> Result<(), AllocError> {
         self.port.put_names(text)
     }
@@ -135,7 +134,7 @@ impl<'a, N: BusName, F: FaultSource + Drop, G: Gate + Drop, R: Wait> Port
         self.port.status(iface)
     }
 
-    // No lock is needed for it.
+    // This method needs no lock.
     fn load(&mut self, moment: Moment) -> BusLoad {
         self.port.load(moment)
     }

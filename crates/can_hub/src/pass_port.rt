@@ -19,7 +19,7 @@ use std::marker::Model;
 use std::mem;
 use std::sync::{Mutex, Wait};
 
-/// A station that was entered, with a gauge of its meter and the pass.
+/// An entered station, with a gauge of its meter and the pass.
 #[derive(Drop)]
 pub struct EnteredStation<'a, N: BusName, F: FaultSource + Drop, G: Gate + Drop> {
     pub(crate) station: &'a Station<N, F, G, HubBus>,
@@ -35,18 +35,19 @@ impl<'a, N: BusName, F: FaultSource + Drop, G: Gate + Drop> Model for EnteredSta
     ghost view = { λ e. record { station = e.station.now; gauge = e.gauge; pass = e.pass } };
 }
 
-/// A session's way to the buses of a hub: the pass of the station that it opens.
+/// The port of a session to the buses of a hub, with the pass of the station that the session
+/// opens.
 ///
 /// `attach` enters the station whose bus has the name, and takes a gauge of it; it may use a pass
-/// that was handed back. A pass that was entered before is lost to `settle`. Refusals, in this
-/// order: `NoInterface`; `NoMemory` if it is refused to the gauge; `TooManyPasses`. Every other
-/// call, except the two counts, the status and the calls about rules, is that call of the station:
-/// it is made with the pass, and may wait for its lock. A socket holds as many items as the bus
-/// lays down, whatever is asked. If no station was entered there is no socket, and no rule.
+/// that was handed back. A pass that was entered before is lost to `settle`. The refusals, in this
+/// order: `NoInterface`, `NoMemory` if the gauge gets no memory, `TooManyPasses`. The two counts,
+/// the status and the calls about rules do not use the pass. Every other call is the station's call
+/// of that name: it uses the pass, and may wait for the lock. The bus sets the number of items that
+/// a socket holds, not the caller. If no station was entered, there is no socket and no rule.
 ///
-/// `status` returns the error counters that were published last, as the gauge reads them. It takes
-/// no lock and waits for no thread. They are 0/0 if no station was entered, or if its bus has no
-/// such interface. `load` takes no lock either; it has the bit rates of the bus that was entered.
+/// `status` returns the last published error counters, as the gauge reads them. It takes no lock
+/// and waits for no thread. They are 0/0 if no station was entered, or if its bus has no such
+/// interface. `load` takes no lock either, and returns the bit rates of the entered bus.
 #[derive(Drop)]
 pub struct PassPort<'a, N: BusName, F: FaultSource + Drop, G: Gate + Drop, R: Wait> {
     pub(crate) rt: &'a R,
@@ -70,14 +71,14 @@ impl<'a, N: BusName, F: FaultSource + Drop, G: Gate + Drop, R: Wait> Model
 impl<'a, N: BusName, F: FaultSource + Drop, G: Gate + Drop, R: Wait> PassPort<'a, N, F, G, R> {
     ghost use Rattle.std.specs.Prelude.{None, option_map};
 
-    /// A port over the buses of a hub; no station was entered.
+    /// Returns a port over the buses of a hub, without an entered station.
     pub fn new(rt: &'a R, alloc: Global, buses: &'a Buses<N, F, G>) -> PassPort<'a, N, F, G, R>
         ensures { result ≡ record { buses = buses.now; entered = None } }
     {
         PassPort::with_spares(rt, alloc, buses, None)
     }
 
-    /// The same, but it may use one of these passes that were handed back, if one is of the
+    /// Returns the same port, which may also use one of these returned passes if it belongs to the
     /// station.
     pub fn with_spares(
         rt: &'a R,
@@ -97,7 +98,7 @@ impl<'a, N: BusName, F: FaultSource + Drop, G: Gate + Drop, R: Wait> PassPort<'a
         }
     }
 
-    /// The port, taken out. It leaves one that has entered no station.
+    /// Takes the port out, and leaves a port without an entered station.
     pub fn take(&mut self) -> PassPort<'a, N, F, G, R>
         ensures { result ≡ self.old }
     {
@@ -105,7 +106,7 @@ impl<'a, N: BusName, F: FaultSource + Drop, G: Gate + Drop, R: Wait> PassPort<'a
         mem::replace(self, left)
     }
 
-    /// The station that was entered.
+    /// Returns the station that was entered.
     pub fn station(&self) -> Option<&'a Station<N, F, G, HubBus>>
         ensures { option_map (λ s. s.now) result ≡ option_map (λ e. e.station) self.now.entered }
     {
@@ -115,7 +116,7 @@ impl<'a, N: BusName, F: FaultSource + Drop, G: Gate + Drop, R: Wait> PassPort<'a
         }
     }
 
-    /// A pass of a station: one that was handed back, if there is one to use, else its next.
+    /// Returns a pass of a station: a returned pass if there is one, or else its next pass.
     fn enter(&self, station: &Station<N, F, G, HubBus>) -> Result<Pass<N>, TooManyPasses>
         ensures ok { IfOk result (λ pass. pass.number ≡ station.now.number) }
         ensures err { OnErr result (HadNoPassLeft F station.now) }
@@ -126,35 +127,35 @@ impl<'a, N: BusName, F: FaultSource + Drop, G: Gate + Drop, R: Wait> PassPort<'a
         }
     }
 
-    /// A pass of a bus that was handed back, if there is one to use.
+    /// Returns a pass of this bus that was handed back, if there is one.
     fn spare(&self, bus: u8) -> Option<Pass<N>>
         ensures { IfSome result (λ pass. pass.number ≡ bus) }
     {
         self.spares?.lock(self.rt).give_out(bus)
     }
 
-    /// Returns the outcomes of its calls.
+    /// Returns the counts of the port's calls.
     pub fn tally(&self) -> Tally {
         self.tally
     }
 
-    /// The interface that a call restarted last, if any since the last look. One that was taken
-    /// down later does not count.
+    /// Returns the interface that a call restarted last, if any since the previous look. An
+    /// interface that was taken down later does not count.
     pub fn take_restarted(&mut self) -> Option<Iface>
         ensures { self.new ≡ self.old }
     {
         self.tally.take_restarted()
     }
 
-    /// The interface that a call took down last, if any since the last look. One that was restarted
-    /// later does not count.
+    /// Returns the interface that a call took down last, if any since the previous look. An
+    /// interface that was restarted later does not count.
     pub fn take_downed(&mut self) -> Option<Iface>
         ensures { self.new ≡ self.old }
     {
         self.tally.take_downed()
     }
 
-    /// Gives the pass away, if a station was entered.
+    /// Returns the pass, if a station was entered.
     pub fn into_pass(self) -> Option<Pass<N>>
         ensures { result ≡ option_map (λ e. e.pass) self.entry.entered }
     {
@@ -166,7 +167,7 @@ impl<'a, N: BusName, F: FaultSource + Drop, G: Gate + Drop, R: Wait> PassPort<'a
     }
 }
 
-/// The event as a pass makes it: a socket holds as many items as its bus says.
+/// Returns the event that the pass makes: the bus sets the number of items that a socket holds.
 fn sized(event: Event, room: u32) -> Event
     ensures { result ≡ with_socket_room event room }
 {
@@ -176,7 +177,7 @@ fn sized(event: Event, room: u32) -> Event
     }
 }
 
-/// A station's reply, as a port gives it.
+/// Returns a station's reply as a port's reply.
 pub(crate) fn pass_on<V>(outcome: Result<V, StationRefusal>) -> Result<V, PortRefusal>
     ensures { result ≡ reply_of_station outcome }
 {
@@ -187,7 +188,8 @@ pub(crate) fn pass_on<V>(outcome: Result<V, StationRefusal>) -> Result<V, PortRe
     }
 }
 
-/// The error counters that a gauge reads of an interface: 0/0 if its meter has none.
+/// Returns the error counters that a gauge reads for an interface, or 0/0 if its meter lacks the
+/// interface.
 fn read_gauge<N: MeterName>(gauge: &mut Gauge<N>, iface: Iface) -> Counters
     ensures { GaugeReports gauge.old iface result gauge.new }
 {

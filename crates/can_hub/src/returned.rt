@@ -5,10 +5,11 @@ use can_station::{BusName, Pass};
 use std::alloc::{AllocError, Global};
 use std::marker::Model;
 
-/// The most buses of a hub.
+/// The largest number of buses of a hub.
 const MOST_BUSES: usize = 16;
 
-/// The passes that sessions and drivers hand back, those of each bus in a list of its own. Contracts see the lists.
+/// The passes that sessions and drivers hand back, in a separate list for each bus. Contracts see
+/// the lists.
 #[derive(Drop)]
 pub struct ReturnedPasses<N: BusName> {
     lists: Vec<Vec<Pass<N>>>,
@@ -27,7 +28,7 @@ impl<N: BusName> Model for ReturnedPasses<N> {
 }
 
 impl<N: BusName> ReturnedPasses<N> {
-    /// No pass, with room for this many of each of the first buses.
+    /// Returns a value without passes, with space for this many of each of the first buses.
     pub fn new(alloc: Global, buses: usize, room: usize) -> Result<ReturnedPasses<N>, AllocError>
         ensures { IfOk result (λ returned. AllEmpty returned) }
     {
@@ -39,8 +40,8 @@ impl<N: BusName> ReturnedPasses<N> {
         Ok(ReturnedPasses { lists })
     }
 
-    /// Takes a pass back, into the list of its bus. The pass is lost if that list has no room. All
-    /// other lists stay.
+    /// Takes a pass back, into the list of its bus. The pass is lost if that list is full. The
+    /// other lists do not change.
     pub fn take(&mut self, pass: Pass<N>)
         ensures own { pass.number < 16 → AddsOwn self.old pass self.new }
         ensures others { (bus : ℕ) → bus ≢ pass.number →
@@ -51,7 +52,8 @@ impl<N: BusName> ReturnedPasses<N> {
         }
     }
 
-    /// Gives out again the last pass of a bus that was taken back, if there is one. All others stay.
+    /// Takes the last pass out of the list of a bus, if there is one. The other lists do not
+    /// change.
     pub fn give_out(&mut self, bus: u8) -> Option<Pass<N>>
         ensures own { IfSome result (λ pass. pass.number ≡ bus) }
         ensures list { RemovesOwn self.old bus result self.new }
@@ -65,7 +67,7 @@ impl<N: BusName> ReturnedPasses<N> {
         }
     }
 
-    /// The lists of this many buses.
+    /// Returns the lists of this many buses.
     pub fn into_lists(self, buses: usize) -> Vec<Vec<Pass<N>>>
         requires { buses ≤ 16 }
         ensures lists { result.items ≡ take buses self }

@@ -1,4 +1,4 @@
-//! The time on the wire of a bus, as its driver shows it to sessions.
+//! The time on the wire of a bus, as its driver publishes it to sessions.
 ghost use Rattle.std.specs.Prelude.{◌≡◌};
 ghost use Rattle.can_hub.specs.Buses.{bit_rates};
 ghost use Rattle.can_wire.specs.Times.{rates_of};
@@ -8,21 +8,21 @@ use can_proto::BusLoad;
 use can_wire::{Load, RecentLoad, Timing};
 use std::sync::atomic::{AtomicU64, Ordering};
 
-/// The end of the last attempt on a bus with bit rates, and the load of the bus, which can be read
+/// The end of the last attempt on a bus with bit rates, and the load of the bus. Threads read them
 /// without a lock. The words are written one after another, so one may be newer than the others by
-/// an attempt. No contract speaks of them.
+/// an attempt. No contract mentions them.
 #[derive(Drop)]
 pub(crate) struct ShownTime {
     /// The moment of the last attempt, in microseconds: 0 before the first.
     end: AtomicU64,
-    /// How busy it was in the last seconds, as the word of a `RecentLoad`.
+    /// The load in the last seconds, as the word of a `RecentLoad`.
     recent: AtomicU64,
-    /// For how many microseconds it was busy since it started.
+    /// The number of microseconds in which the bus was busy since its start.
     busy: AtomicU64,
 }
 
 impl ShownTime {
-    /// Before anything was shown.
+    /// Returns the value before anything was published.
     pub(crate) fn none() -> ShownTime {
         ShownTime {
             end: AtomicU64::new(0),
@@ -31,12 +31,12 @@ impl ShownTime {
         }
     }
 
-    /// Shows the moment of an attempt.
+    /// Publishes the moment of an attempt.
     pub(crate) fn show_end(&self, moment: Moment) {
         self.end.store(moment.micros(), Ordering::SeqCst);
     }
 
-    /// The moment of the last attempt that was shown.
+    /// Returns the moment of the last published attempt.
     pub(crate) fn end(&self) -> Option<Moment> {
         match self.end.load(Ordering::SeqCst) {
             0 => None,
@@ -44,13 +44,13 @@ impl ShownTime {
         }
     }
 
-    /// Shows a load.
+    /// Publishes a load.
     pub(crate) fn show_load(&self, load: Load) {
         self.recent.store(load.recent().word(), Ordering::SeqCst);
         self.busy.store(load.busy_micros(), Ordering::SeqCst);
     }
 
-    /// The load that was shown last, seen at a moment, of a bus with these bit rates.
+    /// Returns the last published load of a bus with these bit rates, as of this moment.
     pub(crate) fn load_at(&self, moment: Moment, timing: Option<Timing>) -> BusLoad
         ensures { rates_of result.bitrate result.dbitrate ≡ bit_rates timing }
     {

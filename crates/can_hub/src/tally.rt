@@ -2,18 +2,18 @@ use can_bus::{Event, Reply};
 use can_frame::Iface;
 use can_station::StationRefusal;
 
-/// Counts of a session's calls for the host. No contract speaks of it.
+/// Counts of a session's calls for the host. No contract mentions them.
 #[derive(Debug, Clone, Copy)]
 pub struct Tally {
-    /// The number of frames that were refused, as the record has them.
+    /// The number of refused frames in the record.
     pub refused: u64,
-    /// The number of items that did not fit at its socket, as the close reports them.
+    /// The number of items dropped at the session's socket, which the close reports.
     pub dropped: u64,
     restarted: Option<Iface>,
     downed: Option<Iface>,
 }
 
-/// A call, as far as a tally looks at it.
+/// The facts about a call that a tally needs.
 #[derive(Clone, Copy)]
 pub(crate) struct Counted {
     is_send: bool,
@@ -22,7 +22,7 @@ pub(crate) struct Counted {
 }
 
 impl Counted {
-    /// The call that makes this event.
+    /// Returns the facts about the call that makes this event.
     pub(crate) fn of(event: &Event) -> Counted {
         Counted {
             is_send: matches!(event, Event::Send(_, _)),
@@ -39,7 +39,7 @@ impl Counted {
 }
 
 impl Tally {
-    /// The outcome of no call.
+    /// Returns the counts before any call.
     pub fn none() -> Tally {
         Tally {
             refused: 0,
@@ -71,20 +71,21 @@ impl Tally {
         }
     }
 
-    /// The interface that was restarted last, if any since the last look. One that was taken down
-    /// later is left out.
+    /// Returns the interface that was restarted last, if any since the previous look. An interface
+    /// that was taken down later does not count.
     pub fn take_restarted(&mut self) -> Option<Iface> {
         self.restarted.take()
     }
 
-    /// The interface that was taken down last, if any since the last look. One that was restarted
-    /// later is left out.
+    /// Returns the interface that was taken down last, if any since the previous look. An interface
+    /// that was restarted later does not count.
     pub fn take_downed(&mut self) -> Option<Iface> {
         self.downed.take()
     }
 }
 
-/// Notes the interface of a call, if it has one. It replaces a note of the opposite.
+/// Notes the interface of a call, if it has one. The note replaces the opposite note for the same
+/// interface.
 fn note(noted: &mut Option<Iface>, opposite: &mut Option<Iface>, iface: Option<Iface>) {
     if iface.is_some() {
         *noted = iface;
