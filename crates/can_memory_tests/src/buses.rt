@@ -22,7 +22,7 @@ fn iface(number: u8) -> Result<Iface, Stop> {
     Iface::new(number).ok_or(Stop::Wrong)
 }
 
-/// Opens a socket, once more where memory was refused: nothing may have changed.
+/// Opens a socket, and tries once more if there was no memory. The failed call must not change the bus.
 fn opened(bus: &mut RingBus, alloc: Global, number: u8, capacity: u32) -> Result<SocketId, Stop> {
     let iface = iface(number)?;
     let before = bus.record().len();
@@ -35,7 +35,7 @@ fn opened(bus: &mut RingBus, alloc: Global, number: u8, capacity: u32) -> Result
     }
 }
 
-/// Sets the filters of a socket, once more where memory was refused: nothing may have changed.
+/// Sets the filters of a socket, and tries once more if there was no memory. The failed call must not change the bus.
 fn filtered(
     bus: &mut RingBus,
     alloc: Global,
@@ -52,7 +52,7 @@ fn filtered(
     }
 }
 
-/// Sends a frame, which is done.
+/// Sends a frame and makes one attempt, in which the frame is done.
 fn cross(bus: &mut RingBus, sender: SocketId, id: u16) -> Result<(), Stop> {
     let frame = Frame::data(CanId::standard(id)?, b"\x01\xFF")?;
     let _ = bus.send(sender, frame)?;
@@ -60,9 +60,9 @@ fn cross(bus: &mut RingBus, sender: SocketId, id: u16) -> Result<(), Stop> {
     Ok(())
 }
 
-/// The number of the frame that a socket receives.
+/// Returns the number of the frame that a socket receives.
 fn number(bus: &mut RingBus, socket: SocketId) -> Result<Option<u64>, Stop> {
-    // The checker has to meet the types inside an answer before a bus gives one.
+    // The checker must meet the types inside an answer before a bus returns one.
     let _types: Option<(Item, Received)> = None;
     match bus.receive(socket)? {
         Some(received) => Ok(Some(received.number)),
@@ -76,7 +76,7 @@ pub fn calls(alloc: Global) -> Result<(), Stop> {
     crossed(&mut bus, alloc, &filters)
 }
 
-/// Of two frames one passes the filters.
+/// Sends two frames, of which one passes the filters.
 fn crossed(bus: &mut RingBus, alloc: Global, filters: &FilterSet) -> Result<(), Stop> {
     let sender = opened(bus, alloc, 0, 256)?;
     let receiver = opened(bus, alloc, 1, 65_536)?;
@@ -88,7 +88,8 @@ fn crossed(bus: &mut RingBus, alloc: Global, filters: &FilterSet) -> Result<(), 
     demand(number(bus, receiver)? == None && bus.record().len() == 9)
 }
 
-/// What one event of a list is answered, once memory is not refused any more. Until then nothing may change.
+/// Returns the reply to one event of a list. It tries once more if there was no memory; the failed call must not change
+/// the bus.
 fn answered(bus: &mut RingBus, alloc: Global, event: &[Event; 1]) -> Result<Reply, Stop> {
     let before = bus.record().len();
     for _ in 0..2 {
@@ -105,7 +106,7 @@ fn answered(bus: &mut RingBus, alloc: Global, event: &[Event; 1]) -> Result<Repl
 }
 
 pub fn runs(alloc: Global) -> Result<(), Stop> {
-    // The checker has to meet the types inside a reply before a bus gives one.
+    // The checker must meet the types inside a reply before a bus returns one.
     let _types: Option<(Attempt, Item, Received)> = None;
     let mut bus = RingBus::new(alloc, TWO)?;
     let opening = [Event::Open(iface(1)?, 16)];
@@ -118,7 +119,7 @@ pub fn runs(alloc: Global) -> Result<(), Stop> {
     demand(bus.record().len() == 3)
 }
 
-/// A copy of an event that sets two filters.
+/// Returns a copy of an event that sets two filters.
 fn setting(alloc: Global) -> Result<Event, Stop> {
     let filters = FilterSet::from_slice(alloc, &[Filter::new(1, 2)?, Filter::new(3, 4)?])?;
     Ok(Event::SetFilters(SocketId(0), filters).try_copy(alloc)?)

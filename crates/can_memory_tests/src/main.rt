@@ -1,8 +1,9 @@
-//! Calls of the libraries that take memory, each with what it answers, and what it leaves where it was refused.
+//! Library calls that allocate memory, with their usual answers and with the state that they leave if there is no
+//! memory.
 //!
-//! With ample memory a line says of each that it answers as ever. `tests/test_memory.py` refuses this program memory, once at
-//! each place: a call that was refused has to leave all as it was, and, made once more, to answer as ever; so what the program
-//! writes is the same.
+//! With enough memory, the program writes one line for each call, which says that its answer is the usual one.
+//! `tests/program/test_memory.py` denies this program memory once at each place. A call that fails must change nothing,
+//! and must give its usual answer when repeated. So the output of the program is always the same.
 #![tactic(auto)]
 
 mod buses;
@@ -14,7 +15,7 @@ use std::alloc::Global;
 use std::process::ExitCode;
 use stops::Stop;
 
-/// What is tried.
+/// The subject of a trial.
 #[derive(Clone, Copy)]
 enum Trial {
     Names,
@@ -56,7 +57,7 @@ fn main(rt: HostRuntime) -> ExitCode {
     ExitCode::from(status)
 }
 
-/// Whether a trial goes well. Where memory was refused to a call that changes nothing, it begins anew.
+/// Returns whether a trial succeeds. If there was no memory for a call that changes nothing, the trial is repeated.
 fn is_as_ever(alloc: Global, trial: Trial) -> bool {
     match carry_out(alloc, trial) {
         Ok(()) => true,

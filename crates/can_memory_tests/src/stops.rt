@@ -7,16 +7,16 @@ use can_proto::ProtoFault;
 use can_queue::QueueError;
 use std::alloc::AllocError;
 
-/// Why a trial ended.
+/// The cause for which a trial ended early.
 #[derive(Debug, Clone, Copy, PartialEq, Eq)]
 pub enum Stop {
-    /// Memory was refused.
+    /// There was no memory.
     NoMemory,
-    /// An answer is not the one of ample memory, or a refused call changed something.
+    /// An answer differs from the one with enough memory, or a failed call changed something.
     Wrong,
 }
 
-/// Ends a trial where this is not so.
+/// Ends the trial if the condition is false.
 pub fn demand(is_right: bool) -> Result<(), Stop> {
     if is_right { Ok(()) } else { Err(Stop::Wrong) }
 }

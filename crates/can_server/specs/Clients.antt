@@ -45,17 +45,17 @@ Admits old conn now (Err refused.Closed) new = (old.is_closed ≡ true) × (new 
 Admits old conn now (Err refused.Full) new =
     (old.is_closed ≡ false) × NoneFree old.places × (new ≡ old)
 
--- whether a client came at least 60 seconds ago and its session has not been raw
+-- whether a client came at least 60 seconds ago and its session has not entered raw mode
 abbrev pub is_idle : ℕ → Phase → Bool
 is_idle now (stay.New came) = nat_le (came + 60000000) now
 is_idle now stay.Raw = false
 is_idle now stay.ShutOut = false
 
--- the client after its session became raw
+-- the client after its session entered raw mode
 abbrev pub raw : Client → Client
 raw client = record { conn = client.conn; stay = stay.Raw }
 
--- the places after the session at one of them became raw
+-- the places after the session at one of them entered raw mode
 abbrev pub raw_at : List (Option Client) → ℕ → List (Option Client)
 raw_at places place = set places place (option_map raw (slice_index_or places place None))
 

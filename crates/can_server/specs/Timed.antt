@@ -25,8 +25,8 @@ abbrev pub after_attempt : Verdict → Attempt → Schedule → Schedule
 after_attempt v (attempt.Tried t) s = after_tried t.frame t.class v s
 after_attempt v (attempt.Idle restarted) s = after_idle s
 
--- an attempt follows a schedule: a frame has the time of its end, and the schedule advances by the length of the
--- attempt, which depends on its class and its verdict
+-- an attempt follows a schedule: a frame has the time of its end. The schedule advances by the length of the attempt,
+-- which depends on its class and its verdict
 abbrev pub GoesBy : Schedule → Verdict → Attempt → Schedule → Type 0
 GoesBy old v (attempt.Tried t) new =
     (t.moment ≡ next_moment (Some t.frame) old) × (new ≡ after_tried t.frame t.class v old)

@@ -89,7 +89,7 @@ impl<'a, N: BusName, F: FaultSource + Drop, G: Gate + Drop, C: Clock, R: Wait + 
     R,
 > {
     /// Returns the number of connections that an acceptor accepts. Each counts as one of its sessions, except in a long
-    /// run, where only sessions that became raw count.
+    /// run, where only sessions that entered raw mode count.
     fn most_connections(&self, acceptor: &Acceptor) -> u32 {
         if self.is_long {
             u32::MAX

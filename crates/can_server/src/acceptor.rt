@@ -60,7 +60,7 @@ pub struct Acceptor {
     listener: Listener,
     shutdown_handle: Conn,
     sessions: u32,
-    /// The number of sessions that became raw, in a run that counts them.
+    /// The number of sessions that entered raw mode, in a run that counts them.
     raw: AtomicU64,
 }
 
@@ -81,8 +81,8 @@ impl Acceptor {
         self.sessions
     }
 
-    /// Counts a session that became raw. Returns whether the acceptor accepts it. The last accepted session closes the
-    /// acceptor.
+    /// Counts a session that entered raw mode. Returns whether the acceptor accepts it. The last accepted session
+    /// closes the acceptor.
     pub(crate) fn count_raw(&self) -> bool {
         let before = self.raw.fetch_add(1, Ordering::SeqCst);
         let sessions = u64::from(self.sessions);
@@ -92,7 +92,7 @@ impl Acceptor {
         before < sessions
     }
 
-    /// Returns whether as many sessions became raw as the acceptor accepts.
+    /// Returns whether as many sessions entered raw mode as the acceptor accepts.
     pub(crate) fn is_used_up(&self) -> bool {
         self.raw.load(Ordering::SeqCst) >= u64::from(self.sessions)
     }

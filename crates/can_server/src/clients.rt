@@ -11,7 +11,7 @@ use std::sync::Arc;
 /// The largest number of sessions at the same time.
 const MOST_AT_ONCE: usize = 64;
 
-/// The microseconds after which a client may lose its place if its session never became raw.
+/// The microseconds after which a client may lose its place if its session never entered raw mode.
 const MOST_IDLE: u64 = 60_000_000;
 
 /// The cause for which a connection has no place.
@@ -26,9 +26,9 @@ pub enum NotAdmitted {
 /// The phase of a client's visit.
 #[derive(Debug, Clone, Copy, PartialEq, Eq)]
 pub enum Phase {
-    /// The client came at this time, and its session has not been raw.
+    /// The client came at this time, and its session has not entered raw mode.
     New(Moment),
-    /// The session of the client has been raw.
+    /// The session of the client has entered raw mode.
     Raw,
     /// The client was idle when another client needed a place, so the server shut down its connection.
     ShutOut,
@@ -127,7 +127,7 @@ impl Clients {
         None
     }
 
-    /// Marks the client at this place as raw: it cannot lose the place any more.
+    /// Marks that the client at this place entered raw mode: it cannot lose the place any more.
     pub fn keep(&mut self, place: usize)
         ensures { self.new ≡ record self.old { places = raw_at self.old.places place } }
     {
@@ -139,8 +139,8 @@ impl Clients {
     }
 
     /// Shuts down the connections of idle clients, because another client found no place. An idle client came at least
-    /// 60 seconds ago, and its session has not been raw. Returns whether a client that is shut out will soon free its
-    /// place.
+    /// 60 seconds ago, and its session has not entered raw mode. Returns whether a client that is shut out will soon
+    /// free its place.
     pub fn make_room(&mut self, now: Moment) -> bool
         ensures clients { self.new ≡ record self.old { places = all_asked now self.old.places } }
         ensures soon { IsTrue result ↔ Any IsShutOut self.new.places }

@@ -104,8 +104,8 @@ impl<'a, N: BusName, F: FaultSource + Drop, G: Gate + Drop, C: Clock, R: Wait + 
         false
     }
 
-    /// Makes up to this many steps of a bus under one hold of its lock, while an interface has a frame to send or
-    /// counts towards its restart. It stops after an attempt in which an interface went bus off or was restarted.
+    /// Makes up to this many steps of a bus under one hold of its lock. It stops if no interface has a frame to send or
+    /// counts towards its restart. It also stops after an attempt in which an interface went bus off or was restarted.
     fn step_some(
         &self,
         mut hold: Hold<'_, N, F, G, HubBus>,

@@ -8,8 +8,8 @@
 //! Two properties of the threads are proved. The server hands back one list of passes for each bus, and a closed server
 //! admits no client ([`Clients`]). The sessions are those of can_dialog, each with its own pass. The texts of their
 //! replies and items are written in order, each once ([`Batch`]). [`Opening`] recognizes connections that no client
-//! would begin, and the server closes them. It is not proved that a peer receives anything, that a thread waits only
-//! for a limited time, or that no two threads wait for each other.
+//! would begin, and the server closes them. It is not proved that a peer receives anything, or that a wait ends within
+//! a limited time. Nor is it proved that no two threads wait for each other.
 #![tactic(auto)]
 
 mod accepting;

@@ -30,7 +30,7 @@ pub struct Server<'a, N: BusName, F: FaultSource + Drop, G: Gate + Drop, C, R> {
     pub clients: &'a Mutex<Clients>,
     pub returned: &'a Mutex<ReturnedPasses<N>>,
     /// Whether the buses are those of long runs. A session may then reuse the pass of a session that is over, and
-    /// counts only once it is raw.
+    /// counts only once it is in raw mode.
     pub is_long: bool,
     /// Whether all sessions are over.
     pub is_ending: &'a AtomicBool,

@@ -53,10 +53,10 @@ pub trait Clock {
 /// also returns after the end of `until`: the server then admits no more clients and shuts down the current sessions.
 ///
 /// An acceptor is closed after its last session, so that the system refuses later connections. If 64 sessions are
-/// running, the next client receives `too many sessions` and counts as accepted. But if a session began 60 seconds ago
-/// by the clock and has not been raw, the server closes it and gives its place to the new client. If an acceptor cannot
-/// accept a connection, for example for lack of file descriptors, it tries again every 100 ms. 64 failed tries count as
-/// one session.
+/// running, the next client receives `too many sessions` and counts as accepted. The exception is a session that began
+/// 60 seconds ago by the clock and has not entered raw mode. The server closes that session and gives its place to the
+/// new client. If an acceptor cannot accept a connection, for example for lack of file descriptors, it tries again
+/// every 100 ms. 64 failed tries count as one session.
 ///
 /// A fault of a session's connection, or a lack of memory for a session, ends only that session. The result is
 /// `AllocError` if there was no memory to start the server. All threads that were started are then over, and the
@@ -148,9 +148,9 @@ impl<
 }
 
 /// Runs a server as `serve` does. Buses of long runs need one scribe each. Without it, the sessions of a bus wait as
-/// soon as the bus's tail is full. With scribes, a session may reuse the pass of a session that is over, so the number
-/// of sessions in a run has no limit. A session then counts for its acceptor only once it is raw. A session that
-/// becomes raw after the last one that counts receives `too many sessions`.
+/// soon as the bus's tail is full. With scribes, a session may reuse the pass of a session that is over. So the number
+/// of sessions in a run has no limit. A session then counts for its acceptor only once it is in raw mode. A session
+/// that enters raw mode after the last one that counts receives `too many sessions`.
 ///
 /// The scribes go on until the other threads are over, and then give their keepers the last entries. The result is
 /// `AllocError` as for `serve`; the scribes are then over, too.

@@ -73,8 +73,8 @@ impl<
         self.is_long.then_some(self.returned)
     }
 
-    /// Reads the client's input. Once the session is raw, its client keeps its place, and another thread delivers its
-    /// items.
+    /// Reads the client's input. Once the session is in raw mode, its client keeps its place, and another thread
+    /// delivers its items.
     fn hear_all(&self, talk: &Mutex<Conversation<'_, N, F, G, R>>, visit: &Visit<'_>, conn: &Conn) {
         let Some(place) = self.hear_until_raw(talk, conn) else {
             self.report_stranger(talk, visit.session);
@@ -131,7 +131,7 @@ impl<'a, N: BusName, F: FaultSource + Drop, G: Gate + Drop, C: Clock, R: Wait + 
         stop_full(self.rt, place.station);
     }
 
-    /// Reads until the session is raw, and returns its socket, or none if the session ended before.
+    /// Reads until the session is in raw mode, and returns its socket, or none if the session ended before.
     fn hear_until_raw<'t>(
         &self,
         talk: &Mutex<Conversation<'t, N, F, G, R>>,

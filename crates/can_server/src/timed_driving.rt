@@ -82,9 +82,9 @@ impl<'a, N: BusName, F: FaultSource + Drop, G: Gate + Drop, C: Clock, R: Wait + 
     /// towards its restart. It makes each step when the wire is free. Returns whether the station refused a step, which
     /// ends the driver.
     ///
-    /// The schedule lets each attempt begin at the end of the one before it, given by the length of the attempt and not
-    /// by the clock. So a driver that wakes late does not stay late. A late driver makes up to 64 attempts under one
-    /// hold of the lock.
+    /// The schedule lets each attempt begin at the end of the one before it. That end follows from the length of the
+    /// attempt, not from the clock. So a driver that wakes late does not stay late. A late driver makes up to 64
+    /// attempts under one hold of the lock.
     pub fn step_in_time(&self, bus: usize, timing: Timing, pass: &mut Pass<N>) -> bool {
         if bus >= self.buses.count() {
             return false;

@@ -11,29 +11,29 @@ use Rattle.canbusd_audit.specs.Audited.{AuditsFiles}
 use Rattle.canbusd_bench.specs.Benched.{IsBenched}
 use Rattle.canbusd_serve.specs.Served.{IsServed}
 
--- What a command line comes to that ends with status 0 (own choice).
+-- The result of a command line that ends with status 0 (own choice).
 
--- the bits of a frame were written, and where others fall silent
+-- the text with the bits of a frame was written, as `bits` asks for it
 abbrev pub WritesBits : {W : Type 0} → BitsOptions → (W → Option (List ℕ)) → W → W → Type 0
 WritesBits o contents old new =
     (text : List ℕ) × IsBitsText o.frame o.others.items o.timing text × Appends (contents old) (contents new) text
 
--- a job was done over the rest of an input, and what it puts out was written: the bench that its options
--- describe, an audit of a text that is a legal record's, or its front where it may be cut off, with its events and with
--- the rules that decided where they are asked for, a server whose records are legal, or the bits of a frame
+-- the job was done over the rest of an input, and its output was written: a bench with its options, an audit, a server
+-- whose records are legal, or the bits of a frame. An audit passes the text of a legal record, or the front of one if
+-- it may be cut off. It writes the events and the rules that decided, if asked for.
 abbrev pub IsDone : {W : Type 0} → (W → Option (List ℕ)) → Job → Option (List ℕ) → W → W → Type 0
 IsDone contents (job.Bench o) input old new = IsBenched contents o input old new
 IsDone contents (job.Audit o) input old new = AuditsFiles o.is_cut o.output contents old new
 IsDone contents (job.Serve o) input old new = IsServed contents o old new
 IsDone contents (job.Bits o) input old new = WritesBits o contents old new
 
--- the job that words ask for was done
+-- the job that the words ask for was done
 pub record IsJobDone {W : Type 0} (contents : W → Option (List ℕ)) (words : List Text) (input : Option (List ℕ))
     (old new : W) : Type 0 where
   pub job : Job
   pub asked : IsAsked words job
   pub done : IsDone contents job input old new
 
--- the job that words ask for was done, or they ask for help
+-- the job that the words ask for was done, or the words ask for help
 abbrev pub Succeeds : {W : Type 0} → (W → Option (List ℕ)) → List Text → Option (List ℕ) → W → W → Type 0
 Succeeds contents words input old new = IsJobDone contents words input old new ⊎ AskHelp words

@@ -1,4 +1,4 @@
-//! The bits of a frame, as they are written.
+//! The job that writes the bits of a frame.
 ghost use Rattle.std.specs.Prelude.{◌≡◌, ◌⊎◌, IfErr, OnOk};
 ghost use Rattle.canbusd.specs.Outcomes.{WritesBits};
 ghost use Rattle.canbusd_io.specs.declared.program_error.ProgramError.TheVariants as told;
@@ -9,7 +9,7 @@ use canbusd_options::BitsOptions;
 use std::alloc::Global;
 use std::io::Write;
 
-/// Writes the bits of a frame, and where others that compete with it fall silent.
+/// Writes the bits of a frame and, for each other frame, the bit at which its sender falls silent.
 pub fn write_bits<'a, W: Write>(
     alloc: Global,
     options: &BitsOptions,

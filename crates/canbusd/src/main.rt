@@ -1,14 +1,14 @@
 //! canbusd: simulated CAN buses in user space.
 //!
-//! `canbusd bench BUS` reads lines that open sessions, feed them commands and put frames on one bus, and
-//! writes the texts of the sessions; `canbusd serve BUS..` serves clients over sockets; `canbusd audit FILE..` checks the
-//! record of such a run; `canbusd bits FRAME` writes the bits of a frame. `program` carries out a command line and
-//! returns its status; its words are canbusd_options', its jobs canbusd_bench's, canbusd_serve's and canbusd_audit's, but
-//! for that of bits, which is here.
+//! `canbusd bench BUS` reads lines that open sessions, feed commands to them and put frames on one bus. It writes the
+//! texts of the sessions. `canbusd serve BUS..` serves clients over sockets. `canbusd audit FILE..` checks the record
+//! of a run. `canbusd bits FRAME` writes the bits of a frame. The module `program` carries out a command line and
+//! returns its status. The crate canbusd_options reads the words. The jobs are in canbusd_bench, canbusd_serve and
+//! canbusd_audit, except the job of `bits`, which is in this crate.
 //!
-//! What is proved here: no command line, file or input makes a function fail, none but `serve` waits for others; and of
-//! `run_words`, that status 0 means that the job of the words was done and its output written, and status 2 that they ask
-//! for no job.
+//! Three properties are proved here. No command line, file or input makes a function fail, and only `serve` waits for
+//! others. Status 0 of `run_words` means that the requested job was done, or help was requested, and its output was
+//! written. Status 2 means that the words ask for no job.
 #![tactic(auto)]
 
 mod bits_job;
@@ -23,7 +23,7 @@ use std::rt::Env;
 use std::{env, io};
 
 fn main(rt: HostRuntime) -> ExitCode {
-    // The checker has to meet the sockets of the system before a server is made over them.
+    // The checker must meet the sockets of the system before a server uses them.
     let _types: Option<(TcpListener, TcpStream)> = None;
     let alloc = rt.alloc();
     let errors = &mut rt.stderr();

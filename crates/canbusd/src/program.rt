@@ -23,12 +23,13 @@ const FAILED: u8 = 1;
 
 const BAD_WORDS: u8 = 2;
 
-/// Carries out a command line, the program's name among its words, and returns its status: 0, 1 with a line
-/// `canbusd: TEXT` among the errors and notes after it, or 2 for a fault of the words with the parser's own text.
-/// All output was written, or the status is 1 and the text `write fault`. Status 0 means that what the words ask for was
-/// done and put out, status 2 that they ask for no job.
+/// Carries out a command line, which begins with the program's name, and returns its status.
 ///
-/// A server may wait for its clients for ever; no other command line waits, but for its input.
+/// Status 0 means that the requested job was done, or help was requested, and all output was written. Status 1 means a
+/// fault: a line `canbusd: TEXT` and its notes are written to the errors. If not all output was written, the status is
+/// 1 and the text is `write fault`. Status 2 means that the words ask for no job, and the error text is the parser's.
+///
+/// A server may wait for its clients for ever. Other command lines wait only for their input.
 pub fn run_words<
     H: ServerRuntime,
     R: Read + Drop + Send + 'static,
@@ -54,7 +55,7 @@ pub fn run_words<
     }
 }
 
-// Carries out a job, and returns its status.
+// Carries out a job and returns its status.
 fn carry_out<H: ServerRuntime, R: Read + Drop + Send + 'static, W: Write + Drop, E: Write + Send>(
     rt: &H,
     alloc: Global,
@@ -81,7 +82,7 @@ fn carry_out<H: ServerRuntime, R: Read + Drop + Send + 'static, W: Write + Drop,
     status
 }
 
-// Does a job. Returns whether all of it was done: if not, each fault was reported.
+// Does a job. Returns whether the whole job was done; if not, it has reported each fault.
 fn do_job<'a, H: ServerRuntime, R: Read + Drop + Send + 'static, W: Write + Drop, E: Write + Send>(
     rt: &H,
     alloc: Global,
@@ -103,7 +104,7 @@ fn do_job<'a, H: ServerRuntime, R: Read + Drop + Send + 'static, W: Write + Drop
     Ok(true)
 }
 
-// Reports why the words ask for no job, or what help they ask for.
+// Reports the fault of the words, or writes the help that they ask for. Returns the status.
 fn tell_words<W: Write + Drop, E: Write>(
     alloc: Global,
     error: &Error,
@@ -126,7 +127,7 @@ fn tell_words<W: Write + Drop, E: Write>(
     finish(alloc, outcome, output, errors)
 }
 
-// Writes what was put out, also before a fault. If that fails, that is reported. Returns the status.
+// Flushes the output, even after a fault, and reports a failure to do so. Returns the status.
 fn finish<W: Write + Drop, E: Write>(
     alloc: Global,
     outcome: Result<(), Report<'_>>,
@@ -149,7 +150,7 @@ fn finish<W: Write + Drop, E: Write>(
     }
 }
 
-// The report of a job whose output was not written: as the job gives it, if it met that itself.
+// Returns the report for output that was not written: the job's own report if it has one, or this late one.
 fn write_fault<'a>(outcome: Result<(), Report<'a>>, late: Report<'a>) -> Report<'a> {
     let Err(failure) = outcome else {
         return late;
@@ -162,7 +163,7 @@ fn write_fault<'a>(outcome: Result<(), Report<'a>>, late: Report<'a>) -> Report<
     }
 }
 
-/// Reports why a command line was not carried out, and returns its status.
+/// Reports the fault of a command line and returns its status.
 pub fn fail<E: Write>(failure: &Report<'_>, errors: &mut E) -> u8
     ensures { result ≡ 1 }
 {

@@ -23,7 +23,7 @@ use Rattle.canbusd_bench.specs.Refusals.{GrowsByRefusal, GrowsQuietly}
 use Rattle.canbusd_bench.specs.inner.Watched.{told}
 use Rattle.canbusd_bench.proofs.Watching.{Watching, loudly, nothing, quiet_if, seen_whole, unknown_refusal, wrote}
 
--- A run of the bench over the configuration that options describe.
+-- A run of the bench with the configuration of the options.
 
 -- the reply of a bench of this configuration
 pub record Answered {W : Type 0} (contents : W → Option (List ℕ)) (shows : Bool) (timing : Option BusTiming) (c : BusConfig) (capacity : ℕ) (names : List (List ℕ)) (plan : PlanSeen) (input : Option (List ℕ)) (out : W) (r : Result Kept BenchFault) (new : W) : Type 0 where
@@ -31,7 +31,7 @@ pub record Answered {W : Type 0} (contents : W → Option (List ℕ)) (shows : B
   pub untouched : r ≡ Err BadConfig → new ≡ out
   pub runs : r ≢ Err BadConfig → EndsOver contents no_verdicts input (at_start_with shows plan timing names c capacity) out r new
 
--- a run that came to its end
+-- a complete run
 pub ended : {W : Type 0} (contents : W → Option (List ℕ)) (c : BusConfig) (o : BenchOptions) (names : List (List ℕ)) (plan : PlanSeen) (input : Option (List ℕ)) (out new : W) (r : Kept)
     → c ≡ config_of o.settings (length names) → Answered contents o.shows_faults o.timing c o.settings.rx_capacity names plan input out (Ok r) new
     → EndsOver contents no_verdicts input (begun plan o names) out (Ok r) new
@@ -47,7 +47,7 @@ stops contents o names plan input out new Read a = a.runs (search rules)
 stops contents o names plan input out new Write a = a.runs (search rules)
 stops contents o names plan input out new NoMemory a = a.runs (search rules)
 
--- a run that ended in a fault
+-- a run that ended with a fault
 pub stopped : {W : Type 0} (contents : W → Option (List ℕ)) (c : BusConfig) (o : BenchOptions) (names : List (List ℕ)) (plan : PlanSeen) (input : Option (List ℕ)) (out new : W) (why : BenchFault) (f : ProgramError)
     → c ≡ config_of o.settings (length names) → f ≡ fault.Bench why → Answered contents o.shows_faults o.timing c o.settings.rx_capacity names plan input out (Err why) new
     → StopsBy contents o names plan input out f new
@@ -55,7 +55,7 @@ stopped contents c o names plan input out new why f is told a =
     subst (λ (x : ProgramError). StopsBy contents o names plan input out x new) (sym told)
     (stops contents o names plan input out new why (subst (λ (k : BusConfig). Answered contents o.shows_faults o.timing k o.settings.rx_capacity names plan input out (Err why) new) is a))
 
--- the same under the faults of the script that the options name
+-- a complete run, under the faults of the script in the options
 pub ran : {W : Type 0} (E : Type 0) (contents : W → Option (List ℕ)) (o : BenchOptions) (names : List (List ℕ)) (plan : PlanSeen) (input : Option (List ℕ)) (out new : W) (r : Result Kept E)
     → IsPlan o.bus.script names plan → IfOk r (λ k. EndsOver contents no_verdicts input (begun plan o names) out (Ok k) new)
     → IfOk r (λ k. k.config ≡ config_of o.settings (length names)) → IfOk r (λ k. IsConfig k.config) → IfOk r (λ k. IsLegal k.config k.history)
@@ -63,7 +63,7 @@ pub ran : {W : Type 0} (E : Type 0) (contents : W → Option (List ℕ)) (o : Be
 ran E contents o names plan input out new (Ok k) scripted ends config proper legal = record { plan = plan; scripted = scripted; ends = ends; config = config; proper = proper; legal = legal }
 ran E contents o names plan input out new (Err why) scripted ends config proper legal = tt
 
--- the writer that took a watcher's bytes, if these are known: the one that was flushed
+-- the writer that took a watcher's bytes, if they are known, is the one that was flushed
 pub record Taken {W : Type 0} (contents : W → Option (List ℕ)) (old behind new : W) (text : List ℕ) : Type 0 where
   pub written : W
   pub took : Appends (contents old) (contents written) text
@@ -83,7 +83,7 @@ taken contents before after strict old behind flushed new seen text a =
       }
     ]
 
--- the output of a run that came to its end
+-- the output of a complete run
 abbrev text_in : {V : Type 0} (outer : V → Option (List ℕ)) (verdicts : VerdictMap) (input : Option (List ℕ)) (b : BenchState) (v w : V) (r : Kept)
     → EndsOver outer verdicts input b v (Ok r) w → (text : List ℕ) × Appends (outer v) (outer w) text
 text_in outer verdicts input b v w r (now, (lines, after, all, over, none, out, leaves)) = (out.text, out.wrote)
@@ -99,13 +99,13 @@ run_over : {V W : Type 0} (outer : V → Option (List ℕ)) (contents : W → Op
 run_over outer contents o names input v w old new r run a =
     record { plan = run.plan; scripted = run.scripted; ends = moved outer contents no_verdicts input (begun run.plan o names) v w old new r run.ends a; config = run.config; proper = run.proper; legal = run.legal }
 
--- known bytes that did not grow quietly, or by a refusal, are known
+-- a property of the bytes written holds, whether the writer's bytes are known or not
 unless_known : {W : Type 0} (contents : W → Option (List ℕ)) (P : Option (List ℕ) → Option (List ℕ) → Type 0) (old behind written : W)
     → (contents old ≡ None) ⊎ (written ≡ behind) → (contents old ≡ None → P (contents old) (contents written)) → P (contents old) (contents behind) → P (contents old) (contents written)
 unless_known contents P old behind written (inl unknown) first second = first unknown
 unless_known contents P old behind written (inr is) first second = subst (λ w. P (contents old) (contents w)) (sym is) second
 
--- a run whose output went through a watcher that saw no refusal
+-- a run whose watcher saw no refusal
 pub benched : {V W : Type 0} (outer : V → Option (List ℕ)) (contents : W → Option (List ℕ)) (o : BenchOptions) (input : Option (List ℕ)) (v w : V) (old behind flushed new : W) (r : Kept)
     → AreNames (names_in o.bus.names.now) → (seen : Watching contents (outer v) (outer w) o.is_strict old behind flushed new) → (seen.on ≡ false) ⊎ (seen.seen ≢ 9)
     → IsRunAsAsked outer o (names_in o.bus.names.now) input v r w → IsBenched contents o input old new
@@ -124,7 +124,7 @@ benched outer contents o input v w old behind flushed new r named seen none run 
           (quiet_if seen.name seen.is o.is_strict seen.on seen.written seen.seen (contents old) (contents behind) text.0 whole none e);
     }
 
--- and through one that saw a refusal
+-- a run whose watcher saw a refusal
 pub refused : {V W : Type 0} (outer : V → Option (List ℕ)) (contents : W → Option (List ℕ)) (o : BenchOptions) (input : Option (List ℕ)) (v w : V) (old behind flushed new : W) (r : Kept)
     → AreNames (names_in o.bus.names.now) → (seen : Watching contents (outer v) (outer w) o.is_strict old behind flushed new) → (seen.on ≡ true) × (seen.seen ≡ 9)
     → IsRunAsAsked outer o (names_in o.bus.names.now) input v r w → MeetsRefusal contents o input old new
@@ -143,7 +143,7 @@ refused outer contents o input v w old behind flushed new r named seen some run 
           (loudly seen.name seen.is o.is_strict seen.written seen.seen (contents old) (contents behind) text.0 (subst (λ b. Appends (told seen.name o.is_strict 0 0 (contents old)) (told seen.is b seen.written seen.seen (contents behind)) text.0) some.0 whole) some.1);
     }
 
--- a run that ended in a fault, whose output went through a watcher
+-- a run with a watcher that ended with a fault
 pub record Stopped {W : Type 0} (P : W → Type 0) (contents : W → Option (List ℕ)) (new : W) : Type 0 where
   pub written : W
   pub stops : P written
@@ -172,7 +172,7 @@ stopped_over outer contents verdicts input b v w strict old behind flushed new N
 stopped_over outer contents verdicts input b v w strict old behind flushed new Write seen (now, end) = record { written = new; stops = (now, tt); kept = Keeps-refl (contents new) }
 stopped_over outer contents verdicts input b v w strict old behind flushed new BadConfig seen (now, end) = absurd end
 
--- a watcher that nothing went through keeps what its writer has
+-- a watcher that wrote nothing leaves its writer unchanged
 untouched : {W : Type 0} (contents : W → Option (List ℕ)) (before after : Option (List ℕ)) (strict : Bool) (old behind flushed new : W) (seen : Watching contents before after strict old behind flushed new)
     → (seen.is ≡ seen.name) × (behind ≡ old) → Keeps (contents old) (contents new)
 untouched contents before after strict old behind flushed new seen (is, same) =
@@ -190,7 +190,7 @@ fails_so outer contents o names plan input v w old behind flushed new (fault.Ben
 fails_so outer contents o names plan input v w old behind flushed new (fault.Bench Write) seen same ends = stopped_over outer contents no_verdicts input (begun plan o names) v w o.is_strict old behind flushed new Write seen ends
 fails_so outer contents o names plan input v w old behind flushed new _ seen same stops = absurd stops
 
--- a run that failed, whose output went through a watcher
+-- a run with a watcher that failed
 pub failed : {V W : Type 0} (outer : V → Option (List ℕ)) (contents : W → Option (List ℕ)) (o : BenchOptions) (input : Option (List ℕ)) (v w : V) (old behind flushed new : W) (why : ProgramError)
     → AreNames (names_in o.bus.names.now) → (seen : Watching contents (outer v) (outer w) o.is_strict old behind flushed new) → (w ≡ v → (seen.is ≡ seen.name) × (behind ≡ old))
     → FailsBy outer o (names_in o.bus.names.now) input v why w → IsStopped contents o input old why new
@@ -200,12 +200,12 @@ failed outer contents o input v w old behind flushed new why named seen same (in
     let s = fails_so outer contents o (names_in o.bus.names.now) plan input v w old behind flushed new why seen same stops in
     inr (inr (named, s.written, inr (plan, scripted, s.stops), s.kept))
 
--- a run that came to its end, by whether a refusal was seen
+-- a complete run, with or without a refusal that was seen
 pub by_refusal : {A : Type 0} (r : Option A) (N P S R : Type 0) (Q : A → Type 0) → IfNone r N → IfSome r Q → (IsSome r → S) → (N → P) → (S → R) → MatchOption r P (λ a. Q a × R)
 by_refusal None N P S R Q none some seen f g = f none
 by_refusal (Some a) N P S R Q none some seen f g = (some, g (seen (search rules)))
 
--- whether a refusal was seen, the run came to its end
+-- the run is complete, whether a refusal was seen or not
 pub has_ended : {A : Type 0} (r : Option A) (P R : Type 0) (Q : A → Type 0) → MatchOption r P (λ a. Q a × R) → P ⊎ R
 has_ended None P R Q has = inl has
 has_ended (Some a) P R Q has = inr has.1
@@ -214,7 +214,7 @@ pub if_err : {A E : Type 0} (r : Result A E) (P Q : E → Type 0) → IfErr r P 
 if_err (Ok a) P Q p f = tt
 if_err (Err e) P Q p f = f e p
 
--- a property of an error is one of the error passed on
+-- a property of an error holds for the error that is passed on
 pub passed_on : {T F : Type 0} (P : F → Type 0) (e : F) (r : Result T F) → IsErrAnd r (λ x. x ≡ e) → P e → IfErr r P
 passed_on P e (Ok t) same holds = tt
 passed_on P e (Err x) same holds = subst P (sym same) holds

@@ -3,12 +3,12 @@ use Rattle.std.proofs.lemmas.List.{take_more}
 use Rattle.canbusd_bench.specs.Refusals.{HasRefusal}
 use Rattle.canbusd_bench.specs.inner.Watched.{seen_after, seen_in}
 
--- The text that a watcher saw is there.
+-- The text has the refusal that a watcher saw.
 
 abbrev front : List ℕ
 front = codes "< error "
 
--- the count is 9 after a refusal, and else the number of last bytes that begin one
+-- the number is 9 after a refusal; otherwise it is the number of last bytes that begin one
 abbrev Saw : ℕ → List ℕ → Type 0
 Saw seen text = ((seen ≡ 9) × HasRefusal text) ⊎ ((seen ≤ 8) × (before : List ℕ) × (text ≡ before ++ take seen front))
 
@@ -48,7 +48,7 @@ longer seen text before b few is text_is =
     ap (λ l. l ++ b ∷ []) text_is ∙ append_assoc before (take seen front) (b ∷ [])
     ∙ ap (λ l. before ++ l) (ap (λ x. take seen front ++ x ∷ []) (sym is) ∙ sym (take_more front seen 60 few))
 
--- after one byte more
+-- the same after one more byte
 more : (seen : ℕ) (text : List ℕ) (b : ℕ) → Saw seen text → Saw (seen_after seen b) (text ++ b ∷ [])
 more seen text b (inl (is, r)) = subst (λ n. Saw (seen_after n b) (text ++ b ∷ [])) (sym is) (inl (refl, stays text b r))
 more seen text b (inr (few, before, text_is)) =
@@ -72,12 +72,12 @@ more seen text b (inr (few, before, text_is)) =
     by_tests false false false least most true nine-is o e l m n = let s : seen ≢ 8 = λ i. absurd (true≢false (sym (ap (λ k. k == 8) i) ∙ e)) in inr (omega arith, before, longer seen text before b (omega arith) (eqb-true _ _ n) text_is)
     by_tests false false false least most false nine-is o e l m n = none
 
--- after many
+-- the same after several more bytes
 all_more : (rest : List ℕ) (seen : ℕ) (text : List ℕ) → Saw seen text → Saw (fold seen_after seen rest) (text ++ rest)
 all_more [] seen text saw = subst (Saw seen) (sym (append-nil text)) saw
 all_more (b ∷ rest) seen text saw = subst (Saw (fold seen_after (seen_after seen b) rest)) (append_assoc text (b ∷ []) rest) (all_more rest (seen_after seen b) (text ++ b ∷ []) (more seen text b saw))
 
--- a refusal that was seen is in the text
+-- if a refusal was seen, the text has one
 pub is_refusal : (text : List ℕ) → seen_in 0 text ≡ 9 → HasRefusal text
 is_refusal text e = elim (all_more text 0 [] (inr (omega arith, [], refl))) [
   | inl has ↦ has.1

@@ -7,14 +7,14 @@ use Rattle.canbusd_bench.specs.Refusals.{GrowsByRefusal, GrowsQuietly, HasRefusa
 use Rattle.canbusd_bench.specs.inner.Watched.{saw, seen_after, seen_in, told}
 use Rattle.canbusd_bench.proofs.Refused.{is_refusal}
 
--- A watcher's knowledge of its writer's bytes.
+-- The bytes of a watcher's writer, as the watcher knows them.
 
 -- both tests hold
 both : (a b : Bool) → (a && b) ≡ true → (a ≡ true) × (b ≡ true)
 both true b e = (refl, e)
 both false b e = absurd (true≢false (sym e))
 
--- it saw one piece more
+-- the watcher saw one more piece
 saw_more : (written seen : ℕ) (text piece : List ℕ) → saw written seen text ≡ true
     → (length (text ++ piece) - (written + length piece) ≡ length text - written) × (saw (written + length piece) (seen_in seen piece) (text ++ piece) ≡ true)
 saw_more written seen text piece was =
@@ -34,12 +34,12 @@ told_on name written seen text e = ap (λ (b : Bool). if b then Some (name ∷ s
 told_off : (name written seen : ℕ) (text : List ℕ) → saw written seen text ≡ false → told name true written seen (Some text) ≡ None
 told_off name written seen text e = ap (λ (b : Bool). if b then Some (name ∷ suc (length text - written) ∷ text) else None) e
 
--- whether a test holds
+-- a test is true or false
 decide : (b : Bool) → (b ≡ true) ⊎ (b ≡ false)
 decide true = inl refl
 decide false = inr refl
 
--- the knowledge after one piece more
+-- the known bytes after one more piece
 grown : (name written seen : ℕ) (old new : Option (List ℕ)) (piece : List ℕ) → Appends old new piece
     → Appends (told name true written seen old) (told name true (written + length piece) (seen_in seen piece) new) piece
 grown name written seen None new piece a = tt
@@ -59,7 +59,7 @@ unlooked name written seen w s None new piece a = tt
 unlooked name written seen w s (Some text) None piece a = absurd a
 unlooked name written seen w s (Some text) (Some after) piece a = ap (λ l. name ∷ 0 ∷ l) a
 
--- the same if it looks only while it is on
+-- the known bytes after one more piece, if the watcher looks only while it is on
 pub looked : (name is : ℕ) (is_on on : Bool) (written seen w s : ℕ) (old new : Option (List ℕ)) (piece : List ℕ) → is ≡ name → on ≡ is_on
     → (is_on ≡ true → w ≡ written + length piece) → (is_on ≡ true → s ≡ seen_in seen piece) → Appends old new piece
     → Appends (told name is_on written seen old) (told is on w s new) piece
@@ -72,7 +72,7 @@ looked name is false on written seen w s old new piece named same ws ss a =
     subst (λ n. Appends (told name false written seen old) (told n on w s new) piece) (sym named)
     (subst (λ b. Appends (told name false written seen old) (told name b w s new) piece) (sym same) (unlooked name written seen w s old new piece a))
 
--- a watcher that saw nothing yet
+-- a watcher has seen nothing at its start
 started : (text : List ℕ) → saw 0 0 text ≡ true
 started text = ap₂ (λ a b. a && b) (le-leb 0 (length text) (omega arith)) (eq-eqb _ _ (ap (seen_in 0) (drop_of_length-le text {i = length text - 0} (omega arith))))
 
@@ -87,7 +87,7 @@ at_start name true text = told_on name 0 0 text (started text)
 parts : (a b c d : ℕ) (x y : List ℕ) → a ∷ b ∷ x ≡ c ∷ d ∷ y → (a ≡ c) × (b ≡ d) × (x ≡ y)
 parts a b c d x y e = (search (rules, e), search (rules, e), search (rules, e))
 
--- the knowledge and the bytes
+-- the known bytes, and the bytes of the writer
 told_as : (name is : ℕ) (is_on : Bool) (written seen mark : ℕ) (text after : List ℕ) (piece : List ℕ) → Appends (Some (name ∷ mark ∷ text)) (told is is_on written seen (Some after)) piece
     → (is ≡ name) × (mark_of is_on (length after - written) ≡ mark) × (after ≡ text ++ piece) × ((is_on ≡ true) → saw written seen after ≡ true)
 told_as name is false written seen mark text after piece a = let t = parts _ _ _ _ _ _ a in (t.0, t.1, t.2, λ e. absurd (true≢false (sym e)))
@@ -103,7 +103,7 @@ wrote name is is_on on w s (Some bytes) None text a = absurd (subst (λ o. Appen
 wrote name is is_on on w s (Some bytes) (Some after) text a =
     let t = told_as name is on w s _ bytes after text (subst (λ o. Appends o (told is on w s (Some after)) text) (at_start name is_on bytes) a) in inr (t.0, t.2)
 
--- a refusal is seen
+-- the watcher sees a refusal
 letter_seen : (letter : ℕ) → 97 ≤ letter → letter ≤ 122 → seen_after 8 letter ≡ 9
 letter_seen letter least most = by_tests (letter == 60) (nat_le 97 letter) (nat_le letter 122) (ne_eqb _ _ (omega arith)) (le-leb _ _ least) (le-leb _ _ most)
   where
@@ -125,7 +125,7 @@ found : (text : List ℕ) → HasRefusal text → seen_in 0 text ≡ 9
 found text r =
     ap (seen_in 0) r.text_is ∙ fold-append seen_after 0 r.before (codes "< error " ++ r.letter ∷ r.after) ∙ behind_front (seen_in 0 r.before) r.letter r.after r.least r.most
 
--- a watcher that is on saw all that was written
+-- a watcher that is on saw all bytes written
 saw_all : (name is w s : ℕ) (bytes after text : List ℕ) → Appends (told name true 0 0 (Some bytes)) (told is true w s (Some after)) text → (after ≡ bytes ++ text) × (seen_in 0 text ≡ s)
 saw_all name is w s bytes after text a =
     let t = told_as name is true w s (suc (length bytes - 0)) bytes after text (subst (λ o. Appends o (told is true w s (Some after)) text) (at_start name true bytes) a) in
@@ -136,7 +136,7 @@ saw_all name is w s bytes after text a =
     ap (drop (length bytes)) t.2 ∙ drop-append-le (length bytes) bytes text (omega arith) ∙ ap (λ l. l ++ text) (drop_of_length-le bytes {i = length bytes} (omega arith)) in
     (t.2, sym (ap (seen_in 0) rest) ∙ here)
 
--- If it is on and saw no refusal, none was written
+-- if the watcher is on and saw no refusal, no refusal was written
 pub quietly : (name is : ℕ) (on : Bool) (w s : ℕ) (old new : Option (List ℕ)) (text : List ℕ) → Appends (told name true 0 0 old) (told is on w s new) text → (on ≡ false) ⊎ (s ≢ 9) → GrowsQuietly old new
 quietly name is on w s None new text a none = tt
 quietly name is on w s (Some bytes) None text a none = subst (λ o. Appends o None text) (at_start name true bytes) a
@@ -146,14 +146,14 @@ quietly name is true w s (Some bytes) (Some after) text a (inl off) = absurd (tr
 quietly name is true w s (Some bytes) (Some after) text a (inr none) =
     let t = saw_all name is w s bytes after text a in (text, t.0, λ r. none (sym t.1 ∙ found text r))
 
--- If it is on and saw a refusal, it was to be on, and one was written
+-- if the watcher is on and saw a refusal, the options are strict and a refusal was written
 pub loudly : (name is : ℕ) (strict : Bool) (w s : ℕ) (old new : Option (List ℕ)) (text : List ℕ) → Appends (told name strict 0 0 old) (told is true w s new) text → s ≡ 9 → GrowsByRefusal strict old new
 loudly name is strict w s None new text a e = tt
 loudly name is strict w s (Some bytes) None text a e = subst (λ o. Appends o None text) (at_start name strict bytes) a
 loudly name is true w s (Some bytes) (Some after) text a e = let t = saw_all name is w s bytes after text a in (refl, text, t.0, is_refusal text (t.1 ∙ e))
 loudly name is false w s (Some bytes) (Some after) text a e = let t = told_as name is true w s 0 bytes after text a in absurd (search (rules, t.1))
 
--- the knowledge of a watcher at its start
+-- the known bytes of a watcher at its start
 pub first_told : (name w s : ℕ) (on strict : Bool) (now old : Option (List ℕ)) → on ≡ strict → w ≡ 0 → s ≡ 0 → now ≡ old → told name on w s now ≡ told name strict 0 0 old
 first_told name w s on strict now old a b c d = rw (a, b, c, d) refl
 

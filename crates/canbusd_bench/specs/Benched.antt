@@ -17,14 +17,14 @@ use Rattle.canbusd_bench.specs.Refusals.{GrowsByRefusal, GrowsQuietly}
 use Rattle.canbusd_io.specs.declared.program_error.ProgramError.{ProgramError}
 use Rattle.canbusd_io.specs.declared.program_error.ProgramError.TheVariants as fault
 
--- The run that the options of a bench ask for (own choice).
+-- The run of a bench with these options (own choice).
 
--- the bench that options describe, with these faults and names, before its first line
+-- the bench of these options, with these faults and names, before its first line
 abbrev pub begun : PlanSeen → BenchOptions → List (List ℕ) → BenchState
 begun plan o names =
     at_start_with o.shows_faults plan o.timing names (config_of o.settings (length names)) o.settings.rx_capacity
 
--- how a run that options describe ends in a fault: nothing was read or written if a number is outside its limits
+-- a run of these options ends with this fault; if a number is outside its limits, nothing was read or written
 abbrev pub StopsBy : {W : Type 0} → (W → Option (List ℕ)) → BenchOptions → List (List ℕ) → PlanSeen
     → Option (List ℕ) → W → ProgramError → W → Type 0
 StopsBy contents o names plan input out (fault.Bench BadConfig) new =
@@ -33,16 +33,16 @@ StopsBy contents o names plan input out (fault.Bench why) new =
     EndsOver contents no_verdicts input (begun plan o names) out (Err why) new
 StopsBy contents o names plan input out _ new = ⊥
 
--- how a run that options describe ends in a fault of its script, before anything was written, or under the faults of
--- one
+-- a run of these options ends with a fault of its script, before anything was written, or with a fault of the run under
+-- that script
 abbrev pub FailsBy : {W : Type 0} → (W → Option (List ℕ)) → BenchOptions → List (List ℕ) → Option (List ℕ) → W
     → ProgramError → W → Type 0
 FailsBy contents o names input out why new =
     (IsOfPlan o.bus.script names why × (new ≡ out))
     ⊎ ((plan : PlanSeen) × IsPlan o.bus.script names plan × StopsBy contents o names plan input out why new)
 
--- a run that options describe came to its end, with these names and this record of the bus that they describe, which is
--- within the limits
+-- a run of these options is complete, with these names. The record is that of the bus of the options, and the bus is
+-- within its limits
 pub record IsRunAsAsked {W : Type 0} (contents : W → Option (List ℕ)) (o : BenchOptions) (names : List (List ℕ))
     (input : Option (List ℕ)) (old : W) (r : Kept) (new : W) : Type 0 where
   pub plan : PlanSeen
@@ -52,7 +52,8 @@ pub record IsRunAsAsked {W : Type 0} (contents : W → Option (List ℕ)) (o : B
   pub proper : IsConfig r.config
   pub legal : IsLegal r.config r.history
 
--- a run that options describe came to its end, all its output was written, and if they are strict it has no refusal
+-- a run of these options is complete and all its output was written; if the options are strict, the output has no
+-- refusal
 pub record IsBenched {W : Type 0} (contents : W → Option (List ℕ)) (o : BenchOptions) (input : Option (List ℕ))
     (old new : W) : Type 0 where
   pub named : AreNames (names_in o.bus.names.now)
@@ -62,8 +63,8 @@ pub record IsBenched {W : Type 0} (contents : W → Option (List ℕ)) (o : Benc
   pub flushed : Keeps (contents written) (contents new)
   pub strict : o.is_strict ≡ true → GrowsQuietly (contents old) (contents written)
 
--- a run that options describe came to its end, all its output was written, and if that is known they are strict and it
--- has a refusal
+-- a run of these options is complete and all its output was written; if its bytes are known, the options are strict and
+-- the output has a refusal
 pub record MeetsRefusal {W : Type 0} (contents : W → Option (List ℕ)) (o : BenchOptions) (input : Option (List ℕ))
     (old new : W) : Type 0 where
   pub named : AreNames (names_in o.bus.names.now)
@@ -73,14 +74,14 @@ pub record MeetsRefusal {W : Type 0} (contents : W → Option (List ℕ)) (o : B
   pub flushed : Keeps (contents written) (contents new)
   pub refused : GrowsByRefusal o.is_strict (contents old) (contents written)
 
--- a run came to its end, with a message that was refused or without one
+-- a run is complete, with or without a refused message
 abbrev pub HasRun : {W : Type 0} → (W → Option (List ℕ)) → BenchOptions → Option (List ℕ) → W → Ran → W → Type 0
 HasRun contents o input old ran new =
     MatchOption ran.refusal (IsBenched contents o input old new) (λ failure.
     (failure.error ≡ fault.Refused) × MeetsRefusal contents o input old new)
 
--- how the bench that options describe ends early: with a fault of its names, before anything was written, of the
--- writer, or of the run, whose output was written
+-- the bench of these options ends early: with a fault of its names, before anything was written; with a fault of the
+-- writer; or with a fault of the run, whose output was written
 abbrev pub IsStopped :
     {W : Type 0} → (W → Option (List ℕ)) → BenchOptions → Option (List ℕ) → W → ProgramError → W → Type 0
 IsStopped {W} contents o input old why new =
@@ -91,13 +92,13 @@ IsStopped {W} contents o input old why new =
     × FailsBy contents o (names_in o.bus.names.now) input old why written
     × Keeps (contents written) (contents new)))
 
--- a fault of the record's file or of the log's, if options ask for one
+-- a fault of the file for the record or for the log, if the options ask for one
 abbrev pub IsOfOutputFiles : BenchOptions → ProgramError → Type 0
 IsOfOutputFiles o why =
     IsSomeAnd o.record (λ path. IsOfRecordFile path.now why)
     ⊎ IsSomeAnd o.log (λ path. IsOfLogFile o.bus path.now why)
 
--- how the bench that options describe ends in a fault: early, or after the run at a file or a refused message
+-- the bench of these options ends with a fault: early, or after the run because of a file or a refused message
 abbrev pub FailsAs :
     {W : Type 0} → (W → Option (List ℕ)) → BenchOptions → Option (List ℕ) → W → ProgramError → W → Type 0
 FailsAs contents o input old why new =

@@ -26,19 +26,18 @@ use std::io::{Read, Write};
 use std::os::unix::fs::MetadataExt;
 use std::rt::Files;
 
-/// A run that came to its end.
+/// The result of a complete run.
 #[derive(Drop)]
 struct Ran<'a> {
     record: Record,
-    /// The fault of a message that was refused, if the options are strict.
+    /// The fault of a refused message, if the options are strict.
     refusal: Option<Report<'a>>,
 }
 
-/// Runs the bench that the options describe, over the lines of an input. It looks at the names
-/// first, then at the script, and then at the limits of the bus. The record and the log are written
-/// after a run that came to its end, once all its output was written. Each is written even if the
-/// other fails; a fault of the record comes first. Input of sessions outside messages is noted
-/// there. If the options are strict, a refused message is a fault, the last of all.
+/// Runs the bench with these options over the lines of an input. It checks first the names, then the script, and then
+/// the limits of the bus. After a complete run it writes the output, and then the record and the log. It writes each of
+/// these two even if the other fails; a fault of the record is reported first. `ignored` receives the input of sessions
+/// outside messages. If the options are strict, a refused message is a fault, which is reported last.
 pub fn run_bench<'a, H: Files, R: Read + Drop, W: Write>(
     rt: &H,
     alloc: Global,
@@ -67,8 +66,8 @@ pub fn run_bench<'a, H: Files, R: Read + Drop, W: Write>(
     }
 }
 
-// Runs the bench that the options describe, and writes all its output: also before a fault, which comes after one of the
-// output.
+// Runs the bench with these options, and writes all its output, even if the run has a fault. A fault of the output is
+// reported first.
 fn run_out<'a, H: Files, R: Read + Drop, W: Write>(
     rt: &H,
     alloc: Global,
@@ -94,8 +93,7 @@ fn run_out<'a, H: Files, R: Read + Drop, W: Write>(
     Ok(Ran { record, refusal })
 }
 
-// Writes the record and the log of a run, if they are asked for. The log never goes to the record's
-// place.
+// Writes the record and the log of a run, if the options ask for them. It never writes the log over the record.
 fn save_run<'a, H: Files>(
     rt: &H,
     alloc: Global,
@@ -120,8 +118,7 @@ fn save_run<'a, H: Files>(
     logged
 }
 
-// Returns whether two paths lead to one file, by links or in other words. Of files that have no
-// numbers nothing is known.
+// Returns whether two paths name one file, for example by links. Returns false if the files have no inode numbers.
 fn is_one_file<H: Files>(rt: &H, record: Option<&str>, log: &str) -> bool {
     let Some(record) = record else {
         return false;
@@ -134,7 +131,7 @@ fn is_one_file<H: Files>(rt: &H, record: Option<&str>, log: &str) -> bool {
     }
 }
 
-// Runs the bench of these names, with the faults of the script that the options name.
+// Runs the bench with these names and with the faults of the script in the options.
 fn run_scripted<'a, H: Files, R: Read + Drop, W: Write>(
     rt: &H,
     alloc: Global,
@@ -154,7 +151,7 @@ fn run_scripted<'a, H: Files, R: Read + Drop, W: Write>(
     run_on(alloc, options, names, plan, input, output, ignored)
 }
 
-// Runs the bench of these names and faults.
+// Runs the bench with these names and faults.
 fn run_on<'a, R: Read + Drop, W: Write>(
     alloc: Global,
     options: &BenchOptions<'_>,

@@ -10,7 +10,8 @@ use std::str;
 const CHANGE_FORM: &str =
     "down NAME or up NAME: one space comes before the name of an interface, as down can0";
 
-/// The line of the bench's input that is wrong, and why, for a bus with these names that has bit rates or none.
+/// Returns a note with the wrong line of the bench's input and its fault. The bus has these names; `is_timed` is true
+/// if it has bit rates.
 pub fn input_note(
     alloc: Global,
     place: &str,
@@ -48,8 +49,8 @@ fn missing_note(alloc: Global, session: SessionNumber) -> Result<String, AllocEr
     format!(in alloc; "  no line before it starts session {number}\n")
 }
 
-// Returns why an interface is not taken down or brought up: there is none of this name, or it is
-// up.
+// Returns the cause for which an interface cannot be taken down or brought up: no interface has this name, or it is
+// already up.
 fn iface_note(alloc: Global, name: &[u8], bus: &str) -> Result<String, AllocError> {
     if let [.., b'\r'] = name {
         return fixed_note(alloc, WITH_CR);
@@ -64,7 +65,7 @@ fn iface_note(alloc: Global, name: &[u8], bus: &str) -> Result<String, AllocErro
     }
 }
 
-// Returns why a bench does not run to a moment.
+// Returns the cause for which a bench cannot run to a time.
 fn run_note(is_timed: bool) -> &'static str {
     if is_timed {
         "the moment set is a later one"
@@ -73,7 +74,7 @@ fn run_note(is_timed: bool) -> &'static str {
     }
 }
 
-// Returns the expected form of a line that spells nothing.
+// Returns the expected form of a line that spells no order.
 fn form_of(line: &[u8], is_timed: bool) -> &'static str {
     if line.len() > LONGEST_LINE {
         return "a line has at most 4096 bytes";

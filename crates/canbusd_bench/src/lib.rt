@@ -1,8 +1,8 @@
-//! `canbusd bench`: a bench on the bus of its options, from the lines of an input.
+//! `canbusd bench` runs a bench on one bus, from the lines of an input.
 //!
-//! The bench itself is `can_session::bench_noting`. It is proved that a run that ends well is a run
-//! of that bench. It has the names before the first `@`, the configuration of the options and the
-//! faults of some script if one is named. With `--strict` its output has no refusal.
+//! `can_session::bench_noting` is the bench itself. It is proved that a run that ends without a fault is a run of that
+//! bench. The bench has the names before the first `@`, the configuration of the options, and the faults of the script
+//! that the options name, if any. With `--strict` its output has no refusal.
 #![tactic(auto)]
 
 mod bench_job;

@@ -5,23 +5,23 @@ use std::alloc::Global;
 use std::io;
 use std::io::{Error, Read};
 
-/// The least number of last bytes that are kept. The bench has no more of its input at any time.
+/// The smallest number of last bytes that the reader keeps. The bench never holds more of its input at once.
 const KEPT: usize = 8192;
 
-/// A reader that keeps the last bytes that it gave, to show a line among them, and its last error.
+/// A reader that keeps the last bytes of its input, to show one of their lines, and its last error.
 #[derive(Drop)]
 pub struct Recent<R: Read + Drop> {
     input: R,
     bytes: Vec<u8>,
-    // The number of lines that ended before the bytes that are kept.
+    // The number of lines that ended before the bytes kept.
     lines_gone: u64,
-    // Whether memory was refused for some bytes.
+    // Whether there was no memory for some bytes.
     is_lost: bool,
     error: Option<Error>,
 }
 
 impl<R: Read + Drop> Recent<R> {
-    /// It keeps at most 24,576 bytes, and none before the first read.
+    /// Returns a reader that keeps at most 24,576 bytes, and no bytes before the first read.
     pub fn new(alloc: Global, input: R) -> Recent<R>
         ensures { result.input ≡ input }
     {
@@ -34,7 +34,7 @@ impl<R: Read + Drop> Recent<R> {
         }
     }
 
-    /// The line of this number, from 1, as far as it was read; it has to begin within the last 8,192 bytes.
+    /// Returns the line of this number, from 1, as far as it was read. It must begin within the last 8,192 bytes.
     pub fn line(&self, number: u32) -> Option<&[u8]> {
         if self.is_lost {
             return None;
@@ -44,12 +44,12 @@ impl<R: Read + Drop> Recent<R> {
         self.bytes.split(|byte| *byte == b'\n').nth(place as usize)
     }
 
-    /// Returns why the last read failed.
+    /// Returns the error of the last failed read, if any.
     pub fn error(&self) -> Option<Error> {
         self.error
     }
 
-    // Keeps what was read, at most 8,192 bytes.
+    // Keeps the bytes of one read, at most 8,192.
     fn keep(&mut self, read: &[u8])
         ensures { self.new.input ≡ self.old.input }
     {
@@ -61,7 +61,7 @@ impl<R: Read + Drop> Recent<R> {
         }
     }
 
-    // Lets all but the last 8,192 bytes go.
+    // Drops all but the last 8,192 bytes.
     fn forget(&mut self)
         ensures { self.new.input ≡ self.old.input }
     {

@@ -1,4 +1,4 @@
-//! A writer that looks for refusals among what goes through it.
+//! A writer that looks for refusals in its output.
 ghost use Rattle.std.specs.Prelude.{◌≡◌, ◌≢◌, ◌+◌, ◌<◌, ◌^◌, ◌⊎◌, false, true, length, IfNone, IfSome, IsSome, Some};
 ghost use Rattle.canbusd_io.specs.declared.program_error.ProgramError.TheVariants as fault;
 ghost use Rattle.canbusd_bench.specs.inner.Watched.{seen_after as seen_after_byte, seen_in, told};
@@ -11,28 +11,28 @@ use std::io::{Error, ErrorKind, Write};
 /// The beginning of a refusal, before a text that begins with a small letter.
 const FRONT: [u8; 8] = *b"< error ";
 
-/// The count of a beginning that has its small letter.
+/// The value of `seen` after a whole beginning and its small letter.
 const FOUND: u8 = 9;
 
-/// The most bytes of a piece that are kept.
+/// The largest number of bytes kept of a piece.
 const KEPT: usize = 80;
 
-/// A writer that looks for the first refusal among what goes through it, if it is on.
+/// A writer that passes its output on and, if it is on, looks for the first refusal in it.
 #[derive(Drop)]
 pub struct Watch<'w, W> {
     writer: &'w mut W,
     is_on: bool,
-    // The number of bytes that it has seen.
+    // The number of bytes written so far.
     written: u64,
-    // The number of last bytes among them that begin a refusal.
+    // The number of last bytes that may begin a refusal.
     seen: u8,
-    // The first bytes of the piece with the first refusal, and how many bytes come before the piece.
+    // The first bytes of the piece with the first refusal, and below it the number of bytes before that piece.
     piece: Vec<u8>,
     place: u64,
 }
 
 impl<'w, W> Watch<'w, W> {
-    /// A watcher before the first byte.
+    /// Returns a watcher that has written nothing.
     pub fn new(alloc: Global, is_on: bool, writer: &'w mut W) -> Watch<'w, W>
         ensures writer { result.writer ≡ writer.entry }
         ensures on { result.is_on ≡ is_on }
@@ -49,7 +49,7 @@ impl<'w, W> Watch<'w, W> {
         }
     }
 
-    /// Its writer, and the fault of a run in which a message was refused, if one was seen.
+    /// Returns the writer, and a fault if the watcher saw a refusal.
     pub fn finish<'a>(self, alloc: Global) -> (&'w mut W, Option<Report<'a>>)
         ensures writer { result.0 ≡ self.entry.writer }
         ensures some { IfSome result.1 (λ failure. failure.error ≡ fault.Refused) }
@@ -74,7 +74,7 @@ impl<'w, W> Watch<'w, W> {
         format!(in alloc; "  {OUTPUT}, byte {place}: {piece}\n")
     }
 
-    // Looks at a piece that was written.
+    // Looks for a refusal in a piece that was written.
     fn look(&mut self, piece: &[u8])
         requires { self.old.is_on ≡ true → self.old.written + length piece.now < 2 ^ 64 }
         ensures writer { self.new.writer ≡ self.old.writer }
@@ -116,7 +116,7 @@ impl<W: Write> Write for Watch<'_, W> {
     }
 }
 
-// Returns how many bytes of the front come last after these.
+// Returns the number of last bytes that may begin a refusal, after this piece.
 #[tactic(auto, using(std::proofs::lemmas::List::Sums::fold_more))]
 fn seen_in(seen: u8, piece: &[u8]) -> u8
     ensures { result ≡ seen_in seen piece.now }

@@ -2,9 +2,9 @@ use Rattle.std.specs.Prelude.{◌==◌, ℕ, suc, ◌+◌, ◌-◌, nat_le, Bool
 use Rattle.std.specs.Prelude.{length, drop, codes, get_or, Option, Some, None, if◌then◌else◌}
 use Rattle.std.specs.List.{fold}
 
--- The bytes that went through a watcher, as it saw them.
+-- The state of a watcher, given the bytes that it wrote.
 
--- how many of the last bytes begin `< error `, after one byte more: 9 once a small letter has followed them
+-- the number of last bytes that begin `< error `, after one more byte; it is 9 after a small letter has followed them
 abbrev pub seen_after : ℕ → ℕ → ℕ
 seen_after seen b =
     if seen == 9 then 9
@@ -13,16 +13,16 @@ seen_after seen b =
     else if get_or (codes "< error ") seen 60 == b then seen + 1
     else 0
 
--- the same for many bytes
+-- the same number after several more bytes
 abbrev pub seen_in : ℕ → List ℕ → ℕ
 seen_in seen text = fold seen_after seen text
 
--- this was seen in the last bytes of a text, which were this many
+-- whether the last `written` bytes of a text lead to the count `seen`
 abbrev pub saw : ℕ → ℕ → List ℕ → Bool
 saw written seen text = nat_le written (length text) && (seen_in 0 (drop (length text - written) text) == seen)
 
--- a watcher's knowledge of its writer's bytes: they come after two numbers that stay. The first names the writer; the
--- second is 0 if the watcher is off, and else one more than the number of bytes at its start
+-- the bytes of a watcher's writer as the watcher knows them, after two fixed numbers. The first number names the
+-- writer. The second is 0 if the watcher is off; otherwise it is one more than the number of bytes at its start.
 abbrev pub told : ℕ → Bool → ℕ → ℕ → Option (List ℕ) → Option (List ℕ)
 told name is_on written seen None = None
 told name false written seen (Some text) = Some (name ∷ 0 ∷ text)
