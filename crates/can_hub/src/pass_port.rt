@@ -40,10 +40,10 @@ impl<'a, N: BusName, F: FaultSource + Drop, G: Gate + Drop> Model for EnteredSta
 ///
 /// `attach` enters the station whose bus has the name, and takes a gauge of it; it may use a pass
 /// that was handed back. A pass that was entered before is lost to `settle`. The refusals, in this
-/// order: `NoInterface`, `NoMemory` if the gauge gets no memory, `TooManyPasses`. The two counts,
-/// the status and the calls about rules do not use the pass. Every other call is the station's call
-/// of that name: it uses the pass, and may wait for the lock. The bus sets the number of items that
-/// a socket holds, not the caller. If no station was entered, there is no socket and no rule.
+/// order: `NoInterface`, `NoMemory` if the gauge gets no memory, `TooManyPasses`. The calls for
+/// names, counts, status, load and rules do not use the pass. Every other call is the station's
+/// call of that name: it uses the pass, and may wait for the lock. The bus sets the number of items
+/// that a socket holds, not the caller. If no station was entered, there is no socket and no rule.
 ///
 /// `status` returns the last published error counters, as the gauge reads them. It takes no lock
 /// and waits for no thread. They are 0/0 if no station was entered, or if its bus has no such

@@ -20,15 +20,15 @@ use Rattle.can_replay.specs.Audits.{IsFirstWrongEntry, IsToldWrong, Blames, faul
 use Rattle.can_replay.specs.Histories.{before}
 use Rattle.can_replay.proofs.EntriesBefore.{before_more, legal_front}
 
--- A bus carries out the entries one after another, as far as they are legal.
+-- A bus carries out successive entries as long as they are legal.
 
--- entry k is read
+-- Entry k is read.
 record Read (c : BusConfig) (es : List Entry) (k : ℕ) (e : Entry) : Type 0 where
   below : k < length es
   read : e ≡ get_or es k e
   legal : IsLegal c (before es k)
 
--- no entry may stand past the limit
+-- No entry may follow once the limit is reached.
 past_limit : (c : BusConfig) (es : List Entry) (k : ℕ) (e : Entry) → Read c es k e → c.limit ≤ k → IsToldWrong c es k None
 past_limit c es k e at past = record {
   first = record {
@@ -40,7 +40,7 @@ past_limit c es k e at past = record {
   is_allowed = sym (cond-true (nat_le c.limit k) _ _ (le-leb c.limit k past));
 }
 
--- another reply than the legal one
+-- The entry has another reply than the legal one.
 other_reply : (c : BusConfig) (es : List Entry) (k : ℕ) (e : Entry) (r : Reply) → Read c es k e → k < c.limit → r ≡ legal_reply c (before es k) e.event → r ≢ e.reply → IsToldWrong c es k (Some r)
 other_reply c es k e r at room lawful other = record {
   first = record {
@@ -75,7 +75,7 @@ blamed_at c es k e (reply.Received x) at is other = other_reply c es k e _ at (o
 blamed_at c es k e (reply.Attempted (attempt.Idle set)) at is other = other_reply c es k e _ at (omega (arith, is.0, count_before es k at.below)) is.1 other
 blamed_at c es k e (reply.Attempted (attempt.Tried t)) at is other = other_reply c es k e _ at (omega (arith, is.0, count_before es k at.below)) is.1 other
 
--- entry k was carried out: the bus answered its event with this reply
+-- Entry k was carried out: the bus answered its event with this reply.
 pub record Turn (c : BusConfig) (es : List Entry) (k : ℕ) (e : Entry) (bus : Lean) (r : Reply) : Type 0 where
   pub below : k < length es
   pub read : e ≡ get_or es k e
@@ -83,19 +83,19 @@ pub record Turn (c : BusConfig) (es : List Entry) (k : ℕ) (e : Entry) (bus : L
   pub is_after : IsAfter bus (before es k)
   pub answer : (past : List Entry) → IsAfter bus past → IsAnswer bus.config past e.event r
 
--- the bus answers otherwise
+-- The bus gives another reply than the entry.
 pub blamed : (c : BusConfig) (es : List Entry) (k : ℕ) (e : Entry) (bus : Lean) (r : Reply) → Turn c es k e bus r → r ≢ e.reply → Blames c es (fault_at k r)
 blamed c es k e bus r t other =
     let at : Read c es k e = record { below = t.below; read = t.read; legal = subst (λ (d : BusConfig). IsLegal d (before es k)) t.config t.is_after.kept.legal } in
     blamed_at c es k e r at (subst (λ (d : BusConfig). IsAnswer d (before es k) e.event r) t.config (t.answer (before es k) t.is_after)) other
 
--- an entry of a record enters a history
+-- An entry of a record enters a history.
 entered : (v : Event) (r : Reply) (past : List Entry) → FitsReply v r → history_after v r past ≡ record { event = v; reply = r } ∷ past
 entered v (reply.Refused refusal.RecordFull) past fits = absurd (cc (fits))
 entered v (reply.Refused refusal.NoMemory) past fits = absurd (cc (fits))
 entered v r past fits = refl
 
--- the bus answers as the entry says
+-- The bus gives the same reply as the entry.
 pub replayed_more : (es : List Entry) (k : ℕ) (e : Entry) (bus after : Lean) (r : Reply) → k < length es → e ≡ get_or es k e → FitsReply e.event e.reply → r ≡ e.reply → IsAfter bus (before es k)
     → ((past : List Entry) → IsAfter bus past → IsAfter after (history_after e.event r past)) → IsAfter after (before es (k + 1))
 replayed_more es k e bus after r below read fits same so_far more =
@@ -103,15 +103,15 @@ replayed_more es k e bus after r below read fits same so_far more =
     ap (λ (q : Reply). history_after e.event q (before es k)) same ∙ entered e.event e.reply (before es k) fits ∙ sym (before_more es k e below read) in
     subst (IsAfter after) noted (more (before es k) so_far)
 
--- all entries are carried out
+-- All entries are carried out.
 pub all_legal : (c : BusConfig) (past : List Entry) (k : ℕ) (bus : Lean) → length past ≤ k → bus.config ≡ c → IsAfter bus (before (reverse past) k) → IsLegal c past
 all_legal c past k bus end config so_far =
     let whole : before (reverse past) k ≡ past = ap reverse (take_all k (reverse past) (omega (arith, length-reverse past, end))) ∙ reverse-reverse past in
     subst (IsLegal c) whole (subst (λ (d : BusConfig). IsLegal d (before (reverse past) k)) config so_far.kept.legal)
 
--- ---- the answer
+-- ---- the result
 
--- a legal history does not end with a wrong entry
+-- A legal history does not end with a wrong entry.
 pub last-right : (c : BusConfig) (es : List Entry) (k : ℕ) → IsLegal c (before es (k + 1)) → IsFirstWrongEntry c es k → ⊥
 last-right c es k legal f =
     let below = slice_get_within es k f.entry f.there in
@@ -122,7 +122,7 @@ last-right c es k legal f =
       | inr other ↦ other here.1
     ]
 
--- no entry of a legal history is wrong
+-- No entry of a legal history is wrong.
 pub none-wrong : (c : BusConfig) (es : List Entry) (k : ℕ) → IsLegal c (reverse es) → IsFirstWrongEntry c es k → ⊥
 none-wrong c es k legal f = last-right c es k (legal_front c es (k + 1) legal) f
 
@@ -133,7 +133,7 @@ take_take [] (suc j) (suc k) le = refl
 take_take (e ∷ es) (suc j) zero le = absurd (omega (arith, le))
 take_take (e ∷ es) (suc j) (suc k) le = ap (λ (xs : List Entry). e ∷ xs) (take_take es j k (omega (arith, le)))
 
--- before the first wrong entry there is no other
+-- No entry before the first wrong entry is wrong.
 none-before : (c : BusConfig) (es : List Entry) (j k : ℕ) → j < k → IsFirstWrongEntry c es j → IsFirstWrongEntry c es k → ⊥
 none-before c es j k lt f g =
     let all = legal_front c (take k es) (j + 1) g.legal_before in
@@ -149,7 +149,7 @@ one-first c es j k f g =
       ]
     ]
 
--- a fault of a legal history is lack of memory
+-- The only fault for a legal history is lack of memory.
 pub spared : (c : BusConfig) (past : List Entry) (why : AuditFault) → IsConfig c → Blames c (reverse past) why → IsLegal c past → why ≡ fault.NoMemory
 spared c past (fault.Wrong k legal) proper told h = absurd (none-wrong c (reverse past) k (subst (IsLegal c) (sym (reverse-reverse past)) h) told.first)
 spared c past fault.NoMemory proper told h = refl

@@ -1,4 +1,4 @@
--- The first lines, the last one, and what is reported of a text that has ended.
+-- The first lines, the last line, and the result for a text that has ended.
 use Rattle.std.proofs.Common.{◌≡◌, ◌≢◌, ◌==◌, ◌^◌, ◌<◌, ◌+◌, ℕ, Bool, true, false, List, [], ◌∷◌, ◌++◌, length, drop, Some, None, Result, Ok, Err, IfErr, OnOk, inl, inr, refl, sym, ap, subst, ◌∙◌}
 use Rattle.std.proofs.lemmas.List.{append-nil}
 use Rattle.std.proofs.lemmas.List.Elements.{All-nil}
@@ -29,7 +29,7 @@ use Rattle.can_replay.specs.inner.Steps.{IsUnended, IsEndLine}
 use Rattle.can_replay.proofs.LineEnds.{cut_bus, cut_end, lacks_bus, lacks_end, lacks_entry, torn_bus, torn_first}
 use Rattle.can_replay.proofs.Uncut.{ended_uncut, second_uncut, version_uncut}
 
--- ---- the bus's line
+-- ---- the line of the bus
 
 front_alone : (v : Version) (c : BusConfig) → front_lines v c (entry_lines [] []) ≡ first_line v ++ spell (bus_words v c) []
 unfolding entry_lines
@@ -63,7 +63,7 @@ begun_at v c line rest bus needs good is_after new config nothing is = record {
 pub no_bus : (v : Version) (line after : List ℕ) → LacksBus v line → MayFollow line after → IsFirstWrong (first_line v ++ (line ++ after)) 2
 no_bus v line after lacks may = first_is_wrong v (first_line v ++ (line ++ after)) (line ++ after) refl (lacks_bus v line after may lacks)
 
--- ---- the text goes on
+-- ---- the text continues
 
 open_text : (b : Bool) (v : Version) (c : BusConfig) (es : List Entry) (more : List ℕ) → b ≡ false → so_far b v c es ++ more ≡ front_lines v c (entry_lines es more)
 open_text true v c es more is = absurd cc
@@ -77,7 +77,7 @@ some_more : (xs ys : List ℕ) → xs ≢ [] → xs ++ ys ≢ []
 some_more [] ys some is = some refl
 some_more (x ∷ xs) ys some is = absurd cc
 
--- after the end
+-- After the end line.
 pub more_there : (text rest : List ℕ) (b : EntryAudit) → IsGoing text b → b.is_ended ≡ true → rest ≢ [] → IsFirstWrong (text ++ rest) (b.count + 4)
 more_there text rest b g ended some = inr (inr (record {
   version = b.version;
@@ -93,7 +93,7 @@ more_there text rest b g ended some = inr (inr (record {
 pub goes_on : (text line after : List ℕ) (b : EntryAudit) → IsGoing text b → b.is_ended ≡ true → IsLine line → IsFirstWrong (text ++ (line ++ after)) (b.count + 4)
 goes_on text line after b g ended is = more_there text (line ++ after) b g ended (some_more line after is.some)
 
--- neither an entry's line nor the end
+-- The line is neither that of an entry nor the end line.
 unended : (text line after : List ℕ) (b : EntryAudit) (why : ReadFault) → IsGoing text b → b.is_ended ≡ false → b.count < 2 ^ 64 → MayFollow line after → LacksEntry b.version b.config line → IsUnended b.count line why → Reads (text ++ (line ++ after)) (Err why)
 unended text line after b fault.NoMemory g going few may lacks h = tt
 unended text line after b fault.BadVersion g going few may lacks h = absurd h
@@ -111,7 +111,7 @@ unended text line after b (fault.BadLine n) g going few may lacks h =
       open_end = subst (λ (m : ℕ). LacksEnd m (line ++ after)) g.read.counted (lacks_end b.count line after few may h.1);
     }))
 
--- the end
+-- The end line.
 ended : (text line : List ℕ) (b : EntryAudit) (bus : Lean) → IsGoing text b → b.is_ended ≡ false → b.count < 2 ^ 64 → IsLine line → IsEndLine b.count line → IsGoing (text ++ line) (record b { bus = bus; is_ended = true })
 ended text line b bus g going few is is_after =
     let es = g.read.entries in
@@ -129,7 +129,7 @@ ended text line b bus g going few is is_after =
       is_after = λ no none. absurd cc;
     }
 
--- the end after what was no entry's line
+-- The end line after an attempt to read it as an entry.
 pub end_taken : (line : List ℕ) (old mid new : EntryAudit) (r : Result (Unit {0}) ReadFault) → mid ≡ record old { bus = mid.bus } → old.is_ended ≡ false → mid.count < 2 ^ 64 → OnOk r (new ≡ record mid { is_ended = true }) → OnOk r (IsEndLine mid.count line)
     → OnOk r ((text : List ℕ) → IsGoing text old → IsLine line → IsGoing (text ++ line) new)
 end_taken line old mid new (Ok u) kept going few h end = λ text g is.
@@ -204,7 +204,7 @@ one_wrong text b w g end needed some = record {
   wrong = subst (IsSettled b.config g.read.entries) some g.read.settled;
 }
 
--- ---- the text has ended, maybe cut off
+-- ---- the text has ended, and may be cut off
 
 front_is : (text torn : List ℕ) (b : EntryAudit) (g : IsGoing text b) → b.is_ended ≡ false → EndsNoLine torn → IsFrontOf (text ++ torn) b.config g.read.entries
 front_is text torn b g going h = record {
@@ -236,7 +236,7 @@ cut_wrong text torn b w g going h some = record {
   wrong = subst (IsSettled b.config g.read.entries) some g.read.settled;
 }
 
--- a text that has its end is what it is
+-- No bytes follow a text that has its end line.
 pub whole_legal : (text torn : List ℕ) (count : ℕ) → torn ≡ [] → IsLegalText text count → IsLegalText (text ++ torn) count
 whole_legal text torn count none h = subst (λ (x : List ℕ). IsLegalText x count) (sym (ap (λ (x : List ℕ). text ++ x) none ∙ append-nil text)) h
 
@@ -244,7 +244,7 @@ pub some_torn : (torn : List ℕ) → false ≡ (length torn == 0) → torn ≢ 
 some_torn [] is none = absurd cc
 some_torn (x ∷ xs) is none = absurd cc
 
--- a text that has its end is not cut off
+-- A text that has its end line is not cut off.
 pub not_cut : (text torn : List ℕ) (b : EntryAudit) → IsGoing text b → b.is_ended ≡ true → IsUncut (text ++ torn)
 not_cut text torn b g end = ended_uncut text torn b.version b.config g.read.entries g.read.good (g.read.begins ∙ ended_text b.is_ended b.version b.config g.read.entries end)
 
@@ -257,7 +257,7 @@ whole_fault text torn why none uncut h = same why (subst (λ (x : List ℕ). Rep
     same (found.Read (fault.BadLine n)) h = (h, uncut)
     same (found.Wrong w) h = inl h
 
--- within its first two lines
+-- The text is cut off within its first two lines.
 pub cut_first : (text torn : List ℕ) → text ≡ [] → EndsNoLine torn → FaultsUncut (text ++ torn) fault.BadVersion
 cut_first text torn none h =
     let lacks : IsOfNoVersion (text ++ torn) = subst IsOfNoVersion (ap (λ (x : List ℕ). x ++ torn) (sym none)) (inl (torn_first torn h)) in

@@ -43,9 +43,9 @@ use Rattle.can_replay.proofs.LineEnds.{event_words_then}
 use Rattle.can_replay.proofs.Taking.{told_more}
 use Rattle.can_replay.proofs.Uncut.{words_end}
 
--- ---- the legal ones of the entries
+-- ---- the legal part of the entries
 
--- legal entries have no wrong one among them
+-- Legal entries contain no wrong entry.
 after_legal : (c : BusConfig) (es more : List Entry) (k : ℕ) → IsLegal c (reverse es) → IsFirstWrongEntry c (es ++ more) k → length es ≤ k
 after_legal c es more k legal f =
     elim (cases_lt k (length es)) [
@@ -55,7 +55,7 @@ after_legal c es more k legal f =
       | inr le ↦ le
     ]
 
--- If one is wrong, later ones change nothing
+-- After a wrong entry, later entries change nothing.
 part_stays : (c : BusConfig) (es more : List Entry) (o p : Option WrongLine) → is_none o ≡ false → IsSettled c es o → IsSettled c (es ++ more) p → legal_part (es ++ more) p ≡ legal_part es o
 part_stays c es more None p some old new = absurd cc
 part_stays c es more (Some w) None some old new = absurd (none-wrong c (es ++ more) w.place new (told_more c es more w.place w.legal old.told).first)
@@ -65,14 +65,14 @@ part_stays c es more (Some w) (Some u) some old new =
     let below = slice_get_within es w.place old.told.first.entry old.told.first.there in
     ap (λ (n : ℕ). take n (es ++ more)) same ∙ take-append-le w.place es more (omega (arith, below))
 
--- nor does what is known of the same entries
+-- Two facts about the same entries give the same legal part.
 part_same : (c : BusConfig) (es : List Entry) (o p : Option WrongLine) → IsSettled c es o → IsSettled c es p → legal_part es p ≡ legal_part es o
 part_same c es None None old new = refl
 part_same c es None (Some w) old new = absurd (none-wrong c es w.place old new.told.first)
 part_same c es (Some w) None old new = absurd (none-wrong c es w.place new old.told.first)
 part_same c es (Some w) (Some u) old new = ap (λ (n : ℕ). take n es) (one-first c es u.place w.place new.told.first old.told.first)
 
--- the first wrong entry comes after legal ones
+-- The first wrong entry comes after legal ones.
 part_ends : (c : BusConfig) (es : List Entry) (e : Entry) (o p : Option WrongLine) → is_none o ≡ true → is_none p ≡ false → IsSettled c es o → IsSettled c (es ++ e ∷ []) p → legal_part (es ++ e ∷ []) p ≡ legal_part es o
 part_ends c es e (Some w) p none some old new = absurd cc
 part_ends c es e None None none some old new = absurd cc
@@ -161,13 +161,13 @@ none_asked run (SetOption s o) r plain = refl
 none_asked run (Send s f) r plain = refl
 none_asked run (Receive s) r plain = refl
 
--- an entry that is no attempt and no restart asks no rule
+-- An entry that is no attempt, restart or down asks no rule.
 plain_asked : (faults : Option RunSeen) (e : Entry) → is_step e.event ≡ false → asked_of faults e ≡ faults
 unfolding asked_of
 plain_asked None e plain = refl
 plain_asked (Some run) e plain = ap Some (none_asked run e.event e.reply plain)
 
--- an entry that is no attempt and no restart has only its line
+-- An entry that is no attempt, restart or down has only its line.
 pub plain_line : (w : Wanted) (c : BusConfig) (past : List Entry) (e : Entry) → is_step e.event ≡ false → events_line w c past e ≡ entry_line e []
 unfolding with_parts
 plain_line w c past e plain =
@@ -192,21 +192,21 @@ never b h k = absurd cc
 settled_in : (text : List ℕ) (b : EntryAudit) (g : IsGoing text b) (c : BusConfig) (es : List Entry) → b.config ≡ c → g.read.entries ≡ es → IsSettled c es b.wrong
 settled_in text b g c es config are = subst (λ (x : BusConfig). IsSettled x es b.wrong) config (subst (λ (xs : List Entry). IsSettled b.config xs b.wrong) are g.read.settled)
 
--- a line brought nothing about: the legal entries are those of before
+-- A line had no effect: the legal entries are the same as before.
 pub record NothingMore (text line : List ℕ) (old new : EntryAudit) (g : IsGoing text old) (h : IsGoing (text ++ line) new) : Type 0 where
   pub version : new.version ≡ old.version
   pub config : new.config ≡ old.config
   pub past : legal_past (text ++ line) new h ≡ legal_past text old g
 
 module _ (text line : List ℕ) (old new : EntryAudit) (g : IsGoing text old) (h : IsGoing (text ++ line) new) (is : IsLine line) where
-  -- the end brings nothing about
+  -- The end line has no effect.
   no_more : (more : List Entry) → new.version ≡ old.version → new.config ≡ old.config → h.read.entries ≡ g.read.entries ++ more → more ≡ [] → NothingMore text line old new g h
   no_more more v c are none =
       let same : h.read.entries ≡ g.read.entries = are ∙ ap (λ (x : List Entry). g.read.entries ++ x) none ∙ append-nil g.read.entries in
       let part = ap (λ (x : List Entry). legal_part x new.wrong) same ∙ part_same old.config g.read.entries old.wrong new.wrong g.read.settled (settled_in (text ++ line) new h old.config g.read.entries c same) in
       record { version = v; config = c; past = ap (λ (x : List Entry). reverse x) part }
 
-  -- nor does what follows the end, or a wrong entry
+  -- A line after the end line or after a wrong entry has no effect.
   after_wrong : (b : Bool) → old.is_ended ≡ b → (not b && is_none old.wrong) ≡ false → NothingMore text line old new g h
   after_wrong true ended stopped =
       let on = goes_on text line old new g h in
@@ -224,7 +224,7 @@ module _ (text line : List ℕ) (old new : EntryAudit) (g : IsGoing text old) (h
   not_ended true es none = absurd cc
   not_ended false es none = refl
 
-  -- a line after legal ones, after which they are no longer going: it is the end, or that of a wrong entry
+  -- A line after which the text is no longer legal so far is the end line, or the line of a wrong entry.
   pub nothing_legal : is_legal_yet old ≡ true → is_legal_yet new ≡ false → NothingMore text line old new g h
   nothing_legal legal stopped =
       let on = goes_on text line old new g h in
@@ -240,7 +240,7 @@ module _ (text line : List ℕ) (old new : EntryAudit) (g : IsGoing text old) (h
             record { version = on.version; config = on.config; past = ap (λ (x : List Entry). reverse x) part }
       ]
 
--- the line of one more legal entry
+-- The line of one more legal entry.
 pub record OneMore (text line : List ℕ) (old new : EntryAudit) (g : IsGoing text old) (h : IsGoing (text ++ line) new) : Type 0 where
   pub entry : Entry
   pub past : List Entry
@@ -293,11 +293,11 @@ one_more text line old new g h is legal legal_too =
 
 -- ---- one more line is written
 
--- the events are these, and what is wanted is as it is after their entries
+-- The events are these, and the wanted value is the one after their entries.
 abbrev pub IsUpTo : (w : Wanted) (text : List ℕ) (b : EntryAudit) → IsGoing text b → List ℕ → Wanted → Type 0
 IsUpTo w text b g events now = (events ≡ events_of w text b g) × (now ≡ wanted_after w (legal_past text b g))
 
--- nothing is
+-- Nothing is written.
 pub stays_written : (w : Wanted) (text line : List ℕ) (old new : EntryAudit) (g : IsGoing text old) (h : IsGoing (text ++ line) new) (events : List ℕ) (now : Wanted) → NothingMore text line old new g h → events ≡ events_of w text old g → now ≡ wanted_after w (legal_past text old g)
     → IsUpTo w (text ++ line) new h events now
 stays_written w text line old new g h events now none complete wanted =
@@ -330,7 +330,7 @@ written_more : (cleared old new line before after : List ℕ) → cleared ++ old
 written_more cleared old new line before after complete wrote is =
     ap (λ (x : List ℕ). cleared ++ x) wrote ∙ sym (append_assoc cleared old line) ∙ ap (λ (x : List ℕ). x ++ line) complete ∙ sym is
 
--- as it is
+-- The line is written without changes.
 pub plain_more : (w : Wanted) (text line : List ℕ) (old new : EntryAudit) (g : IsGoing text old) (h : IsGoing (text ++ line) new) (cleared before after : List ℕ) (now : Wanted) (one : OneMore text line old new g h) → is_step one.entry.event ≡ false → after ≡ before ++ line
     → cleared ++ before ≡ events_of w text old g → now ≡ wanted_after w (legal_past text old g) → IsUpTo w (text ++ line) new h (cleared ++ after) now
 plain_more w text line old new g h cleared before after now one plain wrote complete wanted = (
@@ -339,7 +339,7 @@ plain_more w text line old new g h cleared before after now one plain wrote comp
   wanted_more w text line old new g h one now now wanted (ap (λ (x : Option RunSeen). record now { faults = x }) (sym (plain_asked now.faults one.entry plain))),
 )
 
--- with its events
+-- The line is written with its events.
 pub step_more : (w : Wanted) (text line : List ℕ) (old new : EntryAudit) (g : IsGoing text old) (h : IsGoing (text ++ line) new) (cleared : List ℕ) (before after : EventsText) (one : OneMore text line old new g h) → is_step one.entry.event ≡ true
     → HasSeen old.bus.config one.past before.before → WritesParts before new line after → cleared ++ before.text.items ≡ events_of w text old g → before.wanted ≡ wanted_after w (legal_past text old g)
     → IsUpTo w (text ++ line) new h (cleared ++ after.text.items) after.wanted
@@ -354,7 +354,7 @@ step_more w text line old new g h cleared before after one step saw writes compl
       wanted_more w text line old new g h one before.wanted after.wanted wanted wrote.1,
     )
 
--- ---- the first lines and the last one
+-- ---- the first lines and the last line
 
 none_begun : (v : Version) (line : List ℕ) (b : EntryAudit) (begun : IsBegun v line b) → legal_past (first_line v ++ line) b begun.going ≡ []
 none_begun v line b begun = ap (λ (x : List Entry). reverse x) (ap (legal_part begun.going.read.entries) begun.legal ∙ begun.none)
@@ -380,7 +380,7 @@ legal_all text b g none = subst (IsSettled b.config g.read.entries) none g.read.
 events_all : (w : Wanted) (text : List ℕ) (b : EntryAudit) (g : IsGoing text b) → b.wrong ≡ None → events_of w text b g ≡ events_front w b.version b.config (reverse g.read.entries)
 events_all w text b g none = ap (λ (o : Option WrongLine). events_front w b.version b.config (reverse (legal_part g.read.entries o))) none
 
--- and so is what is wanted after them
+-- The wanted value after all entries is the right one too.
 wanted_all : (w : Wanted) (text : List ℕ) (b : EntryAudit) (g : IsGoing text b) (now : Wanted) → b.wrong ≡ None → now ≡ wanted_after w (legal_past text b g) → now ≡ wanted_after w (reverse g.read.entries)
 wanted_all w text b g now none is = is ∙ ap (λ (o : Option WrongLine). wanted_after w (reverse (legal_part g.read.entries o))) none
 

@@ -1,4 +1,4 @@
--- The entries of a text that goes on.
+-- The entries of a text that continues.
 use Rattle.std.proofs.Common.{◌≡◌, ◌==◌, ℕ, Bool, true, false, cond, All, List, [], ◌∷◌, ◌++◌, get_or, length, refl, sym, ap, subst, ◌∙◌}
 use Rattle.std.proofs.lemmas.List.{append-nil, append_cancel_left}
 use Rattle.std.proofs.lemmas.List.Elements.{All-head, All-tail}
@@ -39,7 +39,7 @@ one_version v w a b e = sym (digit_again v a) ∙ ap (λ (x : List ℕ). version
 spelled_rest : (ws : List (List ℕ)) (a b : List ℕ) → spell ws a ≡ spell ws b → a ≡ b
 spelled_rest ws a b e = append_cancel_left (spell ws []) a b (spell-rest ws a ∙ e ∙ sym (spell-rest ws b))
 
--- two texts with the same lines are of one version and of one bus, and go on alike
+-- Two texts with the same lines have the same version and bus, and continue in the same way.
 record Fronts (v w : Version) (c d : BusConfig) (a b : List ℕ) : Type 0 where
   version : v ≡ w
   config : c ≡ d
@@ -66,7 +66,7 @@ one_bus v w c d a b hc hd e = (one_front v w c d a b hc hd e).config
 pub one_line : (v : Version) (c : BusConfig) (x d : Entry) (a b : List ℕ) → HasLine v c x → HasLine v c d → entry_line x a ≡ entry_line d b → x ≡ d
 one_line v c x d a b hx hd e = same_Some x d (sym (entry_again v c x a hx) ∙ ap entry_at e ∙ entry_again v c d b hd)
 
--- there are as many entries or more if a text goes on with a line that is no entry's
+-- A text that continues with a line that is no entry has at least as many entries.
 record More (es ds : List Entry) (a b : List ℕ) : Type 0 where
   more : List Entry
   are : ds ≡ es ++ more
@@ -91,7 +91,7 @@ unfolding entry_lines
 none_more v c es [] a b lines none is = sym (append-nil es)
 none_more v c es (x ∷ more) a b lines none is = absurd (none x (entry_lines more b) (All-head (HasLine v c) x more (All-after (HasLine v c) es (x ∷ more) lines)) is)
 
--- two texts that go on to what is no entry's line have the same entries
+-- Two texts that continue with a line that is no entry have the same entries.
 pub one_list : (v w : Version) (c d : BusConfig) (es ds : List Entry) (a b : List ℕ) → HasLines v c es → HasLines w d ds → LacksEntry v c a → LacksEntry w d b
     → front_lines v c (entry_lines es a) ≡ front_lines w d (entry_lines ds b) → es ≡ ds
 one_list v w c d es ds a b hc hd na nb e =
@@ -111,7 +111,7 @@ no_lines v c [] b hes e = (refl, e)
 no_lines v c (x ∷ es) b hes e =
     absurd (line_some v c x (All-head (HasLine v c) x es hes) (no_front (entry_line x []) (entry_lines es b) (spell-rest (entry_words x) (entry_lines es b) ∙ e)))
 
--- ---- what follows the entries of a text
+-- ---- the bytes after the entries of a text
 
 abbrev pub last_of : Bool → List Entry → List ℕ
 last_of false es = []
@@ -125,7 +125,7 @@ last_lacks : (b : Bool) (v : Version) (c : BusConfig) (es : List Entry) → Lack
 last_lacks false v c es = nothing_lacks v c
 last_lacks true v c es = end_lacks v c (length es) []
 
--- a text that was read, and one that goes on with a line: the entries of the one are the first ones of the other
+-- The entries of a text that was read are the first entries of the text with one more line.
 pub record GoesOn (old new : EntryAudit) (es ds : List Entry) (line : List ℕ) : Type 0 where
   pub version : new.version ≡ old.version
   pub config : new.config ≡ old.config
@@ -157,9 +157,9 @@ goes_on text line old new g h =
       lines = All-after (HasLine old.version old.config) es m.more (subst (All (HasLine old.version old.config)) m.are lines);
     }
 
--- ---- one line more
+-- ---- one more line
 
--- if the end was taken there is no entry more
+-- After the end line there are no more entries.
 pub none_after_end : (b : Bool) (v : Version) (c : BusConfig) (es more : List Entry) (line rest : List ℕ) → b ≡ true → All (HasLine v c) more → last_of b es ++ line ≡ entry_lines more rest → more ≡ []
 unfolding entry_lines
 none_after_end false v c es more line rest is lines e = absurd cc
@@ -167,7 +167,7 @@ none_after_end true v c es [] line rest is lines e = refl
 none_after_end true v c es (x ∷ more) line rest is lines e =
     absurd (end_lacks v c (length es) line x (entry_lines more rest) (All-head (HasLine v c) x more lines) (sym (spell-rest (end_words (length es)) line) ∙ e))
 
--- before the end one line is that of one entry, or the last
+-- Before the end line, one line has one entry or is the end line.
 pub data OneLine (more : List Entry) (line rest : List ℕ) : Type 0 where
   No_entry : more ≡ [] → line ≡ rest → OneLine more line rest
   An_entry : (e : Entry) → more ≡ e ∷ [] → line ≡ entry_line e [] → rest ≡ [] → OneLine more line rest
@@ -183,7 +183,7 @@ one_line_more false v c es (x ∷ more) line rest going is lines e =
     let no = no_lines v c more rest (All-tail (HasLine v c) x more lines) (sym none) in
     An_entry x (ap (λ (xs : List Entry). x ∷ xs) no.0) cut no.1
 
--- ---- what may follow
+-- ---- the bytes that may follow
 
 pub read_rest : (text rest : List ℕ) (b : EntryAudit) (g : IsGoing text b) → text ++ rest ≡ front_lines b.version b.config (entry_lines g.read.entries (last_of b.is_ended g.read.entries ++ rest))
 read_rest text rest b g =

@@ -1,4 +1,4 @@
--- After the lines that were taken, no line is a record's.
+-- After the lines that were taken, no line belongs to a record.
 use Rattle.std.proofs.Common.{◌≡◌, ◌≢◌, ◌+◌, ◌⊎◌, ℕ, inl, inr, Bool, true, false, All, List, [], ◌∷◌, ◌++◌, length, Some, Err, append_assoc, refl, sym, ap, subst, ◌∙◌}
 use Rattle.std.proofs.lemmas.List.{append-nil, append_cancel_left}
 use Rattle.std.proofs.lemmas.List.Elements.{All-nil, All-push}
@@ -23,12 +23,12 @@ use Rattle.can_replay.proofs.GoingOn.{last_of, one_bus, one_list, one_version, r
 use Rattle.can_replay.proofs.LineEnds.{bus_through, cut_entry, first_through, lacks_entry, same_line, torn_bus, torn_entry, torn_first}
 use Rattle.can_replay.proofs.Uncut.{no_front}
 
--- a text goes on neither with its first two lines nor with that of an entry
+-- The text continues neither with its first two lines nor with the line of an entry.
 abbrev pub LacksNext : (text rest : List ℕ) (p : Phase) → HasCome text p → Type 0
 LacksNext text rest (phase.Entries b) come = LacksEntry b.version b.config (last_of b.is_ended come.read.entries ++ rest)
 LacksNext text rest p come = LacksFront (text ++ rest)
 
--- ---- a line is at fault, whatever follows it
+-- ---- a line is faulty, whichever bytes follow it
 
 module _ (text line rest : List ℕ) (why : ReadFault) (known : why ≢ fault.NoMemory) (is : IsLine line) (end : EndsLine line) (may : MayFollow line rest) (fails : (more : List ℕ) → Reads (text ++ (line ++ more)) (Err why)) where
   ended : EndsLine (text ++ line)
@@ -103,9 +103,9 @@ torn_lacks text torn (phase.Front w) come unended = λ v c r good begins.
 torn_lacks text torn (phase.Entries b) come unended = torn_next b.is_ended b.version b.config come.read.entries torn unended
 torn_lacks text torn (phase.Failed what) come unended = absurd come
 
--- ---- which line is the first wrong one
+-- ---- the first wrong line
 
--- if all entries of a text are known, it is the line after theirs, or that after the end
+-- If all entries of a text are known, the first wrong line follows theirs, or follows the end line.
 pub next_wrong : (text rest : List ℕ) (n : ℕ) (v : Version) (c : BusConfig) (es : List Entry) → HasLines v c es → text ≡ front_lines v c (entry_lines es rest) → LacksEntry v c rest → IsFirstWrong text n → (n ≡ length es + 3) ⊎ (n ≡ length es + 4)
 next_wrong text rest n v c es good begins lacks (inl h) =
     let here : first_line v ++ spell (bus_words v c) (entry_lines es rest) ≡ first_line h.version ++ h.rest = sym begins ∙ h.begins in
@@ -124,7 +124,7 @@ next_wrong text rest n v c es good begins lacks (inr (inr h)) =
 
 -- ---- the bus of a text
 
--- if its line was taken
+-- The line of the bus was taken.
 pub has_bus : (text rest : List ℕ) (p : Phase) (c : BusConfig) → HasCome text p → bus_taken p ≡ Some c → HasBus (text ++ rest) c
 has_bus text rest phase.Start c come is = absurd cc
 has_bus text rest (phase.Front w) c come is = absurd cc
@@ -133,7 +133,7 @@ has_bus text rest (phase.Entries b) c come is =
     subst (HasBus (text ++ rest)) same (b.version, entry_lines come.read.entries (last_of b.is_ended come.read.entries ++ rest), come.read.good.bus, read_rest text rest b come)
 has_bus text rest (phase.Failed what) c come is = absurd come
 
--- its line was taken, if only bytes that end no line were not taken
+-- The line of the bus was taken, if the bytes not taken end no line.
 pub bus_is : (text torn : List ℕ) (p : Phase) (c : BusConfig) → HasCome text p → EndsNoLine torn → HasBus (text ++ torn) c → bus_taken p ≡ Some c
 bus_is text torn phase.Start c come unended h = absurd (torn_lacks text torn phase.Start come unended h.0 c h.1 h.2 h.3)
 bus_is text torn (phase.Front w) c come unended h = absurd (torn_lacks text torn (phase.Front w) come unended h.0 c h.1 h.2 h.3)
@@ -141,7 +141,7 @@ bus_is text torn (phase.Entries b) c come unended h =
     ap Some (one_bus b.version h.0 b.config c (entry_lines come.read.entries (last_of b.is_ended come.read.entries ++ torn)) h.1 come.read.good.bus h.2 (sym (read_rest text torn b come) ∙ h.3))
 bus_is text torn (phase.Failed what) c come unended h = absurd come
 
--- it stays the same
+-- The bus stays the same.
 pub same_bus : (text more : List ℕ) (p q : Phase) (c d : BusConfig) → HasCome text p → HasCome (text ++ more) q → bus_taken p ≡ Some c → bus_taken q ≡ Some d → c ≡ d
 same_bus text more p q c d come then one other =
     let h = has_bus text more p c come one in

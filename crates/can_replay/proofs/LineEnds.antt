@@ -1,4 +1,4 @@
--- Lines are cut after LF.
+-- Lines end after LF.
 use Rattle.std.proofs.Common.{◌≡◌, ◌≢◌, ◌==◌, ◌&&◌, not, cond, ℕ, ◌^◌, ◌<◌, Bool, true, false, List, [], ◌∷◌, ◌++◌, length, take, refl, subst, suc, ◌-◌, sym, ap, ◌∙◌, arith}
 use Rattle.std.specs.Prelude.{All, codes}
 use Rattle.std.proofs.lemmas.Bool.{ne_eqb}
@@ -18,7 +18,7 @@ use Rattle.can_record_text.proofs.Again.{spell-rest}
 use Rattle.can_replay.specs.TextAudits.{EndsNoLine, IsLine, MayFollow}
 use Rattle.can_replay.proofs.PlainWords.{AreWords, bus_are_words, end_are_words, entry_are_words}
 
--- no byte of a word ends a line
+-- No byte of a word ends a line.
 word_through : (w xs : List ℕ) → is_word w ≡ true → take_through 10 (w ++ xs) ≡ w ++ take_through 10 xs
 word_through [] xs h = refl
 word_through (b ∷ w) xs h = when (is_gap b) refl h (λ e. word_through w xs e)
@@ -29,7 +29,7 @@ word_through (b ∷ w) xs h = when (is_gap b) refl h (λ e. word_through w xs e)
         let other : (b == 10) ≡ false = grind (arith, is) in
         rw other (ap (λ (ys : List ℕ). b ∷ ys) (more e))
 
--- a spelled line ends at its LF, and only there
+-- A spelled line ends at its LF, and only there.
 spell_through : (w : List ℕ) (ws : List (List ℕ)) (rest : List ℕ) → AreWords (w ∷ ws) → take_through 10 (spell (w ∷ ws) rest) ≡ spell (w ∷ ws) []
 spell_through w [] rest h = word_through w (10 ∷ rest) h.0
 spell_through w (v ∷ ws) rest h = word_through w (32 ∷ spell (v ∷ ws) rest) h.0 ∙ ap (λ (ys : List ℕ). w ++ 32 ∷ ys) (spell_through v ws rest h.1)
@@ -50,7 +50,7 @@ words_through : (ws : List (List ℕ)) (rest : List ℕ) → AreWords ws → ws 
 words_through [] rest h some = absurd (some refl)
 words_through (w ∷ ws) rest h some = spell_through w ws rest h
 
--- if a text begins with a line that ends in this way, the two are one
+-- If a text begins with a line that ends in this way, the two lines are equal.
 pub same_line : (line after whole l : List ℕ) → MayFollow line after → line ++ after ≡ whole → take_through 10 whole ≡ l → line ≡ l
 same_line line after whole l may is through = sym may ∙ ap (take_through 10) is ∙ through
 
@@ -70,7 +70,7 @@ bus_through v c rest h = words_through (bus_words v c) rest (bus_are_words v c h
 end_through : (n : ℕ) (rest : List ℕ) → n < 2 ^ 64 → take_through 10 (spell (end_words n) rest) ≡ spell (end_words n) []
 end_through n rest h = words_through (end_words n) rest (end_are_words n h) (λ is. absurd cc)
 
--- ---- a line by itself
+-- ---- a single line
 
 line_through : (xs : List ℕ) → StopsAt xs 10 → take_through 10 xs ≡ xs
 line_through [] h = refl
@@ -101,7 +101,7 @@ cut_end n line rest small is begins = same_line line [] (spell (end_words n) res
 pub cut_first : (v : Version) (line rest : List ℕ) → IsLine line → line ≡ first_line v ++ rest → line ≡ first_line v
 cut_first v line rest is begins = same_line line [] (first_line v ++ rest) (first_line v) (nothing_more line is) (append-nil line ∙ begins) (first_through v rest)
 
--- ---- a line and the bytes after it: bytes outside the line are not in it
+-- ---- a line and the bytes after it: the line contains none of those bytes
 
 pub lacks_entry : (v : Version) (c : BusConfig) (line after : List ℕ) → MayFollow line after → LacksEntry v c line → LacksEntry v c (line ++ after)
 lacks_entry v c line after may lacks e more h is = lacks e [] h (same_line line after (entry_line e more) (entry_line e []) may is (entry_through v c e more h))
@@ -141,7 +141,7 @@ first_ends version.Four rest h = line_ends (codes "canbus record 4") rest h
 first_ends version.Five rest h = line_ends (codes "canbus record 5") rest h
 first_ends version.Six rest h = line_ends (codes "canbus record 6") rest h
 
--- none of their lines is there
+-- The bytes contain none of the lines of a record.
 pub torn_first : (torn : List ℕ) → EndsNoLine torn → LacksFirst torn
 torn_first torn h v rest is = first_ends v rest (subst EndsNoLine is h)
 

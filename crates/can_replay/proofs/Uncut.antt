@@ -15,9 +15,9 @@ use Rattle.can_record_text.proofs.Whole.{front-then, lines-then, not_both, one_f
 use Rattle.can_replay.specs.TextAudits.{EndsLine, EndsNoLine, FaultsUncut, IsCutText, IsFrontOf, IsUncut}
 use Rattle.can_replay.proofs.LineEnds.{line_ends, torn_end, torn_entry}
 
--- ---- what is the first wrong line of a text
+-- ---- the first wrong line of a text
 
--- If it is cut off, that which it lacks
+-- If the text is cut off, the first wrong line is the one that it lacks.
 lacking : (text : List ℕ) (v : Version) (c : BusConfig) (es : List Entry) (torn : List ℕ) → HasLines v c es → EndsNoLine torn → text ≡ front_lines v c (entry_lines es torn) → IsFirstWrong text (length es + 3)
 lacking text v c es torn good unended is = inr (inl (record {
   version = v;
@@ -34,13 +34,13 @@ lacking text v c es torn good unended is = inr (inl (record {
 cut_lacks : (text : List ℕ) (n : ℕ) (cut : IsCutText text n) → IsFirstWrong text (length cut.entries + 3)
 cut_lacks text n cut = lacking text cut.front.version cut.config cut.entries cut.front.torn cut.front.good cut.front.unended cut.front.begins
 
--- if it goes on, the line after its end
+-- If the text continues, the first wrong line follows its end line.
 going : (text : List ℕ) (v : Version) (c : BusConfig) (es : List Entry) (more : List ℕ) → HasLines v c es → more ≢ [] → text ≡ text_in v c es ++ more → IsFirstWrong text (length es + 4)
 going text v c es more good some is = inr (inr (record { version = v; config = c; entries = es; rest = more; whole = good; begins = is; behind = refl; more = some }))
 
 -- ---- a text that begins with whole lines
 
--- its bytes without LF come after them
+-- The bytes without LF come after the whole lines.
 torn_later : (a b f torn : List ℕ) → a ++ 10 ∷ b ≡ f ++ torn → EndsNoLine torn → (m : List ℕ) × (f ≡ a ++ 10 ∷ m)
 torn_later a b [] torn is h = absurd (line_ends a b (subst EndsNoLine (sym is) h))
 torn_later [] b (x ∷ f) torn is h =
@@ -51,7 +51,7 @@ torn_later (y ∷ a) b (x ∷ f) torn is h =
     let later = torn_later a b f torn (ap (drop 1) is) h in
     (later.0, ap (λ (l : List ℕ). x ∷ l) later.1 ∙ ap (λ (z : ℕ). z ∷ (a ++ 10 ∷ later.0)) (sym first))
 
--- and may be any others
+-- Other bytes may follow the whole lines instead.
 lines_before : (p after : List ℕ) (v : Version) (c : BusConfig) (es : List Entry) (torn : List ℕ) → EndsLine p → p ++ after ≡ front_lines v c (entry_lines es torn) → EndsNoLine torn
     → (m : List ℕ) × ((more : List ℕ) → p ++ (m ++ more) ≡ front_lines v c (entry_lines es more))
 lines_before p after v c es torn end is unended =
@@ -65,9 +65,9 @@ some_after : (xs ys : List ℕ) → ys ≢ [] → xs ++ ys ≢ []
 some_after [] ys some is = some is
 some_after (x ∷ xs) ys some is = absurd cc
 
--- ---- a text at fault
+-- ---- a faulty text
 
--- the first wrong line is the same, whatever follows the whole lines
+-- The first wrong line is the same, whichever bytes follow the whole lines.
 wrong_uncut : (p after : List ℕ) (n : ℕ) → EndsLine p → ((more : List ℕ) → more ≢ [] → IsFirstWrong (p ++ more) n) → (c : BusConfig) (es : List Entry) → IsFrontOf (p ++ after) c es → ⊥
 wrong_uncut p after n end wrong c es front =
     let v = front.version in
@@ -85,30 +85,30 @@ wrong_uncut p after n end wrong c es front =
 first_uncut : (p after : List ℕ) (n : ℕ) → EndsLine p → ((more : List ℕ) → more ≢ [] → IsFirstWrong (p ++ more) n) → IsUncut (p ++ after)
 first_uncut p after n end wrong m cut = wrong_uncut p after n end wrong cut.config cut.entries cut.front
 
--- whole lines that are at fault, whatever follows them, do not begin the text of a record
+-- Whole lines that are faulty, whichever bytes follow them, do not begin the text of a record.
 pub no_front : (p after : List ℕ) (why : ReadFault) → why ≢ fault.NoMemory → EndsLine p → ((more : List ℕ) → Reads (p ++ more) (Err why)) → (c : BusConfig) (es : List Entry) → IsFrontOf (p ++ after) c es → ⊥
 no_front p after fault.NoMemory some end wrong c es front = some refl
 no_front p after fault.BadVersion some end wrong c es front =
     not_both (p ++ after) (length es + 3) (wrong after) (lacking (p ++ after) front.version c es front.torn front.good front.unended front.begins)
 no_front p after (fault.BadLine n) some end wrong c es front = wrong_uncut p after n end (λ more some. wrong more) c es front
 
--- it is of no version
+-- The text has no known version.
 pub version_uncut : (text : List ℕ) → IsOfNoVersion text → IsUncut text
 version_uncut text none m cut = not_both text (length cut.entries + 3) none (cut_lacks text m cut)
 
--- its second line is at fault
+-- The second line of the text is faulty.
 pub second_uncut : (text : List ℕ) → IsFirstWrong text 2 → IsUncut text
 second_uncut text wrong m cut =
     let same : 2 ≡ length cut.entries + 3 = one_first text 2 (length cut.entries + 3) wrong (cut_lacks text m cut) in
     absurd (omega (arith, same))
 
--- a whole line of it is
+-- A whole line of the text is faulty.
 pub line_uncut : (p after : List ℕ) (why : ReadFault) → EndsLine p → ((more : List ℕ) → Reads (p ++ more) (Err why)) → FaultsUncut (p ++ after) why
 line_uncut p after fault.NoMemory end wrong = tt
 line_uncut p after fault.BadVersion end wrong = (wrong after, version_uncut (p ++ after) (wrong after))
 line_uncut p after (fault.BadLine n) end wrong = (wrong after, first_uncut p after n end (λ more some. wrong more))
 
--- ---- a text that has its end
+-- ---- a text that has its end line
 
 pub words_end : (w : List ℕ) (ws : List (List ℕ)) → (q : List ℕ) × ((rest : List ℕ) → spell (w ∷ ws) rest ≡ q ++ 10 ∷ rest)
 words_end w [] = (w, λ rest. refl)

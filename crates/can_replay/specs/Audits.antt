@@ -12,33 +12,33 @@ use Rattle.can_replay.specs.Histories.{before}
 
 -- Whether entries, the oldest first, are a legal history, and if not, the first wrong entry.
 
--- entry k is the first wrong one: those before it are a legal history, and it is past the limit or has
--- another reply than they give (own choice)
+-- Entry k is the first wrong entry. The entries before it are a legal history, and it is past the limit or its reply
+-- does not follow from them (own choice).
 pub record IsFirstWrongEntry (c : BusConfig) (entries : List Entry) (k : ℕ) : Type 0 where
   pub entry : Entry
   pub there : slice_get entries k ≡ Some entry
   pub legal_before : IsLegal c (before entries k)
   pub wrong : (c.limit ≤ k) ⊎ (entry.reply ≢ legal_reply c (before entries k) entry.event)
 
--- the reply that would be legal after this many entries, with this history: none if no entry may follow them
+-- The reply that would be legal after this history of k entries, or None if no entry may follow.
 abbrev pub allowed_after : BusConfig → ℕ → List Entry → Event → Option Reply
 allowed_after c k past e = if nat_le c.limit k then None else Some (legal_reply c past e)
 
--- the reply that would be legal at entry k, whose event is e
+-- The reply that would be legal at entry k, whose event is e.
 abbrev pub allowed : BusConfig → List Entry → ℕ → Event → Option Reply
 allowed c entries k e = allowed_after c k (before entries k) e
 
--- entry k is the first wrong one, and this reply would be legal there
+-- Entry k is the first wrong entry, and this reply would be legal there.
 pub record IsToldWrong (c : BusConfig) (entries : List Entry) (k : ℕ) (legal : Option Reply) : Type 0 where
   pub first : IsFirstWrongEntry c entries k
   pub is_allowed : legal ≡ allowed c entries k first.entry.event
 
--- the facts that a fault gives about the entries; lack of memory gives none
+-- The facts about the entries that follow from a fault; lack of memory gives none.
 abbrev pub Blames : BusConfig → List Entry → AuditFault → Type 0
 Blames c entries (fault.Wrong k legal) = IsToldWrong c entries k legal
 Blames c entries fault.NoMemory = Unit {0}
 
--- the fault of entry k, to whose event a bus gives this reply, which is not the entry's
+-- The fault of entry k if a bus gives its event this other reply.
 abbrev pub fault_at : ℕ → Reply → AuditFault
 fault_at k (Refused NoMemory) = fault.NoMemory
 fault_at k (Refused RecordFull) = fault.Wrong k None

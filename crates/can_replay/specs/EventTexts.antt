@@ -26,12 +26,12 @@ use Rattle.can_replay.specs.declared.text_fault.WrongLine.{WrongLine}
 use Rattle.can_replay.specs.TextAudits.{HasCome, IsFrontOf, IsLine}
 use Rattle.can_replay.specs.inner.EntryAudits.{IsGoing}
 
--- The output of an audit with events: the events of the legal entries, and the other lines that are wanted. These are
--- named as at the start: while entries are taken, the rules of the faults are asked (own choice).
+-- The output of an audit with events: the events of the legal entries, and the other wanted lines. `w` is the wanted
+-- value at the start; each entry that is taken may ask its fault rules (own choice).
 
 -- ---- the text of a record's events
 
--- these are the events of a legal record, whose text this is
+-- These are the events of the legal record with this text.
 pub record IsEventsText (w : Wanted) (text events : List ℕ) : Type 0 where
   pub config : BusConfig
   pub entries : List Entry
@@ -39,7 +39,7 @@ pub record IsEventsText (w : Wanted) (text events : List ℕ) : Type 0 where
   pub legal : IsLegal config (reverse entries)
   pub are : events ≡ events_text w (version_of config entries) config (reverse entries)
 
--- these are the events of a legal record whose text is cut off: this is its front
+-- These are the events of a legal record whose text is cut off to this front.
 pub record IsCutEventsText (w : Wanted) (text events : List ℕ) : Type 0 where
   pub config : BusConfig
   pub entries : List Entry
@@ -47,27 +47,27 @@ pub record IsCutEventsText (w : Wanted) (text events : List ℕ) : Type 0 where
   pub legal : IsLegal config (reverse entries)
   pub are : events ≡ cut_events_text w front.version config (reverse entries)
 
--- the lines of the script's rules, if there are events
+-- The lines of the script's rules, if there are events.
 abbrev pub rules_first : Option EventsText → List ℕ
 rules_first None = []
 rules_first (Some e) = rules_at_start e.wanted.faults
 
--- the lines of rules that come after the last entry
+-- The lines of rules that come after the last entry.
 abbrev pub rules_last : Option EventsText → List ℕ
 rules_last None = []
 rules_last (Some e) = rules_at_end e.wanted.faults
 
--- the last line, if the record is whole
+-- The last line, if the record is whole.
 abbrev pub end_line : ℕ → List ℕ
 end_line count = spell (end_words count) []
 
--- the last line, if it is cut off
+-- The last line, if the record is cut off.
 abbrev pub cut_line : ℕ → List ℕ
 cut_line count = spell (cut_words count) []
 
 -- ---- the lines after the first
 
--- the end was not taken, and no entry is wrong so far
+-- The end line was not taken, and no entry is wrong so far.
 abbrev pub is_none : Option WrongLine → Bool
 is_none None = true
 is_none (Some w) = false
@@ -75,20 +75,20 @@ is_none (Some w) = false
 abbrev pub is_legal_yet : EntryAudit → Bool
 is_legal_yet b = not b.is_ended && is_none b.wrong
 
--- the legal ones of these entries, whose first wrong one is known
+-- The legal entries before the first wrong one, if one is known.
 abbrev pub legal_part : List Entry → Option WrongLine → List Entry
 legal_part entries None = entries
 legal_part entries (Some w) = take w.place entries
 
--- the history of the entries that were read, as far as they are legal
+-- The history of the entries that were read, as far as they are legal.
 abbrev pub legal_past : (text : List ℕ) (b : EntryAudit) → IsGoing text b → List Entry
 legal_past text b g = reverse (legal_part g.read.entries b.wrong)
 
--- their events
+-- The events of these legal entries.
 abbrev pub events_of : Wanted → (text : List ℕ) (b : EntryAudit) → IsGoing text b → List ℕ
 events_of w text b g = events_front w b.version b.config (legal_past text b g)
 
--- a line was taken: its events follow those of the lines before it, and the faults are those after its entry
+-- A line was taken. Its events follow those of the lines before it, and the faults are those after its entry.
 abbrev pub WritesOn : EventsText → EntryAudit → EventsText → EntryAudit → List ℕ → Type 0
 WritesOn old before new after line =
     (w : Wanted) (text cleared : List ℕ) (g : IsGoing text before) (h : IsGoing (text ++ line) after) → IsLine line
@@ -96,13 +96,13 @@ WritesOn old before new after line =
     → (cleared ++ new.text.items ≡ events_of w (text ++ line) after h)
     × (new.wanted ≡ wanted_after w (legal_past (text ++ line) after h))
 
--- this entry was read, unless memory was refused
+-- This entry was read, unless memory was refused.
 abbrev pub IsReadAs : Entry → Result Entry Unread → Type 0
 IsReadAs e (Ok read) = read ≡ e
 IsReadAs e (Err why) = why ≡ unread.NoMemory
 
--- the line of an attempt, or of an interface that is restarted or taken down, was written with its parts, by the state
--- of the bus before it; the faults are those after it
+-- The line of an attempt, a restart or a down was written with its parts, from the state of the bus before it. The
+-- faults are those after the entry.
 abbrev pub WritesParts : EventsText → EntryAudit → List ℕ → EventsText → Type 0
 WritesParts old audit line new =
     (past : List Entry) (e : Entry) → HasSeen audit.bus.config past old.before → IsAfter audit.bus (e ∷ past)
@@ -110,80 +110,80 @@ WritesParts old audit line new =
     → (new.text.items ≡ old.text.items ++ with_parts old.wanted audit.bus.config past e line)
     × (new.wanted ≡ record old.wanted { faults = asked_of old.wanted.faults e })
 
--- the text has ended, and this is what is known of it
+-- The text has ended as a whole and legal record with this many entries.
 pub record IsWhole (text : List ℕ) (b : EntryAudit) (g : IsGoing text b) (count : ℕ) : Type 0 where
   pub whole : IsTextOf text b.config g.read.entries
   pub version : b.version ≡ version_of b.config g.read.entries
   pub legal : b.wrong ≡ None
   pub counted : count ≡ length g.read.entries
 
--- the same of a text that is cut off before these bytes
+-- The text has ended cut off before these bytes, as a legal record with this many entries so far.
 pub record IsOff (text torn : List ℕ) (b : EntryAudit) (g : IsGoing text b) (count : ℕ) : Type 0 where
   pub front : IsFrontOf (text ++ torn) b.config g.read.entries
   pub version : front.version ≡ b.version
   pub legal : b.wrong ≡ None
   pub counted : count ≡ length g.read.entries
 
--- the same of one that may be cut off
+-- The text has ended, whole or cut off.
 abbrev pub IsReached : (text torn : List ℕ) (b : EntryAudit) → IsGoing text b → Cut → Type 0
 IsReached text torn b g (cut.Whole count) = (torn ≡ []) × IsWhole text b g count
 IsReached text torn b g (cut.Off count) = IsOff text torn b g count
 
 -- ---- an audit
 
--- the events of the lines that were taken
+-- The events of the lines that were taken.
 abbrev pub events_so_far : Wanted → (text : List ℕ) (p : Phase) → HasCome text p → List ℕ
 events_so_far w text (phase.Entries b) come = events_of w text b come
 events_so_far w text _ come = []
 
--- the history of their entries, as far as they are legal
+-- The history of their entries, as far as they are legal.
 abbrev pub past_so_far : (text : List ℕ) (p : Phase) → HasCome text p → List Entry
 past_so_far text (phase.Entries b) come = legal_past text b come
 past_so_far text _ come = []
 
--- the text that is written and was not cleared yet
+-- The text that was written and not yet cleared.
 abbrev pub held_events : Option EventsText → List ℕ
 held_events None = []
 held_events (Some e) = e.text.items
 
--- with the text cleared before it makes these events; an audit without events has none
+-- The cleared text and the held text together are these events; an audit without events has none.
 abbrev pub Completes : Option EventsText → List ℕ → List ℕ → Type 0
 Completes None cleared events = cleared ≡ []
 Completes (Some e) cleared events = cleared ++ e.text.items ≡ events
 
--- the events are written as is wanted after these entries
+-- The wanted value is the one after these entries.
 abbrev pub IsWantedAfter : Wanted → Option EventsText → List Entry → Type 0
 IsWantedAfter w None past = Unit {0}
 IsWantedAfter w (Some e) past = e.wanted ≡ wanted_after w past
 
--- the lines that were taken make this text, and their events were written, as was wanted at the start: first the text
--- cleared, then the text held
+-- The lines that were taken make up this text. Their events were written as wanted at the start: first the cleared
+-- text, then the held text.
 pub record AreWritten (w : Wanted) (text cleared : List ℕ) (p : Phase) (held : Option EventsText) : Type 0 where
   pub taken : HasCome text p
   pub complete : Completes held cleared (events_so_far w text p taken)
   pub wanted : IsWantedAfter w held (past_so_far text p taken)
 
--- the same of an audit
+-- The same for an audit.
 abbrev pub HasWritten : Wanted → List ℕ → List ℕ → TextAudit → Type 0
 HasWritten w text cleared audit = AreWritten w text cleared audit.phase audit.events
 
--- an audit has events
+-- The audit has events.
 abbrev pub has_events : Option EventsText → Bool
 has_events None = false
 has_events (Some e) = true
 
--- the first wrong entry of the lines that were taken
+-- The first wrong entry of the lines that were taken.
 abbrev pub wrong_so_far : Phase → Option WrongLine
 wrong_so_far (phase.Entries b) = b.wrong
 wrong_so_far _ = None
 
--- with the last rules and this last line all events of a legal record are written, if there are any
+-- With the last rules and this last line, all events of a legal record are written, if there are events.
 abbrev pub EndsEvents : Wanted → Option EventsText → List ℕ → List ℕ → ℕ → Type 0
 EndsEvents w None text cleared count = Unit {0}
 EndsEvents w (Some e) text cleared count =
     IsEventsText w text ((cleared ++ e.text.items) ++ (rules_last (Some e) ++ end_line count))
 
--- the same of a text that may be cut off
+-- The same for a text that may be cut off.
 abbrev pub EndsCutEvents : Wanted → Option EventsText → List ℕ → List ℕ → Cut → Type 0
 EndsCutEvents w held text cleared (cut.Whole count) = EndsEvents w held text cleared count
 EndsCutEvents w None text cleared (cut.Off count) = Unit {0}

@@ -23,147 +23,148 @@ use Rattle.can_replay.specs.Brought.{is_step, put_to, dropped_by, lost_by}
 use Rattle.can_replay.specs.Words.{counts_part, lost_part, part_named, numbered, part, put_word, dropped_words}
 use Rattle.can_replay.specs.Words.{wire_words}
 
--- The text of a record's events: each entry's line with what the entry brought about; where the timing of the bus is
--- given, with the times and the bits of each frame that was tried; and where the run's faults are, with the rule that
--- gave the attempt its verdict, and a line for each rule where the bus takes it (own choice).
+-- The text of a record's events: each entry's line with the entry's effects. If the timing of the bus is given, a tried
+-- frame has its times and bits. If the run's faults are given, an attempt has the rule that gave its verdict, and each
+-- rule has a line where the bus takes it (own choice).
 
--- the error counts that the entry changed, by interface
+-- The error counts that the entry changed, by interface.
 abbrev pub counts_parts : BusConfig → List Entry → Entry → List ℕ
 counts_parts c past e =
     flat_map (λ i. counts_part i (counts_of c past i) (counts_of c (e ∷ past) i)) (range_with_len 0 16)
 
--- how many frames left the transmit queues as interfaces went bus off or down, by interface
+-- The number of frames lost because interfaces went bus off or down, by interface.
 abbrev pub lost_parts : BusConfig → List Entry → Entry → List ℕ
 lost_parts c past e = flat_map (λ i. lost_part i (lost_by past e i)) (range_with_len 0 c.ifaces)
 
--- a word for each item that was queued to socket s
+-- A word for each item that was queued to socket s.
 abbrev pub put_words : ℕ → List Received → List (List ℕ)
 put_words s items = map (λ (r : Received). put_word s r.item) items
 
--- the items that were queued, by socket
+-- The items that were queued, by socket.
 abbrev pub put_part : BusConfig → List Entry → Entry → List ℕ
 put_part c past e =
     part_named (codes "put") (flat_map (λ s. put_words s (put_to c past e s)) (open_sockets past))
 
--- how many items found no room, by socket
+-- The number of items that found no room, by socket.
 abbrev pub dropped_part : BusConfig → List Entry → Entry → List ℕ
 dropped_part c past e =
     part_named (codes "dropped") (flat_map (λ s. dropped_words s (dropped_by c past e s)) (open_sockets past))
 
--- what an entry brought about: nothing where it is no attempt, and no interface is restarted or taken down
+-- The effects of an entry: none unless it is an attempt, a restart or a down.
 unfoldable pub parts_of : BusConfig → List Entry → Entry → List ℕ
 parts_of c past e =
     if is_step e.event
     then counts_parts c past e ++ lost_parts c past e ++ put_part c past e ++ dropped_part c past e
     else []
 
--- the part with the times and the bits of the frame that an attempt tried
+-- The part with the times and the bits of the frame that an attempt tried.
 abbrev pub tried_part : BusTiming → Event → Reply → List ℕ
 tried_part t (Attempt m v) (reply.Attempted (attempt.Tried a)) = part (wire_words t a.frame a.class v)
 tried_part t _ _ = []
 
--- the part of an entry's line that is about the wire: nothing where no timing is given, or no frame was tried
+-- The wire part of an entry's line: nothing if no timing is given, or no frame was tried.
 unfoldable pub wire_part : Option BusTiming → Entry → List ℕ
 wire_part None e = []
 wire_part (Some t) e = tried_part t e.event e.reply
 
--- the rule that gave an attempt its verdict: nothing where it tried no frame, where no rule gave it one, and where that
--- is not the verdict which it had
+-- The number of the rule that gave an attempt its verdict. It is None if the attempt tried no frame, if no rule gave a
+-- verdict, or if the attempt had another verdict.
 abbrev pub rule_by : RunSeen → Event → Reply → Option ℕ
 rule_by run (Attempt m v) (reply.Attempted (attempt.Tried a)) = rule_given run (won_by a.winner (word_of a.frame)) v
 rule_by run _ _ = None
 
--- the same by the faults as they are before the entry, where there may be none
+-- The same with the faults before the entry, if faults are given.
 unfoldable pub rule_in : Option RunSeen → Entry → Option ℕ
 rule_in None e = None
 rule_in (Some run) e = rule_by run e.event e.reply
 
--- the last part of an entry's line
+-- The last part of an entry's line.
 abbrev pub rule_part : Option RunSeen → Entry → List ℕ
 rule_part faults e = numbered (codes "rule") (rule_in faults e)
 
--- the lines before that of an entry: the rules that the bus takes before an attempt that tried a frame, and ends of all
+-- The lines before the line of an entry: the rules that the bus takes before an attempt that tried a frame, and each
+-- end of all rules.
 abbrev pub rules_by : RunSeen → Event → Reply → List ℕ
 rules_by run (Attempt m v) (reply.Attempted (attempt.Tried a)) = next_rules run
 rules_by run _ _ = []
 
--- the same, where there may be no faults
+-- The same, if faults are given.
 unfoldable pub rules_before : Option RunSeen → Entry → List ℕ
 rules_before None e = []
 rules_before (Some run) e = rules_by run e.event e.reply
 
--- the faults after an entry: an attempt that tried a frame asks the rules, no other entry does
+-- The faults after an entry: only an attempt that tried a frame asks the rules.
 abbrev pub asked_by : RunSeen → Event → Reply → RunSeen
 asked_by run (Attempt m v) (reply.Attempted (attempt.Tried a)) = asked_run run (won_by a.winner (word_of a.frame))
 asked_by run _ _ = run
 
--- the same, where there may be none
+-- The same, if faults are given.
 unfoldable pub asked_of : Option RunSeen → Entry → Option RunSeen
 asked_of None e = None
 asked_of (Some run) e = Some (asked_by run e.event e.reply)
 
--- the faults after these entries
+-- The faults after these entries.
 abbrev pub faults_after : Option RunSeen → List Entry → Option RunSeen
 faults_after faults [] = faults
 faults_after faults (e ∷ past) = asked_of (faults_after faults past) e
 
--- what is wanted of the entry that follows these: the timing, and the faults as they are then
+-- The wanted value for the entry after these entries: the timing, and the faults at that point.
 abbrev pub wanted_after : Wanted → List Entry → Wanted
 wanted_after w past = record w { faults = faults_after w.faults past }
 
--- nothing is wanted but what entries brought about
+-- Nothing is wanted but the effects of entries.
 abbrev pub nothing_wanted : Wanted
 nothing_wanted = record { timing = None; faults = None }
 
--- a line without the LF at its end
+-- A line without the LF at its end.
 abbrev pub unended : List ℕ → List ℕ
 unended line = take (length line - 1) line
 
--- a line, and before its LF what the entry brought about, and what else is wanted of it; before it those of rules
+-- The line of an entry, with its effects and the other wanted parts before its LF, after the lines of rules.
 unfoldable pub with_parts : Wanted → BusConfig → List Entry → Entry → List ℕ → List ℕ
 with_parts w c past e line =
     rules_before w.faults e ++ unended line ++ parts_of c past e ++ wire_part w.timing e ++ rule_part w.faults e
     ++ 10 ∷ []
 
--- the line of an entry in the record, with what the entry brought about
+-- The line of an entry in the record, with its effects.
 abbrev pub events_line : Wanted → BusConfig → List Entry → Entry → List ℕ
 events_line w c past e = with_parts (wanted_after w past) c past e (entry_line e [])
 
--- the lines of a history, the oldest entry first: what is wanted is as it was before them
+-- The lines of a history, the oldest entry first; `w` is the wanted value before them.
 abbrev pub events_lines : Wanted → BusConfig → List Entry → List ℕ
 events_lines w c [] = []
 events_lines w c (e ∷ past) = events_lines w c past ++ events_line w c past e
 
--- the first line: the version of the format
+-- The first line: the version of the format.
 abbrev pub events_version : List ℕ
 events_version = codes "canbus events 1" ++ 10 ∷ []
 
--- the lines of the rules of the script
+-- The lines of the script's rules.
 unfoldable pub rules_at_start : Option RunSeen → List ℕ
 rules_at_start None = []
 rules_at_start (Some run) = first_rules run
 
--- the lines of what comes after all attempts: rules that the bus takes, and where all end
+-- The lines after all attempts: rules that the bus takes, and each end of all rules.
 unfoldable pub rules_at_end : Option RunSeen → List ℕ
 rules_at_end None = []
 rules_at_end (Some run) = last_rules run
 
--- the text up to a history's last entry: the second line is the bus's, as the record has it
+-- The text up to a history's last entry; the second line is the bus's, as in the record.
 abbrev pub events_front : Wanted → Version → BusConfig → List Entry → List ℕ
 events_front w v c past = events_version ++ spell (bus_words v c) [] ++ rules_at_start w.faults ++ events_lines w c past
 
--- what follows the last entry: rules that no attempt was to see, and the last line
+-- The text after the last entry: rules that no attempt saw, and the last line.
 abbrev pub events_end : Wanted → List Entry → List (List ℕ) → List ℕ
 events_end w past words = rules_at_end (wanted_after w past).faults ++ spell words []
 
--- the last line of a record's text that is cut off: how many entries there were
+-- The last line of a record's text that is cut off, with the number of entries.
 abbrev pub cut_words : ℕ → List (List ℕ)
 cut_words count = codes "cut" ∷ decimal count ∷ []
 
--- the text of a history's events
+-- The text of a history's events.
 abbrev pub events_text : Wanted → Version → BusConfig → List Entry → List ℕ
 events_text w v c past = events_front w v c past ++ events_end w past (end_words (length past))
 
--- the same where the record's text is cut off after these entries
+-- The same, if the record's text is cut off after these entries.
 abbrev pub cut_events_text : Wanted → Version → BusConfig → List Entry → List ℕ
 cut_events_text w v c past = events_front w v c past ++ events_end w past (cut_words (length past))

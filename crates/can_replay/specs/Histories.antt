@@ -7,15 +7,15 @@ use Rattle.can_bus.specs.Legal.{IsLegal}
 
 -- Lists of entries, the oldest first, read as histories, the newest first.
 
--- the history of the first k entries
+-- The history of the first k entries.
 abbrev pub before : List Entry → ℕ → List Entry
 before entries k = reverse (take k entries)
 
--- the record has a legal history (own choice)
+-- The record has a legal history (own choice).
 abbrev pub HasLegalHistory : Kept → Type 0
 HasLegalHistory r = IsLegal r.config r.history
 
--- a history that a bus can have: its configuration is within the limits, and each reply is the legal one
+-- A history that a bus can have: its configuration is within the limits, and each reply is the legal one.
 pub record IsHistory (c : BusConfig) (past : List Entry) : Type 0 where
   pub proper : IsConfig c
   pub legal : IsLegal c past

@@ -7,22 +7,22 @@ use Rattle.can_event.specs.declared.reply.Reply.TheVariants as reply
 use Rattle.can_event.specs.declared.refusal.Refusal.TheVariants as refusal
 use Rattle.can_bus.specs.Legal.{legal_reply}
 
--- The replies that a list of events has, one after another.
+-- The replies to a list of events, in order.
 
--- no call was refused memory (own choice)
+-- No call was refused memory (own choice).
 abbrev pub HadMemory : List Reply → Type 0
 HadMemory replies = All (λ r. r ≢ reply.Refused refusal.NoMemory) replies
 
--- the reply of an event after these entries: the one that they give, or "record full" if there are as many as the limit
+-- The reply to an event after these entries: the legal reply, or "record full" if the limit is reached.
 abbrev pub reply_after : BusConfig → List Entry → Event → Reply
 reply_after c past e = if nat_le c.limit (length past) then reply.Refused refusal.RecordFull else legal_reply c past e
 
--- the entries after it: one more, unless there were as many as the limit
+-- The entries after the event: one more, unless the limit is reached.
 abbrev pub entries_after : BusConfig → List Entry → Event → List Entry
 entries_after c past e =
     if nat_le c.limit (length past) then past else record { event = e; reply = legal_reply c past e } ∷ past
 
--- the replies of these events after these entries, each by the entries before it
+-- The replies to these events after these entries; the entries before each event fix its reply.
 unfoldable pub replies_after : BusConfig → List Entry → List Event → List Reply
 replies_after c past [] = []
 replies_after c past (e ∷ es) = reply_after c past e ∷ replies_after c (entries_after c past e) es

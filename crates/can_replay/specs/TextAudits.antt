@@ -21,9 +21,9 @@ use Rattle.can_replay.specs.declared.text_audit.Phase.TheVariants as phase
 use Rattle.can_replay.specs.declared.text_audit.TextAudit.{TextAudit}
 use Rattle.can_replay.specs.inner.EntryAudits.{IsGoing, IsWrongIn}
 
--- The answers of an audit of a text (own choice).
+-- The results of an audit of a text (own choice).
 
--- the text is that of a legal record with this many entries
+-- The text is that of a legal record with this many entries.
 pub record IsLegalText (text : List ℕ) (count : ℕ) : Type 0 where
   pub config : BusConfig
   pub entries : List Entry
@@ -31,24 +31,25 @@ pub record IsLegalText (text : List ℕ) (count : ℕ) : Type 0 where
   pub legal : IsLegal config (reverse entries)
   pub counted : count ≡ length entries
 
--- the text is that of a record whose first wrong entry is this one
+-- The text is that of a record whose first wrong entry is this one.
 pub record IsWrongText (text : List ℕ) (w : WrongLine) : Type 0 where
   pub config : BusConfig
   pub entries : List Entry
   pub whole : IsTextOf text config entries
   pub wrong : IsWrongIn config entries w
 
--- the report on a text that has ended
+-- The result for a text that has ended.
 abbrev pub Reports : List ℕ → Result ℕ TextFault → Type 0
 Reports text (Ok count) = IsLegalText text count
 Reports text (Err (fault.Read why)) = Reads text (Err why)
 Reports text (Err (fault.Wrong w)) = IsWrongText text w
 
--- these bytes end no line
+-- These bytes end no line.
 abbrev pub EndsNoLine : List ℕ → Type 0
 EndsNoLine bytes = All (λ b. b ≢ 10) bytes
 
--- the text is the front of that of a record: the lines of the bus and of these entries, and bytes that end no line
+-- The text is the front of a record's text: the line of the bus, the lines of these entries, and bytes that end no
+-- line.
 pub record IsFrontOf (text : List ℕ) (config : BusConfig) (entries : List Entry) : Type 0 where
   pub version : Version
   pub torn : List ℕ
@@ -56,15 +57,15 @@ pub record IsFrontOf (text : List ℕ) (config : BusConfig) (entries : List Entr
   pub begins : text ≡ front_lines version config (entry_lines entries torn)
   pub unended : EndsNoLine torn
 
--- the text begins with the first two lines of a record, and this is its bus
+-- The text begins with the first two lines of a record with this bus.
 abbrev pub HasBus : List ℕ → BusConfig → Type 0
 HasBus text c = (v : Version) × (rest : List ℕ) × HasBusLine v c × (text ≡ front_lines v c rest)
 
--- the text does not begin with the first two lines of a record
+-- The text does not begin with the first two lines of a record.
 abbrev pub LacksFront : List ℕ → Type 0
 LacksFront text = (v : Version) (c : BusConfig) (rest : List ℕ) → HasBusLine v c → text ≢ front_lines v c rest
 
--- the text is cut off: it is the front of that of a legal record, up to the lines of this many entries
+-- The text is cut off: it is the front of a legal record's text, up to the lines of this many entries.
 pub record IsCutText (text : List ℕ) (count : ℕ) : Type 0 where
   pub config : BusConfig
   pub entries : List Entry
@@ -72,84 +73,84 @@ pub record IsCutText (text : List ℕ) (count : ℕ) : Type 0 where
   pub legal : IsLegal config (reverse entries)
   pub counted : count ≡ length entries
 
--- the text is cut off, and the first wrong entry before its end is this one
+-- The text is cut off, and this is the first wrong entry before its end.
 pub record IsWrongCut (text : List ℕ) (w : WrongLine) : Type 0 where
   pub config : BusConfig
   pub entries : List Entry
   pub front : IsFrontOf text config entries
   pub wrong : IsWrongIn config entries w
 
--- the text is not cut off: it is not the front of that of a legal record
+-- The text is not cut off: it is not the front of a legal record's text.
 abbrev pub IsUncut : List ℕ → Type 0
 IsUncut text = (count : ℕ) → IsCutText text count → ⊥
 
--- the facts that a fault of a line gives about a text that may be cut off: it is no record's, and not the beginning of
--- one
+-- The facts about a text that may be cut off, from a fault of a line. It is neither the text of a record nor the
+-- beginning of one.
 abbrev pub FaultsUncut : List ℕ → ReadFault → Type 0
 FaultsUncut text read.NoMemory = Unit {0}
 FaultsUncut text why = Reads text (Err why) × IsUncut text
 
--- the report on a text that has ended, maybe cut off
+-- The result for a text that has ended, and may be cut off.
 abbrev pub ReportsCut : List ℕ → Result Cut TextFault → Type 0
 ReportsCut text (Ok (cut.Whole count)) = IsLegalText text count
 ReportsCut text (Ok (cut.Off count)) = IsCutText text count
 ReportsCut text (Err (fault.Read why)) = FaultsUncut text why
 ReportsCut text (Err (fault.Wrong w)) = IsWrongText text w ⊎ IsWrongCut text w
 
--- these bytes end in LF
+-- These bytes end in LF.
 abbrev pub EndsLine : List ℕ → Type 0
 EndsLine bytes = (front : List ℕ) × (bytes ≡ front ++ 10 ∷ [])
 
--- a line: LF is only at its end, or nowhere
+-- The bytes are a line: LF occurs only at its end, or not at all.
 pub record IsLine (line : List ℕ) : Type 0 where
   pub some : line ≢ []
   pub stops : StopsAt line 10
 
--- the bytes that may follow a line in a text: none if the line has no LF
+-- These bytes may follow the line in a text; none may if the line has no LF.
 abbrev pub MayFollow : List ℕ → List ℕ → Type 0
 MayFollow line after = take_through 10 (line ++ after) ≡ line
 
--- a line was taken, as the next one of a text that was taken so far
+-- A line was taken after a text that was taken so far.
 abbrev pub TakesOn : {A : Type 0} → (List ℕ → A → Type 0) → A → A → List ℕ → Type 0
 TakesOn {A} are old new line = (text : List ℕ) → are text old → IsLine line → are (text ++ line) new
 
--- a line is at fault, as the next one of a text that was taken so far, whatever follows it
+-- A line after a text that was taken so far is faulty, whichever bytes follow it.
 abbrev pub FailsNext : {A : Type 0} → (List ℕ → A → Type 0) → A → List ℕ → ReadFault → Type 0
 FailsNext {A} are old line why =
     (text after : List ℕ) → are text old → IsLine line → MayFollow line after
     → Reads (text ++ (line ++ after)) (Err why)
 
--- a line is at fault that comes after these bytes of a text, whatever follows it
+-- A line after these bytes of a text is faulty, whichever bytes follow it.
 abbrev pub FailsAfter : List ℕ → List ℕ → ReadFault → Type 0
 FailsAfter front line why = (after : List ℕ) → MayFollow line after → Reads (front ++ (line ++ after)) (Err why)
 
--- the lines that were taken make this text
+-- The lines that were taken make up this text.
 abbrev pub HasCome : List ℕ → Phase → Type 0
 HasCome text phase.Start = text ≡ []
 HasCome text (phase.Front v) = text ≡ first_line v
 HasCome text (phase.Entries b) = IsGoing text b
 HasCome text (phase.Failed why) = ⊥
 
--- the same of an audit
+-- The same for an audit.
 abbrev pub AreTaken : List ℕ → TextAudit → Type 0
 AreTaken text audit = HasCome text audit.phase
 
--- this fault was told
+-- The audit reported this fault.
 abbrev pub HasFailed : ReadFault → TextAudit → Type 0
 HasFailed why audit = audit.phase ≡ phase.Failed why
 
--- the first line, if it was taken and no line was at fault
+-- The first line, if it was taken and no line was faulty.
 abbrev pub first_taken : Phase → List ℕ
 first_taken (phase.Front v) = first_line v
 first_taken (phase.Entries b) = first_line b.version
 first_taken _ = []
 
--- the line of the end was taken
+-- The end line was taken.
 abbrev pub has_end_line : Phase → Bool
 has_end_line (phase.Entries b) = b.is_ended
 has_end_line _ = false
 
--- the bus of the record, if its line was taken and no line was at fault
+-- The bus of the record, if its line was taken and no line was faulty.
 abbrev pub bus_taken : Phase → Option BusConfig
 bus_taken (phase.Entries b) = Some b.config
 bus_taken _ = None

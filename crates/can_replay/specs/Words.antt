@@ -11,47 +11,47 @@ use Rattle.can_frame.specs.Frames.{CanFrame}
 use Rattle.can_wire.specs.FrameBits.{frame_bits_of}
 use Rattle.can_wire.specs.Timings.{BusTiming, attempt_nanos_of, frame_nanos_of}
 
--- How the parts of a line are written: what an entry brought about (own choice).
+-- The parts of a line, which show the effects of an entry (own choice).
 
--- words, a space before each
+-- Words, with a space before each.
 unfoldable pub parted : List (List ℕ) → List ℕ
 parted words = flat_map (λ (w : List ℕ). 32 ∷ w) words
 
--- a part: a semicolon and its words
+-- A part: a semicolon and its words.
 abbrev pub part : List (List ℕ) → List ℕ
 part words = 59 ∷ parted words
 
--- a part that begins with this name, and is there where a word follows the name
+-- A part that begins with this name; it is left out if no word follows the name.
 abbrev pub part_named : List ℕ → List (List ℕ) → List ℕ
 part_named name [] = []
 part_named name (w ∷ ws) = part (name ∷ w ∷ ws)
 
--- a part with this name and a number, where there is one
+-- A part with this name and a number, if there is one.
 unfoldable pub numbered : List ℕ → Option ℕ → List ℕ
 numbered name None = []
 numbered name (Some n) = part (name ∷ decimal n ∷ [])
 
--- the error counts of interface i after an entry that changed them
+-- The error counts of interface i after an entry that changed them.
 unfoldable pub counts_part : ℕ → ErrorCounts → ErrorCounts → List ℕ
 counts_part i before after =
     if (before.tec == after.tec) && (before.rec == after.rec) then []
     else part (codes "counts" ∷ decimal i ∷ decimal after.tec ∷ decimal after.rec ∷ [])
 
--- how many frames interface i lost, where it lost any
+-- The number of frames that interface i lost, if it lost any.
 unfoldable pub lost_part : ℕ → ℕ → List ℕ
 lost_part i n = if n == 0 then [] else part (codes "lost" ∷ decimal i ∷ decimal n ∷ [])
 
--- an item that was put to socket s: the socket, and after a colon the item where it is an error message frame
+-- An item that was queued to socket s: the socket, and after a colon the item if it is an error message frame.
 abbrev pub put_word : ℕ → Item → List ℕ
 put_word s (item.Data f) = decimal s
 put_word s (item.Error e) = decimal s ++ 58 ∷ frame_spelling (item.Error e)
 
--- how many items found no room at socket s, where any did: the socket, a colon and the number
+-- The number of items that found no room at socket s, if any: the socket, a colon and the number.
 abbrev pub dropped_words : ℕ → ℕ → List (List ℕ)
 dropped_words s n = if n == 0 then [] else (decimal s ++ 58 ∷ decimal n) ∷ []
 
--- the times and the bits of a frame that was tried: the nanoseconds to its end of frame, those until the next attempt
--- may begin, and how many bits the whole frame has at the nominal bit rate and at the one for data
+-- The times and the bits of a tried frame: the nanoseconds to its end of frame, the nanoseconds until the next attempt
+-- may begin, and the numbers of bits at the nominal bit rate and at the data bit rate.
 abbrev pub wire_words : BusTiming → CanFrame → Class → Verdict → List (List ℕ)
 wire_words t f class v =
     codes "wire" ∷ decimal (frame_nanos_of t f) ∷ decimal (attempt_nanos_of t f class v)

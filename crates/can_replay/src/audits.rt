@@ -8,11 +8,12 @@ use can_bus::{LeanRingBus, Record, Refusal, Reply};
 use std::alloc::Global;
 use thiserror::Error;
 
-/// Why a record was not found to be legal.
+/// Why a record is not legal, or could not be audited.
 #[derive(Debug, Clone, Copy, PartialEq, Eq, Error)]
 pub enum AuditFault {
-    /// The first entry whose reply is not the one that the entries before it give, or that is past the
-    /// limit, counted from 0; and the reply that would be legal there, `None` past the limit.
+    /// The first wrong entry, counted from 0, and the reply that would be legal there. An entry is
+    /// wrong if its reply does not follow from the entries before it, or if it is past the limit.
+    /// Past the limit, `legal` is `None`.
     #[error("entry {entry}: wrong")]
     Wrong { entry: usize, legal: Option<Reply> },
     /// Memory was refused.
@@ -20,7 +21,7 @@ pub enum AuditFault {
     NoMemory,
 }
 
-/// The fault of an entry whose event a bus answers with another reply than the entry has.
+/// Returns the fault of an entry if a bus gives its event this other reply.
 fn fault_at(entry: usize, reply: Reply) -> AuditFault
     ensures { result ≡ fault_at entry reply }
 {
@@ -35,21 +36,21 @@ fn fault_at(entry: usize, reply: Reply) -> AuditFault
 }
 
 /// Returns whether a record is a legal history: each reply follows from the entries before it, and
-/// there are no more entries than the limit. If not, `Wrong` names the first wrong entry, and the
-/// reply that would be legal there.
+/// the entries are within the limit. If not, `Wrong` has the first wrong entry, and the reply that
+/// would be legal there.
 ///
-/// So the headline (`can_bus::run`) holds for every record that is found legal.
+/// So the headline (`can_bus::run`) holds for every record that this function finds legal.
 ///
-/// The events are carried out again on a bus that keeps no record. The time is that of its calls,
-/// so it grows linearly with the entries and their filters. Memory is taken for the bus, and for
-/// `open` and `set_filters`. `NoMemory` comes if it was refused, and then nothing is known of the
-/// record.
+/// It carries out the events again on a bus that keeps no record. The time is that of the bus's
+/// calls, so it grows linearly with the entries and their filters. The bus, `open` and
+/// `set_filters` take memory. `NoMemory` means that memory was refused; then nothing is known about
+/// the record.
 pub fn audit(alloc: Global, record: &Record) -> Result<(), AuditFault>
     ensures legal { OnOk result (HasLegalHistory «record».now) }
     ensures headline { OnOk result (Headline «record».now.config «record».now.history) }
     ensures wrong { IfErr result (Blames «record».now.config (reverse «record».now.history)) }
 
-    // A legal record is never called wrong.
+    // A legal record is never reported as wrong.
     ensures spared { HasLegalHistory «record».now →
         IfErr result (λ why. why ≡ AuditFault.NoMemory) }
 {

@@ -17,17 +17,17 @@ use can_event::{Closed, Entry};
 use std::alloc::{AllocError, Global};
 use std::marker::Model;
 
-/// What a bus was like before an entry, as far as an entry can change it.
+/// The state of a bus before an entry, as far as the entry can change it.
 ///
-/// `look` before an attempt, or before an interface is restarted or taken down, then the bus's answer, then `put_line` or
-/// `put_wanted_line`. Memory is taken once, by `new`.
+/// Call `look` before an attempt, a restart or a down. Then let the bus answer, and call `put_line`
+/// or `put_wanted_line`. Only `new` takes memory.
 #[derive(Drop)]
 pub struct Before {
     /// The error counters of all 16 places.
     counters: [Counters; 16],
-    /// How many frames each interface had lost.
+    /// The number of frames that each interface had lost.
     lost: Vec<u64>,
-    /// Of each open socket how many items waited, and how many had found no room.
+    /// For each open socket, the number of waiting items and of dropped items.
     sockets: Vec<Closed>,
 }
 
@@ -44,7 +44,7 @@ impl Model for Before {
 }
 
 impl Before {
-    /// What has seen no bus yet. It takes memory for 64 sockets.
+    /// Returns a value that has seen no bus yet, with memory for 64 sockets.
     pub fn new(alloc: Global) -> Result<Before, AllocError>
         ensures { IfOk result (λ b. b
             ≡ record { counters = replicate 16 at_start; lost = []; sockets = [] }) }
@@ -56,7 +56,7 @@ impl Before {
         })
     }
 
-    /// Looks at a bus.
+    /// Notes the state of a bus.
     pub fn look(&mut self, bus: &LeanRingBus) -> Result<(), AllocError>
         ensures { (past : List AnEntry) → IsAfter bus.now past →
             OnOk result (HasSeen bus.now.config past self.new) }
@@ -64,7 +64,7 @@ impl Before {
         self.see(bus.state())
     }
 
-    // Looks at what a bus keeps.
+    // Notes the state of a bus from its parts.
     fn see(&mut self, state: &RingState) -> Result<(), AllocError>
         ensures { OnOk result (self.new ≡ seen_in state.now) }
     {
@@ -73,8 +73,8 @@ impl Before {
         see_sockets(&mut self.sockets, state)
     }
 
-    /// The line of an attempt, or of an interface that is restarted or taken down, as it is in the record, and before its LF
-    /// what the entry brought about. The bus was looked at before it.
+    /// Writes the line of an attempt, a restart or a down as in the record, with the entry's
+    /// effects before its LF. `look` was called before the entry.
     pub fn put_line(
         &self,
         out: &mut Vec<u8>,
@@ -91,9 +91,9 @@ impl Before {
         Ok(())
     }
 
-    /// The same of this entry, with what else is wanted of it, and before it the lines of rules that the bus takes there.
-    /// Where it is of an attempt that tried a frame, the rules of the faults are asked, so each such entry of a run has to
-    /// come here, one after another.
+    /// Writes the same line with the wanted parts, after the lines of rules that the bus takes
+    /// there. An attempt that tried a frame asks the fault rules. So each such entry of a run has
+    /// to be written with this method, in order.
     pub fn put_wanted_line(
         &self,
         out: &mut Vec<u8>,
@@ -117,7 +117,7 @@ impl Before {
         Ok(())
     }
 
-    // The line without its LF, and what the entry brought about.
+    // Writes the line without its LF, and the effects of the entry.
     fn put_front(&self, out: &mut Vec<u8>, bus: &LeanRingBus, line: &[u8]) -> Result<(), AllocError>
         ensures { (past : List AnEntry) (e : AnEntry) → HasSeen bus.now.config past self.now →
             IsAfter bus.now (e ∷ past) → is_step e.event ≡ true →
@@ -128,7 +128,7 @@ impl Before {
         self.put_parts(out, bus.state())
     }
 
-    // What has changed since.
+    // Writes the changes since `look`.
     fn put_parts(&self, out: &mut Vec<u8>, state: &RingState) -> Result<(), AllocError>
         ensures { OnOk result (out.new.items ≡ out.old.items ++ told_parts self.now state.now) }
     {
@@ -140,7 +140,7 @@ impl Before {
     }
 }
 
-/// How many frames each interface has lost.
+/// Notes the number of frames that each interface has lost.
 fn see_lost(lost: &mut Vec<u64>, state: &RingState) -> Result<(), AllocError>
     ensures { OnOk result (lost.new.items ≡ (seen_in state.now).lost) }
 {
@@ -151,7 +151,7 @@ fn see_lost(lost: &mut Vec<u64>, state: &RingState) -> Result<(), AllocError>
     Ok(())
 }
 
-/// The same where there was another number of interfaces.
+/// Does the same if the number of interfaces differs.
 #[inline(never)]
 fn see_lost_anew(lost: &mut Vec<u64>, state: &RingState) -> Result<(), AllocError>
     ensures { OnOk result (lost.new.items ≡ (seen_in state.now).lost) }
@@ -163,7 +163,7 @@ fn see_lost_anew(lost: &mut Vec<u64>, state: &RingState) -> Result<(), AllocErro
     Ok(())
 }
 
-/// The same where there are as many interfaces.
+/// Does the same if the number of interfaces is equal.
 fn see_lost_again(lost: &mut [u64], state: &RingState)
     requires { length lost.old ≡ length state.now.interfaces }
     ensures { lost.new ≡ (seen_in state.now).lost }
@@ -173,7 +173,7 @@ fn see_lost_again(lost: &mut [u64], state: &RingState)
     }
 }
 
-/// Of each open socket how many items wait there, and how many have found no room.
+/// Notes the number of waiting items and of dropped items for each open socket.
 fn see_sockets(sockets: &mut Vec<Closed>, state: &RingState) -> Result<(), AllocError>
     ensures { OnOk result (sockets.new.items ≡ (seen_in state.now).sockets) }
 {
@@ -184,7 +184,7 @@ fn see_sockets(sockets: &mut Vec<Closed>, state: &RingState) -> Result<(), Alloc
     Ok(())
 }
 
-/// The same where another number of them was open.
+/// Does the same if the number of open sockets differs.
 #[inline(never)]
 fn see_sockets_anew(sockets: &mut Vec<Closed>, state: &RingState) -> Result<(), AllocError>
     ensures { OnOk result (sockets.new.items ≡ (seen_in state.now).sockets) }
@@ -197,7 +197,7 @@ fn see_sockets_anew(sockets: &mut Vec<Closed>, state: &RingState) -> Result<(), 
     Ok(())
 }
 
-/// The same where as many of them were open.
+/// Does the same if the number of open sockets is equal.
 fn see_sockets_again(sockets: &mut [Closed], state: &RingState)
     requires { length sockets.old ≡ length state.now.sockets }
     ensures { sockets.new ≡ (seen_in state.now).sockets }
@@ -208,7 +208,7 @@ fn see_sockets_again(sockets: &mut [Closed], state: &RingState)
     }
 }
 
-/// A line without its LF.
+/// Writes a line without its LF.
 fn put_unended(out: &mut Vec<u8>, line: &[u8]) -> Result<(), AllocError>
     ensures { OnOk result (out.new.items ≡ out.old.items ++ unended line.now) }
 {

@@ -4,16 +4,16 @@ ghost use Rattle.can_replay.specs.inner.Seen.{dropped_in, put_in, told_dropped, 
 use can_bus::RingState;
 use can_event::Closed;
 
-/// How many sockets there are up to the last one that has changed.
+/// The numbers of sockets up to the last one that has changed.
 #[derive(Clone, Copy)]
 pub(crate) struct Ends {
-    /// To which items were queued.
+    /// The number of sockets up to the last with newly queued items.
     pub queued: usize,
-    /// Where items found no room.
+    /// The number of sockets up to the last with newly dropped items.
     pub refused: usize,
 }
 
-/// Up to which sockets something has changed since: only counts are compared.
+/// Returns how far the sockets have changed since `look`. It compares only counts.
 #[inline(never)]
 pub(crate) fn changed_sockets(before: &[Closed], state: &RingState) -> Ends
     ensures queued { told_put (take result.queued before.now) state.now.sockets
@@ -29,7 +29,8 @@ pub(crate) fn changed_sockets(before: &[Closed], state: &RingState) -> Ends
     }
 }
 
-/// The same, which the compiler makes faster where as many sockets are open as before.
+/// Returns the same result if as many sockets are open as before. The compiler makes this loop
+/// faster.
 fn last_changed(before: &[Closed], state: &RingState) -> Ends
     ensures queued { told_put (take result.queued before.now) state.now.sockets
         ≡ told_put before.now state.now.sockets }
@@ -47,7 +48,7 @@ fn last_changed(before: &[Closed], state: &RingState) -> Ends
     Ends { queued, refused }
 }
 
-/// All of them.
+/// Returns the number of all sockets.
 fn all_sockets(before: &[Closed]) -> Ends
     ensures queued { take result.queued before.now ≡ before.now }
     ensures refused { take result.refused before.now ≡ before.now }
@@ -60,7 +61,8 @@ fn all_sockets(before: &[Closed]) -> Ends
     }
 }
 
-/// Whether items were queued to a socket since, and whether items found no room there.
+/// Returns whether items were queued to a socket since `look`, and whether items were dropped
+/// there.
 fn has_changed(seen: Closed, state: &RingState, place: usize) -> (bool, bool)
     ensures queued { result.0 ≡ false → put_in (slice_get state.now.sockets place) seen ≡ [] }
     ensures refused { result.1 ≡ false → dropped_in (slice_get state.now.sockets place) seen ≡ [] }
@@ -71,7 +73,7 @@ fn has_changed(seen: Closed, state: &RingState, place: usize) -> (bool, bool)
     }
 }
 
-/// An end, or the one after a place.
+/// Returns the end after this place if `is_later` holds, or else the old end.
 fn end_after(end: usize, place: usize, is_later: bool) -> usize
     requires { place + 1 < 2 ^ 64 }
     ensures { result ≡ (if is_later then place + 1 else end) }

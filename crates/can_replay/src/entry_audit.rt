@@ -20,22 +20,22 @@ use can_record_text::rooms::Rooms;
 use can_record_text::version::Version;
 use std::alloc::Global;
 
-/// The lines after the first, and the facts about those that were taken.
+/// The facts about the lines taken so far, from the second line on.
 #[derive(Drop)]
 pub struct EntryAudit {
     version: Version,
     config: BusConfig,
-    /// It got the entries as long as they were legal.
+    /// The bus, which carries out the entries as long as they are legal.
     bus: LeanRingBus,
     count: u32,
-    /// The entries' needs of later versions of the text.
+    /// The features that the entries need from later versions of the text.
     needs: Needs,
     wrong: Option<WrongLine>,
     is_ended: bool,
 }
 
 impl EntryAudit {
-    /// The second line, which is the bus's.
+    /// Reads the second line, which describes the bus.
     pub fn read(
         alloc: Global,
         rooms: &mut Rooms,
@@ -64,7 +64,7 @@ impl EntryAudit {
         })
     }
 
-    /// The next line: an entry's, or the end. Nothing may follow the end.
+    /// Takes the next line: an entry or the end. Nothing may follow the end.
     pub fn carry(&mut self, alloc: Global, rooms: &mut Rooms, line: &[u8]) -> Result<(), ReadFault>
         ensures taken { OnOk result (TakesOn IsGoing self.old self.new line.now) }
         ensures fault { IfErr result (FailsNext IsGoing self.old line.now) }
@@ -82,7 +82,7 @@ impl EntryAudit {
         }
     }
 
-    // An entry's line.
+    // Takes the line of an entry.
     fn carry_entry(&mut self, alloc: Global, rooms: &mut Rooms, line: &[u8]) -> Result<(), Unread>
         requires { self.old.count < 2 ^ 32 - 1 }
         ensures { Takes self.old self.new line.now result }
@@ -94,7 +94,7 @@ impl EntryAudit {
         }
     }
 
-    // An entry's line while all were legal.
+    // Takes the line of an entry if all entries before it are legal.
     fn carry_out(&mut self, alloc: Global, rooms: &mut Rooms, line: &[u8]) -> Result<(), Unread>
         requires legal { self.old.wrong ≡ None }
         requires few { self.old.count < 2 ^ 32 - 1 }
@@ -106,7 +106,7 @@ impl EntryAudit {
         }
     }
 
-    // The same for a line that is no receive's.
+    // Does the same for a line that is not a receive.
     #[inline(never)]
     fn carry_attempt(&mut self, alloc: Global, rooms: &mut Rooms, line: &[u8]) -> Result<(), Unread>
         requires legal { self.old.wrong ≡ None }
@@ -121,7 +121,7 @@ impl EntryAudit {
         }
     }
 
-    // The same for a line that is no attempt's either.
+    // Does the same for a line that is neither a receive nor an attempt.
     #[inline(never)]
     fn carry_send(&mut self, alloc: Global, rooms: &mut Rooms, line: &[u8]) -> Result<(), Unread>
         requires legal { self.old.wrong ≡ None }
@@ -134,7 +134,7 @@ impl EntryAudit {
         }
     }
 
-    // The same for a line of any kind.
+    // Does the same for a line of any kind.
     #[inline(never)]
     fn carry_other(&mut self, alloc: Global, rooms: &mut Rooms, line: &[u8]) -> Result<(), Unread>
         requires legal { self.old.wrong ≡ None }
@@ -147,8 +147,8 @@ impl EntryAudit {
         }
     }
 
-    // The line of this event, which it seems to be of, while all were legal: it is compared with the line of the event with
-    // the reply of the bus.
+    // Takes a line that seems to be of this event, if all entries before it are legal. It compares
+    // the line with the line of the event and the bus's reply.
     fn carry_event(
         &mut self,
         alloc: Global,
@@ -181,7 +181,7 @@ impl EntryAudit {
         Ok(())
     }
 
-    // The first line past the limit.
+    // Reports the first line past the limit.
     #[inline(never)]
     fn report_wrong_past(
         &mut self,
@@ -196,7 +196,7 @@ impl EntryAudit {
         self.report_wrong(alloc, rooms, line, None)
     }
 
-    // The first line whose reply is not this one, which would be legal.
+    // Reports the first line with another reply than this legal one.
     #[inline(never)]
     fn report_wrong_reply(
         &mut self,
@@ -212,7 +212,7 @@ impl EntryAudit {
         self.report_wrong(alloc, rooms, line, Some(legal))
     }
 
-    // The first entry's line that is not legal.
+    // Reports the first line whose entry is not legal.
     fn report_wrong(
         &mut self,
         alloc: Global,
@@ -237,7 +237,7 @@ impl EntryAudit {
         Ok(())
     }
 
-    // An entry's line after a wrong one.
+    // Takes the line of an entry after a wrong one.
     #[inline(never)]
     fn read_on(&mut self, alloc: Global, rooms: &mut Rooms, line: &[u8]) -> Result<(), Unread>
         requires wrong { IsSome self.old.wrong }
@@ -249,7 +249,7 @@ impl EntryAudit {
         Ok(())
     }
 
-    // One entry more.
+    // Counts one more entry.
     fn add(&mut self, needs: Needs)
         requires { self.old.count < 2 ^ 32 - 1 }
         ensures { self.new
@@ -262,7 +262,7 @@ impl EntryAudit {
         self.needs = self.needs.and(needs);
     }
 
-    // The line of the end.
+    // Takes the end line.
     fn end(&mut self, rooms: &mut Rooms, line: &[u8]) -> Result<(), ReadFault>
         ensures ended { OnOk result (self.new ≡ record self.old { is_ended = true }) }
         ensures line { OnOk result (IsEndLine self.old.count line.now) }
@@ -281,42 +281,42 @@ impl EntryAudit {
         Ok(())
     }
 
-    /// The configuration of the bus.
+    /// Returns the configuration of the bus.
     pub fn config(&self) -> BusConfig
         ensures { result ≡ self.now.config }
     {
         self.config
     }
 
-    /// The first line, which names the version.
+    /// Returns the first line, which names the version.
     pub fn first_line(&self) -> &'static [u8]
         ensures { result.now ≡ first_line self.now.version }
     {
         self.version.first_line()
     }
 
-    /// Returns whether the line of the end was taken.
+    /// Returns whether the end line was taken.
     pub fn has_end_line(&self) -> bool
         ensures { result ≡ self.now.is_ended }
     {
         self.is_ended
     }
 
-    /// Returns whether the end was not taken, and no entry is wrong so far.
+    /// Returns whether the end line was not yet taken, and no entry is wrong so far.
     pub fn is_legal_yet(&self) -> bool
         ensures { result ≡ is_legal_yet self.now }
     {
         !self.is_ended && self.wrong.is_none()
     }
 
-    /// The bus that was given the entries as long as they were legal.
+    /// Returns the bus, which has carried out the entries as long as they were legal.
     pub fn bus(&self) -> &LeanRingBus
         ensures { result.now ≡ self.now.bus }
     {
         &self.bus
     }
 
-    /// The entry of a line that was taken.
+    /// Returns the entry of a line that was taken before.
     pub fn read_again(&self, alloc: Global, rooms: &mut Rooms, line: &[u8]) -> Result<Entry, Unread>
         ensures { (e : AnEntry) → HasLine self.now.version self.now.config e →
             line.now ≡ entry_line e [] → IsReadAs e result }
@@ -324,7 +324,7 @@ impl EntryAudit {
         read_line(&mut rooms.long, alloc, self.version, self.config, line)
     }
 
-    /// The text has ended.
+    /// Ends the text, and returns the number of its entries if they are legal.
     pub fn finish(self) -> Result<usize, TextFault>
         ensures found { (text : List ℕ) → IsGoing text self → Reports text result }
         ensures whole { (text : List ℕ) (g : IsGoing text self) →
@@ -351,7 +351,8 @@ impl EntryAudit {
         }
     }
 
-    /// The text has ended, maybe before its end: these bytes follow the lines that were taken, and end no line.
+    /// Ends a text that may be cut off. The bytes `torn` follow the lines that were taken, and end
+    /// no line.
     pub fn finish_cut(self, torn: &[u8]) -> Result<Cut, TextFault>
         ensures found { (text : List ℕ) →
             IsGoing text self → EndsNoLine torn.now → ReportsCut (text ++ torn.now) result }
@@ -366,7 +367,7 @@ impl EntryAudit {
         }
     }
 
-    // The same for a text that has its end, after which nothing may follow.
+    // Does the same for a text with its end line, after which no bytes may follow.
     fn finish_whole(self, torn: &[u8]) -> Result<Cut, TextFault>
         requires { self.is_ended ≡ true }
         ensures found { (text : List ℕ) → IsGoing text self → ReportsCut (text ++ torn.now) result }
@@ -383,7 +384,7 @@ impl EntryAudit {
         }
     }
 
-    // The same for a text without its end.
+    // Does the same for a text without its end line.
     fn finish_off(self, torn: &[u8]) -> Result<Cut, TextFault>
         requires { self.is_ended ≡ false }
         ensures found { (text : List ℕ) →

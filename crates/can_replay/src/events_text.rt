@@ -17,21 +17,21 @@ use can_record_text::ReadFault;
 use can_record_text::rooms::Rooms;
 use std::alloc::{AllocError, Global};
 
-/// The text of the events of the legal entries, except the part that was cleared. It grows by whole
-/// lines only.
+/// The text of the events of the legal entries, except the part that was cleared. It grows only by
+/// whole lines.
 #[derive(Drop)]
 pub struct EventsText {
     text: Vec<u8>,
-    /// A line while it is being made.
+    /// A buffer for the next line.
     line: Vec<u8>,
-    /// The state of the bus before an attempt, or before an interface was restarted or taken down.
+    /// The state of the bus before an attempt, a restart or a down.
     before: Before,
-    /// The other lines that are wanted. The entries so far have asked the rules of its faults.
+    /// The other wanted lines. The entries so far have asked the fault rules in it.
     wanted: Wanted,
 }
 
 impl EventsText {
-    /// No text yet.
+    /// Returns a value without text.
     pub fn new(alloc: Global, wanted: Wanted) -> Result<EventsText, AllocError>
         ensures text { IfOk result (λ events. events.text.items ≡ []) }
         ensures wanted { IfOk result (λ events. events.wanted ≡ wanted) }
@@ -51,7 +51,7 @@ impl EventsText {
         &self.text
     }
 
-    /// Clears what was written.
+    /// Clears the text written so far.
     pub fn clear(&mut self)
         ensures text { self.new.text.items ≡ [] }
         ensures wanted { self.new.wanted ≡ self.old.wanted }
@@ -59,7 +59,7 @@ impl EventsText {
         self.text.clear();
     }
 
-    /// Writes the line of the format and the bus's, which is this one, and those of the rules of the script.
+    /// Writes the line of the format, this line of the bus, and the lines of the script's rules.
     pub fn begin(&mut self, line: &[u8]) -> Result<(), AllocError>
         ensures begun { OnOk result (self.new.text.items ≡ self.old.text.items ++
             (events_first_line ++ line.now ++ rules_at_start self.old.wanted.faults)) }
@@ -82,8 +82,8 @@ impl EventsText {
         put_last_rules(out, &mut self.wanted.faults)
     }
 
-    /// Has an audit take the next line, and writes it with the events of its entry, if that is
-    /// legal and no entry before it is wrong.
+    /// Lets the audit take the next line, and writes the line with the events of its entry. It
+    /// writes only if this entry and all entries before it are legal.
     pub fn carry(
         &mut self,
         alloc: Global,
@@ -105,8 +105,8 @@ impl EventsText {
         }
     }
 
-    // The same for the line of an attempt, or of an interface that is restarted or taken down,
-    // while all entries were legal.
+    // Does the same for the line of an attempt, a restart or a down, if all entries before it are
+    // legal.
     fn carry_step(
         &mut self,
         alloc: Global,
@@ -134,7 +134,7 @@ impl EventsText {
         }
     }
 
-    // The same for a line of another kind.
+    // Does the same for a line of another kind.
     fn carry_quiet(
         &mut self,
         alloc: Global,
@@ -159,7 +159,8 @@ impl EventsText {
         }
     }
 
-    // Writes such a line with its parts, which the audit took.
+    // Writes the line of an attempt, a restart or a down with its parts. The audit has taken the
+    // line.
     fn write_step(
         &mut self,
         alloc: Global,
@@ -177,7 +178,7 @@ impl EventsText {
         }
     }
 
-    // The same if nothing else is wanted.
+    // Does the same if nothing else is wanted.
     fn write_parts(&mut self, audit: &EntryAudit, line: &[u8]) -> Result<(), AllocError>
         requires { self.old.wanted ≡ nothing_wanted }
         ensures written { OnOk result (WritesParts self.old audit.now line.now self.new) }
@@ -188,7 +189,7 @@ impl EventsText {
         self.text.extend_from_slice(&self.line)
     }
 
-    // The same if more is wanted. The line is read again, because its entry is needed.
+    // Does the same if more is wanted. It reads the line again, because it needs the entry.
     #[inline(never)]
     fn write_wanted_parts(
         &mut self,
@@ -211,8 +212,7 @@ impl EventsText {
     }
 }
 
-/// Returns whether an entry's line is that of an attempt, or of an interface that is restarted or
-/// taken down.
+/// Returns whether a line is that of an attempt, a restart or a down.
 fn is_step_line(line: &[u8]) -> bool
     ensures yes { IsTrue result →
         (e : AnEntry) → line.now ≡ entry_line e [] → is_step e.event ≡ true }

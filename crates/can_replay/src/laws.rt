@@ -10,18 +10,18 @@ ghost use Rattle.can_replay.specs.Replies.{HadMemory, replies_after};
 
 use can_bus::BusConfig;
 
-// Laws of the slow answer and of the audit, in the words of the field. The bodies are empty: the
-// clauses are the laws.
+// Laws of the slow answer (`replies_after`) and of the audit, in the words of the field. The bodies
+// are empty: the clauses are the laws.
 
-/// A bus that is never refused memory answers a list of events as the slow answer does.
+/// A bus that is never refused memory gives a list of events the replies of the slow answer.
 pub fn a_bus_answers_so(config: BusConfig)
     ensures { (past : List Entry) (events : List Event) (replies : List Reply) →
         AreAnswers config past events replies → HadMemory replies →
         replies ≡ replies_after config past events }
 {}
 
-/// A legal history has no wrong entry, and of other entries at most one is the first wrong one. So
-/// the record alone settles the answer of an audit, but for lack of memory.
+/// A legal history has no wrong entry. In any other list of entries at most one is the first wrong
+/// entry. So the record fixes the result of an audit, unless memory is refused.
 pub fn at_most_one_entry_is_the_first_wrong(config: BusConfig)
     ensures legal { (entries : List Entry) (k : ℕ) →
         IsHistory config (reverse entries) → ¬ IsFirstWrongEntry config entries k }

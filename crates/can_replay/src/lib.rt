@@ -1,23 +1,24 @@
-//! Audits whether a record is a legal history of a bus: its events are carried out again on a new
-//! bus, and each reply is compared.
+//! Audits whether a record is a legal history of a bus. It carries out the events again on a new
+//! bus, and compares each reply.
 //!
-//! `audit` takes a record, and returns yes, or the first wrong entry with the reply that would be
-//! legal there. By the laws the record alone settles the answer, and a list of events has only
-//! these replies on a bus that is never refused memory.
+//! `audit` takes a record. It returns `Ok`, or the first wrong entry with the reply that would be
+//! legal there. By the laws, the record fixes this result, and a list of events has only these
+//! replies on a bus that is never refused memory.
 //!
-//! `TextAudit` takes the text of a record line by line, and holds neither the text nor the record.
-//! Its answer is that of `read_record` and then `audit` for the whole text: the first wrong line,
-//! and if there is none the first wrong entry, with the reply that would be legal. A text may be
-//! cut off, as by a run that was killed; then it returns the number of its entries. An audit with
-//! events also writes the events of each entry, in the lines of can_replay.
+//! `TextAudit` takes the text of a record line by line, and keeps neither the text nor the record.
+//! For a whole text it gives the same result as `read_record` and then `audit`: the first faulty
+//! line, or else the first wrong entry with the legal reply. A text may be cut off, for example if
+//! the run was killed; then `TextAudit` returns the number of its entries. An audit with events
+//! also writes the events of each entry, in the lines of can_replay.
 //!
-//! The text of a record's events is the line of each entry, with what the entry brought about. That is the error counts
-//! that it changed, the frames that were lost as an interface went bus off or down, and the items that found room at sockets, and those that found none. Where
-//! the timing of the bus is given, each frame that was tried also has its times and its bits on the wire, and where the
-//! faults of the run are, the number of the rule that gave the attempt its verdict.
+//! The text of a record's events is the line of each entry with the entry's effects. These are the
+//! changed error counts, the frames lost because an interface went bus off or down, and the items
+//! that sockets queued and dropped. If the timing of the bus is given, each tried frame also has
+//! its times and its bits on the wire. If the faults of the run are given, an attempt has the
+//! number of the rule that gave its verdict.
 //!
-//! `Before` looks at a bus before an entry, and writes the entry's line after it. `specs/EventsText.antt` says what the
-//! text of a whole history is.
+//! `Before` notes the state of a bus before an entry, and writes the entry's line after it.
+//! `specs/EventsText.antt` defines the text of a whole history.
 #![tactic(auto)]
 
 pub mod audits;

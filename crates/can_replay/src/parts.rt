@@ -9,7 +9,7 @@ use can_confine::Counters;
 use can_event::{Closed, SocketId};
 use std::alloc::AllocError;
 
-/// The error counts that are not what they were, by interface.
+/// Writes the error counts that have changed, by interface.
 pub(crate) fn put_all_counts(
     out: &mut Vec<u8>,
     before: &[Counters; 16],
@@ -23,7 +23,7 @@ pub(crate) fn put_all_counts(
     Ok(())
 }
 
-/// The frames that were lost since, by interface.
+/// Writes the numbers of frames lost since `look`, by interface.
 pub(crate) fn put_all_lost(
     out: &mut Vec<u8>,
     before: &[u64],
@@ -39,7 +39,7 @@ pub(crate) fn put_all_lost(
     Ok(())
 }
 
-/// The items that were queued since, by socket: the part with them, if there are any.
+/// Writes the part with the items queued since `look`, by socket, if there are any.
 pub(crate) fn put_queued(
     out: &mut Vec<u8>,
     before: &[Closed],
@@ -59,7 +59,7 @@ pub(crate) fn put_queued(
     Ok(())
 }
 
-/// The items that found no room since, by socket: the part with them, if there are any.
+/// Writes the part with the numbers of items dropped since `look`, by socket, if there are any.
 pub(crate) fn put_refused(
     out: &mut Vec<u8>,
     before: &[Closed],
@@ -79,7 +79,7 @@ pub(crate) fn put_refused(
     Ok(())
 }
 
-/// Takes the name of a part off again that ends the text.
+/// Removes the name of a part if the text ends with it.
 fn drop_bare(out: &mut Vec<u8>, start: usize, end: usize)
     ensures { out.new.items ≡
         (if length out.old.items == end then take start out.old.items else out.old.items) }
@@ -99,7 +99,7 @@ fn put_all_items(out: &mut Vec<u8>, before: &[Closed], state: &RingState) -> Res
     Ok(())
 }
 
-/// The items of a socket that are not among its first ones.
+/// Writes the items of a socket after the first ones, which were seen before.
 fn put_items(
     out: &mut Vec<u8>,
     state: &RingState,
@@ -118,7 +118,7 @@ fn put_items(
     Ok(())
 }
 
-/// An item of a socket, if it is there.
+/// Writes an item of a socket, if it is there.
 fn put_item_at(
     out: &mut Vec<u8>,
     state: &RingState,
@@ -149,7 +149,7 @@ fn put_all_dropped(
     Ok(())
 }
 
-/// The items that found no room at a socket after so many.
+/// Writes the number of items dropped at a socket since `look`.
 fn put_dropped_at(
     out: &mut Vec<u8>,
     state: &RingState,

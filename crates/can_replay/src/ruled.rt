@@ -8,10 +8,10 @@ use can_frame::Text;
 use can_rules::RunFaults;
 use std::alloc::AllocError;
 
-/// Room for the part: its name and a number.
+/// A buffer for the part: its name and a number.
 type RuleText = Text<32>;
 
-/// The lines of the rules of the script.
+/// Writes the lines of the script's rules.
 #[tactic(auto, unfolding(crate::specs::EventsText::rules_at_start))]
 pub fn put_first_rules(out: &mut Vec<u8>, faults: &Option<RunFaults>) -> Result<(), AllocError>
     ensures { OnOk result (out.new.items ≡ out.old.items ++ rules_at_start faults.now) }
@@ -22,7 +22,8 @@ pub fn put_first_rules(out: &mut Vec<u8>, faults: &Option<RunFaults>) -> Result<
     }
 }
 
-/// The lines of the rules that the bus takes after all attempts, and of where all end.
+/// Writes the lines of the rules that the bus takes after all attempts, and of each end of all
+/// rules.
 #[tactic(auto, unfolding(crate::specs::EventsText::rules_at_end))]
 pub fn put_last_rules(out: &mut Vec<u8>, faults: &mut Option<RunFaults>) -> Result<(), AllocError>
     ensures { OnOk result (out.new.items ≡ out.old.items ++ rules_at_end faults.old) }
@@ -33,8 +34,8 @@ pub fn put_last_rules(out: &mut Vec<u8>, faults: &mut Option<RunFaults>) -> Resu
     }
 }
 
-/// The lines of rules that come before that of an entry, and the number of the rule that gave its attempt its verdict, if one
-/// did. The rules are asked where the attempt tried a frame.
+/// Writes the lines of rules before the line of an entry, and returns the number of the rule that
+/// gave the attempt its verdict, if one did. The rules are asked if the attempt tried a frame.
 #[tactic(auto, unfolding(crate::specs::EventsText::rules_before, crate::specs::EventsText::rule_in, crate::specs::EventsText::asked_of))]
 pub(crate) fn put_rules(
     out: &mut Vec<u8>,
@@ -52,7 +53,7 @@ pub(crate) fn put_rules(
     }
 }
 
-/// The same by these faults.
+/// Does the same with these faults.
 fn put_rules_of(
     out: &mut Vec<u8>,
     run: &mut RunFaults,
@@ -75,7 +76,7 @@ fn put_rules_of(
     Ok(run.rule_of(tried.winner, &tried.frame, *verdict))
 }
 
-/// The part with this number, if there is one.
+/// Writes the part with this number, if there is one.
 #[tactic(auto, unfolding(crate::specs::Words::numbered, crate::specs::Words::parted))]
 pub(crate) fn put_rule(out: &mut Vec<u8>, rule: Option<u64>) -> Result<(), AllocError>
     ensures { OnOk result (out.new.items ≡ out.old.items ++ numbered (codes "rule") rule) }

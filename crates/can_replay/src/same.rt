@@ -3,7 +3,8 @@ ghost use Rattle.std.specs.Prelude.{◌≡◌, ◌↔◌, IsTrue};
 use can_bus::{Attempt, Closed, Received, Reply, Tried};
 use can_frame::{Frame, Item};
 
-// Whether two replies are one. Each type has a function of its own, so that the proof meets them one by one.
+// Equality of two replies. Each type has its own function, so that the proof treats the types one
+// by one.
 
 fn same_frame(one: Frame, other: Frame) -> bool
     ensures { IsTrue result ↔ (one ≡ other) }
@@ -66,7 +67,7 @@ fn same_closed(one: &Closed, other: &Closed) -> bool
     one.unread == other.unread && one.dropped == other.dropped
 }
 
-/// Returns whether two replies are one.
+/// Returns whether two replies are equal.
 pub(crate) fn same_reply(one: &Reply, other: &Reply) -> bool
     ensures { IsTrue result ↔ (one.now ≡ other.now) }
 {

@@ -1,4 +1,4 @@
-//! The lines of the rules that a bus takes: which rule a number is.
+//! The lines of the rules that a bus takes. They show which rule each number means.
 ghost use Rattle.std.specs.Prelude.{◌≡◌, ◌++◌, ◌∷◌, [], codes, decimal, OnOk};
 ghost use Rattle.std.specs.List.{flat_map};
 ghost use Rattle.can_rules.specs.RunFaults.{made_until};
@@ -8,10 +8,11 @@ use can_frame::{Names, Text};
 use can_rules::{Made, Rule, RunFaults, put_rule_words};
 use std::alloc::AllocError;
 
-/// Room for the front of a rule's line.
+/// A buffer for the beginning of a rule's line.
 type FrontText = Text<32>;
 
-/// The lines of the rules of the script, which the bus takes at the start: nothing was asked or made before.
+/// Writes the lines of the script's rules, which the bus takes at the start. No attempt or change
+/// came before.
 pub(crate) fn put_first(out: &mut Vec<u8>, faults: &RunFaults) -> Result<(), AllocError>
     ensures { OnOk result (out.new.items ≡ out.old.items ++ first_rules faults.now) }
 {
@@ -34,7 +35,7 @@ pub(crate) fn put_until(
     Ok(())
 }
 
-// The line of what became of a change.
+// Writes the line for the result of a change.
 fn put_made(out: &mut Vec<u8>, made: &Made, names: &Names) -> Result<(), AllocError>
     ensures { OnOk result (out.new.items ≡ out.old.items ++ made_line names.now made.now) }
 {
@@ -45,7 +46,7 @@ fn put_made(out: &mut Vec<u8>, made: &Made, names: &Names) -> Result<(), AllocEr
     }
 }
 
-// The lines of rules, which have numbers.
+// Writes the lines of numbered rules.
 fn put_rule_lines(out: &mut Vec<u8>, rules: &[Rule], names: &Names) -> Result<(), AllocError>
     ensures { OnOk result
         (out.new.items ≡ out.old.items ++ flat_map (rule_line names.now) rules.now) }
@@ -56,7 +57,7 @@ fn put_rule_lines(out: &mut Vec<u8>, rules: &[Rule], names: &Names) -> Result<()
     Ok(())
 }
 
-// The line of a rule.
+// Writes the line of a rule.
 #[tactic(auto, unfolding(crate::specs::TakenRules::rule_line))]
 fn put_rule_line(out: &mut Vec<u8>, rule: &Rule, names: &Names) -> Result<(), AllocError>
     ensures { OnOk result (out.new.items ≡ out.old.items ++ rule_line names.now rule.now) }
@@ -66,7 +67,7 @@ fn put_rule_line(out: &mut Vec<u8>, rule: &Rule, names: &Names) -> Result<(), Al
     out.extend_from_slice(b"\n")
 }
 
-// The front of the line of a rule with this number.
+// Writes the beginning of the line of a rule with this number.
 fn put_rule_front(out: &mut Vec<u8>, number: u64) -> Result<(), AllocError>
     ensures { OnOk result
         (out.new.items ≡ out.old.items ++ (codes "rule " ++ decimal number ++ 32 ∷ [])) }

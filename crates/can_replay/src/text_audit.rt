@@ -21,23 +21,23 @@ use can_record_text::rooms::Rooms;
 use can_record_text::version::Version;
 use std::alloc::{AllocError, Global};
 
-/// The progress of the lines of a text.
+/// The progress through the lines of a text.
 #[derive(Drop)]
 enum Phase {
-    /// No line was taken.
+    /// No line was taken yet.
     Start,
-    /// The first one, which names the version.
+    /// The first line was taken, which names the version.
     Front(Version),
-    /// The bus's line too, and those after it.
+    /// The line of the bus was taken, and maybe lines after it.
     Entries(EntryAudit),
-    /// A line was at fault.
+    /// A line was faulty.
     Failed(ReadFault),
 }
 
-/// An audit of a text that is given the lines, one after another, and holds none of them.
+/// An audit that takes the lines of a text one after another and keeps none of them.
 ///
-/// Contracts name the text so far, as the lines that were taken make it. A line is cut after its LF, and one without
-/// LF is the text's last. After a fault each call answers that fault.
+/// Contracts name the text so far, which the taken lines make up. A line ends after its LF; a line
+/// without LF is the last of the text. After a faulty line each call returns the same fault.
 ///
 /// An audit with events also writes the events of the legal entries, and holds the text that was
 /// not cleared.
@@ -49,7 +49,7 @@ pub struct TextAudit {
 }
 
 impl TextAudit {
-    /// An audit that was given nothing yet.
+    /// Returns an audit that has taken no line.
     pub fn new(alloc: Global) -> TextAudit
         ensures taken { AreTaken [] result }
         ensures written { (w : AWanted) → HasWritten w [] [] result }
@@ -63,8 +63,8 @@ impl TextAudit {
         }
     }
 
-    /// The same with events, and with the other lines that are wanted. Memory is taken for the
-    /// values that they are compared with.
+    /// Returns an audit with events and with the other wanted lines. It takes memory for the state
+    /// of a bus.
     pub fn with_events(alloc: Global, wanted: Wanted) -> Result<TextAudit, AllocError>
         ensures written { IfOk result (λ audit. HasWritten wanted [] [] audit) }
         ensures none { IfOk result (λ audit. held_events audit.events ≡ []) }
@@ -102,11 +102,11 @@ impl TextAudit {
         }
     }
 
-    /// Takes the next line of the text, with its LF if it has one. A fault of the text is reported
-    /// as soon as its line is read; `finish` reports faults of the whole text.
+    /// Takes the next line of the text, with its LF if it has one. It reports a fault of a line at
+    /// once; `finish` reports faults of the whole text.
     ///
-    /// `NoMemory` comes if memory was refused, and past 4,294,967,295 entries; nothing is known of
-    /// the text then.
+    /// `NoMemory` means that memory was refused, or that there are more than 4,294,967,295 entries;
+    /// then nothing is known about the text.
     pub fn carry(&mut self, alloc: Global, line: &[u8]) -> Result<(), ReadFault>
         ensures taken { OnOk result (TakesOn AreTaken self.old self.new line.now) }
         ensures fault { IfErr result (FailsNext AreTaken self.old line.now) }
@@ -135,7 +135,7 @@ impl TextAudit {
         Err(why)
     }
 
-    // Takes a line if none was at fault.
+    // Takes a line if no line was faulty.
     fn take(&mut self, alloc: Global, line: &[u8]) -> Result<(), ReadFault>
         ensures taken { OnOk result (TakesOn AreTaken self.old self.new line.now) }
         ensures fault { IfErr result (FailsNext AreTaken self.old line.now) }
@@ -174,7 +174,7 @@ impl TextAudit {
         Ok(())
     }
 
-    // Takes the second line, which is the bus's.
+    // Takes the second line, which describes the bus.
     #[inline(never)]
     fn take_second(&mut self, alloc: Global, version: Version, line: &[u8]) -> Result<(), ReadFault>
         ensures taken { OnOk result
@@ -193,8 +193,9 @@ impl TextAudit {
         Ok(())
     }
 
-    /// Ends the text with the lines of the rules that the bus takes after the last entry, and of
-    /// each end of all rules. They come before the last line of the events, if there are any.
+    /// Ends the text, and returns the lines of the rules that the bus takes after the last entry,
+    /// and of each end of all rules. These lines come before the last line of the events, if there
+    /// are any.
     pub fn last_rules(&mut self, alloc: Global) -> Result<Vec<u8>, AllocError>
         ensures lines { IfOk result (λ lines. lines.items ≡ rules_last self.old.events) }
         ensures phase { self.new.phase ≡ self.old.phase }
@@ -206,7 +207,7 @@ impl TextAudit {
         Ok(lines)
     }
 
-    /// Ends the text, and returns the number of its record's entries, if it is a legal one.
+    /// Ends the text, and returns the number of its record's entries if the record is legal.
     pub fn finish(self) -> Result<usize, TextFault>
         ensures told { (text : List ℕ) → AreTaken text self → Reports text result }
         ensures again { (why : AFault) → HasFailed why self → result ≡ Err (TextFault.Read why) }
@@ -225,11 +226,11 @@ impl TextAudit {
         }
     }
 
-    /// Ends a text that may be cut off, and returns how far it reaches, if its record is legal so
-    /// far. The bytes after its last LF, which were not taken, are `torn`: if the text is cut off
-    /// they are not looked at.
+    /// Ends a text that may be cut off, and returns how far it reaches if its record is legal so
+    /// far. `torn` has the bytes after the last LF, which were not taken. If the text is cut off,
+    /// they are not examined.
     ///
-    /// A text that is cut off within its first two lines is at fault.
+    /// A text that is cut off within its first two lines is faulty.
     pub fn finish_cut(self, torn: &[u8]) -> Result<Cut, TextFault>
         ensures told { (text : List ℕ) →
             AreTaken text self → EndsNoLine torn.now → ReportsCut (text ++ torn.now) result }
@@ -249,7 +250,7 @@ impl TextAudit {
         }
     }
 
-    /// The record's bus, if its line was taken and no line was at fault.
+    /// Returns the record's bus, if its line was taken and no line was faulty.
     pub fn bus(&self) -> Option<BusConfig>
         ensures { result ≡ bus_taken self.now.phase }
     {
@@ -259,7 +260,7 @@ impl TextAudit {
         }
     }
 
-    /// The first line, if it was taken and no line was at fault; else no bytes.
+    /// Returns the first line, if it was taken and no line was faulty, or else no bytes.
     pub fn first_line(&self) -> &'static [u8]
         ensures { result.now ≡ first_taken self.now.phase }
     {
@@ -270,7 +271,7 @@ impl TextAudit {
         }
     }
 
-    /// Returns whether the line of the end was taken, which nothing may follow.
+    /// Returns whether the end line was taken, after which nothing may follow.
     pub fn has_end_line(&self) -> bool
         ensures { result ≡ has_end_line self.now.phase }
     {
@@ -281,8 +282,8 @@ impl TextAudit {
     }
 }
 
-// Writes what comes before the events of entries, if there are any: the second line of the text is
-// this one.
+// Writes the lines before the events of entries, if there are events. `line` is the second line of
+// the text.
 fn begin_events(events: &mut Option<EventsText>, line: &[u8]) -> Result<(), ReadFault>
     ensures begun { OnOk result ((cleared : List ℕ) → Completes events.old cleared [] →
         Completes events.new cleared
@@ -301,7 +302,7 @@ fn begin_events(events: &mut Option<EventsText>, line: &[u8]) -> Result<(), Read
     }
 }
 
-// The version that the first line names.
+// Returns the version that the first line names.
 fn first_version(line: &[u8]) -> Result<Version, ReadFault>
     ensures found { IfOk result (λ v. StartsWith (first_line v) line.now) }
     ensures only { IfErr result (λ why. (why ≡ ReadFault.BadVersion) × LacksFirst line.now) }

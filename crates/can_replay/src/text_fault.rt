@@ -3,15 +3,16 @@ use can_record_text::ReadFault;
 use std::fmt;
 use thiserror::Error;
 
-/// The first entry of a record whose reply is not the one that the entries before it give, or that is past the limit.
+/// The first wrong entry of a record: its reply does not follow from the entries before it, or it
+/// is past the limit.
 #[derive(Debug, Drop)]
 pub struct WrongLine {
-    /// Which entry it is, counted from 0.
+    /// The place of the entry, counted from 0.
     pub place: usize,
     pub entry: Entry,
-    /// The reply that would be legal there, `None` past the limit.
+    /// The reply that would be legal there, or `None` past the limit.
     pub legal: Option<Reply>,
-    /// The number of entries that the bus may have.
+    /// The limit of entries of the bus.
     pub limit: u32,
 }
 
@@ -22,22 +23,22 @@ impl fmt::Display for WrongLine {
     }
 }
 
-/// Why a text is not that of a legal record.
+/// Why a text is not the text of a legal record.
 #[derive(Debug, Drop, Error)]
 pub enum TextFault {
-    /// It is the text of no record, or memory was refused.
+    /// The text is not the text of a record, or memory was refused.
     #[error("{0}")]
     Read(ReadFault),
-    /// It is the text of a record with a wrong entry.
+    /// The text is that of a record with a wrong entry.
     #[error("{0}")]
     Wrong(WrongLine),
 }
 
-/// How far a text reaches that may be cut off; its record is legal so far.
+/// How far a text that may be cut off reaches; its record is legal so far.
 #[derive(Debug, Clone, Copy, PartialEq, Eq)]
 pub enum Cut {
-    /// It is whole, and its record has this many entries.
+    /// The text is whole, and its record has this many entries.
     Whole(usize),
-    /// It ends before its last line, after the lines of this many entries.
+    /// The text ends before its last line, after the lines of this many entries.
     Off(usize),
 }

@@ -1,13 +1,13 @@
 use can_rules::RunFaults;
 use can_wire::Timing;
 
-/// What the lines of entries are to have beside what the entries brought about.
+/// The wanted parts of the lines of entries, besides the effects of the entries.
 #[derive(Drop)]
 pub struct Wanted {
-    /// The timing of the bus: with it each frame that was tried has its times and its bits on the wire.
+    /// The timing of the bus. With it each tried frame has its times and its bits on the wire.
     pub timing: Option<Timing>,
-    /// The faults of the run: with them each rule that the bus takes has a line, and an attempt has the number of the rule
-    /// that gave it its verdict.
+    /// The faults of the run. With them each rule that the bus takes has a line, and an attempt has
+    /// the number of the rule that gave its verdict.
     pub faults: Option<RunFaults>,
 }
 
@@ -15,7 +15,7 @@ impl Wanted {
     ghost use Rattle.std.specs.Prelude.{◌≡◌, IsTrue};
     ghost use Rattle.can_replay.specs.EventsText.{nothing_wanted};
 
-    /// Nothing more.
+    /// Returns the value that adds no parts.
     pub fn nothing() -> Wanted
         ensures { result ≡ nothing_wanted }
     {
@@ -25,7 +25,7 @@ impl Wanted {
         }
     }
 
-    /// Whether it is nothing more.
+    /// Returns whether the value adds no parts.
     pub fn is_nothing(&self) -> bool
         ensures { IsTrue result → self.now ≡ nothing_wanted }
     {

@@ -10,11 +10,11 @@ use can_frame::Text;
 use can_wire::{Timing, frame_bits};
 use std::alloc::AllocError;
 
-/// Room for the part: its name and four numbers.
+/// A buffer for the part: its name and four numbers.
 type WireText = Text<96>;
 
-/// The part with the times and the bits of the frame that an entry's attempt tried. Nothing where it tried none, or no
-/// timing of the bus is given.
+/// Writes the part with the times and the bits of the frame that an attempt tried. It writes
+/// nothing if no frame was tried or no timing is given.
 #[tactic(auto, unfolding(crate::specs::EventsText::wire_part))]
 pub(crate) fn put_wire(
     out: &mut Vec<u8>,
@@ -35,7 +35,7 @@ pub(crate) fn put_wire(
     put_tried(out, timing, tried, *verdict)
 }
 
-/// The same of a frame that was tried.
+/// Writes the same part for a tried frame.
 #[tactic(auto, unfolding(crate::specs::Words::parted))]
 fn put_tried(
     out: &mut Vec<u8>,
@@ -51,7 +51,7 @@ fn put_tried(
     out.extend_from_slice(part.as_bytes())
 }
 
-/// The same, into a room.
+/// Writes the same part into a buffer.
 fn push_wire(part: &mut WireText, timing: Timing, tried: &Tried, verdict: Verdict)
     requires { part.old ≡ [] }
     ensures { part.new ≡ codes "; wire " ++ decimal (frame_nanos_of timing tried.now.frame) ++

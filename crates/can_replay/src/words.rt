@@ -6,13 +6,13 @@ use can_event::SocketId;
 use can_frame::{Item, Text, frame_text};
 use std::alloc::AllocError;
 
-/// Room for the longest part of an interface: a name of at most 9 bytes and three numbers.
+/// A buffer for the longest part of an interface: a name of at most 9 bytes and three numbers.
 type PartText = Text<80>;
 
-/// Room for a word: a number, and after a colon another one or an error message frame.
+/// A buffer for a word: a number, and after a colon another number or an error message frame.
 type WordText = Text<192>;
 
-/// The error counts of an interface, where they are not what they were.
+/// Writes the error counts of an interface, if they have changed.
 #[tactic(auto, unfolding(crate::specs::Words::counts_part, crate::specs::Words::parted))]
 pub(crate) fn put_counts(
     out: &mut Vec<u8>,
@@ -30,7 +30,7 @@ pub(crate) fn put_counts(
     out.extend_from_slice(part.as_bytes())
 }
 
-/// The same, into a room.
+/// Writes the same part into a buffer.
 fn push_counts(part: &mut PartText, iface: usize, after: Counters)
     requires { part.old ≡ [] }
     ensures { part.new ≡ codes "; counts " ++ decimal iface ++
@@ -44,7 +44,7 @@ fn push_counts(part: &mut PartText, iface: usize, after: Counters)
     part.push_count(u64::from(after.rec()));
 }
 
-/// How many frames an interface lost, where it lost any.
+/// Writes the number of frames that an interface lost, if it lost any.
 #[tactic(auto, unfolding(crate::specs::Words::lost_part, crate::specs::Words::parted))]
 pub(crate) fn put_lost(out: &mut Vec<u8>, iface: usize, count: u64) -> Result<(), AllocError>
     ensures { OnOk result (out.new.items ≡ out.old.items ++ lost_part iface count) }
@@ -60,7 +60,7 @@ pub(crate) fn put_lost(out: &mut Vec<u8>, iface: usize, count: u64) -> Result<()
     out.extend_from_slice(part.as_bytes())
 }
 
-/// An item that was put to a socket.
+/// Writes an item that was queued to a socket.
 #[tactic(auto, unfolding(crate::specs::Words::parted))]
 pub(crate) fn put_item(out: &mut Vec<u8>, id: SocketId, item: &Item) -> Result<(), AllocError>
     ensures { OnOk result (out.new.items ≡ out.old.items ++ parted (put_word id.0 item.now ∷ [])) }
@@ -71,7 +71,7 @@ pub(crate) fn put_item(out: &mut Vec<u8>, id: SocketId, item: &Item) -> Result<(
     out.extend_from_slice(word.as_bytes())
 }
 
-/// The same, into a room, without the space before it.
+/// Writes the same into a buffer, without the space before it.
 fn push_item(word: &mut WordText, id: SocketId, item: &Item)
     requires { length word.old ≤ 1 }
     ensures { word.new ≡ word.old ++ put_word id.0 item.now }
@@ -83,7 +83,7 @@ fn push_item(word: &mut WordText, id: SocketId, item: &Item)
     }
 }
 
-/// How many items found no room at a socket, where any did.
+/// Writes the number of items dropped at a socket, if there are any.
 #[tactic(auto, unfolding(crate::specs::Words::parted))]
 pub(crate) fn put_dropped(out: &mut Vec<u8>, id: SocketId, count: u64) -> Result<(), AllocError>
     ensures { OnOk result (out.new.items ≡ out.old.items ++ parted (dropped_words id.0 count)) }

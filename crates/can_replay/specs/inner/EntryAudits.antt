@@ -12,23 +12,23 @@ use Rattle.can_replay.specs.declared.text_fault.WrongLine.{WrongLine}
 
 -- The facts about the lines after the first.
 
--- the first wrong entry is this one, and the bus may have this many entries
+-- This is the first wrong entry, and this is the limit of entries of the bus.
 pub record IsWrongIn (c : BusConfig) (entries : List Entry) (w : WrongLine) : Type 0 where
   pub told : IsToldWrong c entries w.place w.legal
   pub entry : w.entry ≡ told.first.entry
   pub limit : w.limit ≡ c.limit
 
--- the entries are legal, or the first wrong one is known
+-- The entries are legal, or the first wrong one is known.
 abbrev pub IsSettled : BusConfig → List Entry → Option WrongLine → Type 0
 IsSettled c entries None = IsLegal c (reverse entries)
 IsSettled c entries (Some w) = IsWrongIn c entries w
 
--- a text with the lines of these entries, and with that of the end or without
+-- The text with the lines of these entries, with or without the end line.
 abbrev pub so_far : Bool → Version → BusConfig → List Entry → List ℕ
 so_far false v c entries = front_lines v c (entry_lines entries [])
 so_far true v c entries = text_in v c entries
 
--- these are the lines that were read
+-- These are the lines that were read.
 pub record IsRead (text : List ℕ) (b : EntryAudit) : Type 0 where
   pub entries : List Entry
   pub good : HasLines b.version b.config entries
@@ -37,13 +37,13 @@ pub record IsRead (text : List ℕ) (b : EntryAudit) : Type 0 where
   pub needs : b.needs ≡ all_needs entries
   pub settled : IsSettled b.config entries b.wrong
 
--- and while all were legal, the bus carried them out
+-- These lines were read, and the bus carried out the entries as long as they were legal.
 pub record IsGoing (text : List ℕ) (b : EntryAudit) : Type 0 where
   pub read : IsRead text b
   pub config : b.is_ended ≡ false → b.bus.config ≡ b.config
   pub is_after : b.is_ended ≡ false → b.wrong ≡ None → IsAfter b.bus (reverse read.entries)
 
--- the first two lines were read
+-- The first two lines were read.
 pub record IsBegun (v : Version) (line : List ℕ) (b : EntryAudit) : Type 0 where
   pub going : IsGoing (first_line v ++ line) b
   pub none : going.read.entries ≡ []

@@ -14,7 +14,7 @@ use Rattle.can_replay.specs.TextAudits.{IsLine}
 
 -- One more line.
 
--- an entry's line was taken; or it is none, and nothing was noted
+-- The line of an entry was taken, or the line is not an entry and the audit did not change.
 abbrev pub Takes : {A : Type 0} → EntryAudit → EntryAudit → List ℕ → Result A Unread → Type 0
 Takes old new line (Ok u) =
     (text : List ℕ) → IsGoing text old → old.is_ended ≡ false → IsLine line → IsGoing (text ++ line) new
@@ -23,7 +23,7 @@ Takes old new line (Err unread.Bad) =
     × ((text : List ℕ) → IsGoing text old → old.is_ended ≡ false → LacksEntry old.version old.config line)
 Takes old new line (Err unread.NoMemory) = Unit {0}
 
--- the same of one that is wrong there, if this reply would be legal
+-- The same for a wrong entry, if this reply would be legal there.
 abbrev pub ReportsWrong : {A : Type 0} → EntryAudit → EntryAudit → List ℕ → Option Reply → Result A Unread → Type 0
 ReportsWrong old new line legal (Ok u) =
     (text : List ℕ) (read : IsRead text old) → old.is_ended ≡ false → old.bus.config ≡ old.config → IsLine line
@@ -31,11 +31,11 @@ ReportsWrong old new line legal (Ok u) =
 ReportsWrong old new line legal (Err unread.Bad) = (new ≡ old) × LacksEntry old.version old.config line
 ReportsWrong old new line legal (Err unread.NoMemory) = Unit {0}
 
--- this is the line of the end after this many entries
+-- This is the end line after this many entries.
 abbrev pub IsEndLine : ℕ → List ℕ → Type 0
 IsEndLine count line = StartsWith (spell (end_words count) []) line
 
--- it does not, unless memory was refused
+-- This is not the end line, unless memory was refused.
 abbrev pub IsUnended : ℕ → List ℕ → ReadFault → Type 0
 IsUnended count line (fault.BadLine n) = (n ≡ count + 3) × LacksEnd count line
 IsUnended count line fault.NoMemory = Unit {0}

@@ -35,7 +35,7 @@ one_flags f g h = search rules
 own_flags : (f : FdFlags) → flags.ghosts.eq f f ≡ true
 own_flags f = search rules
 
--- bytes as a frame keeps them
+-- The bytes as a frame stores them.
 abbrev filled : List ℕ → List ℕ
 filled xs = xs ++ replicate (64 - length xs) 0
 
