@@ -62,7 +62,7 @@ tried-is c past m v w p n nodes j set h restarts won head number are judges =
 pub winner-is_live : (c : BusConfig) (past : List Entry) (w : ℕ) → IsHistory c past → winner c past ≡ Some w → IsLive (kept_nodes c past) w
 winner-is_live c past w h won = let contends = winner-contends c past w won in live-kept c past w h contends.below contends.live
 
--- the winner is judged
+-- the attempt of the winner has an outcome, so `None` is impossible
 pub judged-winner : {P : Type 0} (c : BusConfig) (past : List Entry) (w : ℕ) (v : Verdict) (nodes : Nodes) (j : Option Judgement) → IsHistory c past → winner c past ≡ Some w → nodes ≡ kept_nodes c past → (IsLive nodes w → j ≡ Some (judged (attempt_between nodes w v c.ack))) → j ≡ None → P
 judged-winner c past w v nodes j h won are some none =
     let live : IsLive nodes w = subst (λ (q : Nodes). IsLive q w) (sym are) (winner-is_live c past w h won) in

@@ -30,7 +30,7 @@ tried-posts c past m v t i nodes p h are frame =
     ∙ ap (λ (tr : Transmission). attempt_posts c.reporting tr t p i) (between-is c past t.winner v h.legal.2 h.proper.few_ifaces)
     ∙ ap (λ (q : Option Pending). attempt_posts c.reporting (transmission c past t.winner v) t q i) frame
 
--- the attempt is judged
+-- an attempt that tried a frame has an outcome, so `None` is impossible
 pub judged-tried : {P : Type 0} (c : BusConfig) (past : List Entry) (m : ℕ) (v : Verdict) (t : Tried) (nodes : Nodes) (j : Option Judgement)
     → IsHistory c (entry_of (Attempt m v) (reply.Attempted (attempt.Tried t)) ∷ past) → nodes ≡ kept_nodes c past → (IsLive nodes t.winner → j ≡ Some (judged (attempt_between nodes t.winner v c.ack))) → j ≡ None
     → P

@@ -9,7 +9,7 @@ use Rattle.canbusd_bench.proofs.Refused.{is_refusal}
 
 -- The bytes of a watcher's writer, as the watcher knows them.
 
--- both tests hold
+-- both values are true
 both : (a b : Bool) → (a && b) ≡ true → (a ≡ true) × (b ≡ true)
 both true b e = (refl, e)
 both false b e = absurd (true≢false (sym e))
@@ -96,7 +96,7 @@ told_as name is true written seen mark text after piece a = elim (decide (saw wr
   | inr not ↦ absurd (subst (λ o. Appends (Some (name ∷ mark ∷ text)) o piece) (told_off is written seen after not) a)
 ]
 
--- its writer's bytes grew by those that it knows from its start on, and it is the same writer, if its bytes are known
+-- if the writer's bytes are known, it is the same writer, and its bytes grew by the text that the watcher knows
 pub wrote : (name is : ℕ) (is_on on : Bool) (w s : ℕ) (old new : Option (List ℕ)) (text : List ℕ) → Appends (told name is_on 0 0 old) (told is on w s new) text → (old ≡ None) ⊎ ((is ≡ name) × Appends old new text)
 wrote name is is_on on w s None new text a = inl refl
 wrote name is is_on on w s (Some bytes) None text a = absurd (subst (λ o. Appends o None text) (at_start name is_on bytes) a)
@@ -157,7 +157,7 @@ loudly name is false w s (Some bytes) (Some after) text a e = let t = told_as na
 pub first_told : (name w s : ℕ) (on strict : Bool) (now old : Option (List ℕ)) → on ≡ strict → w ≡ 0 → s ≡ 0 → now ≡ old → told name on w s now ≡ told name strict 0 0 old
 first_told name w s on strict now old a b c d = rw (a, b, c, d) refl
 
--- the watcher before and after a run, and the writer before it, after it, flushed, and given back by its borrower
+-- the watcher before and after a run; and its writer before the run, after it, after a flush, and after the borrow ends
 pub record Watching {W : Type 0} (contents : W → Option (List ℕ)) (before after : Option (List ℕ)) (strict : Bool) (old behind flushed new : W) : Type 0 where
   pub name : ℕ
   pub is : ℕ

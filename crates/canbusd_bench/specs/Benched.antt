@@ -33,8 +33,8 @@ StopsBy contents o names plan input out (fault.Bench why) new =
     EndsOver contents no_verdicts input (begun plan o names) out (Err why) new
 StopsBy contents o names plan input out _ new = ⊥
 
--- a run of these options ends with a fault of its script, before anything was written, or with a fault of the run under
--- that script
+-- a run of these options ends with a fault of its script, before anything was written; or the script is valid and the
+-- run ends with a fault
 abbrev pub FailsBy : {W : Type 0} → (W → Option (List ℕ)) → BenchOptions → List (List ℕ) → Option (List ℕ) → W
     → ProgramError → W → Type 0
 FailsBy contents o names input out why new =
