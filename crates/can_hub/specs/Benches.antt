@@ -29,7 +29,7 @@ module _ {F G : Type 0} where
   abbrev pub bench_names : List (Bench F G) → List (List (List ℕ))
   bench_names benches = map (λ b. b.names) benches
 
-  -- A hub of such buses may be made of these benches: there are 1 to 16 buses, and no name is on two of them.
+  -- A hub of such buses may be made of these benches: 1 to 16 buses, and no name on two of them.
   pub record MakeHubWithin (Limits : BusConfig → Type 0) (benches : List (Bench F G)) : Type 0 where
     pub some : 1 ≤ length benches
     pub few : length benches ≤ 16

@@ -8,8 +8,8 @@ use Rattle.can_wire.specs.Timings.{BusTiming}
 
 -- The buses of a hub, and their names.
 
--- A bus: its number, its configuration, the names of its interfaces, its bit rates if it has any, the milliseconds that
--- its driver sleeps after each step if not, and the number of items that its sockets hold.
+-- A bus: number, configuration, names of its interfaces, bit rates if it has any, pause of its driver after each step
+-- in milliseconds, and number of items that a socket holds.
 pub record BusSeen : Type 0 where
   pub number : ℕ
   pub config : BusConfig

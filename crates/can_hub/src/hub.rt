@@ -52,9 +52,9 @@ impl<N: BusName, F: FaultSource + Drop, G: Gate + Drop> Hub<N, F, G> {
     /// order. It takes memory for all entries of each record, and for the results of `settle`.
     ///
     /// Returns `BadConfig` exactly if there are no benches or more than 16, or if a bench is wrong.
-    /// A bench is wrong in four cases: its configuration is outside the limits of a bus, its number
-    /// of interfaces differs from that of its blanks or names, its receive capacity is outside the
-    /// limits of a socket, or another bench has one of its names. Returns `NoMemory` if memory was
+    /// A bench is wrong if its configuration is outside the limits of a bus, or its receive
+    /// capacity outside those of a socket. It is also wrong if it has another number of interfaces
+    /// than blanks or names, or shares a name with another bench. Returns `NoMemory` if memory was
     /// refused.
     pub fn new(alloc: Global, benches: Vec<Bench<F, G>>) -> Result<Hub<N, F, G>, BusFault>
         requires { NamedFrom N.roll N.meter 0 benches.items }

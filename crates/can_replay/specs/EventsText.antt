@@ -24,8 +24,8 @@ use Rattle.can_replay.specs.Words.{counts_part, lost_part, part_named, numbered,
 use Rattle.can_replay.specs.Words.{wire_words}
 
 -- The text of a record's events: each entry's line with the entry's effects. If the timing of the bus is given, a tried
--- frame has its times and bits. If the run's faults are given, an attempt has the rule that gave its verdict, and each
--- rule has a line where the bus takes it (own choice).
+-- frame has its times and bits. If the run's faults are given, each rule has a line where the bus takes it. An attempt
+-- then has the rule that gave its verdict (own choice).
 
 -- The error counts that the entry changed, by interface.
 abbrev pub counts_parts : BusConfig → List Entry → Entry → List ℕ
@@ -82,8 +82,8 @@ rule_in (Some run) e = rule_by run e.event e.reply
 abbrev pub rule_part : Option RunSeen → Entry → List ℕ
 rule_part faults e = numbered (codes "rule") (rule_in faults e)
 
--- The lines before the line of an entry: the rules that the bus takes before an attempt that tried a frame, and each
--- end of all rules.
+-- The lines before the line of an entry: for an attempt that tried a frame, the rules that the bus takes before it, and
+-- each end of all rules.
 abbrev pub rules_by : RunSeen → Event → Reply → List ℕ
 rules_by run (Attempt m v) (reply.Attempted (attempt.Tried a)) = next_rules run
 rules_by run _ _ = []

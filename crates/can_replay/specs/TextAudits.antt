@@ -48,8 +48,7 @@ Reports text (Err (fault.Wrong w)) = IsWrongText text w
 abbrev pub EndsNoLine : List ℕ → Type 0
 EndsNoLine bytes = All (λ b. b ≢ 10) bytes
 
--- The text is the front of a record's text: the line of the bus, the lines of these entries, and bytes that end no
--- line.
+-- The text is the front of a record's text: the bus's line, these entries' lines, and bytes that end no line.
 pub record IsFrontOf (text : List ℕ) (config : BusConfig) (entries : List Entry) : Type 0 where
   pub version : Version
   pub torn : List ℕ

@@ -50,8 +50,8 @@ put_word s (item.Error e) = decimal s ++ 58 ∷ frame_spelling (item.Error e)
 abbrev pub dropped_words : ℕ → ℕ → List (List ℕ)
 dropped_words s n = if n == 0 then [] else (decimal s ++ 58 ∷ decimal n) ∷ []
 
--- The times and the bits of a tried frame: the nanoseconds to its end of frame, the nanoseconds until the next attempt
--- may begin, and the numbers of bits at the nominal bit rate and at the data bit rate.
+-- The times and the bits of a tried frame. They are the nanoseconds to its end of frame, the nanoseconds until the next
+-- attempt may begin, and the bits at the nominal and at the data bit rate.
 abbrev pub wire_words : BusTiming → CanFrame → Class → Verdict → List (List ℕ)
 wire_words t f class v =
     codes "wire" ∷ decimal (frame_nanos_of t f) ∷ decimal (attempt_nanos_of t f class v)

@@ -20,7 +20,7 @@ use std::marker::Model;
 /// The state of a bus before an entry, as far as the entry can change it.
 ///
 /// Call `look` before an attempt, a restart or a down. Then let the bus answer, and call `put_line`
-/// or `put_wanted_line`. Only `new` takes memory.
+/// or `put_wanted_line`. All its memory is taken by `new`.
 #[derive(Drop)]
 pub struct Before {
     /// The error counters of all 16 places.

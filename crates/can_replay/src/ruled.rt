@@ -34,8 +34,8 @@ pub fn put_last_rules(out: &mut Vec<u8>, faults: &mut Option<RunFaults>) -> Resu
     }
 }
 
-/// Writes the lines of rules before the line of an entry, and returns the number of the rule that
-/// gave the attempt its verdict, if one did. The rules are asked if the attempt tried a frame.
+/// Writes the lines of rules before the line of an entry. Returns the number of the rule that gave
+/// the attempt its verdict, if one did. The rules are asked if the attempt tried a frame.
 #[tactic(auto, unfolding(crate::specs::EventsText::rules_before, crate::specs::EventsText::rule_in, crate::specs::EventsText::asked_of))]
 pub(crate) fn put_rules(
     out: &mut Vec<u8>,

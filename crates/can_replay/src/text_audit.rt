@@ -63,8 +63,8 @@ impl TextAudit {
         }
     }
 
-    /// Returns an audit with events and with the other wanted lines. It takes memory for the state
-    /// of a bus.
+    /// Returns an audit with events and with the other wanted lines. It takes memory for the counts
+    /// with which it compares a bus.
     pub fn with_events(alloc: Global, wanted: Wanted) -> Result<TextAudit, AllocError>
         ensures written { IfOk result (λ audit. HasWritten wanted [] [] audit) }
         ensures none { IfOk result (λ audit. held_events audit.events ≡ []) }
@@ -193,9 +193,8 @@ impl TextAudit {
         Ok(())
     }
 
-    /// Ends the text, and returns the lines of the rules that the bus takes after the last entry,
-    /// and of each end of all rules. These lines come before the last line of the events, if there
-    /// are any.
+    /// Ends the text, and returns the lines of the rules after the last entry, and of each end of
+    /// all rules. These lines come before the last line of the events, if there are any.
     pub fn last_rules(&mut self, alloc: Global) -> Result<Vec<u8>, AllocError>
         ensures lines { IfOk result (λ lines. lines.items ≡ rules_last self.old.events) }
         ensures phase { self.new.phase ≡ self.old.phase }

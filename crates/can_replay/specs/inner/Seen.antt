@@ -16,8 +16,8 @@ use Rattle.can_replay.specs.Words.{counts_part, lost_part, part_named, dropped_w
 
 -- The state of a bus as noted before an entry, and the effects of the entry from this state and the state after it.
 
--- The error counts of the 16 places, the number of frames that each interface lost, and the number of waiting and of
--- dropped items for each open socket.
+-- The error counts of the 16 places, the lost frames of each interface, and the waiting and dropped items of each open
+-- socket, as numbers.
 pub record Seen : Type 0 where
   pub counters : List ErrorCounts
   pub lost : List ℕ
