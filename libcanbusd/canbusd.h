@@ -14,7 +14,8 @@
  * The calls are those of Rattle's proved bus: each returns what docs/DEFINITIONS.md says.
  *
  * What a program must keep, since nothing checks it; else anything may happen:
- * - A bus is used by one thread at a time, and so is a bench. Two buses have nothing in common, so two threads may use them at once.
+ * - A bus is used by one thread at a time, and so is a bench. Two buses have nothing in common, so two threads may use
+ * them at once.
  * - A bus is not used after canbusd_free, which frees it once. Its sockets end with it.
  * - A bus is what canbusd_new gave. Pointers point to as much as their types and lengths say, and not into each other.
  *

@@ -1,4 +1,4 @@
-use Rattle.std.proofs.Common.{◌≡◌, ◌⊎◌, inl, inr, ℕ, ◌+◌, ◌<◌, ◌≤◌, Bool, true, false, arith, List, [], ◌∷◌, ◌++◌, length, Option, Some, None, Result, Ok, Err, refl, sym, ap, subst, ◌∙◌, append_assoc}
+use Rattle.std.proofs.Common.{◌≡◌, ◌⊎◌, inl, inr, ℕ, ◌+◌, ◌<◌, ◌≤◌, Bool, true, false, arith, List, [], ◌∷◌, ◌++◌, length, Vec, Option, Some, None, Result, Ok, Err, refl, sym, ap, subst, ◌∙◌, append_assoc}
 use Rattle.std.specs.Io.KnownBytes.{Appends, Keeps}
 use Rattle.std.proofs.KnownBytes.{Appends-nil, Appends-trans, Appends-kept, prepend_known-nil}
 use Rattle.std.specs.List.{All}
@@ -193,3 +193,21 @@ ends_err {A} {W} leaves contents v input b out now new left NoMemory h = h
 
 pub left_unread : (coming : Option (List ℕ)) → left_of (unread coming) ≡ coming
 left_unread coming = prepend_known-nil coming
+
+-- what a run puts out is known by the bytes of its writer
+ran_in_bytes : {A : Type 0} (v : VerdictMap) (lines : List (List ℕ)) (b after : BenchState) (out new : Vec ℕ A) → Ran (λ (w : Vec ℕ A). Some w.items) v lines b out after new → Ran (λ (bytes : List ℕ). Some bytes) v lines b out.items after new.items
+ran_in_bytes {A} v lines b after out new h = record { text = h.text; short = h.short; carried = h.carried; wrote = h.wrote }
+
+pub ends_in_bytes : {A : Type 0} (v : VerdictMap) (input : Option (List ℕ)) (b left : BenchState) (out new : Vec ℕ A) (now : Input) (r : Result (Unit {0}) BenchFault)
+    → EndsLeaving (λ (w : Vec ℕ A). Some w.items) v input b out r now new left → EndsLeaving (λ (bytes : List ℕ). Some bytes) v input b out.items r now new.items left
+ends_in_bytes {A} v input b left out new now (Ok done) (lines, after, all, over, none, ran, leaves) = (lines, after, all, over, none, ran_in_bytes v lines b after out new ran, leaves)
+ends_in_bytes {A} v input b left out new now (Err BadConfig) h = absurd h
+ends_in_bytes {A} v input b left out new now (Err (BadLine n)) (lines, after, come, ran, number, leaves) = (lines, after, come, ran_in_bytes v lines b after out new ran, number, leaves)
+ends_in_bytes {A} v input b left out new now (Err TooLong) (lines, after, come, ran, leaves) = (lines, after, come, ran_in_bytes v lines b after out new ran, leaves)
+ends_in_bytes {A} v input b left out new now (Err Read) (lines, after, come, ran, leaves) = (lines, after, come, ran_in_bytes v lines b after out new ran, leaves)
+ends_in_bytes {A} v input b left out new now (Err Write) h = h
+ends_in_bytes {A} v input b left out new now (Err NoMemory) (lines, after, come, ran) = (lines, after, come, ran_in_bytes v lines b after out new ran)
+
+-- memory was refused before the first line of a text
+pub none_taken : (v : VerdictMap) (text : List ℕ) (b : BenchState) (bytes : List ℕ) → EndsLeaving (λ (w : List ℕ). Some w) v (Some text) b bytes (Err NoMemory) (unread (Some text)) bytes b
+none_taken v text b bytes = ([], b, first_none (Some text), ran_start (λ (w : List ℕ). Some w) v b bytes)

@@ -1,5 +1,5 @@
 use Rattle.std.specs.Prelude.{◌≡◌, ◌⊎◌, ℕ, ◌+◌, ◌<◌, ◌≤◌, Bool, MatchBool, List, [], ◌∷◌}
-use Rattle.std.specs.Prelude.{◌++◌, length, replicate, Option, Some, None, Result, Ok, Err, Vec}
+use Rattle.std.specs.Prelude.{◌++◌, length, replicate, Option, Some, None, Result, Ok, Err}
 use Rattle.std.specs.List.{All}
 use Rattle.std.specs.Option.{option_map}
 use Rattle.std.specs.Io.KnownBytes.{Appends, Keeps}
@@ -155,10 +155,10 @@ EndsLeaving {W} contents verdicts input b out (Err fault) now new left =
     EndsRun (λ (_ : Unit {0}) after. after ≡ left) contents verdicts input b out (Err fault) now new
 
 -- the lines of a text are carried out on a bench, and what they put out is added to these bytes
-abbrev pub TakesLines : {A : Type 0} → VerdictMap → List ℕ → BenchState → Vec ℕ A → Result (Unit {0}) BenchFault
-    → BenchState → Vec ℕ A → Type 0
-TakesLines {A} verdicts text b old outcome after new =
-    (now : Input) × EndsLeaving (λ (w : Vec ℕ A). Some w.items) verdicts (Some text) b old outcome now new after
+abbrev pub TakesLines : VerdictMap → List ℕ → BenchState → List ℕ → Result (Unit {0}) BenchFault → BenchState
+    → List ℕ → Type 0
+TakesLines verdicts text b old outcome left new =
+    (now : Input) × EndsLeaving (λ (bytes : List ℕ). Some bytes) verdicts (Some text) b old outcome now new left
 
 -- the record of a bench is that of its bus
 pub record IsRecordOfBench (r : Kept) (b : BenchState) : Type 0 where

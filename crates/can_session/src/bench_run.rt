@@ -184,8 +184,8 @@ pub fn take_lines<F: FaultSource>(
     text: &[u8],
     out: &mut Vec<u8>,
 ) -> Result<(), BenchFault>
-    ensures takes { TakesLines (F.verdicts script.old) text.now state.old out.old result state.new
-        out.new }
+    ensures { TakesLines (F.verdicts script.old) text.now state.old out.old.items result state.new
+        out.new.items }
 {
     let Ok(mut lines) = Lines::new(alloc, text) else {
         return Err(BenchFault::NoMemory);

@@ -1,6 +1,8 @@
-use crate::local_bench::LocalBench;
-use crate::parts::Parts;
-use std::alloc::Global;
+//! A bench as C has it. Nothing checks that C hands in a pointer that `canbusd_c_bench_new` gave and that was not freed, or
+//! that it calls with one from one thread at a time.
+ghost use Rattle.canbusd_c.specs.Benching.{KeptBench};
+ghost use Rattle.canbusd_c.specs.contracts.local_bench.LocalBench.{the_row};
+
 use std::marker::Model;
 
 /// What C has of a bench: a pointer to the box that the bench is in.
@@ -8,22 +10,13 @@ use std::marker::Model;
 #[derive(Drop)]
 pub struct BenchHandle {
     pub(crate) at: *mut u8,
+    pub ghost value: { KeptBench } by { the_row.coded },
 }
 
-impl BenchHandle {
-    /// Lends the bench.
-    pub(crate) fn lend(&mut self) -> &mut LocalBench
-    {
-        unsafe { &mut *self.at.cast::<LocalBench>() }
-    }
+impl Model for BenchHandle {
+    ghost use Rattle.std_alloc.specs.Box.Ownership.{box_owns};
+    ghost use Rattle.libc.specs.Heap.{chunk};
+    ghost use Rattle.canbusd_c.specs.contracts.local_bench.LocalBench.{the_row};
 
-    /// Returns the box that it points to, to be dropped.
-    pub(crate) fn into_parts(self, alloc: Global) -> Parts<LocalBench, Global>
-    {
-        let BenchHandle { at } = self;
-        Parts {
-            ptr: at.cast::<LocalBench>(),
-            alloc,
-        }
-    }
+    ghost also_owns = { λ h. box_owns chunk the_row h.at h.value };
 }

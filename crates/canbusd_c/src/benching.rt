@@ -1,7 +1,10 @@
 //! What each export does with the bench of its handle.
-ghost use Rattle.std.specs.Prelude.{◌≡◌};
+ghost use Rattle.std.specs.Prelude.{◌≡◌, ◌≢◌, IfErr, IfOk, Ok};
+ghost use Rattle.can_rules.specs.Plans.{ReadsPlan};
+ghost use Rattle.canbusd_c.specs.Codes.{IsUntouched};
+ghost use Rattle.canbusd_c.specs.Benching.{IsBenchOf, IsNoBench, IsNoPlan, IsTakeCall, IsTextCall, IsTextOut, bench_log, bench_record};
 
-use crate::codes::{NO_MEMORY, OK, bench_code, script_code, BAD_LINE};
+use crate::codes::{BAD_LINE, NO_MEMORY, OK, bench_code, plan_code};
 use crate::local_bench::LocalBench;
 use crate::looks::put_front;
 use crate::making::{config_in, names_of, timing_in};
@@ -22,7 +25,14 @@ pub fn make_bench(
     shows_faults: bool,
     faults: &[u8],
     line: &mut usize,
-) -> Result<Box<LocalBench>, u32> {
+) -> Result<Box<LocalBench>, u32>
+    ensures made { IfOk result (λ b.
+        IsBenchOf names.now config.now capacity shows_faults faults.now b.value) }
+    ensures same { IfOk result (λ b. line.new ≡ line.old) }
+    ensures refused { IfErr result (λ code. code ≢ 0) }
+    ensures why { IfErr result (λ code.
+        IsNoBench names.now config.now capacity faults.now line.old code line.new) }
+{
     let names = names_of(alloc, names)?;
     let timing = timing_in(config)?;
     let config = config_in(names.count(), config)?;
@@ -37,13 +47,19 @@ pub fn make_bench(
 }
 
 /// Returns the faults that a text spells.
-fn plan_in(alloc: Global, faults: &[u8], names: &Names, line: &mut usize) -> Result<Plan, u32> {
+fn plan_in(alloc: Global, faults: &[u8], names: &Names, line: &mut usize) -> Result<Plan, u32>
+    ensures read { IfOk result (λ plan. ReadsPlan names.now faults.now (Ok plan)) }
+    ensures same { IfOk result (λ plan. line.new ≡ line.old) }
+    ensures refused { IfErr result (λ code. code ≢ 0) }
+    ensures why { IfErr result (λ code.
+        IsNoPlan names.now faults.now line.old code line.new) }
+{
     let Ok(text) = str::from_utf8(faults) else {
         return Err(BAD_LINE);
     };
     match Plan::read(alloc, text, names) {
         Ok(plan) => Ok(plan),
-        Err(fault) => Err(script_code(fault, line)),
+        Err(fault) => Err(plan_code(fault, line)),
     }
 }
 
@@ -54,7 +70,10 @@ pub fn take(
     to: &mut [u8],
     len: &mut usize,
     line: &mut usize,
-) -> u32 {
+) -> u32
+    ensures { IsTakeCall lines.now bench.old to.old line.old result len.new line.new to.new
+        bench.new }
+{
     let outcome = bench.take(lines);
     write_output(bench, to, len);
     match outcome {
@@ -64,13 +83,19 @@ pub fn take(
 }
 
 /// Writes as much of what the last lines put out as there is room for, and its length.
-pub fn write_output(bench: &LocalBench, to: &mut [u8], len: &mut usize) {
+pub fn write_output(bench: &LocalBench, to: &mut [u8], len: &mut usize)
+    ensures { IsTextOut bench.now.output to.old len.new to.new }
+{
     *len = bench.output().len();
     put_front(bench.output(), to);
 }
 
 /// Writes as much of the text of the record as there is room for, and its length.
-pub fn write_record(alloc: Global, bench: &LocalBench, to: &mut [u8], len: &mut usize) -> u32 {
+pub fn write_record(alloc: Global, bench: &LocalBench, to: &mut [u8], len: &mut usize) -> u32
+    ensures written { IsTextCall (bench_record bench.now) to.old result len.new to.new }
+    ensures kept { IsUntouched result len.old len.new }
+    ensures same_text { IsUntouched result to.old to.new }
+{
     let Ok(text) = record_text(alloc, bench.record()) else {
         return NO_MEMORY;
     };
@@ -80,7 +105,11 @@ pub fn write_record(alloc: Global, bench: &LocalBench, to: &mut [u8], len: &mut 
 }
 
 /// Writes as much of the log as there is room for, and its length.
-pub fn write_log(alloc: Global, bench: &LocalBench, to: &mut [u8], len: &mut usize) -> u32 {
+pub fn write_log(alloc: Global, bench: &LocalBench, to: &mut [u8], len: &mut usize) -> u32
+    ensures written { IsTextCall (bench_log bench.now) to.old result len.new to.new }
+    ensures kept { IsUntouched result len.old len.new }
+    ensures same_text { IsUntouched result to.old to.new }
+{
     let mut text = Vec::new(alloc);
     if write_tape(bench.names(), bench.record(), &mut text).is_err() {
         return NO_MEMORY;

@@ -1,6 +1,7 @@
 //! The codes that calls return: 0 where one did what it is for, else why not.
-ghost use Rattle.std.specs.Prelude.{◌≡◌};
+ghost use Rattle.std.specs.Prelude.{◌≡◌, Err};
 ghost use Rattle.canbusd_c.specs.Codes.{IsTold, IsUntouched, refusal_code, rule_code, run_code};
+ghost use Rattle.canbusd_c.specs.Benching.{IsLineTold, plan_code, plan_line};
 
 use crate::local_bus::RunFault;
 use can_bus::Refusal;
@@ -134,7 +135,9 @@ pub fn run_code(outcome: Result<u64, RunFault>, made: &mut u64) -> u32
 }
 
 /// The code of why a bench is not made or ends at a line, whose number is written.
-pub fn bench_code(fault: BenchFault, line: &mut usize) -> u32 {
+pub fn bench_code(fault: BenchFault, line: &mut usize) -> u32
+    ensures { IsLineTold (Err fault) line.old result line.new }
+{
     match fault {
         BenchFault::BadConfig => BAD_CONFIG,
         BenchFault::BadLine(number) => {
@@ -147,12 +150,15 @@ pub fn bench_code(fault: BenchFault, line: &mut usize) -> u32 {
 }
 
 /// The code of why a text spells no faults, at a line whose number is written.
-pub fn script_code(fault: PlanError, line: &mut usize) -> u32 {
+pub fn plan_code(fault: PlanError, line: &mut usize) -> u32
+    ensures code { result ≡ plan_code fault }
+    ensures line { line.new ≡ plan_line line.old fault }
+{
     let (code, number) = match fault {
         PlanError::Script(ScriptError::BadLine(number)) => (BAD_LINE, number),
         PlanError::Script(ScriptError::UnknownInterface(number)) => (NO_INTERFACE, number),
         PlanError::Script(ScriptError::RepeatedAttempt(number)) => (REPEATED_ATTEMPT, number),
-        PlanError::Script(ScriptError::NoMemory) => (NO_MEMORY, 0),
+        PlanError::Script(ScriptError::NoMemory) => (NO_MEMORY, *line),
         PlanError::TooManyRules(number) => (TOO_MANY_RULES, number),
     };
     *line = number;

@@ -6,6 +6,7 @@
 #![tactic(auto)]
 
 pub mod bench_handle;
+mod bench_lending;
 mod benching;
 mod calls;
 mod codes;
