@@ -23,6 +23,7 @@ static void expect(uint64_t found, uint64_t wanted, const char *what, int line) 
 static canbusd_bench *made(void) {
     canbusd_config config = CANBUSD_CONFIG;
     canbusd_bench *bench = NULL;
+    config.limit = 100;
     EQ(canbusd_bench_new("can0,can1", &config, 256, 0, NULL, 0, &bench, NULL), CANBUSD_OK);
     if (bench == NULL)
         exit(1);
@@ -73,7 +74,7 @@ static void a_wrong_line_keeps_the_others(void) {
 /* A line has 4,096 bytes at most, and lines 16,777,216 in all. */
 static void lines_have_their_limits(void) {
     canbusd_bench *bench = made();
-    size_t many = 16777217, len = 99, line = 99;
+    size_t many = 16777217, len = 99, line = 99, end;
     char *text = malloc(many);
     if (text == NULL)
         exit(1);
@@ -83,7 +84,9 @@ static void lines_have_their_limits(void) {
     text[4096] = '#';
     EQ(canbusd_bench_take(bench, text, 4097, NULL, 0, &len, &line), CANBUSD_BAD_LINE);
     EQ(line, 1);
-    memset(text, '\n', many);
+    memset(text, '#', many);
+    for (end = 4095; end < many; end += 4096)
+        text[end] = '\n';
     EQ(canbusd_bench_take(bench, text, many - 1, NULL, 0, &len, &line), CANBUSD_OK);
     EQ(canbusd_bench_take(bench, text, many, NULL, 0, &len, &line), CANBUSD_TOO_LONG);
     EQ(line, 0);
