@@ -1,4 +1,5 @@
-use Rattle.std.specs.Prelude.{◌≡◌, ◌≢◌, ◌⊎◌, ℕ, Bool, not, ◌==◌, MatchBool, List, [], length, Option, Some, Result, Ok, Err, IsUtf8}
+use Rattle.std.specs.Prelude.{◌≡◌, ◌⊎◌, ℕ, Bool, not, ◌==◌, MatchBool, List, [], length, Option, Result, Ok, Err}
+use Rattle.std.specs.Prelude.{IsUtf8}
 use Rattle.can_frame.specs.Names.{names_in, AreNames}
 use Rattle.can_fault.specs.Sources.{no_verdicts}
 use Rattle.can_fault.specs.declared.script.ScriptError.TheVariants as script
