@@ -28,6 +28,15 @@ extern uint32_t canbusd_c_status(struct handle *handle, uint32_t iface, canbusd_
 extern uint32_t canbusd_c_stats(struct handle *handle, uint32_t socket, canbusd_stats *stats);
 extern uint32_t canbusd_c_load(struct handle *handle, uint64_t moment, canbusd_load *load);
 extern uint32_t canbusd_c_record(struct handle *handle, uint8_t *text, size_t room, size_t *len);
+extern uint32_t canbusd_c_bench_new(const uint8_t *names, size_t len, const canbusd_config *config, uint32_t capacity,
+                                    uint32_t shows_faults, const uint8_t *faults, size_t faults_len, size_t *line,
+                                    void **out);
+extern void canbusd_c_bench_free(struct handle handle);
+extern uint32_t canbusd_c_bench_take(struct handle *handle, const uint8_t *lines, size_t lines_len, uint8_t *output,
+                                     size_t room, size_t *len, size_t *line);
+extern void canbusd_c_bench_output(struct handle *handle, uint8_t *output, size_t room, size_t *len);
+extern uint32_t canbusd_c_bench_record(struct handle *handle, uint8_t *text, size_t room, size_t *len);
+extern uint32_t canbusd_c_bench_log(struct handle *handle, uint8_t *text, size_t room, size_t *len);
 
 /* The handle of a bus. */
 #define HANDLE(bus) (&(struct handle){bus})
@@ -158,6 +167,73 @@ uint32_t canbusd_record(canbusd *bus, char *text, size_t room, size_t *len) {
     return canbusd_c_record(HANDLE(bus), text != NULL ? (uint8_t *)text : &none, room, len);
 }
 
+uint32_t canbusd_bench_new(const char *names, const canbusd_config *config, uint32_t capacity, uint32_t shows_faults,
+                           const char *faults, size_t faults_len, canbusd_bench **bench, size_t *line) {
+    static const uint8_t none = 0;
+    void *made = NULL;
+    size_t wrong = 0;
+    uint32_t code;
+    if (bench == NULL)
+        return CANBUSD_NULL;
+    *bench = NULL;
+    if (names == NULL || config == NULL || (faults == NULL && faults_len != 0))
+        return CANBUSD_NULL;
+    code = canbusd_c_bench_new((const uint8_t *)names, strlen(names), config, capacity, shows_faults,
+                               faults != NULL ? (const uint8_t *)faults : &none, faults_len, &wrong, &made);
+    if (code == CANBUSD_OK)
+        *bench = made;
+    if (line != NULL)
+        *line = wrong;
+    return code;
+}
+
+void canbusd_bench_free(canbusd_bench *bench) {
+    if (bench != NULL)
+        canbusd_c_bench_free((struct handle){bench});
+}
+
+/* Whether there is no place for a text and its length. */
+static int has_no_place(const char *text, size_t room, const size_t *len) {
+    return len == NULL || (text == NULL && room != 0);
+}
+
+uint32_t canbusd_bench_take(canbusd_bench *bench, const char *lines, size_t lines_len, char *output, size_t room,
+                            size_t *len, size_t *line) {
+    static const uint8_t no_lines = 0;
+    uint8_t none = 0;
+    size_t wrong = 0;
+    uint32_t code;
+    if (bench == NULL || (lines == NULL && lines_len != 0) || has_no_place(output, room, len))
+        return CANBUSD_NULL;
+    code = canbusd_c_bench_take(HANDLE(bench), lines != NULL ? (const uint8_t *)lines : &no_lines, lines_len,
+                                output != NULL ? (uint8_t *)output : &none, room, len, &wrong);
+    if (line != NULL)
+        *line = wrong;
+    return code;
+}
+
+uint32_t canbusd_bench_output(canbusd_bench *bench, char *output, size_t room, size_t *len) {
+    uint8_t none = 0;
+    if (bench == NULL || has_no_place(output, room, len))
+        return CANBUSD_NULL;
+    canbusd_c_bench_output(HANDLE(bench), output != NULL ? (uint8_t *)output : &none, room, len);
+    return CANBUSD_OK;
+}
+
+uint32_t canbusd_bench_record(canbusd_bench *bench, char *text, size_t room, size_t *len) {
+    uint8_t none = 0;
+    if (bench == NULL || has_no_place(text, room, len))
+        return CANBUSD_NULL;
+    return canbusd_c_bench_record(HANDLE(bench), text != NULL ? (uint8_t *)text : &none, room, len);
+}
+
+uint32_t canbusd_bench_log(canbusd_bench *bench, char *text, size_t room, size_t *len) {
+    uint8_t none = 0;
+    if (bench == NULL || has_no_place(text, room, len))
+        return CANBUSD_NULL;
+    return canbusd_c_bench_log(HANDLE(bench), text != NULL ? (uint8_t *)text : &none, room, len);
+}
+
 const char *canbusd_strerror(uint32_t code) {
     static const char *const texts[] = {
         [CANBUSD_OK] = "ok",
@@ -185,6 +261,9 @@ const char *canbusd_strerror(uint32_t code) {
         [CANBUSD_BAD_BIT_RATES] = "bad bit rates",
         [CANBUSD_BAD_RUN] = "cannot run",
         [CANBUSD_NULL] = "null pointer",
+        [CANBUSD_BAD_LINE] = "bad line",
+        [CANBUSD_REPEATED_ATTEMPT] = "repeated attempt",
+        [CANBUSD_TOO_LONG] = "input too long",
     };
     return code < sizeof texts / sizeof *texts ? texts[code] : "no such code";
 }

@@ -14,7 +14,8 @@
  * The calls are those of Rattle's proved bus: each returns what docs/DEFINITIONS.md says.
  *
  * What a program must keep, since nothing checks it; else anything may happen:
- * - A bus is used by one thread at a time. Two buses have nothing in common, so two threads may use them at once.
+ * - A bus is used by one thread at a time, and so is a bench. Two buses have nothing in common, so two threads may use
+ * them at once.
  * - A bus is not used after canbusd_free, which frees it once. Its sockets end with it.
  * - A bus is what canbusd_new gave. Pointers point to as much as their types and lengths say, and not into each other.
  *
@@ -39,6 +40,9 @@ extern "C" {
 
 /* A bus. */
 typedef struct canbusd canbusd;
+
+/* A bench: a bus with sessions that take lines, as `canbusd bench` reads them. */
+typedef struct canbusd_bench canbusd_bench;
 
 /* Why a call was refused, or CANBUSD_OK. canbusd_strerror has their texts. */
 enum {
@@ -66,7 +70,10 @@ enum {
     CANBUSD_BAD_CONFIG = 21,       /* a number is outside its limits */
     CANBUSD_BAD_BIT_RATES = 22,    /* outside their limits, or one for data alone */
     CANBUSD_BAD_RUN = 23,          /* no bit rate, or the bus is past that moment */
-    CANBUSD_NULL = 24              /* a null pointer */
+    CANBUSD_NULL = 24,             /* a null pointer */
+    CANBUSD_BAD_LINE = 25,         /* a line of a bench or of its faults is wrong */
+    CANBUSD_REPEATED_ATTEMPT = 26, /* a line of faults is for an attempt that another line is for */
+    CANBUSD_TOO_LONG = 27          /* lines of more than 16,777,216 bytes */
 };
 
 /* What a bus is made with. */
@@ -256,6 +263,42 @@ uint32_t canbusd_get_load(canbusd *bus, uint64_t moment, canbusd_load *load);
  * and _NO_MEMORY; one whose arguments are refused, as CANBUSD_BAD_FRAME, is none. Rules are in no entry: only what they
  * gave is, as a verdict. */
 uint32_t canbusd_record(canbusd *bus, char *text, size_t room, size_t *len);
+
+/* Makes a bench: the names and the struct are those of canbusd_new, `capacity` is the number of items that a session's
+ * socket holds, 1 to 65,536. With `shows_faults` other than 0 the lines of attempts show their faults. `faults` is the
+ * text of a script and rules, `faults_len` bytes, or NULL.
+ *
+ * Errors, in this order: _BAD_NAMES, _BAD_BIT_RATES, _BAD_CONFIG of `ack` and `reporting`; of a line of the faults
+ * _BAD_LINE, _NO_INTERFACE, _REPEATED_ATTEMPT, _TOO_MANY_RULES; _BAD_CONFIG of the other numbers and of `capacity`;
+ * _NO_MEMORY at any point. `line` is the number of the wrong line of the faults, from 1, or 0 where there is none, as
+ * in a text that is no UTF-8; it may be NULL. */
+uint32_t canbusd_bench_new(const char *names, const canbusd_config *config, uint32_t capacity, uint32_t shows_faults,
+                           const char *faults, size_t faults_len, canbusd_bench **bench, size_t *line);
+
+/* Frees a bench; NULL is none. */
+void canbusd_bench_free(canbusd_bench *bench);
+
+/* Carries out lines, one after another, each with its LF, which the last may lack. What they put out is written to
+ * `output`, as much of it as there is room for, without a zero after it; `len` is how long it is. It is kept until the
+ * next call: canbusd_bench_output writes it again. With `room` 0 `output` may be NULL. A full record is no error: the
+ * output says it.
+ *
+ * After an error but CANBUSD_NULL the lines before it were carried out, and their output is there. `line` is the number
+ * of the wrong line among those of this call, from 1; else it is 0. It may be NULL. After CANBUSD_BAD_LINE the bench
+ * goes on as if the line were not there, but that a change that the bus refused, as `up can0` of an interface that is
+ * neither bus off nor down, is in its record. After CANBUSD_NO_MEMORY a line may be half done.
+ *
+ * A line has at most 4,096 bytes. The time grows with the lines and what they do; each call allocates 8,192 bytes. */
+uint32_t canbusd_bench_take(canbusd_bench *bench, const char *lines, size_t lines_len, char *output, size_t room,
+                            size_t *len, size_t *line);
+
+/* Writes what the lines of the last call put out, as canbusd_bench_take does. */
+uint32_t canbusd_bench_output(canbusd_bench *bench, char *output, size_t room, size_t *len);
+
+/* Writes the text of the record so far, and the log of the frames that were tried so far, as canbusd_record does. The
+ * time grows with the record. */
+uint32_t canbusd_bench_record(canbusd_bench *bench, char *text, size_t room, size_t *len);
+uint32_t canbusd_bench_log(canbusd_bench *bench, char *text, size_t room, size_t *len);
 
 /* The text of a code, which stays for ever. */
 const char *canbusd_strerror(uint32_t code);

@@ -407,12 +407,12 @@ static void refused_calls_leave_their_results(void) {
 /* Each code has a text of its own. */
 static void codes_have_their_texts(void) {
     uint32_t code, other;
-    for (code = CANBUSD_OK; code <= CANBUSD_NULL; code++) {
+    for (code = CANBUSD_OK; code <= CANBUSD_TOO_LONG; code++) {
         EQ(strcmp(canbusd_strerror(code), "no such code") != 0, 1);
         for (other = CANBUSD_OK; other < code; other++)
             EQ(strcmp(canbusd_strerror(code), canbusd_strerror(other)) != 0, 1);
     }
-    EQ(strcmp(canbusd_strerror(CANBUSD_NULL + 1), "no such code"), 0);
+    EQ(strcmp(canbusd_strerror(CANBUSD_TOO_LONG + 1), "no such code"), 0);
 }
 
 static void buses_do_not_grow(void) {

@@ -8,6 +8,8 @@ from pathlib import Path
 
 import pytest
 
+from bench_cases import named_cases
+
 ROOT = Path(__file__).resolve().parents[2]
 HERE, EXAMPLES = ROOT / "tests" / "library", ROOT / "examples" / "library"
 HEADER = ROOT / "libcanbusd" / "canbusd.h"
@@ -47,11 +49,42 @@ def environment(prefix):
     return {**os.environ, **{name: str(place) for name, place in places.items()}}
 
 
+def checked(source, to):
+    """A program over the static library, under the sanitizers."""
+    checks = ["-D_GNU_SOURCE", "-g", "-O1", "-fsanitize=address,undefined", "-fno-sanitize-recover=all"]
+    run("gcc", *STRICT, *checks, "-I", HEADER.parent, HERE / source, OUT / "libcanbusd.a", "-o", to)
+    return to
+
+
+@pytest.fixture(scope="module")
+def benches(tmp_path_factory):
+    return checked("benches.c", tmp_path_factory.mktemp("benches") / "benches")
+
+
+def test_calls_of_benches(benches):
+    """What they refuse, what a refusal leaves, and their misuse as far as that is defined."""
+    run(benches)
+
+
+@pytest.mark.parametrize("step", (1, 1000000), ids=("line by line", "at once"))
+# Bit rates of a bus by its name are words of a command line.
+CASES = [case for case in named_cases() if "=" not in " ".join(case.values[0].words)]
+
+
+@pytest.mark.parametrize("case", CASES)
+def test_a_bench_puts_out_what_the_rules_give(benches, case, step):
+    """The cases of tests/bench, of which one call takes a line or all."""
+    found = dict(zip(case.words, case.words[1:]))
+    names, _, script = case.words[-1].partition("@")
+    words = [names, {"peers": 1}.get(found.get("--ack"), 0), found.get("--limit", 1000000)]
+    words += [found.get(word, 0) for word in ("--auto-restart", "--bitrate", "--dbitrate")]
+    words += [int("--show-faults" in found), case.script if script else "", step]
+    assert run(benches, *words, input=case.input) == case.output
+
+
 def test_calls(tmp_path):
     """Each call, and its misuse as far as that is defined, under the sanitizers; its record is audited."""
-    checks = ["-D_GNU_SOURCE", "-g", "-O1", "-fsanitize=address,undefined", "-fno-sanitize-recover=all"]
-    run("gcc", *STRICT, *checks, "-I", HEADER.parent, HERE / "calls.c", OUT / "libcanbusd.a", "-o", tmp_path / "calls")
-    run(tmp_path / "calls", tmp_path / "run.rec")
+    run(checked("calls.c", tmp_path / "calls"), tmp_path / "run.rec")
     program = os.environ.get("CANBUSD") or ROOT / "canbusd"
     assert re.fullmatch(r"ok \d+ entries\n", run(program, "audit", tmp_path / "run.rec"))
 
@@ -60,7 +93,7 @@ def test_only_what_the_header_has_can_be_seen():
     declared = set(re.findall(r"^(?:uint32_t|void|const char \*) ?\*?(canbusd_\w+)\(", HEADER.read_text(), re.M))
     for file, words in (("libcanbusd.so.0", ["-D", "--defined-only"]), ("libcanbusd.a", ["-g", "--defined-only"])):
         seen = re.findall(r" T (\w+)", run("nm", *words, OUT / file))
-        assert set(seen) == declared and len(seen) == len(declared) == 19
+        assert set(seen) == declared and len(seen) == len(declared) == 25
 
 
 def test_soname_has_the_version_of_the_header():

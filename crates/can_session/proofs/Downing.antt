@@ -1,5 +1,5 @@
 -- The output of a line that takes an interface down or brings it up.
-use Rattle.std.proofs.Common.{◌≡◌, ◌≢◌, inr, refl, ℕ, Bool, true, false, MatchBool, List, Some, Result, Ok, Err, IfOk, sym, ap}
+use Rattle.std.proofs.Common.{◌≡◌, ◌≢◌, inr, refl, ℕ, Bool, true, false, MatchBool, List, Some, Result, Ok, Err, IfOk, sym, ap, ◌∙◌}
 use Rattle.can_frame.specs.Names.{place_of}
 use Rattle.can_event.specs.declared.event.Event.{Event}
 use Rattle.can_event.specs.declared.refusal.Refusal.{Refusal}
@@ -8,7 +8,7 @@ use Rattle.can_record.specs.Journal.{Journal}
 use Rattle.can_record.specs.Outcomes.{done_reply}
 use Rattle.can_bus.specs.Answer.{Answers}
 use Rattle.can_session.specs.BusSteps.{NamedBus}
-use Rattle.can_session.specs.Benches.{BenchState, IsChanged, IsDenied, IsWrongChange, change_line, is_good_change}
+use Rattle.can_session.specs.Benches.{BenchState, IsChanged, IsDenied, IsWrongChange, IsLeftBy, change_line, is_good_change}
 
 -- a refusal that makes a line wrong is another than a full record
 not_full : (why : Refusal) → is_good_change (Err why) ≡ false → why ≢ refusal.RecordFull
@@ -45,3 +45,15 @@ pub changed_by : {E : Type 0} (event_of : ℕ → ℕ → Event) (name : List �
     → IfOk r (λ good. MatchBool good (IsChanged event_of name b said (record b { bus = bus })) (IsWrongChange event_of name b))
 changed_by event_of name b iface outcome bus said (Ok good) named answers same is put = by event_of name b iface outcome bus said good named answers same is put
 changed_by event_of name b iface outcome bus said (Err e) named answers same is put = tt
+
+-- a line that is wrong leaves the bench with the change that its bus refused
+left_by : (event : Event) (b : BenchState) (outcome : Result (Unit {0}) Refusal) (bus : NamedBus)
+    → is_good_change outcome ≡ false → Answers done_reply b.bus.journal event outcome bus.journal → bus ≡ record b.bus { journal = bus.journal } → IsLeftBy b (record b { bus = bus })
+left_by event b (Ok done) bus bad answers same = cc
+left_by event b (Err why) bus bad answers same = inr (event, why, bus.journal, answers, ap (λ (x : NamedBus). record b { bus = x }) same)
+
+pub left_after : {E : Type 0} (event : Event) (b : BenchState) (outcome : Result (Unit {0}) Refusal) (bus : NamedBus) (r : Result Bool E)
+    → Answers done_reply b.bus.journal event outcome bus.journal → bus ≡ record b.bus { journal = bus.journal } → IfOk r (λ good. good ≡ is_good_change outcome)
+    → IfOk r (λ good. good ≡ false → IsLeftBy b (record b { bus = bus }))
+left_after event b outcome bus (Ok good) answers same is = λ bad. left_by event b outcome bus (sym is ∙ bad) answers same
+left_after event b outcome bus (Err e) answers same is = tt

@@ -1,4 +1,4 @@
-use Rattle.std.proofs.Common.{◌≡◌, ◌⊎◌, inl, inr, ℕ, ◌+◌, ◌<◌, ◌≤◌, Bool, true, false, arith, List, [], ◌∷◌, ◌++◌, length, Option, Some, None, Result, Ok, Err, refl, sym, ap, subst, ◌∙◌, append_assoc}
+use Rattle.std.proofs.Common.{◌≡◌, ◌⊎◌, inl, inr, ℕ, ◌+◌, ◌<◌, ◌≤◌, Bool, true, false, arith, List, [], ◌∷◌, ◌++◌, length, Vec, Option, Some, None, Result, Ok, Err, refl, sym, ap, subst, ◌∙◌, append_assoc}
 use Rattle.std.specs.Io.KnownBytes.{Appends, Keeps}
 use Rattle.std.proofs.KnownBytes.{Appends-nil, Appends-trans, Appends-kept, prepend_known-nil}
 use Rattle.std.specs.List.{All}
@@ -14,7 +14,7 @@ use Rattle.can_session.specs.declared.bench_run.BenchFault.TheVariants.{BadConfi
 use Rattle.can_session.specs.Lines.{Input, unread, IsInputLine, IsWithinLimits, FindsEnd, TakesInputLine, Given, Stops, Repeats, left_of, lines_of_text, spelled}
 use Rattle.can_session.specs.Orders.{order_of}
 use Rattle.can_session.specs.Benches.{BenchState, IsCarriedOut, AreCarriedOut, IsRefused}
-use Rattle.can_session.specs.Runs.{AreAll, AreFirst, IsNextOfInput, ComeBeforeBad, ComeBeforeStop, Ran, EndsRun, EndsAt}
+use Rattle.can_session.specs.Runs.{AreAll, AreFirst, IsNextOfInput, ComeBeforeBad, ComeBeforeStop, Ran, EndsRun, EndsLeaving, LeavesAt, EndsAt}
 use Rattle.can_session.proofs.LineLaws.{first_lines, next, end, stop, all_given}
 
 -- these lines were given of the input, if the reader says what its bytes are
@@ -117,14 +117,14 @@ before_bad input lines old new b h within (inl why) = inl (record { next = is_ne
 before_bad input lines old new b h within (inr why) = inr (before_stop line.LineTooLong input lines old new h within why)
 
 -- a run ends at the next line as that line's fault says
-pub ends_at : {A W : Type 0} (leaves : A → BenchState → Type 0) (contents : W → Option (List ℕ)) (v : VerdictMap) (input : Option (List ℕ)) (lines : List (List ℕ)) (number : ℕ) (old now : Input) (b mid : BenchState) (out new : W) (fault : BenchFault)
-    → AreOf input lines old → IsWithinLimits now → number ≡ length lines + 1 → Ran contents v lines b out mid new → EndsAt number fault old now mid → EndsRun leaves contents v input b out (Err fault) now new
-ends_at {A} {W} leaves contents v input lines number old now b mid out new BadConfig h within is ran why = absurd why
-ends_at {A} {W} leaves contents v input lines number old now b mid out new (BadLine n) h within is ran why = (lines, mid, before_bad input lines old now mid h within why.1, ran, why.0 ∙ is)
-ends_at {A} {W} leaves contents v input lines number old now b mid out new TooLong h within is ran why = (lines, mid, before_stop line.TooLong input lines old now h within why, ran)
-ends_at {A} {W} leaves contents v input lines number old now b mid out new Read h within is ran why = (lines, mid, before_stop line.Read input lines old now h within why, ran)
-ends_at {A} {W} leaves contents v input lines number old now b mid out new Write h within is ran why = tt
-ends_at {A} {W} leaves contents v input lines number old now b mid out new NoMemory h within is ran why = (lines, mid, of_first input lines old h, ran)
+pub ends_at : {W : Type 0} (contents : W → Option (List ℕ)) (v : VerdictMap) (input : Option (List ℕ)) (lines : List (List ℕ)) (number : ℕ) (old now : Input) (b mid left : BenchState) (out new : W) (fault : BenchFault)
+    → AreOf input lines old → IsWithinLimits now → number ≡ length lines + 1 → Ran contents v lines b out mid new → EndsAt number fault old now mid → LeavesAt fault mid left → EndsLeaving contents v input b out (Err fault) now new left
+ends_at {W} contents v input lines number old now b mid left out new BadConfig h within is ran why leaves = absurd why
+ends_at {W} contents v input lines number old now b mid left out new (BadLine n) h within is ran why leaves = (lines, mid, before_bad input lines old now mid h within why.1, ran, why.0 ∙ is, leaves)
+ends_at {W} contents v input lines number old now b mid left out new TooLong h within is ran why leaves = (lines, mid, before_stop line.TooLong input lines old now h within why, ran, leaves)
+ends_at {W} contents v input lines number old now b mid left out new Read h within is ran why leaves = (lines, mid, before_stop line.Read input lines old now h within why, ran, leaves)
+ends_at {W} contents v input lines number old now b mid left out new Write h within is ran why leaves = tt
+ends_at {W} contents v input lines number old now b mid left out new NoMemory h within is ran why leaves = (lines, mid, of_first input lines old h, ran)
 
 -- each line counts
 comes_more : (old new : Input) → TakesInputLine old new → old.given + 1 ≤ new.given
@@ -153,13 +153,13 @@ ran_on {W} contents v w lines line b mid after out between new same h short (mor
     ran_more contents v lines line b mid after out between new more h short (subst (λ (u : VerdictMap). IsCarriedOut u line mid more after) same carried) wrote
 
 -- a run ends at the next line; nothing more was written unless the writer failed
-pub ends_stop : {A W : Type 0} (leaves : A → BenchState → Type 0) (contents : W → Option (List ℕ)) (v : VerdictMap) (input : Option (List ℕ)) (lines : List (List ℕ)) (number : ℕ) (old now : Input) (b mid : BenchState) (out between new : W) (fault : BenchFault)
+pub ends_stop : {W : Type 0} (contents : W → Option (List ℕ)) (v : VerdictMap) (input : Option (List ℕ)) (lines : List (List ℕ)) (number : ℕ) (old now : Input) (b mid left : BenchState) (out between new : W) (fault : BenchFault)
     → AreOf input lines old → IsWithinLimits now → number ≡ length lines + 1 → Ran contents v lines b out mid between
-    → EndsAt number fault old now mid × ((fault ≡ Write) ⊎ Keeps (contents between) (contents new)) → EndsRun leaves contents v input b out (Err fault) now new
-ends_stop {A} {W} leaves contents v input lines number old now b mid out between new fault h within is ran (why, inl write) =
-    subst (λ (f : BenchFault). EndsRun {A = A} {W = W} leaves contents v input b out (Err f) now new) (sym write) tt
-ends_stop {A} {W} leaves contents v input lines number old now b mid out between new fault h within is ran (why, inr same) =
-    ends_at leaves contents v input lines number old now b mid out new fault h within is (ran_kept contents v lines b mid out between new ran same) why
+    → EndsAt number fault old now mid × ((fault ≡ Write) ⊎ Keeps (contents between) (contents new)) → LeavesAt fault mid left → EndsLeaving contents v input b out (Err fault) now new left
+ends_stop {W} contents v input lines number old now b mid left out between new fault h within is ran (why, inl write) leaves =
+    subst (λ (f : BenchFault). EndsLeaving {W = W} contents v input b out (Err f) now new left) (sym write) tt
+ends_stop {W} contents v input lines number old now b mid left out between new fault h within is ran (why, inr same) leaves =
+    ends_at contents v input lines number old now b mid left out new fault h within is (ran_kept contents v lines b mid out between new ran same) why leaves
 
 pub err_is : {A E : Type 0} (r : Result A E) (e : E) → IsErr r × IsErrAnd r (λ x. x ≡ e) → r ≡ Err e
 err_is (Ok a) e h = let wrong = h.0 in cc
@@ -181,15 +181,33 @@ ends_unmade {A} {W} leaves contents v input b out now fault (inl bad) not_bad = 
 ends_unmade {A} {W} leaves contents v input b out now fault (inr none) not_bad =
     subst (λ (f : BenchFault). EndsRun {A = A} {W = W} leaves contents v input b out (Err f) now out) (sym none) (ends_before leaves contents v input b out now)
 
--- the fault that ends a run is independent of its results
-pub ends_err : {A B W : Type 0} (leaves : A → BenchState → Type 0) (others : B → BenchState → Type 0) (contents : W → Option (List ℕ)) (v : VerdictMap) (input : Option (List ℕ)) (b : BenchState) (out : W) (now : Input) (new : W) (fault : BenchFault)
-    → EndsRun leaves contents v input b out (Err fault) now new → EndsRun others contents v input b out (Err fault) now new
-ends_err {A} {B} {W} leaves others contents v input b out now new BadConfig h = absurd h
-ends_err {A} {B} {W} leaves others contents v input b out now new (BadLine n) h = h
-ends_err {A} {B} {W} leaves others contents v input b out now new TooLong h = h
-ends_err {A} {B} {W} leaves others contents v input b out now new Read h = h
-ends_err {A} {B} {W} leaves others contents v input b out now new Write h = h
-ends_err {A} {B} {W} leaves others contents v input b out now new NoMemory h = h
+-- the fault that ends a run is independent of its results, and of the bench that it leaves
+pub ends_err : {A W : Type 0} (leaves : A → BenchState → Type 0) (contents : W → Option (List ℕ)) (v : VerdictMap) (input : Option (List ℕ)) (b : BenchState) (out : W) (now : Input) (new : W) (left : BenchState) (fault : BenchFault)
+    → EndsLeaving contents v input b out (Err fault) now new left → EndsRun leaves contents v input b out (Err fault) now new
+ends_err {A} {W} leaves contents v input b out now new left BadConfig h = absurd h
+ends_err {A} {W} leaves contents v input b out now new left (BadLine n) (lines, after, come, ran, number, kept) = (lines, after, come, ran, number)
+ends_err {A} {W} leaves contents v input b out now new left TooLong (lines, after, come, ran, kept) = (lines, after, come, ran)
+ends_err {A} {W} leaves contents v input b out now new left Read (lines, after, come, ran, kept) = (lines, after, come, ran)
+ends_err {A} {W} leaves contents v input b out now new left Write h = h
+ends_err {A} {W} leaves contents v input b out now new left NoMemory h = h
 
 pub left_unread : (coming : Option (List ℕ)) → left_of (unread coming) ≡ coming
 left_unread coming = prepend_known-nil coming
+
+-- what a run puts out is known by the bytes of its writer
+ran_in_bytes : {A : Type 0} (v : VerdictMap) (lines : List (List ℕ)) (b after : BenchState) (out new : Vec ℕ A) → Ran (λ (w : Vec ℕ A). Some w.items) v lines b out after new → Ran (λ (bytes : List ℕ). Some bytes) v lines b out.items after new.items
+ran_in_bytes {A} v lines b after out new h = record { text = h.text; short = h.short; carried = h.carried; wrote = h.wrote }
+
+pub ends_in_bytes : {A : Type 0} (v : VerdictMap) (input : Option (List ℕ)) (b left : BenchState) (out new : Vec ℕ A) (now : Input) (r : Result (Unit {0}) BenchFault)
+    → EndsLeaving (λ (w : Vec ℕ A). Some w.items) v input b out r now new left → EndsLeaving (λ (bytes : List ℕ). Some bytes) v input b out.items r now new.items left
+ends_in_bytes {A} v input b left out new now (Ok done) (lines, after, all, over, none, ran, leaves) = (lines, after, all, over, none, ran_in_bytes v lines b after out new ran, leaves)
+ends_in_bytes {A} v input b left out new now (Err BadConfig) h = absurd h
+ends_in_bytes {A} v input b left out new now (Err (BadLine n)) (lines, after, come, ran, number, leaves) = (lines, after, come, ran_in_bytes v lines b after out new ran, number, leaves)
+ends_in_bytes {A} v input b left out new now (Err TooLong) (lines, after, come, ran, leaves) = (lines, after, come, ran_in_bytes v lines b after out new ran, leaves)
+ends_in_bytes {A} v input b left out new now (Err Read) (lines, after, come, ran, leaves) = (lines, after, come, ran_in_bytes v lines b after out new ran, leaves)
+ends_in_bytes {A} v input b left out new now (Err Write) h = h
+ends_in_bytes {A} v input b left out new now (Err NoMemory) (lines, after, come, ran) = (lines, after, come, ran_in_bytes v lines b after out new ran)
+
+-- memory was refused before the first line of a text
+pub none_taken : (v : VerdictMap) (text : List ℕ) (b : BenchState) (bytes : List ℕ) → EndsLeaving (λ (w : List ℕ). Some w) v (Some text) b bytes (Err NoMemory) (unread (Some text)) bytes b
+none_taken v text b bytes = ([], b, first_none (Some text), ran_start (λ (w : List ℕ). Some w) v b bytes)

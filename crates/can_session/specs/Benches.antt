@@ -293,6 +293,14 @@ IsRefused (Some (TakesDown name)) b = IsWrongChange event.Down name b
 IsRefused (Some (BringsUp name)) b = IsWrongChange event.Restart name b
 IsRefused (Some _) b = ⊥
 
+-- a bench after a line that it refused: as before, but a change that its bus refused is in the record
+abbrev pub IsLeftBy : BenchState → BenchState → Type 0
+IsLeftBy b after =
+    (after ≡ b)
+    ⊎ ((change : Event) × (why : Refusal) × (journal : Journal)
+    × Answers done_reply b.bus.journal change (Err why) journal
+    × (after ≡ record b { bus = record b.bus { journal = journal } }))
+
 -- lines are carried out, one after another; the last one is the last step
 abbrev pub AreCarriedOut : VerdictMap → List (List ℕ) → BenchState → List ℕ → BenchState → Type 0
 AreCarriedOut verdicts [] b text after = (text ≡ []) × (after ≡ b)

@@ -20,7 +20,7 @@ use Rattle.can_session.specs.declared.ignored_input.IgnoredInput.{IgnoredInput}
 use Rattle.can_session.specs.IgnoredInput.{none_ignored}
 use Rattle.can_session.specs.Orders.{order_of}
 use Rattle.can_session.specs.Wires.{nothing_yet}
-use Rattle.can_session.specs.Benches.{BenchState, AreCarriedOut, IsCarriedOut, IsRefused}
+use Rattle.can_session.specs.Benches.{BenchState, AreCarriedOut, IsCarriedOut, IsRefused, IsLeftBy}
 
 -- A run of the bench over an input (own choice).
 
@@ -124,6 +124,41 @@ EndsRun {A} {W} leaves contents verdicts input b out (Err NoMemory) now new =
     (lines : List (List ℕ)) × (after : BenchState) × AreFirst input lines × Ran contents verdicts lines b out after new
 EndsRun {A} {W} leaves contents verdicts input b out (Err Write) now new = Unit {0}
 EndsRun {A} {W} leaves contents verdicts input b out (Err BadConfig) now new = ⊥
+
+-- what a fault at a line leaves of the bench before that line; of one of the writer or of memory it is left open
+abbrev pub LeavesAt : BenchFault → BenchState → BenchState → Type 0
+LeavesAt (BadLine n) b left = IsLeftBy b left
+LeavesAt TooLong b left = left ≡ b
+LeavesAt Read b left = left ≡ b
+LeavesAt _ b left = Unit {0}
+
+-- how a run over an input ends, and the bench that it leaves
+abbrev pub EndsLeaving : {W : Type 0} → (W → Option (List ℕ)) → VerdictMap → Option (List ℕ) → BenchState → W
+    → Result (Unit {0}) BenchFault → Input → W → BenchState → Type 0
+EndsLeaving {W} contents verdicts input b out (Ok done) now new left =
+    EndsRun (λ (_ : Unit {0}) after. after ≡ left) contents verdicts input b out (Ok done) now new
+EndsLeaving {W} contents verdicts input b out (Err (BadLine n)) now new left =
+    (lines : List (List ℕ)) × (after : BenchState)
+    × ComeBeforeBad input lines now after
+    × Ran contents verdicts lines b out after new
+    × (n ≡ length lines + 1)
+    × LeavesAt (BadLine n) after left
+EndsLeaving {W} contents verdicts input b out (Err TooLong) now new left =
+    (lines : List (List ℕ)) × (after : BenchState) × ComeBeforeStop line.TooLong input lines now
+    × Ran contents verdicts lines b out after new
+    × LeavesAt TooLong after left
+EndsLeaving {W} contents verdicts input b out (Err Read) now new left =
+    (lines : List (List ℕ)) × (after : BenchState) × ComeBeforeStop line.Read input lines now
+    × Ran contents verdicts lines b out after new
+    × LeavesAt Read after left
+EndsLeaving {W} contents verdicts input b out (Err fault) now new left =
+    EndsRun (λ (_ : Unit {0}) after. after ≡ left) contents verdicts input b out (Err fault) now new
+
+-- the lines of a text are carried out on a bench, and what they put out is added to these bytes
+abbrev pub TakesLines : VerdictMap → List ℕ → BenchState → List ℕ → Result (Unit {0}) BenchFault → BenchState
+    → List ℕ → Type 0
+TakesLines verdicts text b old outcome left new =
+    (now : Input) × EndsLeaving (λ (bytes : List ℕ). Some bytes) verdicts (Some text) b old outcome now new left
 
 -- the record of a bench is that of its bus
 pub record IsRecordOfBench (r : Kept) (b : BenchState) : Type 0 where

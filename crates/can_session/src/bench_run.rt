@@ -4,7 +4,7 @@ ghost use Rattle.can_bus.specs.Headline.{Headline};
 ghost use Rattle.can_bus.specs.Legal.{IsLegal};
 ghost use Rattle.can_session.specs.Lines.{ComesNext, IsWithinLimits, unread};
 ghost use Rattle.can_session.specs.Benches.{BenchState};
-ghost use Rattle.can_session.specs.Runs.{IsBench, IsRecordOfBench, new_bench, at_start_with, EndsRun, EndsOver, NotesFed, EndsAt, StepsOn, input_fault_of};
+ghost use Rattle.can_session.specs.Runs.{IsBench, IsRecordOfBench, new_bench, at_start_with, EndsRun, EndsLeaving, EndsOver, LeavesAt, NotesFed, TakesLines, EndsAt, StepsOn, input_fault_of};
 
 use crate::bench_state::Bench;
 use crate::ignored_input::IgnoredInput;
@@ -174,6 +174,25 @@ pub fn bench_lines<F: FaultSource + Drop, R: Read + Drop, W: Write>(
     Ok(state.into_record())
 }
 
+/// Carries out the lines of a text on a bench, which goes on where the calls before left it, and adds what they put out.
+/// After a fault the lines before it were carried out, and their output was added: after `BadLine` the bench can go on,
+/// after `Write` and `NoMemory`, which are both for want of memory, a line may be half done.
+pub fn take_lines<F: FaultSource>(
+    alloc: Global,
+    state: &mut Bench,
+    script: &mut F,
+    text: &[u8],
+    out: &mut Vec<u8>,
+) -> Result<(), BenchFault>
+    ensures { TakesLines (F.verdicts script.old) text.now state.old out.old.items result state.new
+        out.new.items }
+{
+    let Ok(mut lines) = Lines::new(alloc, text) else {
+        return Err(BenchFault::NoMemory);
+    };
+    run(alloc, state, script, &mut lines, out)
+}
+
 /// Carries out the lines that are left.
 fn run<F: FaultSource, R: Read + Drop, W: Write>(
     alloc: Global,
@@ -183,8 +202,8 @@ fn run<F: FaultSource, R: Read + Drop, W: Write>(
     out: &mut W,
 ) -> Result<(), BenchFault>
     requires { lines.old ≡ unread lines.old.coming }
-    ensures { EndsRun (λ (_ : Unit {0}) after. after ≡ state.new) W.contents (F.verdicts script.old)
-        lines.old.coming state.old out.old result lines.new out.new }
+    ensures { EndsLeaving W.contents (F.verdicts script.old) lines.old.coming state.old out.old
+        result lines.new out.new state.new }
 {
     let mut said = Vec::new(alloc);
     let mut number = 1;
@@ -211,6 +230,7 @@ fn go_on<F: FaultSource, R: Read + Drop, W: Write>(
         lines.old lines.new state.old state.new out.old out.new) }
     ensures stops { IfErr result (λ fault. EndsAt number fault lines.old lines.new state.old
         × ((fault ≡ BenchFault.Write) ⊎ Keeps (W.contents out.old) (W.contents out.new))) }
+    ensures leaves { IfErr result (λ fault. LeavesAt fault state.old state.new) }
     ensures keeps { F.verdicts script.new ≡ F.verdicts script.old }
     ensures within { IsWithinLimits lines.new }
 {

@@ -1,10 +1,10 @@
-ghost use Rattle.std.specs.Prelude.{◌≡◌, ◌≢◌, [], ◌↔◌, Some, None, Err, true, OnOk, IfOk, IfErr, MatchBool};
+ghost use Rattle.std.specs.Prelude.{◌≡◌, ◌≢◌, [], ◌↔◌, Some, None, Err, true, false, OnOk, IfOk, IfErr, MatchBool};
 ghost use Rattle.can_event.specs.declared.event.Event.TheVariants as event;
 ghost use Rattle.can_bus.specs.Headline.{Headline};
 ghost use Rattle.can_bus.specs.Legal.{IsLegal};
 ghost use Rattle.can_session.specs.Runs.{IsBench, IsRecordOfBench, IsStartFault, at_start_with};
 ghost use Rattle.can_session.specs.Orders.{order_of};
-ghost use Rattle.can_session.specs.Benches.{session_at, Speaks, IsStarted, IsTriedIf, IsRun, IsWrongRun, IsInjected, IsWrongRule, IsCarriedOut, IsRefused};
+ghost use Rattle.can_session.specs.Benches.{session_at, Speaks, IsStarted, IsTriedIf, IsRun, IsWrongRun, IsInjected, IsWrongRule, IsCarriedOut, IsRefused, IsLeftBy};
 ghost use Rattle.can_session.specs.Benches.{AreMade, is_attempt_due, said_moment, said_decision, passed};
 ghost use Rattle.can_session.specs.Benches.{IsChanged, IsWrongChange, change_line, is_good_change};
 ghost use Rattle.can_session.specs.inner.Acts.{done_by, noted, noted_by, Puts};
@@ -28,7 +28,7 @@ use can_wire::Timing;
 use std::alloc::{AllocError, Global};
 use std::marker::Model;
 
-/// One bus with up to 64 sessions, at a moment.
+/// One bus with up to 64 sessions, at a moment. `take_lines` carries out lines on it.
 #[derive(Drop)]
 pub struct Bench {
     alloc: Global,
@@ -104,6 +104,21 @@ impl Bench {
         self.ignored
     }
 
+    /// Returns the record of its bus so far.
+    pub fn record(&self) -> &Record
+        ensures record { IsRecordOfBench result.now self.now }
+        ensures legal { IsLegal result.now.config result.now.history }
+    {
+        self.port.bus().record()
+    }
+
+    /// The names of the interfaces.
+    pub fn names(&self) -> &Names
+        ensures { result.now ≡ self.now.bus.names }
+    {
+        self.port.names()
+    }
+
     /// The record of its bus.
     pub fn into_record(self) -> Record
         ensures record { IsRecordOfBench result self }
@@ -114,7 +129,8 @@ impl Bench {
         port.into_bus().into_record()
     }
 
-    /// Carries out a line, and keeps what it puts out, if the line is good: whether it is.
+    /// Carries out a line, and keeps what it puts out, if the line is good: whether it is. A line that is not good leaves
+    /// the bench as it was, but a change that the bus refused is in the record.
     pub fn take_line<F: FaultSource>(
         &mut self,
         script: &mut F,
@@ -124,6 +140,7 @@ impl Bench {
         ensures line { IfOk result (λ good. MatchBool good
             (IsCarriedOut (F.verdicts script.old) line.now self.old said.new.items self.new)
             (IsRefused (order_of line.now) self.old)) }
+        ensures left { IfOk result (λ good. good ≡ false → IsLeftBy self.old self.new) }
         ensures keeps { F.verdicts script.new ≡ F.verdicts script.old }
     {
         said.clear();
@@ -153,17 +170,18 @@ impl Bench {
 
     /// Runs one act of a session, if it was started, and puts its text after the number: whether it was.
     #[inline(always)]
-    pub fn run_act(
+    fn run_act(
         &mut self,
         session: SessionNumber,
         act: Act<'_>,
         said: &mut Vec<u8>,
     ) -> Result<bool, AllocError>
         requires { said.old.items ≡ [] }
-        ensures { IfOk result (λ good. MatchBool good
+        ensures spoke { IfOk result (λ good. MatchBool good
             (Speaks (done_by act.entry self.old.moment) session (noted act.entry session self.old)
             said.new.items self.new)
             (session_at self.old session ≡ Some None)) }
+        ensures same { IfOk result (λ good. good ≡ false → self.new ≡ self.old) }
     {
         match &mut self.sessions[session.place()] {
             None => Ok(false),
@@ -178,11 +196,12 @@ impl Bench {
     }
 
     /// Starts a session, and returns whether its number was not used before.
-    pub fn start(&mut self, session: SessionNumber, said: &mut Vec<u8>) -> Result<bool, AllocError>
+    fn start(&mut self, session: SessionNumber, said: &mut Vec<u8>) -> Result<bool, AllocError>
         requires { said.old.items ≡ [] }
-        ensures { IfOk result (λ good. MatchBool good
+        ensures started { IfOk result (λ good. MatchBool good
             (IsStarted session self.old said.new.items self.new)
             (session_at self.old session ≢ Some None)) }
+        ensures same { IfOk result (λ good. good ≡ false → self.new ≡ self.old) }
     {
         let place = session.place();
         if self.sessions[place].is_some() {
@@ -194,16 +213,17 @@ impl Bench {
     }
 
     /// Sets the moment.
-    pub fn set_moment(&mut self, moment: Moment)
+    fn set_moment(&mut self, moment: Moment)
         ensures { self.new ≡ record self.old { moment = moment } }
     {
         self.moment = moment;
     }
 
     /// Gives the bus a rule of faults, if it can be taken: whether it was.
-    pub fn inject(&mut self, rule: &[u8]) -> Result<bool, AllocError>
-        ensures { IfOk result (λ good. MatchBool good
+    fn inject(&mut self, rule: &[u8]) -> Result<bool, AllocError>
+        ensures taken { IfOk result (λ good. MatchBool good
             (IsInjected rule.now self.old self.new) (IsWrongRule rule.now self.old)) }
+        ensures same { IfOk result (λ good. good ≡ false → self.new ≡ self.old) }
     {
         let Err(refusal) = self.port.take_rule(rule) else {
             return Ok(true);
@@ -216,11 +236,12 @@ impl Bench {
 
     /// Takes the interface of this name down at the moment set, and returns whether there is one.
     /// If the record is full, it puts that out.
-    pub fn take_down(&mut self, name: &[u8], said: &mut Vec<u8>) -> Result<bool, AllocError>
+    fn take_down(&mut self, name: &[u8], said: &mut Vec<u8>) -> Result<bool, AllocError>
         requires { said.old.items ≡ [] }
-        ensures { IfOk result (λ good. MatchBool good
+        ensures changed { IfOk result (λ good. MatchBool good
             (IsChanged event.Down name.now self.old said.new.items self.new)
             (IsWrongChange event.Down name.now self.old)) }
+        ensures left { IfOk result (λ good. good ≡ false → IsLeftBy self.old self.new) }
     {
         let Some(iface) = self.port.find(name) else {
             return Ok(false);
@@ -231,11 +252,12 @@ impl Bench {
 
     /// Restarts the interface of this name at the moment set, if it is bus off or down, and returns
     /// whether there is one. If the record is full, it puts that out.
-    pub fn bring_up(&mut self, name: &[u8], said: &mut Vec<u8>) -> Result<bool, AllocError>
+    fn bring_up(&mut self, name: &[u8], said: &mut Vec<u8>) -> Result<bool, AllocError>
         requires { said.old.items ≡ [] }
-        ensures { IfOk result (λ good. MatchBool good
+        ensures changed { IfOk result (λ good. MatchBool good
             (IsChanged event.Restart name.now self.old said.new.items self.new)
             (IsWrongChange event.Restart name.now self.old)) }
+        ensures left { IfOk result (λ good. good ≡ false → IsLeftBy self.old self.new) }
     {
         let Some(iface) = self.port.find(name) else {
             return Ok(false);
@@ -245,7 +267,7 @@ impl Bench {
     }
 
     /// Puts the next frame on the bus, with the verdict that the next attempt has: whether the attempt is made.
-    pub fn attempt<F: FaultSource>(
+    fn attempt<F: FaultSource>(
         &mut self,
         script: &mut F,
         said: &mut Vec<u8>,
@@ -266,7 +288,7 @@ impl Bench {
     }
 
     /// Makes attempts as long as one is due before a moment, and sets the moment, if it can run to it: whether it can.
-    pub fn run<F: FaultSource>(
+    fn run<F: FaultSource>(
         &mut self,
         script: &mut F,
         moment: Moment,
@@ -276,6 +298,7 @@ impl Bench {
         ensures runs { IfOk result (λ good. MatchBool good
             (IsRun (F.verdicts script.old) moment self.old said.new.items self.new)
             (IsWrongRun moment self.old)) }
+        ensures same { IfOk result (λ good. good ≡ false → self.new ≡ self.old) }
         ensures keeps { F.verdicts script.new ≡ F.verdicts script.old }
     {
         if !self.port.is_timed() || moment.micros() < self.moment.micros() {

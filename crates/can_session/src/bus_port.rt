@@ -99,6 +99,13 @@ impl<T: BoundedQueue<Pending>, R: BoundedQueue<Received>, A: Arbiter> BusPort<T,
         &self.names
     }
 
+    /// The bus.
+    pub fn bus(&self) -> &Bus<T, R, A>
+        ensures { result.now ≡ self.now.journal }
+    {
+        &self.bus
+    }
+
     /// The bus, taken out.
     pub fn into_bus(self) -> Bus<T, R, A>
         ensures { result ≡ self.journal }

@@ -11,7 +11,7 @@ mod attempt_faults;
 mod attempt_lines;
 pub mod bench_run;
 mod bench_start;
-mod bench_state;
+pub mod bench_state;
 pub mod bus_port;
 mod byte_search;
 pub mod ignored_input;
@@ -24,7 +24,8 @@ mod read_buffer;
 mod timed_attempts;
 mod turns;
 
-pub use bench_run::{BenchConfig, BenchFault, bench, bench_lines, bench_noting};
+pub use bench_run::{BenchConfig, BenchFault, bench, bench_lines, bench_noting, take_lines};
+pub use bench_state::Bench;
 pub use bus_port::BusPort;
 pub use can_dialog::{Dialog, Port, PortRefusal, RawSocket, Session, SessionFault, Stage};
 pub use can_proto::BusLoad;

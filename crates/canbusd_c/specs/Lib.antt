@@ -4,3 +4,4 @@ pub mod Codes
 pub mod Calls
 pub mod Handles
 pub mod Making
+pub mod Benching

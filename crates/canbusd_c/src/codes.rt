@@ -1,10 +1,13 @@
 //! The codes that calls return: 0 where one did what it is for, else why not.
-ghost use Rattle.std.specs.Prelude.{◌≡◌};
+ghost use Rattle.std.specs.Prelude.{◌≡◌, Err};
 ghost use Rattle.canbusd_c.specs.Codes.{IsTold, IsUntouched, refusal_code, rule_code, run_code};
+ghost use Rattle.canbusd_c.specs.Benching.{IsLineTold, plan_code, plan_line};
 
 use crate::local_bus::RunFault;
 use can_bus::Refusal;
-use can_rules::RuleRefusal;
+use can_fault::ScriptError;
+use can_rules::{PlanError, RuleRefusal};
+use can_session::BenchFault;
 
 pub const OK: u32 = 0;
 
@@ -53,6 +56,12 @@ pub const BAD_CONFIG: u32 = 21;
 pub const BAD_BIT_RATES: u32 = 22;
 
 pub const BAD_RUN: u32 = 23;
+// 24 is a null pointer, which canbusd.c finds.
+pub const BAD_LINE: u32 = 25;
+
+pub const REPEATED_ATTEMPT: u32 = 26;
+
+pub const TOO_LONG: u32 = 27;
 
 /// The code of a refusal.
 pub fn refusal_code(why: Refusal) -> u32
@@ -123,4 +132,35 @@ pub fn run_code(outcome: Result<u64, RunFault>, made: &mut u64) -> u32
         Err(RunFault::BadRun) => BAD_RUN,
         Err(RunFault::RecordFull) => RECORD_FULL,
     }
+}
+
+/// The code of why a bench is not made or ends at a line, whose number is written.
+pub fn bench_code(fault: BenchFault, line: &mut usize) -> u32
+    ensures { IsLineTold (Err fault) line.old result line.new }
+{
+    match fault {
+        BenchFault::BadConfig => BAD_CONFIG,
+        BenchFault::BadLine(number) => {
+            *line = number as usize;
+            BAD_LINE
+        }
+        BenchFault::TooLong | BenchFault::Read => TOO_LONG,
+        BenchFault::Write | BenchFault::NoMemory => NO_MEMORY,
+    }
+}
+
+/// The code of why a text spells no faults, at a line whose number is written.
+pub fn plan_code(fault: PlanError, line: &mut usize) -> u32
+    ensures code { result ≡ plan_code fault }
+    ensures line { line.new ≡ plan_line line.old fault }
+{
+    let (code, number) = match fault {
+        PlanError::Script(ScriptError::BadLine(number)) => (BAD_LINE, number),
+        PlanError::Script(ScriptError::UnknownInterface(number)) => (NO_INTERFACE, number),
+        PlanError::Script(ScriptError::RepeatedAttempt(number)) => (REPEATED_ATTEMPT, number),
+        PlanError::Script(ScriptError::NoMemory) => (NO_MEMORY, *line),
+        PlanError::TooManyRules(number) => (TOO_MANY_RULES, number),
+    };
+    *line = number;
+    code
 }

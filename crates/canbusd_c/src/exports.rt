@@ -6,11 +6,13 @@ ghost use Rattle.canbusd_c.specs.Locals.{local_with_plan};
 ghost use Rattle.canbusd_c.specs.Shapes.{frame_of_struct, option_of_numbers, status_out, stats_out};
 ghost use Rattle.canbusd_c.specs.Codes.{IsUntouched};
 ghost use Rattle.canbusd_c.specs.Making.{IsNewCall};
+ghost use Rattle.canbusd_c.specs.Benching.{IsBenchCall, IsTakeCall, IsTextCall, IsTextOut, bench_log, bench_record};
 ghost use Rattle.canbusd_c.specs.Calls.{IsOpenCall, IsCloseCall, IsSendCall, IsOptionCall, IsReceiveCall, IsAttemptCall, IsRunCall, IsChangeCall, IsInjectCall, IsCountsCall, IsFiltersCall, IsLoadCall, IsRecordCall, filters_of_structs, iface_counts, socket_counts, iface_of_number, moment_of_micros};
 
+use crate::bench_handle::BenchHandle;
 use crate::handle::Handle;
 use crate::shapes::{CClosed, CConfig, CFilter, CFrame, CItem, CLoad, CStats, CStatus, CTried};
-use crate::{calls, looks, making};
+use crate::{benching, calls, looks, making};
 use std::alloc::Global;
 
 /// Makes a bus.
@@ -214,4 +216,99 @@ pub extern "C" fn canbusd_c_record(
     ensures same { handle.new.value ≡ handle.old.value }
 {
     looks::write_record(alloc, handle.lend(), to, len)
+}
+
+/// Makes a bench.
+#[unsafe(no_mangle)]
+pub extern "C" fn canbusd_c_bench_new(
+    alloc: Global,
+    names: &[u8],
+    config: &CConfig,
+    capacity: u32,
+    shows_faults: u32,
+    faults: &[u8],
+    line: &mut usize,
+    out: &mut *mut u8,
+) -> u32
+    ensures told { IsBenchCall names.now config.now capacity shows_faults faults.now line.old
+        result line.new }
+    ensures kept { IsUntouched result out.old out.new }
+{
+    match benching::make_bench(
+        alloc,
+        names,
+        config,
+        capacity,
+        shows_faults != 0,
+        faults,
+        line,
+    ) {
+        Ok(bench) => {
+            *out = Box::into_raw(bench).cast::<u8>();
+            0
+        }
+        Err(code) => code,
+    }
+}
+
+/// Frees a bench.
+#[unsafe(no_mangle)]
+pub extern "C" fn canbusd_c_bench_free(alloc: Global, handle: BenchHandle) {
+    drop(handle.into_parts(alloc).into_box());
+}
+
+/// Carries out lines, and writes as much of what they put out as there is room for, with its length.
+#[unsafe(no_mangle)]
+pub extern "C" fn canbusd_c_bench_take(
+    handle: &mut BenchHandle,
+    lines: &[u8],
+    to: &mut [u8],
+    len: &mut usize,
+    line: &mut usize,
+) -> u32
+    ensures { IsTakeCall lines.now handle.old.value to.old line.old result len.new line.new to.new
+        handle.new.value }
+{
+    benching::take(handle.lend(), lines, to, len, line)
+}
+
+/// Writes as much of what the last lines put out as there is room for, and its length.
+#[unsafe(no_mangle)]
+pub extern "C" fn canbusd_c_bench_output(handle: &mut BenchHandle, to: &mut [u8], len: &mut usize)
+    ensures written { IsTextOut handle.old.value.output to.old len.new to.new }
+    ensures same { handle.new.value ≡ handle.old.value }
+{
+    benching::write_output(handle.lend(), to, len);
+}
+
+/// Writes as much of the text of the record as there is room for, and its length.
+#[unsafe(no_mangle)]
+pub extern "C" fn canbusd_c_bench_record(
+    alloc: Global,
+    handle: &mut BenchHandle,
+    to: &mut [u8],
+    len: &mut usize,
+) -> u32
+    ensures written { IsTextCall (bench_record handle.old.value) to.old result len.new to.new }
+    ensures kept { IsUntouched result len.old len.new }
+    ensures same_text { IsUntouched result to.old to.new }
+    ensures same { handle.new.value ≡ handle.old.value }
+{
+    benching::write_record(alloc, handle.lend(), to, len)
+}
+
+/// Writes as much of the log as there is room for, and its length.
+#[unsafe(no_mangle)]
+pub extern "C" fn canbusd_c_bench_log(
+    alloc: Global,
+    handle: &mut BenchHandle,
+    to: &mut [u8],
+    len: &mut usize,
+) -> u32
+    ensures written { IsTextCall (bench_log handle.old.value) to.old result len.new to.new }
+    ensures kept { IsUntouched result len.old len.new }
+    ensures same_text { IsUntouched result to.old to.new }
+    ensures same { handle.new.value ≡ handle.old.value }
+{
+    benching::write_log(alloc, handle.lend(), to, len)
 }

@@ -5,11 +5,15 @@
 //! are those of the bus and of the bench: the events of `specs/Locals.antt` are can_bus's, its attempts those of a bench.
 #![tactic(auto)]
 
+pub mod bench_handle;
+mod bench_lending;
+mod benching;
 mod calls;
 mod codes;
 pub mod exports;
 pub mod handle;
 mod lending;
+pub mod local_bench;
 pub mod local_bus;
 mod looks;
 mod making;

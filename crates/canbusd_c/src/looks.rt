@@ -79,7 +79,7 @@ pub fn write_record(alloc: Global, bus: &LocalBus, to: &mut [u8], len: &mut usiz
 }
 
 /// Writes as much of a text as there is room for.
-fn put_front(text: &[u8], to: &mut [u8])
+pub fn put_front(text: &[u8], to: &mut [u8])
     ensures { IsFront text.now to.old to.new }
 {
     let end = text.len().min(to.len());

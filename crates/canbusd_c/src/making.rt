@@ -33,7 +33,7 @@ pub fn make(alloc: Global, names: &[u8], config: &CConfig) -> Result<Box<LocalBu
 }
 
 /// The names that a text joins by commas.
-fn names_of(alloc: Global, names: &[u8]) -> Result<Names, u32>
+pub fn names_of(alloc: Global, names: &[u8]) -> Result<Names, u32>
     ensures read { IfOk result (λ found. found ≡ names_in names.now) }
     ensures refused { IfErr result (λ code. code ≢ 0) }
     ensures good { OnOk result (AreNames (names_in names.now)) }
@@ -50,7 +50,7 @@ fn names_of(alloc: Global, names: &[u8]) -> Result<Names, u32>
 }
 
 /// The bit rates of a struct, if it has any.
-fn timing_in(config: &CConfig) -> Result<Option<Timing>, u32>
+pub fn timing_in(config: &CConfig) -> Result<Option<Timing>, u32>
     ensures read { IfOk result (λ timing.
         timing ≡ timing_of_numbers config.now.bitrate config.now.data_bitrate) }
     ensures refused { IfErr result (λ code. code ≢ 0) }
@@ -75,7 +75,7 @@ fn timing_in(config: &CConfig) -> Result<Option<Timing>, u32>
 }
 
 /// The configuration of a bus with so many interfaces.
-fn config_in(ifaces: u8, config: &CConfig) -> Result<BusConfig, u32>
+pub fn config_in(ifaces: u8, config: &CConfig) -> Result<BusConfig, u32>
     ensures read { IfOk result (λ made. IsConfigIn ifaces config.now made) }
     ensures refused { IfErr result (λ code. code ≢ 0) }
     ensures why { IfErr result (λ code. IsNoConfig config.now code) }

@@ -32,9 +32,8 @@ returns-in_err-run-clause-runs g c =
     let start = new_bench c.args.config.shows_faults c.args.config.timing c.args.config.names c.args.config.config c.args.config.rx_capacity in
     let coming = c.args.lines.now.coming in
     let now = c.run.new.lines in
-    let leaves : Unit {0} → BenchState → Type 0 = λ _ after. after ≡ c.run.new.state in
     let made = without_plan c.args.config.shows_faults c.args.config.timing c.args.config.names c.args.config.config c.args.config.rx_capacity c.in_ok-state.state c.new-plan.result c.in_ok-state.ensures.made c.new-plan.ensures in
-    let ended = ends_err leaves IsRecordOfBench contents v coming c.in_ok-state.state c.args.out.now now c.run.new.out fault c.in_err-run.ensures in
+    let ended = ends_err IsRecordOfBench contents v coming c.in_ok-state.state c.args.out.now now c.run.new.out c.run.new.state fault c.in_err-run.ensures in
     λ _. subst (λ r. EndsRun IsRecordOfBench contents v coming start c.args.out.now r now c.run.new.out) (sym is)
     (subst (λ (b : BenchState). EndsRun IsRecordOfBench contents v coming b c.args.out.now (Err fault) now c.run.new.out) made ended)
 

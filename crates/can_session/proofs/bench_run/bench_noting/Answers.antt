@@ -33,8 +33,7 @@ returns-in_err-run-clause-runs g c =
     let coming = ap (λ (i : Input). i.coming) c.in-Ok.ensures in
     let start = at_start_with c.args.config.shows_faults c.args.plan c.args.config.timing c.args.config.names c.args.config.config c.args.config.rx_capacity in
     let now = c.run.new.lines in
-    let leaves : Unit {0} → BenchState → Type 0 = λ _ after. after ≡ c.run.new.state in
-    let ended = ends_err leaves IsRecordOfBench contents v c.in-Ok.lines.coming c.in_ok-state.state c.args.out.now now c.run.new.out fault c.in_err-run.ensures in
+    let ended = ends_err IsRecordOfBench contents v c.in-Ok.lines.coming c.in_ok-state.state c.args.out.now now c.run.new.out c.run.new.state fault c.in_err-run.ensures in
     λ _. (
       now,
       subst (λ r. EndsRun IsRecordOfBench contents v (g.R.Read.remaining c.args.input) start c.args.out.now r now c.run.new.out) (sym is)

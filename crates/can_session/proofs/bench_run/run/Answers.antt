@@ -1,6 +1,5 @@
 use Rattle.std.proofs.Common.{◌≡◌, ℕ, ◌+◌, [], ◌∷◌, ◌++◌, arith, refl, sym, ap, ◌∙◌}
 use Rattle.can_session.specs.Lines.{Input, left_of}
-use Rattle.can_session.specs.Benches.{BenchState}
 use Rattle.can_session.proofs.Running.{of_start, of_more, of_all, left_unread, fine_behind, short_line, ran_start, ran_on, ran_kept, ends_stop, push_length, counted_more, match_true, match_false}
 use Rattle.can_session.proofs.bench_run.run.Goals as goal
 
@@ -56,6 +55,5 @@ returns-in-Ok-false g c =
 pub returns-in-Err : goal.returns-in-Err
 returns-in-Err g c =
     let inv = c.loop-number.invariant in
-    let leaves : Unit {0} → BenchState → Type 0 = λ _ after. after ≡ c.go_on.new.state in
-    ends_stop leaves g.W.Write.contents (g.F.FaultSource.verdicts c.args.script.now) c.args.lines.now.coming inv.0 c.loop-number.number c.loop-number.lines c.go_on.new.lines c.args.state.now c.loop-number.state c.args.out.now c.loop-number.out c.go_on.new.out c.in-Err.fault
-    inv.1 c.go_on.ensures.within inv.4 inv.3 c.in-Err.ensures.stops
+    ends_stop g.W.Write.contents (g.F.FaultSource.verdicts c.args.script.now) c.args.lines.now.coming inv.0 c.loop-number.number c.loop-number.lines c.go_on.new.lines c.args.state.now c.loop-number.state c.go_on.new.state c.args.out.now c.loop-number.out c.go_on.new.out c.in-Err.fault
+    inv.1 c.go_on.ensures.within inv.4 inv.3 c.in-Err.ensures.stops c.in-Err.ensures.leaves

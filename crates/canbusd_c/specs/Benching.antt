@@ -1,0 +1,128 @@
+use Rattle.std.specs.Prelude.{◌≡◌, ◌⊎◌, ℕ, Bool, not, ◌==◌, MatchBool, List, [], length, Option, Result, Ok, Err}
+use Rattle.std.specs.Prelude.{IsUtf8}
+use Rattle.can_frame.specs.Names.{names_in, AreNames}
+use Rattle.can_fault.specs.Sources.{no_verdicts}
+use Rattle.can_fault.specs.declared.script.ScriptError.TheVariants as script
+use Rattle.can_rules.specs.declared.plan.PlanError.{PlanError}
+use Rattle.can_rules.specs.declared.plan.PlanError.TheVariants as plan
+use Rattle.can_rules.specs.Plans.{PlanSeen, ReadsPlan}
+use Rattle.can_event.specs.declared.bus_config.BusConfig.{BusConfig}
+use Rattle.can_record_text.specs.Texts.{text_of}
+use Rattle.can_logfile.specs.Log.{joined, log_lines}
+use Rattle.can_bus.specs.Lean.{record_of}
+use Rattle.can_wire.specs.Timings.{BusTiming}
+use Rattle.can_session.specs.declared.bench_run.BenchFault.{BenchFault}
+use Rattle.can_session.specs.declared.bench_run.BenchFault.TheVariants as fault
+use Rattle.can_session.specs.Benches.{BenchState}
+use Rattle.can_session.specs.Runs.{IsBench, TakesLines, at_start_with}
+use Rattle.canbusd_c.specs.Calls.{IsFront}
+use Rattle.canbusd_c.specs.Making.{HasRates, IsConfigIn, IsNoConfig, IsNoNames, IsNoTiming, timing_of_numbers}
+use Rattle.canbusd_c.specs.declared.shapes.CConfig.{CConfig}
+
+-- The bench of a process of its own: that of can_session, line by line (own choice).
+
+-- a bench, and what the lines of the last call put out
+pub record KeptBench : Type 0 where
+  pub bench : BenchState
+  pub output : List ℕ
+
+-- a bench before its first line
+abbrev pub kept_at_start : Bool → PlanSeen → Option BusTiming → List (List ℕ) → BusConfig → ℕ → KeptBench
+kept_at_start shows plan timing names config capacity =
+    record { bench = at_start_with shows plan timing names config capacity; output = [] }
+
+-- lines are carried out, and what they put out is kept
+abbrev pub KeepsLines : List ℕ → KeptBench → Result (Unit {0}) BenchFault → KeptBench → Type 0
+KeepsLines lines old outcome new = TakesLines no_verdicts lines old.bench [] outcome new.bench new.output
+
+-- the code of a fault
+abbrev pub fault_code : BenchFault → ℕ
+fault_code (fault.BadLine n) = 25
+fault_code fault.BadConfig = 21
+fault_code fault.TooLong = 27
+fault_code fault.Read = 27
+fault_code fault.Write = 10
+fault_code fault.NoMemory = 10
+
+-- the number of the line of a fault, where it has one
+abbrev pub fault_line : ℕ → BenchFault → ℕ
+fault_line before (fault.BadLine n) = n
+fault_line before _ = before
+
+-- what became of lines is told: the code of a fault, and the number of its line
+abbrev pub IsLineTold : Result (Unit {0}) BenchFault → ℕ → ℕ → ℕ → Type 0
+IsLineTold (Ok done) before code line = (code ≡ 0) × (line ≡ before)
+IsLineTold (Err why) before code line = (code ≡ fault_code why) × (line ≡ fault_line before why)
+
+-- a text is written, as much of it as there is room for, with its length
+abbrev pub IsTextOut : List ℕ → List ℕ → ℕ → List ℕ → Type 0
+IsTextOut text before len after = (len ≡ length text) × IsFront text before after
+
+-- lines are carried out, and what they put out is written
+abbrev pub IsTakeCall : List ℕ → KeptBench → List ℕ → ℕ → ℕ → ℕ → ℕ → List ℕ → KeptBench → Type 0
+IsTakeCall lines old before line_before code len line after new =
+    (outcome : Result (Unit {0}) BenchFault)
+    × KeepsLines lines old outcome new
+    × IsLineTold outcome line_before code line
+    × IsTextOut new.output before len after
+
+-- the record and the log of a bench so far
+abbrev pub bench_record : KeptBench → List ℕ
+bench_record b = text_of (record_of b.bench.bus.journal.config b.bench.bus.journal.history)
+
+abbrev pub bench_log : KeptBench → List ℕ
+bench_log b = joined (log_lines b.bench.bus.names b.bench.bus.journal.history)
+
+-- a text is written; or memory was refused
+abbrev pub IsTextCall : List ℕ → List ℕ → ℕ → ℕ → List ℕ → Type 0
+IsTextCall text before code len after = MatchBool (code == 0) (IsTextOut text before len after) (code ≡ 10)
+
+-- the code of why a text spells no faults, and the number of the line
+abbrev pub plan_code : PlanError → ℕ
+plan_code (plan.Script (script.BadLine n)) = 25
+plan_code (plan.Script (script.UnknownInterface n)) = 2
+plan_code (plan.Script (script.RepeatedAttempt n)) = 26
+plan_code (plan.Script script.NoMemory) = 10
+plan_code (plan.TooManyRules n) = 19
+
+abbrev pub plan_line : ℕ → PlanError → ℕ
+plan_line before (plan.Script (script.BadLine n)) = n
+plan_line before (plan.Script (script.UnknownInterface n)) = n
+plan_line before (plan.Script (script.RepeatedAttempt n)) = n
+plan_line before (plan.Script script.NoMemory) = before
+plan_line before (plan.TooManyRules n) = n
+
+-- why a text spells no faults of a bus with these names: it is no UTF-8, or what is wrong with its first wrong line; or
+-- memory was refused
+abbrev pub IsNoPlan : List (List ℕ) → List ℕ → ℕ → ℕ → ℕ → Type 0
+IsNoPlan names faults before code line =
+    ((code ≡ 25) × (line ≡ before) × (IsUtf8 faults → ⊥))
+    ⊎ ((why : PlanError) × ReadsPlan names faults (Err why) × (code ≡ plan_code why) × (line ≡ plan_line before why))
+
+-- a bench is made of the names in a text, of a struct, and of the faults in another text: before its first line
+pub record IsBenchOf (text : List ℕ) (c : CConfig) (capacity : ℕ) (shows : Bool) (faults : List ℕ)
+    (b : KeptBench) : Type 0 where
+  pub config : BusConfig
+  pub plan : PlanSeen
+  pub config_is : IsConfigIn (length (names_in text)) c config
+  pub plan_is : ReadsPlan (names_in text) faults (Ok plan)
+  pub fits : IsBench (names_in text) config capacity
+  pub named : AreNames (names_in text)
+  pub rates : HasRates c
+  pub made : b ≡ kept_at_start shows plan (timing_of_numbers c.bitrate c.data_bitrate) (names_in text) config capacity
+
+-- why there is no such bench
+abbrev pub IsNoBench : List ℕ → CConfig → ℕ → List ℕ → ℕ → ℕ → ℕ → Type 0
+IsNoBench text c capacity faults before code line =
+    ((IsNoNames text code ⊎ IsNoTiming c code ⊎ IsNoConfig c code) × (line ≡ before))
+    ⊎ IsNoPlan (names_in text) faults before code line
+    ⊎ ((code ≡ 21) × (line ≡ before) × (config : BusConfig) × IsConfigIn (length (names_in text)) c config
+    × (IsBench (names_in text) config capacity → ⊥))
+    ⊎ ((code ≡ 10) × (line ≡ before))
+
+-- a bench is made, or the code is why there is none
+abbrev pub IsBenchCall : List ℕ → CConfig → ℕ → ℕ → List ℕ → ℕ → ℕ → ℕ → Type 0
+IsBenchCall text c capacity shows faults before code line =
+    MatchBool (code == 0)
+    ((b : KeptBench) × IsBenchOf text c capacity (not (shows == 0)) faults b × (line ≡ before))
+    (IsNoBench text c capacity faults before code line)
