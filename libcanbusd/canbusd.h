@@ -19,8 +19,9 @@
  * - A bus is not used after canbusd_free, which frees it once. Its sockets end with it.
  * - A bus is what canbusd_new gave. Pointers point to as much as their types and lengths say, and not into each other.
  *
- * Each call but canbusd_free and canbusd_strerror returns CANBUSD_OK or why it was refused. A refused call writes no
- * result but that canbusd_new sets its bus to NULL. A null pointer is CANBUSD_NULL, but where it `may be NULL`.
+ * Each call but those that free and canbusd_strerror returns CANBUSD_OK or why it was refused. A refused call writes no
+ * result but that canbusd_new sets its bus to NULL, as canbusd_bench_new its bench, and that lines have an output. A
+ * null pointer is CANBUSD_NULL, but where it `may be NULL`.
  *
  * Interfaces are numbers from 0, in the order of their names; a set of them has bit i for interface i. Sockets are
  * numbers that no other socket of the bus has had. Moments are microseconds, below 10^16. Bit rates are bits a second.
@@ -286,7 +287,7 @@ void canbusd_bench_free(canbusd_bench *bench);
  * After an error but CANBUSD_NULL the lines before it were carried out, and their output is there. `line` is the number
  * of the wrong line among those of this call, from 1; else it is 0. It may be NULL. After CANBUSD_BAD_LINE the bench
  * goes on as if the line were not there, but that a change that the bus refused, as `up can0` of an interface that is
- * neither bus off nor down, is in its record. After CANBUSD_NO_MEMORY a line may be half done.
+ * neither bus off nor down, is in its record. After CANBUSD_NO_MEMORY a line may be half done, and output be missing.
  *
  * A line has at most 4,096 bytes. The time grows with the lines and what they do; each call allocates 8,192 bytes. */
 uint32_t canbusd_bench_take(canbusd_bench *bench, const char *lines, size_t lines_len, char *output, size_t room,

@@ -66,11 +66,11 @@ def test_calls_of_benches(benches):
     run(benches)
 
 
-@pytest.mark.parametrize("step", (1, 1000000), ids=("line by line", "at once"))
 # Bit rates of a bus by its name are words of a command line.
 CASES = [case for case in named_cases() if "=" not in " ".join(case.values[0].words)]
 
 
+@pytest.mark.parametrize("step", (1, 1000000), ids=("line by line", "at once"))
 @pytest.mark.parametrize("case", CASES)
 def test_a_bench_puts_out_what_the_rules_give(benches, case, step):
     """The cases of tests/bench, of which one call takes a line or all."""

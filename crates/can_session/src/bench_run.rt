@@ -174,9 +174,10 @@ pub fn bench_lines<F: FaultSource + Drop, R: Read + Drop, W: Write>(
     Ok(state.into_record())
 }
 
-/// Carries out the lines of a text on a bench, which goes on where the calls before left it, and adds what they put out.
-/// After a fault the lines before it were carried out, and their output was added: after `BadLine` the bench can go on,
-/// after `Write` and `NoMemory`, which are both for want of memory, a line may be half done.
+/// Carries out the lines of a text on a bench, which goes on from the calls before, and adds what they put out.
+/// After a fault the lines before it were carried out, and their output was added. After `BadLine` the bench can go on.
+/// After `NoMemory` and `Write`, which also comes for want of memory, a line may be half done, and after `Write` output
+/// may be missing.
 pub fn take_lines<F: FaultSource>(
     alloc: Global,
     state: &mut Bench,

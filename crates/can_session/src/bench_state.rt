@@ -129,8 +129,8 @@ impl Bench {
         port.into_bus().into_record()
     }
 
-    /// Carries out a line, and keeps what it puts out, if the line is good: whether it is. A line that is not good leaves
-    /// the bench as it was, but a change that the bus refused is in the record.
+    /// Carries out a line, and keeps what it puts out, if the line is good: whether it is. Another line leaves the
+    /// bench as it was, but a change that the bus refused is in the record.
     pub fn take_line<F: FaultSource>(
         &mut self,
         script: &mut F,

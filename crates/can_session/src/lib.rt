@@ -1,6 +1,7 @@
 //! The bench: one bus with up to 64 sessions, driven by the lines of an input.
 //!
-//! `bench` reads the lines, carries them out one after another, and writes the output of each.
+//! `bench` reads the lines, carries them out one after another, and writes the output of each. `take_lines` carries out
+//! those of a text, on a [`Bench`] that goes on.
 //! `specs/Benches.antt` defines the work of a line, `specs/Runs.antt` the end of a run. If the bus
 //! has bit rates its attempts take time, as `specs/Wires.antt` defines. The sessions are
 //! can_dialog's. Their port is the bus with its names ([`BusPort`]), and they can be named through

@@ -3,6 +3,7 @@
 //!
 //! Each export lends the bus behind a handle to a function of `calls`, and has that function's contract. The contracts
 //! are those of the bus and of the bench: the events of `specs/Locals.antt` are can_bus's, its attempts those of a bench.
+//! The exports named for a bench do so with can_session's, by `benching` and `specs/Benching.antt`.
 #![tactic(auto)]
 
 pub mod bench_handle;

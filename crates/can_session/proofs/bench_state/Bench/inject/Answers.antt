@@ -3,8 +3,8 @@ use Rattle.can_session.specs.BusSteps.{NamedBus}
 use Rattle.can_session.specs.Benches.{BenchState, IsInjected}
 use Rattle.can_session.proofs.bench_state.Bench.inject.Goals as goal
 
-pub returns-in_default : goal.returns-in_default
-returns-in_default c =
+pub returns-in_default-clause-taken : goal.returns-in_default-clause-taken
+returns-in_default-clause-taken c =
     let stood = c.self.inside in
     let new = c.take_rule.new.self in
     let old : BenchState = record { capacity = stood.capacity; shows_faults = stood.shows_faults; bus = stood.port; sessions = stood.sessions.items; moment = stood.moment; ignored = stood.ignored } in

@@ -7,8 +7,8 @@ use Rattle.can_session.specs.inner.Acts.{done_by, noted}
 use Rattle.can_session.proofs.Speaking.{speaks, ends_spoken}
 use Rattle.can_session.proofs.bench_state.Bench.run_act.Goals as goal
 
-pub returns-in_ok-end_output-in-Some : goal.returns-in_ok-end_output-in-Some
-returns-in_ok-end_output-in-Some c =
+pub returns-in_ok-end_output-in-Some-clause-spoke : goal.returns-in_ok-end_output-in-Some-clause-spoke
+returns-in_ok-end_output-in-Some-clause-spoke c =
     let stood = c.self.inside in
     let old : BenchState = record { capacity = stood.capacity; shows_faults = stood.shows_faults; bus = stood.port; sessions = stood.sessions.items; moment = stood.moment; ignored = stood.ignored } in
     let heard : BenchState = noted c.args.act c.args.session old in
