@@ -36,7 +36,7 @@ use Rattle.can_replay.proofs.Lacking.{LacksNext, has_bus, line_lacks, next_wrong
 use Rattle.canbusd_io.specs.declared.program_error.ProgramError.{ProgramError}
 use Rattle.canbusd_io.specs.declared.program_error.ProgramError.TheVariants as fault
 use Rattle.canbusd_io.specs.Files.{IsOfReading}
-use Rattle.canbusd_audit.specs.Audited.{BeginsWrong, FaultsLine, FitsBus, HasNoEvents, IsFaultAfter, IsFrontWritten, IsLeft, IsOfLine, IsOfOtherBus, IsOtherBus, IsPut, IsRead, IsTextIn, IsToldFault, IsUnderway, IsUnread, Leaves, LeavesFront, Puts, AuditStopsAfter, StopsEvents, output_of}
+use Rattle.canbusd_audit.specs.Audited.{BeginsWrong, FaultsLine, FitsBus, HasIfaces, HasNoEvents, IsFaultAfter, IsFrontWritten, IsLeft, IsOfLine, IsOfOtherBus, IsOtherBus, IsPut, IsRead, IsTextIn, IsToldFault, IsUnderway, IsUnread, Leaves, LeavesFront, Puts, AuditStopsAfter, StopsEvents, output_of}
 use Rattle.canbusd_audit.proofs.Underway.{follows, puts_more, same_output}
 
 -- ---- which fault it is
@@ -169,11 +169,11 @@ counted text rest why b g o is names after = tt
 
 -- ---- what was written
 
-front_at : (v : Wanted) (text rest cleared : List ℕ) (p : Phase) (e : EventsText) (why : ProgramError) (old new : Option (List ℕ)) → AreWritten v text cleared p (Some e) → Names why p → Stops text rest p why → Appends old new (cleared ++ e.text.items)
-    → (HasNoEvents (text ++ rest) why × Appends old new []) ⊎ IsFrontWritten v (text ++ rest) why old new
-front_at v text rest cleared phase.Start e why old new w names stops wrote = inl (none_at_start text rest why w.taken names stops, subst (Appends old new) w.complete wrote)
-front_at v text rest cleared (phase.Front version) e why old new w names stops wrote = inl (none_at_front text rest version why w.taken names stops, subst (Appends old new) w.complete wrote)
-front_at v text rest cleared (phase.Entries b) e why old new w names stops wrote =
+front_at : (v : Wanted) (ifaces : Option ℕ) (text rest cleared : List ℕ) (p : Phase) (e : EventsText) (why : ProgramError) (old new : Option (List ℕ)) → AreWritten v text cleared p (Some e) → Names why p → Stops text rest p why → FitsBus ifaces (bus_taken p) → Appends old new (cleared ++ e.text.items)
+    → (HasNoEvents (text ++ rest) why × Appends old new []) ⊎ IsFrontWritten v ifaces (text ++ rest) why old new
+front_at v ifaces text rest cleared phase.Start e why old new w names stops fits wrote = inl (none_at_start text rest why w.taken names stops, subst (Appends old new) w.complete wrote)
+front_at v ifaces text rest cleared (phase.Front version) e why old new w names stops fits wrote = inl (none_at_front text rest version why w.taken names stops, subst (Appends old new) w.complete wrote)
+front_at v ifaces text rest cleared (phase.Entries b) e why old new w names stops fits wrote =
     let g = w.taken in
     let es = g.read.entries in
     let p = part_of b.config es b.wrong g.read.settled in
@@ -189,30 +189,31 @@ front_at v text rest cleared (phase.Entries b) e why old new w names stops wrote
       all = all_there text rest b g why after;
       legal = p.legal;
       last = p.last;
+      named = fits;
       names = counted text rest why b g b.wrong refl names after;
       wrote = subst (Appends old new) (w.complete ∙ ap (events_front v b.version b.config) p.part) wrote;
     })
-front_at v text rest cleared (phase.Failed what) e why old new w names stops wrote = absurd w.taken
+front_at v ifaces text rest cleared (phase.Failed what) e why old new w names stops fits wrote = absurd w.taken
 
-by_kind : {W : Type 0} (v : Wanted) (first : Option (List ℕ)) (text rest events : List ℕ) (p : Phase) (held : Option EventsText) (why : ProgramError) (contents : W → Option (List ℕ)) (start out : W) → AreWritten v text events p held
-    → Names why p → IsTextIn first (text ++ rest) → Stops text rest p why → Puts (has_events held) contents start out (events ++ held_events held) → LeavesFront (output_of v held) first why contents start out
-by_kind v first text rest events p None why contents start out w names is stops put = put
-by_kind v first text rest events p (Some e) why contents start out w names is stops put = (text ++ rest, is, front_at v text rest events p e why (contents start) (contents out) w names stops put)
+by_kind : {W : Type 0} (v : Wanted) (ifaces : Option ℕ) (first : Option (List ℕ)) (text rest events : List ℕ) (p : Phase) (held : Option EventsText) (why : ProgramError) (contents : W → Option (List ℕ)) (start out : W) → AreWritten v text events p held
+    → Names why p → IsTextIn first (text ++ rest) → Stops text rest p why → FitsBus ifaces (bus_taken p) → Puts (has_events held) contents start out (events ++ held_events held) → LeavesFront (output_of v held) ifaces first why contents start out
+by_kind v ifaces first text rest events p None why contents start out w names is stops fits put = put
+by_kind v ifaces first text rest events p (Some e) why contents start out w names is stops fits put = (text ++ rest, is, front_at v ifaces text rest events p e why (contents start) (contents out) w names stops fits put)
 
 -- all events of these lines were put out
-pub leaves_front : {W : Type 0} (v : Wanted) (first : Option (List ℕ)) (text rest events : List ℕ) (audit : TextAudit) (why : ProgramError) (contents : W → Option (List ℕ)) (start out : W) → HasWritten v text events audit
-    → Names why audit.phase → IsTextIn first (text ++ rest) → Stops text rest audit.phase why → Puts (has_events audit.events) contents start out (events ++ held_events audit.events) → LeavesFront (output_of v audit.events) first why contents start out
-leaves_front v first text rest events audit why contents start out w names is stops put = by_kind v first text rest events audit.phase audit.events why contents start out w names is stops put
+pub leaves_front : {W : Type 0} (v : Wanted) (ifaces : Option ℕ) (first : Option (List ℕ)) (text rest events : List ℕ) (audit : TextAudit) (why : ProgramError) (contents : W → Option (List ℕ)) (start out : W) → HasWritten v text events audit
+    → Names why audit.phase → IsTextIn first (text ++ rest) → Stops text rest audit.phase why → FitsBus ifaces (bus_taken audit.phase) → Puts (has_events audit.events) contents start out (events ++ held_events audit.events) → LeavesFront (output_of v audit.events) ifaces first why contents start out
+leaves_front v ifaces first text rest events audit why contents start out w names is stops fits put = by_kind v ifaces first text rest events audit.phase audit.events why contents start out w names is stops fits put
 
 pub none_more : {W : Type 0} (has : Bool) (contents : W → Option (List ℕ)) (start out : W) (events held : List ℕ) → held ≡ [] → Puts has contents start out events → Puts has contents start out (events ++ held)
 none_more has contents start out events held none put = subst (Puts has contents start out) (sym (ap (λ (x : List ℕ). events ++ x) none ∙ append-nil events)) put
 
 -- the same where nothing is held
-leaves_put : {W : Type 0} (v : Wanted) (first : Option (List ℕ)) (text rest events : List ℕ) (begun : Option EventsText) (audit : TextAudit) (why : ProgramError) (contents : W → Option (List ℕ)) (start out : W) → has_events begun ≡ has_events audit.events
-    → held_events audit.events ≡ [] → HasWritten v text events audit → Names why audit.phase → IsTextIn first (text ++ rest) → Stops text rest audit.phase why → Puts (has_events audit.events) contents start out events → LeavesFront (output_of v begun) first why contents start out
-leaves_put v first text rest events begun audit why contents start out kind none w names is stops put =
-    subst (λ (asked : Option Wanted). LeavesFront asked first why contents start out) (sym (same_output v begun audit.events kind))
-    (leaves_front v first text rest events audit why contents start out w names is stops (none_more (has_events audit.events) contents start out events (held_events audit.events) none put))
+leaves_put : {W : Type 0} (v : Wanted) (ifaces : Option ℕ) (first : Option (List ℕ)) (text rest events : List ℕ) (begun : Option EventsText) (audit : TextAudit) (why : ProgramError) (contents : W → Option (List ℕ)) (start out : W) → has_events begun ≡ has_events audit.events
+    → held_events audit.events ≡ [] → HasWritten v text events audit → Names why audit.phase → IsTextIn first (text ++ rest) → Stops text rest audit.phase why → FitsBus ifaces (bus_taken audit.phase) → Puts (has_events audit.events) contents start out events → LeavesFront (output_of v begun) ifaces first why contents start out
+leaves_put v ifaces first text rest events begun audit why contents start out kind none w names is stops fits put =
+    subst (λ (asked : Option Wanted). LeavesFront asked ifaces first why contents start out) (sym (same_output v begun audit.events kind))
+    (leaves_front v ifaces first text rest events audit why contents start out w names is stops fits (none_more (has_events audit.events) contents start out events (held_events audit.events) none put))
 
 -- ---- the text of which these bytes were read
 
@@ -238,40 +239,52 @@ text_left (Some all) (Some xs) (Some rest) before text left h k is = sym (k ∙ 
 -- ---- a fault while lines are read
 
 -- reading failed, or memory was refused
-pub leaves_unread : {W : Type 0} (v : Wanted) (first now : Option (List ℕ)) (begun : Option EventsText) (audit : TextAudit) (why : ProgramError) (contents : W → Option (List ℕ)) (start out : W) → has_events begun ≡ has_events audit.events → held_events audit.events ≡ []
-    → IsPut v first now audit contents start out → IsOfReading why → LeavesFront (output_of v begun) first why contents start out
-leaves_unread v first now begun audit why contents start out kind none p reading =
+pub leaves_unread : {W : Type 0} (v : Wanted) (ifaces : Option ℕ) (first now : Option (List ℕ)) (begun : Option EventsText) (audit : TextAudit) (why : ProgramError) (contents : W → Option (List ℕ)) (start out : W) → has_events begun ≡ has_events audit.events → held_events audit.events ≡ []
+    → FitsBus ifaces (bus_taken audit.phase) → IsPut v first now audit contents start out → IsOfReading why → LeavesFront (output_of v begun) ifaces first why contents start out
+leaves_unread v ifaces first now begun audit why contents start out kind none fits p reading =
     let u = p.underway in
     let t = text_with first now u.text u.consumed in
-    leaves_put v first u.text t.0 p.events begun audit why contents start out kind none u.written (names_reading why audit.phase reading) t.1 (inl (unread why reading)) p.put
+    leaves_put v ifaces first u.text t.0 p.events begun audit why contents start out kind none u.written (names_reading why audit.phase reading) t.1 (inl (unread why reading)) fits p.put
 
 -- the line is at fault that was read
-pub leaves_line : {W : Type 0} (v : Wanted) (first now after : Option (List ℕ)) (line : List ℕ) (begun : Option EventsText) (audit : TextAudit) (what : ReadFault) (why : ProgramError) (contents : W → Option (List ℕ)) (start out : W) → has_events begun ≡ has_events audit.events
-    → held_events audit.events ≡ [] → IsPut v first now audit contents start out → IsRead now after line → FailsNext AreTaken audit line what → IsOfLine what why → LeavesFront (output_of v begun) first why contents start out
-leaves_line v first now after line begun audit what why contents start out kind none p read fails of =
+pub leaves_line : {W : Type 0} (v : Wanted) (ifaces : Option ℕ) (first now after : Option (List ℕ)) (line : List ℕ) (begun : Option EventsText) (audit : TextAudit) (what : ReadFault) (why : ProgramError) (contents : W → Option (List ℕ)) (start out : W) → has_events begun ≡ has_events audit.events
+    → held_events audit.events ≡ [] → FitsBus ifaces (bus_taken audit.phase) → IsPut v first now audit contents start out → IsRead now after line → FailsNext AreTaken audit line what → IsOfLine what why → LeavesFront (output_of v begun) ifaces first why contents start out
+leaves_line v ifaces first now after line begun audit what why contents start out kind none fits p read fails of =
     let u = p.underway in
     let t = text_read first now after u.text line u.consumed read.consumed in
-    leaves_put v first u.text (line ++ t.0) p.events begun audit why contents start out kind none u.written (names_line what why audit.phase of) t.1
-    (line_stops u.text line t.0 audit what why u.written.taken read.is_line read.ended fails of) p.put
+    leaves_put v ifaces first u.text (line ++ t.0) p.events begun audit why contents start out kind none u.written (names_line what why audit.phase of) t.1
+    (line_stops u.text line t.0 audit what why u.written.taken read.is_line read.ended fails of) fits p.put
 
 left_stops : (text left : List ℕ) (audit : TextAudit) (what : ReadFault) (why : ProgramError) → AreTaken text audit → BeginsWrong audit left what → IsOfLine what why → Stops text left audit.phase why
 left_stops text left audit what why taken w of =
     subst (λ (x : List ℕ). Stops text x audit.phase why) (sym w.begins) (line_stops text w.line w.rest audit what why taken w.is_line w.ended w.wrong of)
 
+-- no other bus became known
+fits_still : (ifaces : Option ℕ) (text more : List ℕ) (p q : Phase) → HasCome text p → HasCome (text ++ more) q → (bus_taken p ≡ None → bus_taken q ≡ None) → FitsBus ifaces (bus_taken p) → FitsBus ifaces (bus_taken q)
+fits_still ifaces text more (phase.Entries b) (phase.Entries d) come then unknown fits = subst (HasIfaces ifaces) (same_bus text more (phase.Entries b) (phase.Entries d) b.config d.config come then refl refl) fits
+fits_still ifaces text more phase.Start (phase.Entries d) come then unknown fits = absurd (none-some d.config (sym (unknown refl)))
+fits_still ifaces text more (phase.Front version) (phase.Entries d) come then unknown fits = absurd (none-some d.config (sym (unknown refl)))
+fits_still ifaces text more (phase.Failed what) (phase.Entries d) come then unknown fits = absurd come
+fits_still ifaces text more p phase.Start come then unknown fits = tt
+fits_still ifaces text more p (phase.Front version) come then unknown fits = tt
+fits_still ifaces text more p (phase.Failed what) come then unknown fits = tt
+
 -- the events of the lines before a fault were put out too
-pub leaves_stopped : {W : Type 0} (v : Wanted) (first old new : Option (List ℕ)) (begun : Option EventsText) (before after : TextAudit) (what : ReadFault) (why : ProgramError) (contents : W → Option (List ℕ)) (start out end : W) → has_events before.events ≡ has_events begun
-    → has_events after.events ≡ has_events before.events → IsPut v first old before contents start out → AuditStopsAfter old new before what after → Puts (has_events after.events) contents out end (held_events after.events) → IsOfLine what why
-    → LeavesFront (output_of v begun) first why contents start end
-leaves_stopped v first old new begun before after what why contents start out end kind same p stops put of =
+pub leaves_stopped : {W : Type 0} (v : Wanted) (ifaces : Option ℕ) (first old new : Option (List ℕ)) (begun : Option EventsText) (before after : TextAudit) (what : ReadFault) (why : ProgramError) (contents : W → Option (List ℕ)) (start out end : W) → has_events before.events ≡ has_events begun
+    → has_events after.events ≡ has_events before.events → FitsBus ifaces (bus_taken before.phase) → IsPut v first old before contents start out → AuditStopsAfter old new before what after → Puts (has_events after.events) contents out end (held_events after.events) → IsOfLine what why
+    → LeavesFront (output_of v begun) ifaces first why contents start end
+leaves_stopped v ifaces first old new begun before after what why contents start out end kind same fits p stops put of =
     let last = stops.0 in
-    let left = stops.4.0 in
-    let u = (stops.1 v first p.events p.underway).0 in
-    let so_far : Puts (has_events last.events) contents start out p.events = subst (λ (b : Bool). Puts b contents start out p.events) (sym stops.2) p.put in
+    let left = stops.5.0 in
+    let on = stops.1 v first p.events p.underway in
+    let u = on.0 in
+    let fits_last = fits_still ifaces p.underway.text on.1 before.phase last.phase p.underway.written.taken (subst (λ (x : List ℕ). HasCome x last.phase) on.2 u.written.taken) stops.2 fits in
+    let so_far : Puts (has_events last.events) contents start out p.events = subst (λ (b : Bool). Puts b contents start out p.events) (sym stops.3) p.put in
     let more : Puts (has_events last.events) contents out end (held_events last.events) =
-    subst (Puts (has_events last.events) contents out end) stops.3 (subst (λ (b : Bool). Puts b contents out end (held_events after.events)) (same ∙ sym stops.2) put) in
-    subst (λ (asked : Option Wanted). LeavesFront asked first why contents start end) (same_output v last.events begun (stops.2 ∙ kind))
-    (leaves_front v first u.text left p.events last why contents start end u.written (names_line what why last.phase of) (text_left first old new p.underway.text u.text left p.underway.consumed u.consumed stops.4.1)
-    (left_stops u.text left last what why u.written.taken stops.4.2 of) (puts_more (has_events last.events) contents start out end p.events (held_events last.events) so_far more))
+    subst (Puts (has_events last.events) contents out end) stops.4 (subst (λ (b : Bool). Puts b contents out end (held_events after.events)) (same ∙ sym stops.3) put) in
+    subst (λ (asked : Option Wanted). LeavesFront asked ifaces first why contents start end) (same_output v last.events begun (stops.3 ∙ kind))
+    (leaves_front v ifaces first u.text left p.events last why contents start end u.written (names_line what why last.phase of) (text_left first old new p.underway.text u.text left p.underway.consumed u.consumed stops.5.1)
+    (left_stops u.text left last what why u.written.taken stops.5.2 of) fits_last (puts_more (has_events last.events) contents start out end p.events (held_events last.events) so_far more))
 
 -- ---- a record of another bus
 
@@ -294,10 +307,10 @@ nothing_put v (Some n) text more events (phase.Entries b) (phase.Entries d) (Som
 nothing_put v (Some n) text more events (phase.Entries b) (phase.Failed what) (Some e) why w none then fits other = absurd other
 nothing_put v ifaces text more events (phase.Failed what) q (Some e) why w none then fits other = absurd w.taken
 
-pub none_left : {W : Type 0} (v : Wanted) (first : Option (List ℕ)) (text rest events : List ℕ) (held : Option EventsText) (why : ProgramError) (contents : W → Option (List ℕ)) (start out : W) → why ≡ fault.OtherBus → events ≡ [] → IsTextIn first (text ++ rest)
-    → Puts (has_events held) contents start out events → LeavesFront (output_of v held) first why contents start out
-none_left v first text rest events None why contents start out other none is put = put
-none_left v first text rest events (Some e) why contents start out other none is put =
+pub none_left : {W : Type 0} (v : Wanted) (ifaces : Option ℕ) (first : Option (List ℕ)) (text rest events : List ℕ) (held : Option EventsText) (why : ProgramError) (contents : W → Option (List ℕ)) (start out : W) → why ≡ fault.OtherBus → events ≡ [] → IsTextIn first (text ++ rest)
+    → Puts (has_events held) contents start out events → LeavesFront (output_of v held) ifaces first why contents start out
+none_left v ifaces first text rest events None why contents start out other none is put = put
+none_left v ifaces first text rest events (Some e) why contents start out other none is put =
     (text ++ rest, is, inl (subst (HasNoEvents (text ++ rest)) (sym other) tt, subst (Appends (contents start) (contents out)) none put))
 
 pub is_other : (ifaces : Option ℕ) (o : Option BusConfig) (why : ProgramError) → IsOtherBus ifaces o why → why ≡ fault.OtherBus
@@ -308,13 +321,13 @@ is_other (Some n) (Some c) why h = h.0
 -- nothing is left of it
 leaves_other : {W : Type 0} (v : Wanted) (ifaces : Option ℕ) (first now after : Option (List ℕ)) (begun : Option EventsText) (audit next : TextAudit) (why : ProgramError) (contents : W → Option (List ℕ)) (start out : W) → has_events begun ≡ has_events audit.events
     → held_events audit.events ≡ [] → (p : IsPut v first now audit contents start out) → (on : IsUnderway v first after next p.events) (more : List ℕ) → on.text ≡ p.underway.text ++ more → FitsBus ifaces (bus_taken audit.phase) → IsOtherBus ifaces (bus_taken next.phase) why
-    → LeavesFront (output_of v begun) first why contents start out
+    → LeavesFront (output_of v begun) ifaces first why contents start out
 leaves_other v ifaces first now after begun audit next why contents start out kind none p on more is fits other =
     let u = p.underway in
     let t = text_with first now u.text u.consumed in
     let nothing = nothing_put v ifaces u.text more p.events audit.phase next.phase audit.events why u.written none (subst (λ (x : List ℕ). HasCome x next.phase) is on.written.taken) fits other in
-    subst (λ (asked : Option Wanted). LeavesFront asked first why contents start out) (sym (same_output v begun audit.events kind))
-    (none_left v first u.text t.0 p.events audit.events why contents start out (is_other ifaces (bus_taken next.phase) why other) nothing t.1 p.put)
+    subst (λ (asked : Option Wanted). LeavesFront asked ifaces first why contents start out) (sym (same_output v begun audit.events kind))
+    (none_left v ifaces first u.text t.0 p.events audit.events why contents start out (is_other ifaces (bus_taken next.phase) why other) nothing t.1 p.put)
 
 -- and it is another one
 pub of_other : (ifaces : Option ℕ) (first : Option (List ℕ)) (text rest : List ℕ) (p : Phase) (why : ProgramError) → IsTextIn first (text ++ rest) → HasCome text p → IsOtherBus ifaces (bus_taken p) why → IsOfOtherBus ifaces first why
@@ -339,10 +352,10 @@ stops_writing true why h = h
 
 pub known_left : {W : Type 0} (v : Wanted) (ifaces : Option ℕ) (first now after : Option (List ℕ)) (begun : Option EventsText) (audit next : TextAudit) (why : ProgramError) (contents : W → Option (List ℕ)) (start out new : W) → has_events begun ≡ has_events audit.events
     → held_events audit.events ≡ [] → (p : IsPut v first now audit contents start out) → (on : IsUnderway v first after next p.events) (more : List ℕ) → on.text ≡ p.underway.text ++ more → FitsBus ifaces (bus_taken audit.phase)
-    → StopsEvents (has_events next.events) why ⊎ (IsOtherBus ifaces (bus_taken next.phase) why × (new ≡ out)) → Leaves (output_of v begun) first why contents start new
+    → StopsEvents (has_events next.events) why ⊎ (IsOtherBus ifaces (bus_taken next.phase) why × (new ≡ out)) → Leaves (output_of v begun) ifaces first why contents start new
 known_left v ifaces first now after begun audit next why contents start out new kind none p on more is fits (inl h) = inl (stops_writing (has_events next.events) why h)
 known_left v ifaces first now after begun audit next why contents start out new kind none p on more is fits (inr h) =
-    inr (subst (LeavesFront (output_of v begun) first why contents start) (sym h.1) (leaves_other v ifaces first now after begun audit next why contents start out kind none p on more is fits h.0))
+    inr (subst (LeavesFront (output_of v begun) ifaces first why contents start) (sym h.1) (leaves_other v ifaces first now after begun audit next why contents start out kind none p on more is fits h.0))
 
 -- before any line it is not known
 pub fits_at_start : (ifaces : Option ℕ) (p : Phase) → HasCome [] p → FitsBus ifaces (bus_taken p)

@@ -164,5 +164,5 @@ stops_after old new before after held len None why is consumed shows holds = abs
 stops_after old new before after held len (Some w) why is consumed shows holds =
     let same : w ≡ why = cc in
     let left = left_of old new held len shows consumed in
-    let wrong = subst (BeginsWrong holds.0 (drop len held)) same holds.4 in
-    (holds.0, goes_on_by old new before holds.0 (take len held) consumed holds.1, holds.2, holds.3, (drop len held ++ left.0, left.1, begins_more holds.0 (drop len held) left.0 why wrong))
+    let wrong = subst (BeginsWrong holds.0 (drop len held)) same holds.5 in
+    (holds.0, goes_on_by old new before holds.0 (take len held) consumed holds.1, holds.2, holds.3, holds.4, (drop len held ++ left.0, left.1, begins_more holds.0 (drop len held) left.0 why wrong))

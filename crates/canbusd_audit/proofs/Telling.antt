@@ -256,41 +256,41 @@ says_last : (text : List ℕ) (why : ProgramError) → Faults text why → Says 
 says_last text (fault.Record what) h = h
 says_last text why h = tt
 
-all_left : {W : Type 0} (asked : Option Wanted) (first : Option (List ℕ)) (audit : TextAudit) (torn : List ℕ) (contents : W → Option (List ℕ)) (start out new : W) (why : ProgramError) → has_events audit.events ≡ asks_events asked
-    → EndsNoLine torn → (t : IsReady (wanted_of asked) first audit torn contents start out) → Names why audit.phase → Says (t.text ++ torn) why → IsQuiet why out new → Leaves asked first why contents start new
-all_left asked first audit torn contents start out new why kind unended t names says (inl is) = inl is
-all_left asked first audit torn contents start out new why kind unended t names says (inr same) =
-    inr (subst (LeavesFront asked first why contents start) (sym same)
-    (subst (λ (o : Option Wanted). LeavesFront o first why contents start out) (sym (asked_so asked audit.events kind))
-    (leaves_front (wanted_of asked) first t.text torn t.events audit why contents start out t.written names t.is_text (inr ((λ come. torn_lacks t.text torn audit.phase come unended), says))
+all_left : {W : Type 0} (asked : Option Wanted) (ifaces : Option ℕ) (first : Option (List ℕ)) (audit : TextAudit) (torn : List ℕ) (contents : W → Option (List ℕ)) (start out new : W) (why : ProgramError) → has_events audit.events ≡ asks_events asked
+    → EndsNoLine torn → (t : IsReady (wanted_of asked) first audit torn contents start out) → Names why audit.phase → Says (t.text ++ torn) why → FitsBus ifaces (bus_taken audit.phase) → IsQuiet why out new → Leaves asked ifaces first why contents start new
+all_left asked ifaces first audit torn contents start out new why kind unended t names says fits (inl is) = inl is
+all_left asked ifaces first audit torn contents start out new why kind unended t names says fits (inr same) =
+    inr (subst (LeavesFront asked ifaces first why contents start) (sym same)
+    (subst (λ (o : Option Wanted). LeavesFront o ifaces first why contents start out) (sym (asked_so asked audit.events kind))
+    (leaves_front (wanted_of asked) ifaces first t.text torn t.events audit why contents start out t.written names t.is_text (inr ((λ come. torn_lacks t.text torn audit.phase come unended), says)) fits
     (none_more (has_events audit.events) contents start out t.events (held_events audit.events) t.none_held t.put))))
 
-left : {W A : Type 0} (asked : Option Wanted) (first : Option (List ℕ)) (audit : TextAudit) (torn : List ℕ) (contents : W → Option (List ℕ)) (start out new : W) (what : Result A TextFault) (r : Result (Unit {0}) Report) → has_events audit.events ≡ asks_events asked
+left : {W A : Type 0} (asked : Option Wanted) (ifaces : Option ℕ) (first : Option (List ℕ)) (audit : TextAudit) (torn : List ℕ) (contents : W → Option (List ℕ)) (start out new : W) (what : Result A TextFault) (r : Result (Unit {0}) Report) → has_events audit.events ≡ asks_events asked
     → EndsNoLine torn → (t : IsReady (wanted_of asked) first audit torn contents start out) → ((f : TextFault) → what ≡ Err f → SaysOfText (t.text ++ torn) f) → ((w : WrongLine) → what ≡ Err (found.Wrong w) → wrong_so_far audit.phase ≡ Some w)
-    → IfErr r (λ failure. IsTold what failure.error) → IfErr r (λ failure. IsQuiet failure.error out new) → IfErr r (λ failure. Leaves asked first failure.error contents start new)
-left asked first audit torn contents start out new what (Ok u) kind unended t says wrong tells quiet = tt
-left asked first audit torn contents start out new (Ok count) (Err failure) kind unended t says wrong tells quiet = inl tells
-left asked first audit torn contents start out new (Err what) (Err failure) kind unended t says wrong tells quiet =
-    all_left asked first audit torn contents start out new failure.error kind unended t (names_told what failure.error audit.phase (λ w is. wrong w (ap Err is)) tells) (says_so (t.text ++ torn) what failure.error (says what refl) tells) quiet
+    → FitsBus ifaces (bus_taken audit.phase) → IfErr r (λ failure. IsTold what failure.error) → IfErr r (λ failure. IsQuiet failure.error out new) → IfErr r (λ failure. Leaves asked ifaces first failure.error contents start new)
+left asked ifaces first audit torn contents start out new what (Ok u) kind unended t says wrong fits tells quiet = tt
+left asked ifaces first audit torn contents start out new (Ok count) (Err failure) kind unended t says wrong fits tells quiet = inl tells
+left asked ifaces first audit torn contents start out new (Err what) (Err failure) kind unended t says wrong fits tells quiet =
+    all_left asked ifaces first audit torn contents start out new failure.error kind unended t (names_told what failure.error audit.phase (λ w is. wrong w (ap Err is)) tells) (says_so (t.text ++ torn) what failure.error (says what refl) tells) fits quiet
 
 -- a call whose fault names no place in the text and wrote nothing
-pub memory_left : {W : Type 0} (asked : Option Wanted) (first : Option (List ℕ)) (audit : TextAudit) (torn : List ℕ) (contents : W → Option (List ℕ)) (start out : W) (why : ProgramError) → has_events audit.events ≡ asks_events asked → EndsNoLine torn
-    → IsReady (wanted_of asked) first audit torn contents start out → why ≡ fault.NoMemory → Leaves asked first why contents start out
-memory_left asked first audit torn contents start out why kind unended t is =
-    subst (λ (e : ProgramError). Leaves asked first e contents start out) (sym is) (all_left asked first audit torn contents start out out fault.NoMemory kind unended t tt tt (inr refl))
+pub memory_left : {W : Type 0} (asked : Option Wanted) (ifaces : Option ℕ) (first : Option (List ℕ)) (audit : TextAudit) (torn : List ℕ) (contents : W → Option (List ℕ)) (start out : W) (why : ProgramError) → has_events audit.events ≡ asks_events asked → EndsNoLine torn
+    → IsReady (wanted_of asked) first audit torn contents start out → FitsBus ifaces (bus_taken audit.phase) → why ≡ fault.NoMemory → Leaves asked ifaces first why contents start out
+memory_left asked ifaces first audit torn contents start out why kind unended t fits is =
+    subst (λ (e : ProgramError). Leaves asked ifaces first e contents start out) (sym is) (all_left asked ifaces first audit torn contents start out out fault.NoMemory kind unended t tt tt fits (inr refl))
 
-pub left_whole : {W : Type 0} (asked : Option Wanted) (first : Option (List ℕ)) (audit : TextAudit) (contents : W → Option (List ℕ)) (start out new : W) (what : Result ℕ TextFault) (r : Result (Unit {0}) Report) → has_events audit.events ≡ asks_events asked
+pub left_whole : {W : Type 0} (asked : Option Wanted) (ifaces : Option ℕ) (first : Option (List ℕ)) (audit : TextAudit) (contents : W → Option (List ℕ)) (start out new : W) (what : Result ℕ TextFault) (r : Result (Unit {0}) Report) → has_events audit.events ≡ asks_events asked
     → IsReady (wanted_of asked) first audit [] contents start out → ((text : List ℕ) → AreTaken text audit → Reports text what) → ((w : WrongLine) → what ≡ Err (found.Wrong w) → wrong_so_far audit.phase ≡ Some w)
-    → IfErr r (λ failure. IsTold what failure.error) → IfErr r (λ failure. IsQuiet failure.error out new) → IfErr r (λ failure. Leaves asked first failure.error contents start new)
-left_whole asked first audit contents start out new what r kind t tells wrong told quiet =
-    left asked first audit [] contents start out new what r kind (All-nil (λ b. b ≢ 10)) t
-    (λ f is. subst (λ (x : List ℕ). SaysOfText x f) (sym (append-nil t.text)) (says_whole t.text what (tells t.text t.written.taken) f is)) wrong told quiet
+    → FitsBus ifaces (bus_taken audit.phase) → IfErr r (λ failure. IsTold what failure.error) → IfErr r (λ failure. IsQuiet failure.error out new) → IfErr r (λ failure. Leaves asked ifaces first failure.error contents start new)
+left_whole asked ifaces first audit contents start out new what r kind t tells wrong fits told quiet =
+    left asked ifaces first audit [] contents start out new what r kind (All-nil (λ b. b ≢ 10)) t
+    (λ f is. subst (λ (x : List ℕ). SaysOfText x f) (sym (append-nil t.text)) (says_whole t.text what (tells t.text t.written.taken) f is)) wrong fits told quiet
 
-pub left_cut : {W : Type 0} (asked : Option Wanted) (first : Option (List ℕ)) (audit : TextAudit) (torn : List ℕ) (contents : W → Option (List ℕ)) (start out new : W) (what : Result Cut TextFault) (r : Result (Unit {0}) Report) → has_events audit.events ≡ asks_events asked
+pub left_cut : {W : Type 0} (asked : Option Wanted) (ifaces : Option ℕ) (first : Option (List ℕ)) (audit : TextAudit) (torn : List ℕ) (contents : W → Option (List ℕ)) (start out new : W) (what : Result Cut TextFault) (r : Result (Unit {0}) Report) → has_events audit.events ≡ asks_events asked
     → EndsNoLine torn → IsReady (wanted_of asked) first audit torn contents start out → ((text : List ℕ) → AreTaken text audit → EndsNoLine torn → ReportsCut (text ++ torn) what) → ((w : WrongLine) → what ≡ Err (found.Wrong w) → wrong_so_far audit.phase ≡ Some w)
-    → IfErr r (λ failure. IsTold what failure.error) → IfErr r (λ failure. IsQuiet failure.error out new) → IfErr r (λ failure. Leaves asked first failure.error contents start new)
-left_cut asked first audit torn contents start out new what r kind unended t tells wrong told quiet =
-    left asked first audit torn contents start out new what r kind unended t (λ f is. says_cut (t.text ++ torn) what (tells t.text t.written.taken unended) f is) wrong told quiet
+    → FitsBus ifaces (bus_taken audit.phase) → IfErr r (λ failure. IsTold what failure.error) → IfErr r (λ failure. IsQuiet failure.error out new) → IfErr r (λ failure. Leaves asked ifaces first failure.error contents start new)
+left_cut asked ifaces first audit torn contents start out new what r kind unended t tells wrong fits told quiet =
+    left asked ifaces first audit torn contents start out new what r kind unended t (λ f is. says_cut (t.text ++ torn) what (tells t.text t.written.taken unended) f is) wrong fits told quiet
 
 -- the last line is at fault
 pub last_told : {W : Type 0} (w : Wanted) (first : Option (List ℕ)) (torn : List ℕ) (audit : TextAudit) (contents : W → Option (List ℕ)) (start out : W) (why : ProgramError) → IsInputTaken w first audit torn contents start out → FaultsLast audit torn why
@@ -330,21 +330,21 @@ files_written is_cut asked ifaces {by} first contents old new (Ok u) is h = (h.0
 files_written is_cut asked ifaces {by} first contents old new (Err why) is h = tt
 
 -- of the text that they hold nothing is known
-front_of_some : {W : Type 0} (asked : Option Wanted) (first : Option (List ℕ)) (why : ProgramError) (contents : W → Option (List ℕ)) (old new : W) → LeavesFront asked first why contents old new → LeavesFront asked None why contents old new
-front_of_some None first why contents old new h = h
-front_of_some (Some w) first why contents old new h = (h.0, tt, h.2)
+front_of_some : {W : Type 0} (asked : Option Wanted) (ifaces : Option ℕ) (first : Option (List ℕ)) (why : ProgramError) (contents : W → Option (List ℕ)) (old new : W) → LeavesFront asked ifaces first why contents old new → LeavesFront asked ifaces None why contents old new
+front_of_some None ifaces first why contents old new h = h
+front_of_some (Some w) ifaces first why contents old new h = (h.0, tt, h.2)
 
-pub files_left : {W : Type 0} (asked : Option Wanted) (first : Option (List ℕ)) (contents : W → Option (List ℕ)) (old new : W) (r : Result (Unit {0}) Report) → IfErr r (λ failure. Leaves asked first failure.error contents old new)
-    → IfErr r (λ failure. Leaves asked None failure.error contents old new)
-files_left asked first contents old new (Ok u) h = tt
-files_left asked first contents old new (Err failure) (inl is) = inl is
-files_left asked first contents old new (Err failure) (inr h) = inr (front_of_some asked first failure.error contents old new h)
+pub files_left : {W : Type 0} (asked : Option Wanted) (ifaces : Option ℕ) (first : Option (List ℕ)) (contents : W → Option (List ℕ)) (old new : W) (r : Result (Unit {0}) Report) → IfErr r (λ failure. Leaves asked ifaces first failure.error contents old new)
+    → IfErr r (λ failure. Leaves asked ifaces None failure.error contents old new)
+files_left asked ifaces first contents old new (Ok u) h = tt
+files_left asked ifaces first contents old new (Err failure) (inl is) = inl is
+files_left asked ifaces first contents old new (Err failure) (inr h) = inr (front_of_some asked ifaces first failure.error contents old new h)
 
 -- before any line was read
-pub nothing_left : {W : Type 0} (asked : Option Wanted) (first : Option (List ℕ)) (why : ProgramError) (contents : W → Option (List ℕ)) (out : W) → IsUnread why → Leaves asked first why contents out out
-nothing_left None first why contents out h = inr refl
-nothing_left (Some w) None why contents out h = inr ([], tt, inl (unread_none [] why h, Appends-nil (contents out)))
-nothing_left (Some w) (Some all) why contents out h = inr (all, refl, inl (unread_none all why h, Appends-nil (contents out)))
+pub nothing_left : {W : Type 0} (asked : Option Wanted) (ifaces : Option ℕ) (first : Option (List ℕ)) (why : ProgramError) (contents : W → Option (List ℕ)) (out : W) → IsUnread why → Leaves asked ifaces first why contents out out
+nothing_left None ifaces first why contents out h = inr refl
+nothing_left (Some w) ifaces None why contents out h = inr ([], tt, inl (unread_none [] why h, Appends-nil (contents out)))
+nothing_left (Some w) ifaces (Some all) why contents out h = inr (all, refl, inl (unread_none all why h, Appends-nil (contents out)))
 
 of_file_unread : (path : List ℕ) (why : ProgramError) → IsOfFile path why → IsUnread why
 of_file_unread path (fault.CannotOpen named) h = tt
@@ -427,20 +427,20 @@ memory_told_cut (Some all) why is = (all, refl, inl (subst (FaultsWhole all) (sy
 -- the writer, or the bus of the record, of which the last line was taken
 pub known_left_last : {W : Type 0} (asked : Option Wanted) (ifaces : Option ℕ) (first : Option (List ℕ)) (before after : TextAudit) (torn : List ℕ) (contents : W → Option (List ℕ)) (start out new : W) (why : ProgramError) → has_events before.events ≡ asks_events asked
     → IsInputTaken (wanted_of asked) first before torn contents start out → TakesLast before torn after → FitsBus ifaces (bus_taken before.phase) → StopsEvents (has_events after.events) why ⊎ (IsOtherBus ifaces (bus_taken after.phase) why × (new ≡ out))
-    → Leaves asked first why contents start new
+    → Leaves asked ifaces first why contents start new
 known_left_last asked ifaces first before after torn contents start out new why kind t takes fits (inl h) = inl (stops_writing (has_events after.events) why h)
 known_left_last asked ifaces first before after torn contents start out new why kind t takes fits (inr h) =
     let w = wanted_of asked in
     let nothing = nothing_put w ifaces t.lines torn t.events before.phase after.phase before.events why t.written t.none_held (takes w t.lines t.events t.written).taken fits h.0 in
-    inr (subst (LeavesFront asked first why contents start) (sym h.1) (subst (λ (o : Option Wanted). LeavesFront o first why contents start out) (sym (asked_so asked before.events kind))
-    (none_left w first t.lines torn t.events before.events why contents start out (is_other ifaces (bus_taken after.phase) why h.0) nothing t.is_text t.put)))
+    inr (subst (LeavesFront asked ifaces first why contents start) (sym h.1) (subst (λ (o : Option Wanted). LeavesFront o ifaces first why contents start out) (sym (asked_so asked before.events kind))
+    (none_left w ifaces first t.lines torn t.events before.events why contents start out (is_other ifaces (bus_taken after.phase) why h.0) nothing t.is_text t.put)))
 
 -- the last line is at fault, whose events are none
-pub last_left : {W : Type 0} (asked : Option Wanted) (first : Option (List ℕ)) (audit : TextAudit) (torn : List ℕ) (contents : W → Option (List ℕ)) (start out : W) (why : ProgramError) → has_events audit.events ≡ asks_events asked
-    → IsInputTaken (wanted_of asked) first audit torn contents start out → FaultsLast audit torn why → IsOfSomeLine why → Leaves asked first why contents start out
+pub last_left : {W : Type 0} (asked : Option Wanted) (ifaces : Option ℕ) (first : Option (List ℕ)) (audit : TextAudit) (torn : List ℕ) (contents : W → Option (List ℕ)) (start out : W) (why : ProgramError) → has_events audit.events ≡ asks_events asked
+    → IsInputTaken (wanted_of asked) first audit torn contents start out → FitsBus ifaces (bus_taken audit.phase) → FaultsLast audit torn why → IsOfSomeLine why → Leaves asked ifaces first why contents start out
 unfolding ready
-last_left asked first audit torn contents start out why kind t faults line =
-    all_left asked first audit torn contents start out out why kind t.unended (ready (wanted_of asked) first audit torn contents start out t) (names_line line.0 why audit.phase line.1) (says_last (t.lines ++ torn) why (faults t.lines t.written.taken)) (inr refl)
+last_left asked ifaces first audit torn contents start out why kind t fits faults line =
+    all_left asked ifaces first audit torn contents start out out why kind t.unended (ready (wanted_of asked) first audit torn contents start out t) (names_line line.0 why audit.phase line.1) (says_last (t.lines ++ torn) why (faults t.lines t.written.taken)) fits (inr refl)
 
 -- ---- the same of files
 
@@ -484,7 +484,7 @@ asked_told is_cut output paths asked ifaces (Ok u) by is h = tt
 asked_told is_cut output paths asked ifaces (Err failure) by is h =
     inr (subst (λ (n : Option ℕ). Either (are_events output) (Or n None (FaultsFiles is_cut paths)) failure) is (subst (λ (b : Bool). Either b (Or ifaces None (FaultsFiles is_cut paths)) failure) (kinds output asked by) h))
 
-pub asked_left : {W : Type 0} (output : AuditOutput) (asked : Option Wanted) (contents : W → Option (List ℕ)) (old new : W) (r : Result (Unit {0}) Report) → IsAskedBy output asked → IfErr r (λ failure. Leaves asked None failure.error contents old new)
+pub asked_left : {W : Type 0} (output : AuditOutput) (asked : Option Wanted) (ifaces : Option ℕ) (contents : W → Option (List ℕ)) (old new : W) (r : Result (Unit {0}) Report) → IsAskedBy output asked → ifaces ≡ ifaces_named output → IfErr r (λ failure. Leaves asked ifaces None failure.error contents old new)
     → IfErr r (λ failure. LeavesFiles output failure.error contents old new)
-asked_left output asked contents old new (Ok u) by h = tt
-asked_left output asked contents old new (Err failure) by h = inr (asked, by, h)
+asked_left output asked ifaces contents old new (Ok u) by is h = tt
+asked_left output asked ifaces contents old new (Err failure) by is h = inr (asked, by, subst (λ (n : Option ℕ). Leaves asked n None failure.error contents old new) is h)

@@ -30,7 +30,7 @@ use Rattle.can_replay.specs.EventTexts.{HasWritten, end_line, has_events, held_e
 use Rattle.can_replay.specs.EventTexts.{cut_line as cut_end_line}
 use Rattle.can_replay.specs.Histories.{before}
 use Rattle.can_replay.specs.TextAudits.{AreTaken, EndsLine, EndsNoLine, FailsNext, FaultsUncut, IsFrontOf, IsLine}
-use Rattle.can_replay.specs.TextAudits.{HasBus, LacksFront, MayFollow}
+use Rattle.can_replay.specs.TextAudits.{HasBus, LacksFront, MayFollow, bus_taken}
 use Rattle.canbusd_options.specs.declared.audit_options.AuditOutput.{AuditOutput}
 use Rattle.canbusd_options.specs.declared.audit_options.AuditOutput.TheVariants as writes
 use Rattle.canbusd_options.specs.declared.bus_word.FaultsWord.{FaultsWord}
@@ -275,9 +275,11 @@ IsFaultAfter (fault.Record (read.BadLine n)) all count = (n ≡ all + 3) ⊎ (n 
 IsFaultAfter fault.OtherBus all count = ⊥
 IsFaultAfter why all count = Unit {0}
 
--- all entries that a text begins with were read, or those up to a fault of a file or of memory; and the events were
--- written, with what else is wanted, of those before the first wrong one, or of all
-pub record IsFrontWritten (w : Wanted) (text : List ℕ) (why : ProgramError) (old new : Option (List ℕ)) : Type 0 where
+-- a text begins as the record of a bus with so many interfaces; all its entries were read, or those up to a fault of a
+-- file or of memory; and the events were written, with the other lines that are wanted, of those before the first wrong
+-- one, or of all
+pub record IsFrontWritten (w : Wanted) (ifaces : Option ℕ) (text : List ℕ) (why : ProgramError)
+    (old new : Option (List ℕ)) : Type 0 where
   pub version : Version
   pub config : BusConfig
   pub entries : List Entry
@@ -288,31 +290,34 @@ pub record IsFrontWritten (w : Wanted) (text : List ℕ) (why : ProgramError) (o
   pub all : IsUnread why ⊎ LacksEntry version config rest
   pub legal : IsLegal config (before entries count)
   pub last : (count ≡ length entries) ⊎ IsFirstWrongEntry config entries count
+  pub named : HasIfaces ifaces config
   pub names : IsFaultAfter why (length entries) count
   pub wrote : Appends old new (events_front w version config (before entries count))
 
--- what a fault of the text that a reader had leaves: an audit without events has written nothing, one with events those
--- of the legal entries before it, and none only where a text does not begin as that of such a record, or was not read
-abbrev pub LeavesFront : {W : Type 0} → Option Wanted → Option (List ℕ) → ProgramError → (W → Option (List ℕ)) → W → W
-    → Type 0
-LeavesFront None input why contents old new = new ≡ old
-LeavesFront (Some w) input why contents old new =
+-- the output after a fault of the text that a reader had: an audit without events has written nothing, one with events
+-- those of the legal entries before it, of a bus with so many interfaces, and none only if a text does not begin as the
+-- record of such a bus, or was not read
+abbrev pub LeavesFront : {W : Type 0} → Option Wanted → Option ℕ → Option (List ℕ) → ProgramError
+    → (W → Option (List ℕ)) → W → W → Type 0
+LeavesFront None ifaces input why contents old new = new ≡ old
+LeavesFront (Some w) ifaces input why contents old new =
     (text : List ℕ) × IsTextIn input text
     × ((HasNoEvents text why × Appends (contents old) (contents new) [])
-    ⊎ IsFrontWritten w text why (contents old) (contents new))
+    ⊎ IsFrontWritten w ifaces text why (contents old) (contents new))
 
 -- the same of any fault; that of the writer says nothing
-abbrev pub Leaves : {W : Type 0} → Option Wanted → Option (List ℕ) → ProgramError → (W → Option (List ℕ)) → W → W
-    → Type 0
-Leaves asked input why contents old new =
-    (why ≡ fault.Write) ⊎ LeavesFront asked input why contents old new
+abbrev pub Leaves : {W : Type 0} → Option Wanted → Option ℕ → Option (List ℕ) → ProgramError
+    → (W → Option (List ℕ)) → W → W → Type 0
+Leaves asked ifaces input why contents old new =
+    (why ≡ fault.Write) ⊎ LeavesFront asked ifaces input why contents old new
 
--- what a fault leaves of an audit of files: one of the faults that options name has written nothing, any other one as
--- above, as options say
+-- the output after a fault of an audit of files: a fault of the faults that options name has written nothing, any other
+-- one as above, with the names that options give
 abbrev pub LeavesFiles : {W : Type 0} → AuditOutput → ProgramError → (W → Option (List ℕ)) → W → W → Type 0
 LeavesFiles output why contents old new =
     (IsOfAsked output why × (new ≡ old))
-    ⊎ ((asked : Option Wanted) × IsAskedBy output asked × Leaves asked None why contents old new)
+    ⊎ ((asked : Option Wanted) × IsAskedBy output asked
+    × Leaves asked (ifaces_named output) None why contents old new)
 
 -- the lines of the text that a reader had were taken, up to bytes that end no line, and their events written
 pub record IsInputTaken {W : Type 0} (w : Wanted) (input : Option (List ℕ)) (audit : TextAudit) (torn : List ℕ)
@@ -347,10 +352,15 @@ pub record BeginsWrong (audit : TextAudit) (next : List ℕ) (why : ReadFault) :
   pub ended : EndsLine line
   pub wrong : FailsNext AreTaken audit line why
 
--- an audit holds the events of these lines, after which it found a fault in the bytes that follow them
+-- an audit that knew no bus of its record still knows none
+abbrev pub StaysUnknown : TextAudit → TextAudit → Type 0
+StaysUnknown before after = bus_taken before.phase ≡ None → bus_taken after.phase ≡ None
+
+-- an audit holds the events of these lines, which made no bus known, and found a fault in the bytes after them
 abbrev pub HoldsBefore : TextAudit → (lines next : List ℕ) → ReadFault → TextAudit → Type 0
 HoldsBefore before lines next why after =
-    (last : TextAudit) × TakesMore before lines last × (has_events last.events ≡ has_events before.events)
+    (last : TextAudit) × TakesMore before lines last × StaysUnknown before last
+    × (has_events last.events ≡ has_events before.events)
     × (held_events after.events ≡ held_events last.events) × BeginsWrong last next why
 
 -- bytes begin with whole lines that are at fault after the lines that were taken, whatever follows them
@@ -417,10 +427,11 @@ abbrev pub IsLeft : Option (List ℕ) → Option (List ℕ) → List ℕ → Typ
 IsLeft (Some all) (Some rest) left = rest ≡ left
 IsLeft _ _ left = Unit {0}
 
--- a reader and an audit went on to lines before a fault, whose events the audit holds
+-- a reader and an audit went on to lines before a fault, which made no bus known, and the audit holds their events
 abbrev pub AuditStopsAfter : Option (List ℕ) → Option (List ℕ) → TextAudit → ReadFault → TextAudit → Type 0
 AuditStopsAfter old new before why after =
-    (last : TextAudit) × AuditGoesOn old new before last × (has_events last.events ≡ has_events before.events)
+    (last : TextAudit) × AuditGoesOn old new before last × StaysUnknown before last
+    × (has_events last.events ≡ has_events before.events)
     × (held_events after.events ≡ held_events last.events)
     × ((left : List ℕ) × IsLeft old new left × BeginsWrong last left why)
 

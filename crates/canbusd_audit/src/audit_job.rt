@@ -14,9 +14,9 @@ use std::alloc::{AllocError, Global};
 use std::io::{BufRead, BufReader, Write};
 use std::rt::Files;
 
-/// Audits the record whose text the files of the options have, one after another, and writes how many entries it has
-/// where it is a legal history, or with events what they brought about, as far as they are legal. The faults of the run are
-/// read first, where they are asked for.
+/// Audits the record whose text the files of the options have, one after another, and writes the number of its entries if
+/// it is a legal history, or with events those of its entries, as far as they are legal. The faults of the run are read
+/// first, if they are asked for.
 pub fn audit_files<'a, H: Files, W: Write, E: Write>(
     rt: &H,
     alloc: Global,
@@ -38,7 +38,7 @@ pub fn audit_files<'a, H: Files, W: Write, E: Write>(
     audit_asked(rt, alloc, options, asked, ifaces, output, errors)
 }
 
-// What options ask for, with the faults of the run, and how many interfaces these have names for.
+// The events that options ask for, if they do, with the faults of the run; and the number of interfaces that these name.
 fn read_asked<'a, H: Files>(
     rt: &H,
     alloc: Global,
@@ -79,7 +79,7 @@ fn audit_asked<'a, H: Files, W: Write, E: Write>(
         FaultsFiles options.now.is_cut (map (λ file. file.now) options.now.files.items)
         failure.error)) }
     ensures written { IfErr result (λ failure.
-        Leaves asked None failure.error W.contents output.old output.new) }
+        Leaves asked ifaces None failure.error W.contents output.old output.new) }
 {
     let files = open_files(rt, alloc, &options.files)?;
     let Ok(name) = joined_name(alloc, &options.files) else {
@@ -95,7 +95,7 @@ fn audit_asked<'a, H: Files, W: Write, E: Write>(
     }
 }
 
-// An audit that was given nothing yet, and writes what is asked for.
+// An audit that was given nothing yet, with events if they are asked for.
 fn new_audit<'a>(alloc: Global, asked: Option<Wanted>) -> Result<TextAudit, Report<'a>>
     ensures written { IfOk result (λ audit. HasWritten (wanted_of asked) [] [] audit) }
     ensures none { IfOk result (λ audit. held_events audit.events ≡ []) }
@@ -111,7 +111,7 @@ fn new_audit<'a>(alloc: Global, asked: Option<Wanted>) -> Result<TextAudit, Repo
     }
 }
 
-// The lines of the rules that the bus takes after the last entry, and of where all end.
+// The lines of the rules that the bus takes after the last entry, and of each end of all rules.
 fn last_rules<'a>(alloc: Global, audit: &mut TextAudit) -> Result<Vec<u8>, Report<'a>>
     ensures lines { IfOk result (λ lines. lines.items ≡ rules_last audit.old.events) }
     ensures phase { audit.new.phase ≡ audit.old.phase }
@@ -148,7 +148,7 @@ fn open_files<'a, H: Files>(
     Ok(files)
 }
 
-// What the text of these files is called where a line of it is shown.
+// The name of the text of these files in notes on its lines.
 fn joined_name(alloc: Global, paths: &[&str]) -> Result<String, AllocError> {
     let mut name = String::new(alloc);
     for (place, path) in paths.iter().enumerate() {
@@ -160,9 +160,9 @@ fn joined_name(alloc: Global, paths: &[&str]) -> Result<String, AllocError> {
     Ok(name)
 }
 
-/// Audits the record of a text, which the file with this path has, and writes how many entries it has where it is a
-/// legal history, or with events what they brought about, as far as they are legal. Its bus has to have so many interfaces,
-/// where it is said how many.
+/// Audits the record of a text, which the file with this path has, and writes the number of its entries if it is a legal
+/// history, or with events those of its entries, as far as they are legal. If `ifaces` is given its bus has to have so many
+/// interfaces.
 ///
 /// The text is read line by line and once, so it may come through a pipe. Neither it nor its record is held, nor more of
 /// the events than those of the lines that one read gave.
@@ -181,7 +181,8 @@ pub fn audit_lines<'a, R: BufRead, W: Write>(
         (IsOfOtherBus ifaces (R.remaining input.old) failure.error ⊎
         FaultsInput (R.remaining input.old) failure.error)) }
     ensures written { IfErr result (λ failure.
-        Leaves asked (R.remaining input.old) failure.error W.contents output.old output.new) }
+        Leaves asked ifaces (R.remaining input.old) failure.error W.contents output.old
+        output.new) }
 {
     let has_events = is_with_events(&asked);
     let mut audit = new_audit(alloc, asked)?;
@@ -202,8 +203,8 @@ pub fn audit_lines<'a, R: BufRead, W: Write>(
     )
 }
 
-/// The same of a text that may be cut off, as a run that was killed leaves it: writes how many entries it has, and
-/// that it is cut off, where the record is a legal history as far as it reaches.
+/// The same of a text that may be cut off, as a run that was killed leaves it: writes the number of its entries, and that
+/// it is cut off, if the record is a legal history as far as it reaches.
 pub fn audit_cut_lines<'a, R: BufRead, W: Write, E: Write>(
     alloc: Global,
     path: &str,
@@ -220,7 +221,8 @@ pub fn audit_cut_lines<'a, R: BufRead, W: Write, E: Write>(
         (IsOfOtherBus ifaces (R.remaining input.old) failure.error ⊎
         FaultsCut (R.remaining input.old) failure.error)) }
     ensures written { IfErr result (λ failure.
-        Leaves asked (R.remaining input.old) failure.error W.contents output.old output.new) }
+        Leaves asked ifaces (R.remaining input.old) failure.error W.contents output.old
+        output.new) }
 {
     let has_events = is_with_events(&asked);
     let mut audit = new_audit(alloc, asked)?;

@@ -1,8 +1,8 @@
-ghost use Rattle.std.specs.Prelude.{◌≡◌, ◌≤◌, IfOk, IfSome, IsNone, OnErr, drop, length, take};
+ghost use Rattle.std.specs.Prelude.{◌≡◌, ◌≤◌, IfOk, IfSome, IsNone, OnErr, drop, false, is_some, length, take};
 ghost use Rattle.can_replay.specs.EventTexts.{has_events};
+ghost use Rattle.can_replay.specs.TextAudits.{bus_taken};
 ghost use Rattle.canbusd_audit.specs.Audited.{BecomesOf, HoldsBefore, IsWrongNext, TakesMore};
 
-use crate::notes::HEAD;
 use can_record_text::ReadFault;
 use can_replay::TextAudit;
 use memchr::memchr;
@@ -10,19 +10,19 @@ use std::alloc::Global;
 use std::io;
 use std::io::{BufRead, Error, ErrorKind};
 
-/// What an input held.
+/// The result of one read of an input.
 #[derive(Debug, Clone, Copy)]
 pub enum Buffered {
     /// No byte, since the input has ended.
     End,
-    /// Whole lines, which were taken, and maybe a part of the next one; or nothing, where the read was interrupted.
+    /// Whole lines, which were taken, and maybe a part of the next one; or nothing, if the read was interrupted.
     Lines,
     /// A line at fault, which it still holds, after those that were taken.
     Wrong(ReadFault),
 }
 
-/// Takes the whole lines that an input holds, up to those before a record's entries or from there on, and counts them. It reads
-/// once where the input holds nothing.
+/// Takes the whole lines that an input holds, up to the one that makes the record's bus known, and counts them. It reads
+/// once if the input holds nothing.
 pub fn take_held<R: BufRead>(
     alloc: Global,
     input: &mut R,
@@ -49,7 +49,7 @@ pub fn take_held<R: BufRead>(
     }
 }
 
-// What became of a read that failed.
+// The result of a read that failed.
 fn unfilled(error: Error) -> io::Result<Buffered>
     ensures { IfOk result (λ held. held ≡ Buffered.Lines) }
 {
@@ -60,8 +60,8 @@ fn unfilled(error: Error) -> io::Result<Buffered>
     }
 }
 
-// Takes the whole lines that these bytes begin with, up to those before a record's entries or from there on, and counts them: how
-// many bytes they have, and the fault of the line that follows them, if it is at fault.
+// Takes the whole lines that these bytes begin with, up to the one that makes the record's bus known, and counts them.
+// Returns the number of their bytes, and the fault of the line after them, if it is at fault.
 fn carry_held(
     alloc: Global,
     held: &[u8],
@@ -75,6 +75,7 @@ fn carry_held(
         HoldsBefore audit.old (take result.0 held.now) (drop result.0 held.now) why audit.new) }
     ensures asked { has_events audit.new.events ≡ has_events audit.old.events }
 {
+    let was_known = knows_bus(audit);
     let mut len = 0;
     while let Some(place) = memchr(b'\n', &held[len..]) {
         let end = len + place + 1;
@@ -84,9 +85,23 @@ fn carry_held(
         }
         *lines = lines.saturating_add(1);
         len = end;
-        if *lines == HEAD {
+        if learned_bus(was_known, audit) {
             return (len, None);
         }
     }
     (len, None)
+}
+
+// Whether an audit knows the bus of its record now, and did not before.
+fn learned_bus(was_known: bool, audit: &TextAudit) -> bool
+    ensures { was_known ≡ false → result ≡ is_some (bus_taken audit.now.phase) }
+{
+    !was_known && knows_bus(audit)
+}
+
+// Whether the bus of an audit's record is known.
+fn knows_bus(audit: &TextAudit) -> bool
+    ensures { result ≡ is_some (bus_taken audit.now.phase) }
+{
+    audit.bus().is_some()
 }

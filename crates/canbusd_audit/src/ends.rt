@@ -12,8 +12,8 @@ use std::alloc::Global;
 use std::io;
 use std::io::Write;
 
-/// Reports what was found of a text that has ended and begins with this line: writes how many entries a legal record
-/// has, or with events the last rules, which are these lines, and their last line.
+/// Reports the result of the audit of a text that has ended and begins with this line: writes the number of a legal
+/// record's entries, or with events the last rules, which are these lines, and their last line.
 pub fn tell_end<'a, W: Write>(
     alloc: Global,
     path: &str,
@@ -39,7 +39,7 @@ pub fn tell_end<'a, W: Write>(
     }
 }
 
-// Writes how many entries a whole record has.
+// Writes the number of a whole record's entries.
 fn write_count<'a, W: Write>(
     alloc: Global,
     count: usize,
@@ -82,7 +82,7 @@ pub fn tell_cut<'a, W: Write, E: Write>(
     }
 }
 
-// Writes how many entries a record has that is cut off before these bytes, and how many bytes these are.
+// Writes the number of entries of a record that is cut off before these bytes, and a note on the number of these bytes.
 fn tell_off<'a, W: Write, E: Write>(
     alloc: Global,
     count: usize,
@@ -144,7 +144,7 @@ fn write_cut<W: Write>(
     }
 }
 
-// What is reported of a text that is no record's, and ends in these bytes without LF.
+// The report of a text that is no record's, and ends in these bytes without LF.
 fn text_failure<'a>(
     alloc: Global,
     path: &str,
@@ -158,7 +158,7 @@ fn text_failure<'a>(
     Report::with(alloc, ProgramError::Record(fault), note)
 }
 
-// What is reported of a record with a wrong entry.
+// The report of a record with a wrong entry.
 fn wrong_failure<'a>(alloc: Global, path: &str, wrong: &WrongLine) -> Report<'a>
     requires { FitsLines wrong.now }
     ensures { result.error ≡ told.WrongEntry wrong.now.place }
@@ -167,8 +167,8 @@ fn wrong_failure<'a>(alloc: Global, path: &str, wrong: &WrongLine) -> Report<'a>
     Report::with(alloc, ProgramError::WrongEntry(wrong.place), note)
 }
 
-// The line of the text that a fault of the whole text is about: its last bytes, which there are none of where a line is
-// missing; of a text that is right line by line it is the first, that of a version that it does not need.
+// The line of the text that a fault of the whole text is about: its last bytes, which are none if a line is missing. If
+// each line is right, and the version is one that the text does not need, it is the first line.
 fn last_shown<'a>(first: &'a [u8], torn: &'a [u8], fault: ReadFault) -> &'a [u8] {
     match fault {
         ReadFault::BadVersion if !first.is_empty() => first,

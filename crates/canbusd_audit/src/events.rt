@@ -1,4 +1,4 @@
-//! What the entries of a record brought about, as it is written.
+//! The output of the events of a record's entries.
 ghost use Rattle.std.specs.Prelude.{◌≡◌, ◌++◌, [], IfErr, List, OnOk, ℕ};
 ghost use Rattle.std.specs.Io.KnownBytes.{Appends};
 ghost use Rattle.can_replay.specs.declared.wanted.Wanted.{Wanted as AWanted};
@@ -40,7 +40,7 @@ pub fn put_events<'a, W: Write>(
     }
 }
 
-// Writes bytes, for somebody who may wait for them.
+// Writes bytes and flushes them, as a reader may wait for them.
 fn write_out<W: Write>(output: &mut W, bytes: &[u8]) -> io::Result<()>
     ensures { OnOk result (Appends (W.contents output.old) (W.contents output.new) bytes.now) }
 {

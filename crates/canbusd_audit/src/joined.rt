@@ -3,11 +3,11 @@
 use std::io;
 use std::io::Read;
 
-/// What readers have, one after another.
+/// The bytes of several readers, one after another.
 #[derive(Drop)]
 pub struct Joined<R> {
     parts: Vec<R>,
-    /// Which of them is read.
+    /// The place of the one that is read.
     place: usize,
 }
 

@@ -11,8 +11,8 @@ use canbusd_io::{ProgramError, Report};
 use std::alloc::{AllocError, Global};
 use std::io::Write;
 
-/// Writes the events that an audit holds, if it has any and the bus of its record has so many interfaces, as far as either is
-/// known.
+/// Writes the events that an audit holds, if it has any. If the bus of its record is known, and `ifaces` is given, the
+/// bus has to have so many interfaces.
 pub fn put_known<'a, W: Write>(
     alloc: Global,
     path: &str,
@@ -38,7 +38,7 @@ pub fn put_known<'a, W: Write>(
     put_events(alloc, audit, output)
 }
 
-// Whether the bus of an audit's record has so many interfaces.
+// Refuses the bus of an audit's record if it is known and has another number of interfaces.
 fn check_bus<'a>(
     alloc: Global,
     path: &str,
@@ -62,7 +62,7 @@ fn check_bus<'a>(
     Err(Report::with(alloc, ProgramError::OtherBus, note))
 }
 
-// How many names there are, and how many interfaces.
+// The number of names and that of interfaces.
 fn other_note(alloc: Global, path: &str, named: u8, ifaces: u8) -> Result<String, AllocError> {
     format!(in alloc; "  names in --faults: {named}, interfaces of {path}: {ifaces}\n")
 }

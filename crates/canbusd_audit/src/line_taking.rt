@@ -16,11 +16,11 @@ use std::alloc::Global;
 use std::io::{BufRead, Write};
 use std::str;
 
-/// Takes the lines of an input to its end: how many there were. The bytes after the last LF are left. After each read the
-/// events of an audit that has them are written. The bus of the record has to have so many interfaces, where it is said how
-/// many: if it has others nothing is written.
+/// Takes the lines of an input to its end, and returns their number. The bytes after the last LF are left. After each read
+/// the events of an audit that has them are written. If `ifaces` is given the bus of the record has to have so many
+/// interfaces: if it has another number nothing is written.
 ///
-/// Where a line is at fault, what follows is read all the same: an input that is no UTF-8 text is reported as such,
+/// If a line is at fault, the lines after it are read all the same: an input that is no UTF-8 text is reported as such,
 /// wherever it is not.
 pub fn take_lines<'a, R: BufRead, W: Write>(
     alloc: Global,
@@ -42,7 +42,7 @@ pub fn take_lines<'a, R: BufRead, W: Write>(
         (IsOfOtherBus ifaces (R.remaining input.old) failure.error ⊎
         FaultsLine (R.remaining input.old) failure.error)) }
     ensures written { IfErr result (λ failure. (w : AWanted) → HasWritten w [] [] audit.old →
-        Leaves (output_of w audit.old.events) (R.remaining input.old) failure.error
+        Leaves (output_of w audit.old.events) ifaces (R.remaining input.old) failure.error
         W.contents output.old output.new) }
     ensures asked { has_events audit.new.events ≡ has_events audit.old.events }
 {
@@ -108,7 +108,7 @@ pub fn take_last<'a>(
     }
 }
 
-// What is reported of a last line that is at fault.
+// The report of a last line that is at fault.
 fn torn_failure<'a>(
     alloc: Global,
     path: &str,
@@ -126,7 +126,7 @@ fn torn_failure<'a>(
     Report::with(alloc, ProgramError::Record(fault), note)
 }
 
-// What is reported of a line at fault that the input still holds, and that follows this many others.
+// The report of a line at fault that the input still holds, after this many others.
 #[inline(never)]
 fn held_failure<'a, R: BufRead>(
     alloc: Global,
@@ -144,7 +144,7 @@ fn held_failure<'a, R: BufRead>(
     }
 }
 
-// What is reported of a line that is at fault.
+// The report of a line that is at fault.
 fn line_failure<'a, R: BufRead>(
     alloc: Global,
     path: &str,
@@ -162,7 +162,7 @@ fn line_failure<'a, R: BufRead>(
     }
 }
 
-// Reads on from a line that is at fault: whether this line and all after it are UTF-8 text.
+// Reads on from a line that is at fault, and sees whether this line and all after it are UTF-8 text.
 fn read_rest<'a, R: BufRead>(
     alloc: Global,
     path: &str,
@@ -184,7 +184,8 @@ fn read_rest<'a, R: BufRead>(
     Err(Report::new(alloc, ProgramError::Read))
 }
 
-// Reads the next line, with its LF: whether there is one. Else what is left of the input was read, which has no LF.
+// Reads the next line, with its LF, and returns whether there is one. If not, the rest of the input was read, which has
+// no LF.
 fn next_line<'a, R: BufRead>(
     alloc: Global,
     path: &str,

@@ -1,14 +1,14 @@
-//! The lines of a text that is no record's, as they are reported.
+//! Notes on the lines of a text that is no record's.
 ghost use Rattle.std.specs.Prelude.{◌≡◌};
 
 use can_record_text::ReadFault;
 use canbusd_io::{Report, SourceLine, WITH_CR};
 use std::alloc::{AllocError, Global};
 
-/// How many lines of a record's text come before those of its entries.
+/// The number of lines of a record's text before those of its entries.
 pub const HEAD: u64 = 2;
 
-/// A line of a record's text that is wrong, and what a record has in its place.
+/// A line of a record's text that is wrong, and the form of the line that a record has in its place.
 pub fn record_note(
     alloc: Global,
     path: &str,
@@ -36,7 +36,7 @@ pub fn record_note(
     format!(in alloc; "  {line}\n  {form}\n")
 }
 
-// What a record has in place of a line after the second. A text that has ended there gives none, or one without LF.
+// The form of a line after the second. A text that has ended there has no such line, or one without LF.
 fn entry_form(line: &[u8]) -> &'static str {
     if line.is_empty() {
         "the text ends here, before its line end COUNT"
@@ -47,7 +47,8 @@ fn entry_form(line: &[u8]) -> &'static str {
     }
 }
 
-/// The fault of a text that ends before its last line, with what `--cut` does of it, if it has the lines before its entries.
+/// The fault of a text that ends before its last line. If the text has the lines before its entries, a note says that `--cut`
+/// audits these.
 pub fn with_cut_note<'a>(alloc: Global, failure: Report<'a>, fault: ReadFault) -> Report<'a>
     ensures { result.error ≡ failure.entry.error }
 {
@@ -60,7 +61,7 @@ pub fn with_cut_note<'a>(alloc: Global, failure: Report<'a>, fault: ReadFault) -
     }
 }
 
-// What `--cut` does of a text with this many entries.
+// The note that `--cut` audits the entries of a text that has this many.
 fn cut_note(alloc: Global, entries: u64) -> Result<String, AllocError> {
     format!(in alloc; "  with --cut the {entries} entries before it are audited\n")
 }

@@ -15,7 +15,7 @@ returns-then-options-clause-fault g c =
     cut_files_told c.args.options.now.is_cut (asks_events c.args.asked) c.args.ifaces (paths_of c.args.options.now.files.items) _ c.audit_cut_lines.result c.if-options.true c.audit_cut_lines.ensures.fault
 
 pub returns-then-options-clause-written : goal.returns-then-options-clause-written
-returns-then-options-clause-written g c = files_left c.args.asked _ g.W.Write.contents c.args.output.now c.audit_cut_lines.new.output c.audit_cut_lines.result c.audit_cut_lines.ensures.written
+returns-then-options-clause-written g c = files_left c.args.asked c.args.ifaces _ g.W.Write.contents c.args.output.now c.audit_cut_lines.new.output c.audit_cut_lines.result c.audit_cut_lines.ensures.written
 
 pub returns-clause-legal : goal.returns-clause-legal
 returns-clause-legal g c =
@@ -25,19 +25,19 @@ pub returns-clause-fault : goal.returns-clause-fault
 returns-clause-fault g c = files_told c.args.options.now.is_cut (asks_events c.args.asked) c.args.ifaces (paths_of c.args.options.now.files.items) _ c.audit_lines.result c.if-options.false c.audit_lines.ensures.fault
 
 pub returns-clause-written : goal.returns-clause-written
-returns-clause-written g c = files_left c.args.asked _ g.W.Write.contents c.args.output.now c.audit_lines.new.output c.audit_lines.result c.audit_lines.ensures.written
+returns-clause-written g c = files_left c.args.asked c.args.ifaces _ g.W.Write.contents c.args.output.now c.audit_lines.new.output c.audit_lines.result c.audit_lines.ensures.written
 
 pub returns-in_err-files-clause-written : goal.returns-in_err-files-clause-written
 returns-in_err-files-clause-written g c =
     let failure = c.in_err-files.field-0.0 in
-    passed_on (λ (x : Report). Leaves c.args.asked None x.error g.W.Write.contents c.args.output.now c.args.output.now) failure c.from_residual.result c.from_residual.ensures.1
-    (nothing_left c.args.asked None failure.error g.W.Write.contents c.args.output.now (files_unread _ failure.error c.in_err-files.ensures))
+    passed_on (λ (x : Report). Leaves c.args.asked c.args.ifaces None x.error g.W.Write.contents c.args.output.now c.args.output.now) failure c.from_residual.result c.from_residual.ensures.1
+    (nothing_left c.args.asked c.args.ifaces None failure.error g.W.Write.contents c.args.output.now (files_unread _ failure.error c.in_err-files.ensures))
 
 pub returns-in_default-clause-written : goal.returns-in_default-clause-written
-returns-in_default-clause-written g c = nothing_left c.args.asked None _ g.W.Write.contents c.args.output.now (subst IsUnread (sym c.new.ensures) tt)
+returns-in_default-clause-written g c = nothing_left c.args.asked c.args.ifaces None _ g.W.Write.contents c.args.output.now (subst IsUnread (sym c.new.ensures) tt)
 
 pub returns-in_default-new-clause-written : goal.returns-in_default-new-clause-written
-returns-in_default-new-clause-written g c = nothing_left c.args.asked None _ g.W.Write.contents c.args.output.now (subst IsUnread (sym c.new-in_default-new.ensures) tt)
+returns-in_default-new-clause-written g c = nothing_left c.args.asked c.args.ifaces None _ g.W.Write.contents c.args.output.now (subst IsUnread (sym c.new-in_default-new.ensures) tt)
 
 -- no memory for the files
 memory_of_files : (is_cut : Bool) (paths : List (List ℕ)) (why : ProgramError) → why ≡ fault.NoMemory → FaultsFiles is_cut paths why

@@ -30,8 +30,8 @@ pub returns-in_err-audit-clause-written : goal.returns-in_err-audit-clause-writt
 returns-in_err-audit-clause-written g c =
     let first = g.R.Read.remaining c.args.input.now in
     let failure = c.in_err-audit.field-0.0 in
-    passed_on (λ (x : Report). Leaves c.args.asked first x.error g.W.Write.contents c.args.output.now c.args.output.now) failure c.from_residual.result c.from_residual.ensures.1
-    (nothing_left c.args.asked first failure.error g.W.Write.contents c.args.output.now (subst IsUnread (sym c.in_err-audit.ensures.fault) tt))
+    passed_on (λ (x : Report). Leaves c.args.asked c.args.ifaces first x.error g.W.Write.contents c.args.output.now c.args.output.now) failure c.from_residual.result c.from_residual.ensures.1
+    (nothing_left c.args.asked c.args.ifaces first failure.error g.W.Write.contents c.args.output.now (subst IsUnread (sym c.in_err-audit.ensures.fault) tt))
 
 pub returns-in_err-take_lines-clause-fault : goal.returns-in_err-take_lines-clause-fault
 returns-in_err-take_lines-clause-fault g c =
@@ -44,8 +44,8 @@ pub returns-in_err-take_lines-clause-written : goal.returns-in_err-take_lines-cl
 returns-in_err-take_lines-clause-written g c =
     let first = g.R.Read.remaining c.args.input.now in
     let failure = c.in_err-take_lines.field-0.0 in
-    passed_on (λ (x : Report). Leaves c.args.asked first x.error g.W.Write.contents c.args.output.now c.take_lines.new.output) failure c.from_residual-in_err-take_lines.result c.from_residual-in_err-take_lines.ensures.1
-    (subst (λ (o : Option Wanted). Leaves o first failure.error g.W.Write.contents c.args.output.now c.take_lines.new.output) (sym (asked_so c.args.asked _ c.in_ok-audit.ensures.asked))
+    passed_on (λ (x : Report). Leaves c.args.asked c.args.ifaces first x.error g.W.Write.contents c.args.output.now c.take_lines.new.output) failure c.from_residual-in_err-take_lines.result c.from_residual-in_err-take_lines.ensures.1
+    (subst (λ (o : Option Wanted). Leaves o c.args.ifaces first failure.error g.W.Write.contents c.args.output.now c.take_lines.new.output) (sym (asked_so c.args.asked _ c.in_ok-audit.ensures.asked))
     (c.in_err-take_lines.ensures.written (wanted_of c.args.asked) c.in_ok-audit.ensures.written))
 
 pub returns-in_err-rules-clause-fault : goal.returns-in_err-rules-clause-fault
@@ -61,9 +61,9 @@ returns-in_err-rules-clause-written g c =
     let torn = c.take_lines.new.torn.items in
     let audit = c.take_lines.new.audit in
     let taken = c.in_ok-take_lines.ensures.taken (wanted_of c.args.asked) c.in_ok-audit.ensures.written in
-    passed_on (λ (x : Report). Leaves c.args.asked first x.error g.W.Write.contents c.args.output.now c.take_lines.new.output) failure c.from_residual-in_err-rules.result c.from_residual-in_err-rules.ensures.1
-    (memory_left c.args.asked first audit torn g.W.Write.contents c.args.output.now c.take_lines.new.output failure.error (c.take_lines.ensures.asked ∙ c.in_ok-audit.ensures.asked) taken.unended
-    (ready (wanted_of c.args.asked) first audit torn g.W.Write.contents c.args.output.now c.take_lines.new.output taken) c.in_err-rules.ensures.fault)
+    passed_on (λ (x : Report). Leaves c.args.asked c.args.ifaces first x.error g.W.Write.contents c.args.output.now c.take_lines.new.output) failure c.from_residual-in_err-rules.result c.from_residual-in_err-rules.ensures.1
+    (memory_left c.args.asked c.args.ifaces first audit torn g.W.Write.contents c.args.output.now c.take_lines.new.output failure.error (c.take_lines.ensures.asked ∙ c.in_ok-audit.ensures.asked) taken.unended
+    (ready (wanted_of c.args.asked) first audit torn g.W.Write.contents c.args.output.now c.take_lines.new.output taken) c.in_ok-take_lines.ensures.fits c.in_err-rules.ensures.fault)
 
 pub returns-clause-legal : goal.returns-clause-legal
 returns-clause-legal g c =
@@ -105,7 +105,7 @@ returns-clause-written g c =
     subst (λ (p : Phase). (text : List ℕ) → HasCome text p → EndsNoLine c.take_lines.new.torn.items → ReportsCut (text ++ c.take_lines.new.torn.items) c.finish_cut-found.result) c.last_rules.ensures.phase
     (subst (λ (l : List ℕ). (text : List ℕ) → HasCome text c.last_rules.new.audit.phase → EndsNoLine l → ReportsCut (text ++ l) c.finish_cut-found.result) c.deref.ensures.value c.finish_cut-found.ensures.told) in
     let wrong = subst (λ (p : Phase). (w : WrongLine) → c.finish_cut-found.result ≡ Err (found.Wrong w) → wrong_so_far p ≡ Some w) c.last_rules.ensures.phase c.finish_cut-found.ensures.wrong in
-    left_cut c.args.asked first audit torn g.W.Write.contents c.args.output.now c.take_lines.new.output c.tell_cut.new.output c.finish_cut-found.result c.tell_cut.result (c.take_lines.ensures.asked ∙ c.in_ok-audit.ensures.asked) taken.unended
+    left_cut c.args.asked c.args.ifaces first audit torn g.W.Write.contents c.args.output.now c.take_lines.new.output c.tell_cut.new.output c.finish_cut-found.result c.tell_cut.result (c.take_lines.ensures.asked ∙ c.in_ok-audit.ensures.asked) taken.unended
     (ready (wanted_of c.args.asked) first audit torn g.W.Write.contents c.args.output.now c.take_lines.new.output taken)
     told
-    wrong c.tell_cut.ensures.fault c.tell_cut.ensures.quiet
+    wrong c.in_ok-take_lines.ensures.fits c.tell_cut.ensures.fault c.tell_cut.ensures.quiet

@@ -13,7 +13,7 @@ returns-clause-fault g c =
     asked_told c.args.options.now.is_cut c.args.options.now.output (paths_of c.args.options.now.files.items) c.in_ok-asked.asked c.in_ok-asked.ifaces c.audit_asked.result c.in_ok-asked.ensures.asked c.in_ok-asked.ensures.ifaces c.audit_asked.ensures.fault
 
 pub returns-clause-written : goal.returns-clause-written
-returns-clause-written g c = asked_left c.args.options.now.output c.in_ok-asked.asked g.W.Write.contents c.args.output.now c.audit_asked.new.output c.audit_asked.result c.in_ok-asked.ensures.asked c.audit_asked.ensures.written
+returns-clause-written g c = asked_left c.args.options.now.output c.in_ok-asked.asked c.in_ok-asked.ifaces g.W.Write.contents c.args.output.now c.audit_asked.new.output c.audit_asked.result c.in_ok-asked.ensures.asked c.in_ok-asked.ensures.ifaces c.audit_asked.ensures.written
 
 pub returns-in_err-asked-clause-fault : goal.returns-in_err-asked-clause-fault
 returns-in_err-asked-clause-fault g c =

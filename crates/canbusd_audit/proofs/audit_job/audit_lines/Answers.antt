@@ -31,8 +31,8 @@ pub returns-in_err-audit-clause-written : goal.returns-in_err-audit-clause-writt
 returns-in_err-audit-clause-written g c =
     let first = g.R.Read.remaining c.args.input.now in
     let failure = c.in_err-audit.field-0.0 in
-    passed_on (λ (x : Report). Leaves c.args.asked first x.error g.W.Write.contents c.args.output.now c.args.output.now) failure c.from_residual.result c.from_residual.ensures.1
-    (nothing_left c.args.asked first failure.error g.W.Write.contents c.args.output.now (subst IsUnread (sym c.in_err-audit.ensures.fault) tt))
+    passed_on (λ (x : Report). Leaves c.args.asked c.args.ifaces first x.error g.W.Write.contents c.args.output.now c.args.output.now) failure c.from_residual.result c.from_residual.ensures.1
+    (nothing_left c.args.asked c.args.ifaces first failure.error g.W.Write.contents c.args.output.now (subst IsUnread (sym c.in_err-audit.ensures.fault) tt))
 
 pub returns-in_err-lines-clause-fault : goal.returns-in_err-lines-clause-fault
 returns-in_err-lines-clause-fault g c =
@@ -45,8 +45,8 @@ pub returns-in_err-lines-clause-written : goal.returns-in_err-lines-clause-writt
 returns-in_err-lines-clause-written g c =
     let first = g.R.Read.remaining c.args.input.now in
     let failure = c.in_err-lines.field-0.0 in
-    passed_on (λ (x : Report). Leaves c.args.asked first x.error g.W.Write.contents c.args.output.now c.take_lines.new.output) failure c.from_residual-in_err-lines.result c.from_residual-in_err-lines.ensures.1
-    (subst (λ (o : Option Wanted). Leaves o first failure.error g.W.Write.contents c.args.output.now c.take_lines.new.output) (sym (asked_so c.args.asked _ c.in_ok-audit.ensures.asked))
+    passed_on (λ (x : Report). Leaves c.args.asked c.args.ifaces first x.error g.W.Write.contents c.args.output.now c.take_lines.new.output) failure c.from_residual-in_err-lines.result c.from_residual-in_err-lines.ensures.1
+    (subst (λ (o : Option Wanted). Leaves o c.args.ifaces first failure.error g.W.Write.contents c.args.output.now c.take_lines.new.output) (sym (asked_so c.args.asked _ c.in_ok-audit.ensures.asked))
     (c.in_err-lines.ensures.written (wanted_of c.args.asked) c.in_ok-audit.ensures.written))
 
 pub returns-in_err-take_last-clause-fault : goal.returns-in_err-take_last-clause-fault
@@ -62,9 +62,9 @@ returns-in_err-take_last-clause-written g c =
     let first = g.R.Read.remaining c.args.input.now in
     let failure = c.in_err-take_last.field-0.0 in
     let kind = c.take_lines.ensures.asked ∙ c.in_ok-audit.ensures.asked in
-    passed_on (λ (x : Report). Leaves c.args.asked first x.error g.W.Write.contents c.args.output.now c.take_lines.new.output) failure c.from_residual-in_err-take_last.result c.from_residual-in_err-take_last.ensures.1
-    (last_left c.args.asked first c.take_lines.new.audit c.take_lines.new.torn.items g.W.Write.contents c.args.output.now c.take_lines.new.output failure.error kind (c.in_ok-lines.ensures.taken (wanted_of c.args.asked) c.in_ok-audit.ensures.written)
-    (subst (λ (l : List ℕ). FaultsLast c.take_lines.new.audit l failure.error) c.deref.ensures.value c.in_err-take_last.ensures.fault) c.in_err-take_last.ensures.line)
+    passed_on (λ (x : Report). Leaves c.args.asked c.args.ifaces first x.error g.W.Write.contents c.args.output.now c.take_lines.new.output) failure c.from_residual-in_err-take_last.result c.from_residual-in_err-take_last.ensures.1
+    (last_left c.args.asked c.args.ifaces first c.take_lines.new.audit c.take_lines.new.torn.items g.W.Write.contents c.args.output.now c.take_lines.new.output failure.error kind (c.in_ok-lines.ensures.taken (wanted_of c.args.asked) c.in_ok-audit.ensures.written)
+    c.in_ok-lines.ensures.fits (subst (λ (l : List ℕ). FaultsLast c.take_lines.new.audit l failure.error) c.deref.ensures.value c.in_err-take_last.ensures.fault) c.in_err-take_last.ensures.line)
 
 pub returns-in_err-put_known-clause-fault : goal.returns-in_err-put_known-clause-fault
 returns-in_err-put_known-clause-fault g c =
@@ -84,7 +84,7 @@ returns-in_err-put_known-clause-written g c =
     let failure = c.in_err-put_known.field-0.0 in
     let torn = c.take_lines.new.torn.items in
     let last = subst (λ (l : List ℕ). TakesLast c.take_lines.new.audit l c.take_last.new.audit) c.deref.ensures.value c.in_ok-take_last.ensures.taken in
-    passed_on (λ (x : Report). Leaves c.args.asked first x.error g.W.Write.contents c.args.output.now c.put_known.new.output) failure c.from_residual-in_err-put_known.result c.from_residual-in_err-put_known.ensures.1
+    passed_on (λ (x : Report). Leaves c.args.asked c.args.ifaces first x.error g.W.Write.contents c.args.output.now c.put_known.new.output) failure c.from_residual-in_err-put_known.result c.from_residual-in_err-put_known.ensures.1
     (known_left_last c.args.asked c.args.ifaces first c.take_lines.new.audit c.take_last.new.audit torn g.W.Write.contents c.args.output.now c.take_lines.new.output c.put_known.new.output failure.error (c.take_lines.ensures.asked ∙ c.in_ok-audit.ensures.asked)
     (c.in_ok-lines.ensures.taken (wanted_of c.args.asked) c.in_ok-audit.ensures.written) last c.in_ok-lines.ensures.fits c.in_err-put_known.ensures.fault)
 
@@ -102,8 +102,9 @@ returns-in_err-rules-clause-written g c =
     let t = ready_last (wanted_of c.args.asked) _ c.take_lines.new.audit c.take_last.new.audit c.put_known.new.audit c.take_lines.new.torn.items g.W.Write.contents c.args.output.now c.take_lines.new.output c.put_known.new.output (c.in_ok-lines.ensures.taken (wanted_of c.args.asked) c.in_ok-audit.ensures.written) last c.take_last.ensures.asked
     c.put_known.ensures.asked c.in_ok-put_known.ensures.written c.in_ok-put_known.ensures.none c.in_ok-put_known.ensures.put in
     let kind = c.put_known.ensures.asked ∙ (c.take_last.ensures.asked ∙ (c.take_lines.ensures.asked ∙ c.in_ok-audit.ensures.asked)) in
-    passed_on (λ (x : Report). Leaves c.args.asked first x.error g.W.Write.contents c.args.output.now c.put_known.new.output) failure c.from_residual-in_err-rules.result c.from_residual-in_err-rules.ensures.1
-    (memory_left c.args.asked first c.put_known.new.audit [] g.W.Write.contents c.args.output.now c.put_known.new.output failure.error kind (All-nil (λ b. b ≢ 10)) t c.in_err-rules.ensures.fault)
+    passed_on (λ (x : Report). Leaves c.args.asked c.args.ifaces first x.error g.W.Write.contents c.args.output.now c.put_known.new.output) failure c.from_residual-in_err-rules.result c.from_residual-in_err-rules.ensures.1
+    (memory_left c.args.asked c.args.ifaces first c.put_known.new.audit [] g.W.Write.contents c.args.output.now c.put_known.new.output failure.error kind (All-nil (λ b. b ≢ 10)) t
+    (subst (λ (p : Phase). FitsBus c.args.ifaces (bus_taken p)) (sym c.put_known.ensures.phase) c.in_ok-put_known.ensures.fits) c.in_err-rules.ensures.fault)
 
 pub returns-clause-legal : goal.returns-clause-legal
 returns-clause-legal g c =
@@ -135,5 +136,5 @@ returns-clause-written g c =
     let kind = c.put_known.ensures.asked ∙ (c.take_last.ensures.asked ∙ (c.take_lines.ensures.asked ∙ c.in_ok-audit.ensures.asked)) in
     let told = subst (λ (p : Phase). (text : List ℕ) → HasCome text p → Reports text c.finish.result) c.last_rules.ensures.phase c.finish.ensures.told in
     let wrong = subst (λ (p : Phase). (w : WrongLine) → c.finish.result ≡ Err (found.Wrong w) → wrong_so_far p ≡ Some w) c.last_rules.ensures.phase c.finish.ensures.wrong in
-    left_whole c.args.asked (g.R.Read.remaining c.args.input.now) c.put_known.new.audit g.W.Write.contents c.args.output.now c.put_known.new.output c.tell_end.new.output c.finish.result c.tell_end.result kind t told wrong
-    c.tell_end.ensures.fault c.tell_end.ensures.quiet
+    left_whole c.args.asked c.args.ifaces (g.R.Read.remaining c.args.input.now) c.put_known.new.audit g.W.Write.contents c.args.output.now c.put_known.new.output c.tell_end.new.output c.finish.result c.tell_end.result kind t told wrong
+    (subst (λ (p : Phase). FitsBus c.args.ifaces (bus_taken p)) (sym c.put_known.ensures.phase) c.in_ok-put_known.ensures.fits) c.tell_end.ensures.fault c.tell_end.ensures.quiet

@@ -58,16 +58,16 @@ returns-in-Ok-Wrong-clause-written g c = λ w start.
     let now = g.R.Read.remaining c.loop.input in
     let after = g.R.Read.remaining c.take_held.new.input in
     let became = subst (λ (h : Buffered). BecomesOf h now after c.loop.audit c.take_held.new.audit) c.in-Ok-Wrong.field-0-is c.in-Ok-Wrong.ensures.became in
-    inr (leaves_stopped w (g.R.Read.remaining c.args.input.now) now after c.args.audit.now.events c.loop.audit c.take_held.new.audit c.in-Ok-Wrong.fault c.held_failure.result.error g.W.Write.contents c.args.output.now c.loop.output c.put_events.new.output
-    c.loop.invariant.asked c.take_held.ensures.asked (c.loop.invariant.put w start) became.1 c.in_ok-put_events-in-Ok-Wrong.ensures.put c.held_failure.ensures)
+    inr (leaves_stopped w c.args.ifaces (g.R.Read.remaining c.args.input.now) now after c.args.audit.now.events c.loop.audit c.take_held.new.audit c.in-Ok-Wrong.fault c.held_failure.result.error g.W.Write.contents c.args.output.now c.loop.output c.put_events.new.output
+    c.loop.invariant.asked c.take_held.ensures.asked c.loop.invariant.fits (c.loop.invariant.put w start) became.1 c.in_ok-put_events-in-Ok-Wrong.ensures.put c.held_failure.ensures)
 
 pub returns-in-Err-clause-fault : goal.returns-in-Err-clause-fault
 returns-in-Err-clause-fault g c = inr (inr (stops (g.R.Read.remaining c.args.input.now) c.read_failure.result.error c.read_failure.ensures))
 
 pub returns-in-Err-clause-written : goal.returns-in-Err-clause-written
 returns-in-Err-clause-written g c = λ w start.
-    inr (leaves_unread w (g.R.Read.remaining c.args.input.now) (g.R.Read.remaining c.loop.input) c.args.audit.now.events c.loop.audit c.read_failure.result.error g.W.Write.contents c.args.output.now c.loop.output (sym c.loop.invariant.asked)
-    c.loop.invariant.none (c.loop.invariant.put w start) c.read_failure.ensures)
+    inr (leaves_unread w c.args.ifaces (g.R.Read.remaining c.args.input.now) (g.R.Read.remaining c.loop.input) c.args.audit.now.events c.loop.audit c.read_failure.result.error g.W.Write.contents c.args.output.now c.loop.output (sym c.loop.invariant.asked)
+    c.loop.invariant.none c.loop.invariant.fits (c.loop.invariant.put w start) c.read_failure.ensures)
 
 -- what the reader held was taken, and its events put out
 -- the bus is another one, or the writer failed
@@ -94,7 +94,7 @@ returns-in_err-put_known-in-Ok-Lines-clause-written g c =
     let contents = g.W.Write.contents in
     let became = subst (λ (h : Buffered). BecomesOf h now held c.loop.audit c.take_held.new.audit) c.in-Ok-Lines.field-0-is c.in-Ok-Lines.ensures.became in
     let failure = c.in_err-put_known-in-Ok-Lines.field-0.0 in
-    passed_on (λ (x : Report). (w : Wanted) → HasWritten w [] [] c.args.audit.now → Leaves (output_of w c.args.audit.now.events) first x.error contents c.args.output.now c.put_known.new.output) failure c.from_residual.result c.from_residual.ensures.1
+    passed_on (λ (x : Report). (w : Wanted) → HasWritten w [] [] c.args.audit.now → Leaves (output_of w c.args.audit.now.events) c.args.ifaces first x.error contents c.args.output.now c.put_known.new.output) failure c.from_residual.result c.from_residual.ensures.1
     (λ w start.
     let p = c.loop.invariant.put w start in
     let on = became w first p.events p.underway in
@@ -128,7 +128,8 @@ returns-in-Err-next_line-clause-written g c = λ w start.
     let on = put_on w first now held c.loop.audit c.take_held.new.audit contents c.args.output.now c.loop.output c.take_held.ensures.asked (λ events u. (became w first events u).0) (c.loop.invariant.put w start) in
     let put = put_more w first held c.take_held.new.audit c.put_known.new.audit contents c.args.output.now c.loop.output c.put_known.new.output c.put_known.ensures.asked c.in_ok-put_known-in-Ok-Lines.ensures.written c.in_ok-put_known-in-Ok-Lines.ensures.put on in
     let kind = sym (c.put_known.ensures.asked ∙ (c.take_held.ensures.asked ∙ c.loop.invariant.asked)) in
-    inr (leaves_unread w first held c.args.audit.now.events c.put_known.new.audit c.in-Err-next_line.failure.error contents c.args.output.now c.put_known.new.output kind c.in_ok-put_known-in-Ok-Lines.ensures.none put
+    let fits = subst (λ (p : Phase). FitsBus c.args.ifaces (bus_taken p)) (sym c.put_known.ensures.phase) c.in_ok-put_known-in-Ok-Lines.ensures.fits in
+    inr (leaves_unread w c.args.ifaces first held c.args.audit.now.events c.put_known.new.audit c.in-Err-next_line.failure.error contents c.args.output.now c.put_known.new.output kind c.in_ok-put_known-in-Ok-Lines.ensures.none fits put
     c.in-Err-next_line.ensures.fault)
 
 pub returns-in-Err-carry-clause-fault : goal.returns-in-Err-carry-clause-fault
@@ -160,7 +161,8 @@ returns-in-Err-carry-clause-written g c = λ w start.
     let on = put_on w first now held c.loop.audit c.take_held.new.audit contents c.args.output.now c.loop.output c.take_held.ensures.asked (λ events u. (became w first events u).0) (c.loop.invariant.put w start) in
     let put = put_more w first held c.take_held.new.audit c.put_known.new.audit contents c.args.output.now c.loop.output c.put_known.new.output c.put_known.ensures.asked c.in_ok-put_known-in-Ok-Lines.ensures.written c.in_ok-put_known-in-Ok-Lines.ensures.put on in
     let kind = sym (c.put_known.ensures.asked ∙ (c.take_held.ensures.asked ∙ c.loop.invariant.asked)) in
-    inr (leaves_line w first held after line c.args.audit.now.events c.put_known.new.audit c.in-Err-carry.fault c.line_failure.result.error contents c.args.output.now c.put_known.new.output kind c.in_ok-put_known-in-Ok-Lines.ensures.none put
+    let fits = subst (λ (p : Phase). FitsBus c.args.ifaces (bus_taken p)) (sym c.put_known.ensures.phase) c.in_ok-put_known-in-Ok-Lines.ensures.fits in
+    inr (leaves_line w c.args.ifaces first held after line c.args.audit.now.events c.put_known.new.audit c.in-Err-carry.fault c.line_failure.result.error contents c.args.output.now c.put_known.new.output kind c.in_ok-put_known-in-Ok-Lines.ensures.none fits put
     (subst (λ (b : Bool). IsNextLine b held after line) c.in-Ok-true.field-0-test c.in-Ok-true.ensures.read)
     (subst (λ (l : List ℕ). (text rest : List ℕ) → AreTaken text c.put_known.new.audit → IsLine l → MayFollow l rest → Reads (text ++ (l ++ rest)) (Err c.in-Err-carry.fault)) c.deref.ensures.value c.in-Err-carry.ensures.fault) c.line_failure.ensures)
 
@@ -199,7 +201,7 @@ returns-in_err-put_known-in-Ok-clause-written g c =
     let failure = c.in_err-put_known-in-Ok.field-0.0 in
     let kind = sym (c.put_known.ensures.asked ∙ (c.take_held.ensures.asked ∙ c.loop.invariant.asked)) in
     let fits = subst (λ (p : Phase). FitsBus c.args.ifaces (bus_taken p)) (sym c.put_known.ensures.phase) c.in_ok-put_known-in-Ok-Lines.ensures.fits in
-    passed_on (λ (x : Report). (w : Wanted) → HasWritten w [] [] c.args.audit.now → Leaves (output_of w c.args.audit.now.events) first x.error contents c.args.output.now c.put_known-in-Ok.new.output) failure c.from_residual-in_err-put_known-in-Ok.result c.from_residual-in_err-put_known-in-Ok.ensures.1
+    passed_on (λ (x : Report). (w : Wanted) → HasWritten w [] [] c.args.audit.now → Leaves (output_of w c.args.audit.now.events) c.args.ifaces first x.error contents c.args.output.now c.put_known-in-Ok.new.output) failure c.from_residual-in_err-put_known-in-Ok.result c.from_residual-in_err-put_known-in-Ok.ensures.1
     (λ w start.
     let on = put_on w first now held c.loop.audit c.take_held.new.audit contents c.args.output.now c.loop.output c.take_held.ensures.asked (λ events u. (became w first events u).0) (c.loop.invariant.put w start) in
     let put = put_more w first held c.take_held.new.audit c.put_known.new.audit contents c.args.output.now c.loop.output c.put_known.new.output c.put_known.ensures.asked c.in_ok-put_known-in-Ok-Lines.ensures.written c.in_ok-put_known-in-Ok-Lines.ensures.put on in
@@ -233,5 +235,5 @@ returns-clause-fault g c = inr (inr (stops (g.R.Read.remaining c.args.input.now)
 
 pub returns-clause-written : goal.returns-clause-written
 returns-clause-written g c = λ w start.
-    inr (leaves_unread w (g.R.Read.remaining c.args.input.now) (g.R.Read.remaining c.loop.input) c.args.audit.now.events c.loop.audit c.new.result.error g.W.Write.contents c.args.output.now c.loop.output (sym c.loop.invariant.asked)
-    c.loop.invariant.none (c.loop.invariant.put w start) (subst IsOfReading (sym c.new.ensures) tt))
+    inr (leaves_unread w c.args.ifaces (g.R.Read.remaining c.args.input.now) (g.R.Read.remaining c.loop.input) c.args.audit.now.events c.loop.audit c.new.result.error g.W.Write.contents c.args.output.now c.loop.output (sym c.loop.invariant.asked)
+    c.loop.invariant.none c.loop.invariant.fits (c.loop.invariant.put w start) (subst IsOfReading (sym c.new.ensures) tt))
