@@ -1,5 +1,5 @@
-/* Declarations of CAN_BCM: bcm.c has what a program writes, bcm_tasks.c what its tasks do. The rules are those
- * of net/can/bcm.c of the kernel. */
+/* Declarations of CAN_BCM: bcm.c handles a program's writes, and bcm_tasks.c the tasks. The rules are those of
+ * net/can/bcm.c of the kernel. */
 #ifndef BCM_H
 #define BCM_H
 
@@ -16,24 +16,25 @@ struct bcm_head {
 };
 _Static_assert(sizeof(struct bcm_head) == sizeof(struct bcm_msg_head), "the head of linux/can/bcm.h");
 
-/* A received frame, and what is known of it. */
+/* The last frame that a task received for one of its frames. */
 struct bcm_last {
     struct canfd_frame frame;
-    bool is_received, is_held; /* held back by the throttle */
+    bool is_received, is_held; /* the throttle holds the frame back */
 };
 
 struct bcm_task {
     struct bcm_task *next;
     bool is_rx;
-    int index;            /* of its interface; 0 for all, to receive */
-    struct bcm_head head; /* with the flags, timers and count that there are now */
+    int index;            /* the task's interface; 0: an RX task of all interfaces */
+    struct bcm_head head; /* with the present flags, timers and count */
     unsigned at;          /* the frame that is sent next */
-    uint64_t due;         /* the next frame, or the timeout; 0 for never */
-    uint64_t held_until;  /* the throttle; 0 if it is off */
-    uint64_t reported;    /* when the program got a frame last */
-    unsigned asked;       /* remote frames that have no reply yet */
-    int detected; /* with timers, and for all interfaces: the first that a frame came from, which is the only one */
-    struct bcm_last *last; /* one for each frame of an RX task */
+    uint64_t due;         /* when the next frame or the timeout is due; 0: never */
+    uint64_t held_until;  /* the end of the throttle; 0: the throttle is off */
+    uint64_t reported;    /* when the program last got a frame */
+    unsigned asked;       /* remote frames that were not answered yet */
+    int detected; /* for an RX task with timers and for all interfaces: the interface of the first frame, the only one
+                     from then on */
+    struct bcm_last *last; /* one entry for each frame of an RX task */
     struct canfd_frame frames[];
 };
 
@@ -54,14 +55,14 @@ static inline size_t bcm_frame_size(uint32_t flags) {
 
 /* ---- bcm_tasks.c ---- */
 
-/* Hands a message of this kind to the program, with these frames. */
+/* Sends a message with this opcode and these frames to the program. */
 void bcm_inform(const struct bcm_task *task, uint32_t opcode, const struct canfd_frame *frames, uint32_t count,
                 uint64_t moment, int index);
 
-/* Sends the next frame of a task. As in the kernel, what it meets is not reported. */
+/* Sends the next frame of a task. As in the kernel, errors are not reported. */
 void bcm_send_next(struct bcm_task *task);
 
-/* When the next frame is due after this moment; 0 for never. */
+/* When the next frame after this moment is due; 0: never. */
 uint64_t bcm_due_after(const struct bcm_task *task, uint64_t moment);
 
 void bcm_receive(const struct item *item, int index);

@@ -1,5 +1,5 @@
-/* CAN_BCM: what tasks do. A TX task sends its frames again and again; an RX task hands over what it receives, if
- * that has changed or does not come in time. */
+/* CAN_BCM: the tasks. A TX task sends its frames again and again. An RX task reports a frame that has changed, or that
+ * does not come in time. */
 #include "bcm.h"
 
 #include <string.h>
@@ -56,7 +56,7 @@ static void hand_over(struct bcm_task *task, struct bcm_last *last, uint64_t mom
     bcm_inform(task, RX_CHANGED, &last->frame, 1, moment, index);
 }
 
-/* A frame that is new or has changed: at once, or at the end of the throttle's period. */
+/* Reports a new or changed frame: at once, or at the end of the throttle's period. */
 static void has_changed(struct bcm_task *task, struct bcm_last *last, const struct item *item, int index) {
     uint64_t pause = bcm_nanoseconds(task->head.ival2), now = clock_now();
     last->frame = item->frame;
@@ -71,7 +71,8 @@ static void has_changed(struct bcm_task *task, struct bcm_last *last, const stru
     }
 }
 
-/* The end of a throttle's period: what was held back goes out, and where there was nothing the throttle rests. */
+/* At the end of a throttle's period: reports the frames that were held back. If there were none, the throttle is
+ * off. */
 static void release(struct bcm_task *task, uint64_t now) {
     bool has_any = false;
     for (unsigned i = 0; i < (task->head.nframes ? task->head.nframes : 1); i++) {
@@ -84,7 +85,7 @@ static void release(struct bcm_task *task, uint64_t now) {
     task->reported = has_any ? task->reported : 0;
 }
 
-/* Whether the frames differ where the mask has bits, in the words of 8 bytes that the kernel compares. */
+/* Whether the frames differ in the bits of the mask. Like the kernel, it compares words of 8 bytes. */
 static bool differs(const struct canfd_frame *mask, const struct canfd_frame *one, const struct canfd_frame *other,
                     unsigned length) {
     for (unsigned i = 0; i < (length + 7) / 8 * 8; i++) {
@@ -104,7 +105,7 @@ static void compare(struct bcm_task *task, unsigned at, const struct item *item,
     }
 }
 
-/* Frame 0 of several is the mask of the multiplexer; the first that is equal there is compared with. */
+/* Of several frames, frame 0 is the multiplexer's mask. The first frame that is equal in these bits is compared. */
 static void compare_multiplex(struct bcm_task *task, const struct item *item, int index) {
     for (unsigned i = 1; i < task->head.nframes; i++) {
         if (!differs(&task->frames[0], &item->frame, &task->frames[i], CAN_MAX_DLEN)) {
@@ -116,7 +117,7 @@ static void compare_multiplex(struct bcm_task *task, const struct item *item, in
 
 static void receive(struct bcm_task *task, const struct item *item, int index) {
     if (task->head.flags & RX_RTR_FRAME) {
-        /* The reply is sent by bcm_due, as nothing can be sent while input is read. */
+        /* bcm_due sends the reply, because nothing can be sent while input is read. */
         task->asked++;
         task->due = clock_now();
         return;
@@ -134,7 +135,7 @@ static void receive(struct bcm_task *task, const struct item *item, int index) {
     }
 }
 
-/* Whether a frame of this interface is one for the task. */
+/* Whether the task receives frames of this interface. */
 static bool is_from(struct bcm_task *task, int index) {
     bool is_timed = bcm_nanoseconds(task->head.ival1) || bcm_nanoseconds(task->head.ival2);
     if (task->index || task->head.flags & RX_RTR_FRAME || !is_timed) {
@@ -154,7 +155,7 @@ void bcm_receive(const struct item *item, int index) {
     }
 }
 
-/* Nothing came in time; with RX_ANNOUNCE_RESUME the next frame counts as new. */
+/* No frame came in time. With RX_ANNOUNCE_RESUME the next frame counts as new. */
 static void time_out(struct bcm_task *task) {
     if (task->head.flags & RX_ANNOUNCE_RESUME) {
         memset(task->last, 0, (task->head.nframes ? task->head.nframes : 1) * sizeof *task->last);

@@ -1,4 +1,4 @@
-/* The interfaces of a keeper: what the server says of each, and what only its error message frames say. */
+/* The interfaces of a keeper: the server's facts about each, and counts that follow only from error message frames. */
 #define _GNU_SOURCE
 #include "cards.h"
 
@@ -22,7 +22,7 @@ static void lose(struct card *card) {
     card->fd = -1;
 }
 
-/* ---- what the server says ---- */
+/* ---- messages of the server ---- */
 
 static uint32_t state_of(const char *word) {
     static const char *const words[] = {"active", "warning", "passive", "off", "down"};
@@ -46,7 +46,7 @@ static void set_state(struct card *card, uint32_t state) {
     }
 }
 
-/* The state that an error message frame says, as linux/can/error.h has it. */
+/* The state that an error message frame reports, as defined in linux/can/error.h. */
 static uint32_t state_said(const struct canfd_frame *frame) {
     const uint8_t passive = CAN_ERR_CRTL_RX_PASSIVE | CAN_ERR_CRTL_TX_PASSIVE;
     const uint8_t warning = CAN_ERR_CRTL_RX_WARNING | CAN_ERR_CRTL_TX_WARNING;
@@ -57,13 +57,13 @@ static uint32_t state_said(const struct canfd_frame *frame) {
                                                : CAN_STATE_ERROR_ACTIVE;
 }
 
-/* Counts an error, as drivers do, and changes of the state for the worse, as can_change_state of the kernel. */
+/* Counts an error, as drivers do, and changes to a worse state, as in can_change_state of the kernel. */
 static void count(struct card *card, const struct canfd_frame *frame) {
     struct link_facts *facts = &card->facts;
     facts->bus_errors += (frame->can_id & CAN_ERR_BUSERROR) != 0;
     facts->lost_arbitrations += (frame->can_id & CAN_ERR_LOSTARB) != 0;
     if (frame->can_id & CAN_ERR_RESTARTED) {
-        facts->restarts += !card->was_down; /* To be set up is no restart. */
+        facts->restarts += !card->was_down; /* An interface that is set up has not restarted. */
         card->was_down = false;
     }
     if (frame->can_id & (CAN_ERR_BUSOFF | CAN_ERR_RESTARTED | CAN_ERR_CRTL)) {
@@ -101,7 +101,7 @@ static void handle(struct card *card, const char *text) {
     }
 }
 
-/* Handles the messages in the input; a part of one waits for the rest. */
+/* Handles the complete messages in the input; the rest stays there. */
 static void handle_input(struct card *card) {
     char *at = card->input, *end = at + card->have, *last;
     while ((last = memchr(at, '>', (size_t)(end - at)))) {
@@ -153,7 +153,7 @@ bool card_ask(struct card *card, const char *commands) {
     return card->is_answered;
 }
 
-/* ---- its session ---- */
+/* ---- the card's session ---- */
 
 static struct card *refuse(struct link_reply *why, int error, const char *text) {
     why->error = error;
@@ -161,7 +161,7 @@ static struct card *refuse(struct link_reply *why, int error, const char *text) 
     return NULL;
 }
 
-/* Whether there are signs of errors before this session: they were not counted. */
+/* Whether there were errors before this session; the keeper could not count them. */
 static bool had_errors(const struct link_facts *facts) {
     bool is_fresh = facts->state == CAN_STATE_ERROR_ACTIVE || facts->state == CAN_STATE_STOPPED;
     return !is_fresh || facts->tec || facts->rec || facts->lost;
@@ -214,7 +214,7 @@ void card_set_restart(struct card *card, uint32_t milliseconds) {
     set_state(card, card->facts.state);
 }
 
-/* Gives the server a command that changes the interface. Returns an errno, and why, or 0. */
+/* Sends the server a command that changes the interface. Returns 0, or an errno with the reason in `why`. */
 static int command(struct card *card, const char *text, struct link_reply *why) {
     char refusal[sizeof why->text];
     if (!card_ask(card, text)) {
@@ -226,8 +226,8 @@ static int command(struct card *card, const char *text, struct link_reply *why) 
     return why->error;
 }
 
-/* An older server has no command that takes an interface off the bus: there it stays on it. To set one down that is bus
- * off restarts it, as if it had been set up again. */
+/* An older server has no command that takes an interface off the bus, so the interface stays on it. If it is bus off it
+ * restarts, as if it had been set up again. */
 static int stay_up(struct card *card, struct link_reply *why) {
     why->error = 0;
     snprintf(why->text, sizeof why->text,

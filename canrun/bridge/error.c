@@ -1,4 +1,4 @@
-/* The socket's error, as sk_err of the kernel: what happened last is what one call returns. */
+/* The socket's error, like sk_err of the kernel: one call returns the last error. */
 #include "bridge.h"
 
 static int socket_error;

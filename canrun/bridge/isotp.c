@@ -1,4 +1,4 @@
-/* CAN_ISOTP (ISO 15765-2): the options of a socket, and what its program writes. */
+/* CAN_ISOTP (ISO 15765-2): the options of a socket, and the writes of its program. */
 #include "isotp.h"
 
 #include <errno.h>
@@ -6,7 +6,8 @@
 #include <string.h>
 #include <sys/socket.h>
 
-/* Received frames that wait: nothing can be sent while the server's messages are read. A read brings 1,024 at most. */
+/* The size of the queue of received frames: nothing can be sent while the server's messages are read. A read brings at
+ * most 1,024 frames. */
 #define WAITING 8192
 
 struct isotp isotp = {
@@ -20,11 +21,11 @@ struct isotp isotp = {
 static struct item waiting[WAITING];
 static unsigned first_waiting, end_waiting;
 
-/* The write that waits for the end of its message: the pipe for its reply, or NOBODY. */
+/* The reply pipe of the write that waits for the end of its message, or NOBODY. */
 static int waits_for_end = NOBODY;
 static size_t sent_length;
 
-/* Writes that wait for the end of the message before theirs, the oldest first. */
+/* Writes that wait for the end of an earlier message, the oldest first. */
 #define TURNS 64
 struct turn {
     struct turn *next;
@@ -35,7 +36,7 @@ struct turn {
 static struct turn *turns;
 static unsigned turn_count;
 
-/* ---- what the other files share ---- */
+/* ---- functions for the other files ---- */
 
 unsigned isotp_address_size(void) {
     return isotp.options.flags & CAN_ISOTP_EXTEND_ADDR ? 1 : 0;
@@ -88,7 +89,7 @@ uint64_t isotp_last_number(void) {
 
 /* ---- options ---- */
 
-/* The place of an option, and its size. */
+/* The address of an option, and its size. */
 static void *place_of(int option, size_t *size) {
     switch (option) {
     case CAN_ISOTP_OPTS: *size = sizeof isotp.options; return &isotp.options;
@@ -155,12 +156,12 @@ static int isotp_getsockopt(int option, void *room, uint32_t *length) {
     return 0;
 }
 
-/* Whether this is an identifier, with no other bit. */
+/* Whether this is an identifier without other bits. */
 static bool is_identifier(canid_t id) {
     return id == (id & (id & CAN_EFF_FLAG ? CAN_EFF_FLAG | CAN_EFF_MASK : CAN_SFF_MASK));
 }
 
-/* The filter that only this identifier passes. */
+/* A filter that passes only this identifier. */
 static struct can_filter only(canid_t id) {
     canid_t mask = (id & CAN_EFF_FLAG ? CAN_EFF_MASK : CAN_SFF_MASK) | CAN_EFF_FLAG | CAN_RTR_FLAG;
     return (struct can_filter){id, mask};
@@ -183,7 +184,7 @@ static int isotp_bind(const struct sockaddr_can *address) {
     }
     isotp.rx_id = rx_id;
     isotp.tx_id = tx_id;
-    /* Its frames come back to it, once they were on the bus. */
+    /* The socket's own frames come back once they were on the bus. */
     struct can_filter wanted[] = {only(tx_id), only(rx_id)};
     int error = raw_want(wanted, is_to_all ? 1 : 2);
     raw_want_fd(isotp.link.mtu == CANFD_MTU);
@@ -206,7 +207,7 @@ static void isotp_receive(const struct item *item, int index) {
     }
 }
 
-/* Starts a message. If its write waits for the end, SENT_LATER is returned, and the pipe is kept. */
+/* Starts a message. If the write waits for the end, returns SENT_LATER and keeps the pipe. */
 static int start(const char *data, size_t length, int reply_to) {
     int error = error_take();
     error = error ? refused(error, "the message before did not get through") : isotp_send_start(data, length);
@@ -218,7 +219,7 @@ static int start(const char *data, size_t length, int reply_to) {
     return error;
 }
 
-/* The write waits for its turn. */
+/* Queues a write until the messages before it are over. */
 static int queue(const char *data, size_t length, int reply_to) {
     struct turn *turn = malloc(sizeof *turn + length), **last = &turns;
     if (!turn) {
@@ -264,7 +265,7 @@ void isotp_send_done(int error) {
     }
 }
 
-/* Takes a turn out of the list, and gives the reply of its write. */
+/* Removes a write from the queue, and replies to it. */
 static void leave(struct turn **place, int error) {
     struct turn *turn = *place;
     *place = turn->next;
@@ -291,7 +292,7 @@ static bool isotp_takes_requests(void) {
     return turn_count < TURNS;
 }
 
-/* The writes that have waited for their turn. */
+/* Starts the next writes of the queue. */
 static void start_next(void) {
     while (turns && !isotp_is_sending()) {
         struct turn *turn = turns;
@@ -305,7 +306,7 @@ static void start_next(void) {
     }
 }
 
-/* What has been received: a frame of this socket, which was on the bus, or one for it. */
+/* Handles a received frame: one that this socket has sent, or one for this socket. */
 static void take_item(const struct item *item) {
     if (item->message_flags & MSG_CONFIRM) {
         isotp_send_echo(item->number);

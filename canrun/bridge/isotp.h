@@ -6,9 +6,9 @@
 
 #include <linux/can/isotp.h>
 
-/* The longest message, as the kernel has it. */
+/* The longest message, as in the kernel. */
 #define ISOTP_LONGEST 66000
-/* The number of seconds that the other end may be silent, and a frame may take until it was on the bus. */
+/* How many seconds the other end may be silent, and how many a frame may take to reach the bus. */
 #define ISOTP_TIMEOUT 1
 #define ISOTP_ECHO_TIMEOUT 2
 
@@ -22,52 +22,52 @@ struct isotp {
 };
 extern struct isotp isotp;
 
-/* Whether messages go to all, without flow control: one of the two flags, or 0. */
+/* Returns the flag for messages to all nodes, without flow control: one of the two flags, or 0. */
 #define ALL_BROADCAST (CAN_ISOTP_SF_BROADCAST | CAN_ISOTP_CF_BROADCAST)
 uint32_t isotp_broadcast(void);
 /* How many bytes of a frame the address takes: 0 or 1. */
 unsigned isotp_address_size(void);
-/* The length of a frame that has room for these bytes, and is filled up. */
+/* The padded length of a frame that holds so many bytes. */
 unsigned isotp_padded(unsigned length);
-/* Whether the rest of a received frame, from this byte on, is filled up as the options ask for. */
+/* Whether a received frame is padded from this byte on, as the options demand. */
 bool isotp_is_well_padded(const struct canfd_frame *frame, unsigned from);
-/* Sends a frame; with --wait it waits for room, and SENT_LATER is returned. */
+/* Sends a frame. With --wait the frame may wait for room; then the result is SENT_LATER. */
 int isotp_put(const struct canfd_frame *frame, void (*done)(const struct later *later, int error));
-/* The number of the frame that was sent last. */
+/* The number of the frame sent last. */
 uint64_t isotp_last_number(void);
 
 /* ---- isotp_timer.c ---- */
 
 struct isotp_timer {
-    unsigned steps;  /* that are left */
-    uint64_t due;    /* when this step should be over, by the clock; 0: the timer does not run */
-    unsigned rounds; /* questions to the server since then, while that is asked */
+    unsigned steps;  /* remaining steps */
+    uint64_t due;    /* when this step should be over, by the clock; 0: the timer is off */
+    unsigned rounds; /* how many questions the server has answered since then, if it was asked */
 };
 void isotp_timer_start(struct isotp_timer *timer, unsigned seconds);
 void isotp_timer_stop(struct isotp_timer *timer);
-/* Whether it has run out just now. */
+/* Whether the timer has just run out. */
 bool isotp_timer_is_over(struct isotp_timer *timer);
 
 /* ---- isotp_send.c ---- */
 
-/* Begins to send a message; returns an errno. It is busy until isotp_send_done reports how it ended. */
+/* Begins to send a message; returns an errno. The sender is busy until isotp_send_done reports the end. */
 int isotp_send_start(const char *data, size_t length);
 bool isotp_is_sending(void);
-/* Gives the message up; isotp_send_done is not called. */
+/* Gives the message up, without calling isotp_send_done. */
 void isotp_send_abort(void);
-/* The frame of this number, which this socket has sent, was on the bus. */
+/* Notes that the frame with this number, which this socket has sent, was on the bus. */
 void isotp_send_echo(uint64_t number);
 void isotp_send_flow_control(const struct canfd_frame *frame);
-/* Sends what is due. Returns when the next is, by the clock, or 0. */
+/* Sends the frames that are due. Returns when the next is due, by the clock, or 0. */
 uint64_t isotp_send_due(void);
-/* Called at the end of a message, with an errno, or 0 if its last frame was on the bus; in isotp.c. */
+/* Called at the end of a message, with an errno, or 0 if its last frame was on the bus. This function is in isotp.c. */
 void isotp_send_done(int error);
 
 /* ---- isotp_receive.c ---- */
 
 void isotp_receive_frame(const struct canfd_frame *frame, uint64_t moment);
 bool isotp_is_receiving(void);
-/* Gives up a message whose frames have ceased. Returns when it would, by the clock, or 0. */
+/* Gives up a message whose frames have stopped. Returns when the message would be given up, by the clock, or 0. */
 uint64_t isotp_receive_due(void);
 
 #endif

@@ -1,4 +1,4 @@
-/* CAN_ISOTP: frames are put together to a message, and their sender gets its flow control. */
+/* CAN_ISOTP: puts received frames together to a message, and sends flow control frames. */
 #include "isotp.h"
 
 #include <errno.h>
@@ -12,7 +12,7 @@ static struct {
     size_t at, length;
     unsigned number, in_block, frame_length;
     uint64_t last_moment;
-    struct isotp_timer timer; /* of the next frame */
+    struct isotp_timer timer; /* for the next frame */
 } rx;
 
 bool isotp_is_receiving(void) {
@@ -29,7 +29,7 @@ static void give_up(int error) {
     error_set(error);
 }
 
-/* As in the kernel, nobody hears of a flow control frame that could not be sent. */
+/* As in the kernel, a flow control frame that could not be sent is not reported. */
 static void flow_control_sent(const struct later *later, int error) {
     (void)later;
     (void)error;
@@ -56,7 +56,7 @@ static void receive_single(const struct canfd_frame *frame, uint64_t moment) {
     isotp_timer_stop(&rx.timer);
     if (frame->len > CAN_MAX_DLEN) {
         if (length) {
-            return; /* The length of a long frame has a byte of its own. */
+            return; /* The length of a long frame has a separate byte. */
         }
         length = frame->data[front++];
     }
@@ -77,14 +77,14 @@ static void receive_first(const struct canfd_frame *frame) {
     rx.is_open = false;
     isotp_timer_stop(&rx.timer);
     if (frame->len < CAN_MAX_DLEN || frame->len != isotp_padded(frame->len)) {
-        return; /* A first frame is full. */
+        return; /* A first frame is always full. */
     }
     if (!length) {
         length = (size_t)data[2] << 24 | (size_t)data[3] << 16 | (size_t)data[4] << 8 | data[5];
         front += 4;
     }
     if (length + front + (frame->len > CAN_MAX_DLEN) < frame->len) {
-        return; /* It would have been a single frame. */
+        return; /* The message would fit into a single frame. */
     }
     if (length > ISOTP_LONGEST) {
         if (!(isotp.options.flags & CAN_ISOTP_LISTEN_MODE)) {
@@ -118,7 +118,7 @@ static void receive_consecutive(const struct canfd_frame *frame, uint64_t moment
     rx.last_moment = moment;
     size_t left = rx.length - rx.at;
     if (frame->len > rx.frame_length || (frame->len < rx.frame_length && left > rx.frame_length - front)) {
-        return; /* Only the last may be shorter than the first. */
+        return; /* Only the last frame may be shorter than the first. */
     }
     if ((frame->data[address] & 15) != (rx.number++ & 15)) {
         give_up(EILSEQ);

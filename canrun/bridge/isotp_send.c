@@ -1,4 +1,4 @@
-/* CAN_ISOTP: a message is cut into frames, which go at the pace that the receiver asks for. */
+/* CAN_ISOTP: cuts a message into frames, and sends them at the pace that the receiver asks for. */
 #include "isotp.h"
 
 #include <errno.h>
@@ -6,21 +6,22 @@
 
 enum { SINGLE = 0x00, FIRST = 0x10, CONSECUTIVE = 0x20 };
 enum { CONTINUE, WAIT, OVERFLOW_ };
-/* The longest message whose length has 12 bits. */
+/* The longest message with a length of 12 bits. */
 #define SHORT_LENGTH 4095
 
-/* No frame is on its way: it waits for room, or could not be sent. */
+/* No frame is on its way: the frame waits for room, or could not be sent. */
 #define NO_FRAME UINT64_MAX
 
 static struct {
-    /* It waits for flow control, the first or another; for the echo of a frame; or for the pause before the next. */
+    /* The sender waits for flow control, the first or another; for the echo of a frame; or for the end of a pause. */
     enum { IDLE, WAITS_FIRST, WAITS, SENDING, PAUSES } state;
     char data[ISOTP_LONGEST];
     size_t at, length;
-    unsigned number, block, in_block; /* the next number; frames until a flow control frame, and since one */
-    uint64_t frame;                   /* the number of the frame whose echo is waited for */
-    uint64_t gap, next;               /* the pause before a frame, and when this one is over */
-    struct isotp_timer timer;         /* of the echo, or of flow control */
+    unsigned number, block,
+        in_block;             /* the next number; frames until the next flow control frame, and since the last */
+    uint64_t frame;           /* the number of the frame whose echo is due */
+    uint64_t gap, next;       /* the pause before a frame, and its end */
+    struct isotp_timer timer; /* for the echo or for flow control */
 } tx;
 
 bool isotp_is_sending(void) {
@@ -33,12 +34,12 @@ static void end(int error) {
     isotp_send_done(error);
 }
 
-/* A frame has gone into the transmit queue: now it has to come back, or to be replied to, in time. */
+/* A frame has entered the transmit queue. Its echo or its reply must now come in time. */
 static void begin_waiting(void) {
     isotp_timer_start(&tx.timer, tx.state == SENDING ? ISOTP_ECHO_TIMEOUT : ISOTP_TIMEOUT);
 }
 
-/* A frame that could not be sent has no echo, and the message ends by that, as in the kernel. */
+/* A frame that could not be sent has no echo; this ends the message, as in the kernel. */
 static void sent_late(const struct later *later, int error) {
     (void)later;
     tx.frame = error ? NO_FRAME : isotp_last_number();
@@ -51,8 +52,7 @@ void isotp_send_abort(void) {
     room_forget(sent_late);
 }
 
-/* Sends a frame of the message, after which its state is this. It is the state before, as the reply may come at once.
- */
+/* Sends a frame of the message. The state is set before the frame is sent, because the reply may come at once. */
 static int put(const struct canfd_frame *frame, int state) {
     tx.state = state;
     tx.frame = NO_FRAME;
@@ -68,7 +68,7 @@ static int put(const struct canfd_frame *frame, int state) {
     return error;
 }
 
-/* Sends the first frame of a message, or its only one: if that is refused, so is the message. */
+/* Sends the first or only frame of a message. If the frame is refused, so is the message. */
 static int put_first(const struct canfd_frame *frame, int state) {
     int error = put(frame, state);
     if (error) {
@@ -77,7 +77,7 @@ static int put_first(const struct canfd_frame *frame, int state) {
     return error;
 }
 
-/* Fills a frame with the next data, after the bytes of the protocol. */
+/* Fills a frame with the next data after the protocol's bytes. */
 static void fill(struct canfd_frame *frame, unsigned front) {
     size_t part = MIN(tx.length - tx.at, (size_t)isotp.link.tx_dl - front);
     bool pads = isotp.options.flags & CAN_ISOTP_TX_PADDING;
@@ -141,7 +141,7 @@ int isotp_send_start(const char *data, size_t length) {
     return length <= single ? send_single() : send_first();
 }
 
-/* The pause that a receiver asks for (STmin). Reserved values are the longest. */
+/* The pause that a receiver asks for (STmin). Reserved values mean the longest pause. */
 static uint64_t separation(uint8_t stmin) {
     if (isotp.options.flags & CAN_ISOTP_FORCE_TXSTMIN) {
         return isotp.tx_stmin;
@@ -152,7 +152,7 @@ static uint64_t separation(uint8_t stmin) {
     return stmin <= 0x7F ? stmin * 1000000ull : (stmin - 0xF0) * 100000ull;
 }
 
-/* As in the kernel a frame that is refused is not sent again: the message ends as its echo does not come. */
+/* As in the kernel, a refused frame is not sent again: its missing echo ends the message. */
 static void send_consecutive(void) {
     unsigned address = isotp_address_size();
     struct canfd_frame frame;

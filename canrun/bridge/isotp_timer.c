@@ -1,8 +1,9 @@
-/* The timers of CAN_ISOTP. The kernel's go by the clock alone, as nothing of it has to wait for a processor when a
- * frame comes. Here the server has to, for each of its threads that hand a frame on, and so has the bridge at the other
- * end. So a timer goes in steps. A step ends when the server has replied to more questions, one after the other, than a
- * frame and its reply take turns of a processor, and all has come that it had received for this socket. What was on the
- * bus in time is never missed; if nobody waits for a processor the questions take less than a millisecond. */
+/* The timers of CAN_ISOTP. The kernel's timers need only the clock, because the kernel does not wait for a processor
+ * when a frame comes. Here each of the server's threads that forward a frame has to wait for one, and so has the bridge
+ * at the other end. So a timer runs in steps. A step ends when two things have happened. The server has replied to
+ * several questions in a row, more than a frame and its reply need turns of a processor. And all frames have come that
+ * the server had received for this socket. So a frame that was on the bus in time is never missed. If no process waits
+ * for a processor, the questions take less than a millisecond. */
 #include "isotp.h"
 
 #define STEP (SECOND / 10)
@@ -23,7 +24,7 @@ static void ask(struct isotp_timer *timer) {
     timer->rounds++;
 }
 
-/* A server that does not reply, or is gone, is not waited for. */
+/* Whether a step is over. It does not wait for a server that does not reply, or is gone. */
 static bool step_is_over(struct isotp_timer *timer, uint64_t now) {
     if (!timer->rounds && timer->due <= now) {
         ask(timer);

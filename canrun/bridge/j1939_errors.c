@@ -1,4 +1,4 @@
-/* The error queue of a socket of J1939: what becomes of its messages, and of those that it receives. */
+/* The error queue of a J1939 socket: results of its messages, and of messages that it receives. */
 #include "j1939.h"
 
 #include <linux/net_tstamp.h>
@@ -6,9 +6,9 @@
 #include <unistd.h>
 #include <poll.h>
 
-/* As many as a socket of the usual size has room for in the kernel. */
+/* The kernel's limit for a socket of the usual size. */
 #define MOST 256
-/* Pipes that are written to once there is an error. */
+/* The most pipes that wait for an error. */
 #define WATCHERS 64
 
 bool errors_are_on;
@@ -66,7 +66,7 @@ void errors_show(void) {
     }
 }
 
-/* Takes out those that nobody reads any more. */
+/* Removes the pipes that no process reads any more. */
 static void forget_gone(void) {
     unsigned kept = 0;
     for (unsigned i = 0; i < watcher_count; i++) {

@@ -1,6 +1,5 @@
-/* The host of an interface: the process that its sockets of J1939 share, by one session of the server. Its bridges
- * connect to an abstract name; the library has started it at that name, for the first of them, and it ends with the
- * last. */
+/* The host of an interface: a process that its J1939 sockets share, with one session of the server. The library starts
+ * it for the first socket; their bridges connect to its abstract name. It ends with the last socket. */
 #define _GNU_SOURCE
 #include "j1939_host.h"
 
@@ -14,10 +13,10 @@
 #include <unistd.h>
 
 #define MEMBERS 1000
-/* Received frames that wait: nothing can be sent while the server's messages are read. */
+/* The size of the queue of received frames: nothing can be sent while the server's messages are read. */
 #define WAITING 8192
-/* A frame that was on the bus in time is not missed, though a processor is busy: before something is given up the
- * server has replied to so many questions that a frame and its reply would have come. */
+/* How many questions the server must answer before something is given up. In that time a frame and its reply would have
+ * come, so a frame that was on the bus in time is not missed on a busy machine. */
 #define ROUNDS 10
 #define PAUSE MILLISECOND
 
@@ -30,7 +29,7 @@ static bool asks_for_claims(const struct wire_way *way, const uint8_t *data, siz
     return way->pgn == J1939_PGN_REQUEST && length >= 3 && number_at(data, 3) == J1939_PGN_ADDRESS_CLAIMED;
 }
 
-/* A claim of a socket: its address is to be free of others that the name had. */
+/* A socket's claim: the address must be free of other addresses that the name had. */
 static int resolve_claim(const struct wire_way *way, const uint8_t *data, size_t length) {
     uint64_t name = 0;
     memcpy(&name, data, MIN(length, sizeof name));
@@ -84,7 +83,7 @@ int host_put(const struct wire_way *way, const uint8_t *data, size_t length, uin
     return error;
 }
 
-/* The names of a received frame; a claim has its own, and is noted. */
+/* Finds the names of a received frame. A claim contains its name; the address is noted. */
 static void name_heard(struct heard *heard) {
     struct wire_way *way = &heard->way;
     if (way->pgn != J1939_PGN_ADDRESS_CLAIMED) {
@@ -151,10 +150,10 @@ static void take_waiting(void) {
 
 /* ---- time ---- */
 
-/* All that was on the bus until this moment has been taken. */
+/* All frames that were on the bus before this moment have been handled. */
 static uint64_t known;
 
-/* Asks the server whether that is so until now; how long to wait before the next look, in nanoseconds. */
+/* Asks the server for the frames until now. Returns how many nanoseconds to wait before the next look. */
 static int64_t learn(uint64_t now) {
     static uint64_t asked_at;
     static unsigned rounds;
@@ -171,14 +170,14 @@ static int64_t learn(uint64_t now) {
         session_ask_all(sessions[0]);
     }
     if (now - asked_at > PATIENCE * SECOND) {
-        rounds = 0; /* A server that does not reply is not waited for. */
+        rounds = 0; /* It does not wait for a server that does not reply. */
         known = now;
         return 0;
     }
     return session_has_all(sessions[0]) ? 0 : sessions[0]->is_asked ? (int64_t)SECOND : (int64_t)PAUSE;
 }
 
-/* Does what is due; returns how many nanoseconds there are until the next is, or -1. */
+/* Does the work that is due. Returns the nanoseconds until more is due, or -1. */
 static int64_t host_due(void) {
     while (session_count) {
         take_waiting();
@@ -222,7 +221,7 @@ bool host_is_asked(void) {
            !memcmp(name.sun_path + 1, J1939_NAME, sizeof J1939_NAME - 1);
 }
 
-/* The name of the interface is at the end of that of the socket. */
+/* The interface's name is the end of the socket's name. */
 static int interface_asked(void) {
     struct sockaddr_un name = {0};
     socklen_t length = sizeof name - 1;
@@ -231,7 +230,7 @@ static int interface_asked(void) {
     return slash ? interface_index(slash + 1) : 0;
 }
 
-/* The socket by which bridges come in, until the last has left. */
+/* The listening socket for bridges, until the last bridge has left. */
 static int door = PROGRAM;
 
 void host_close(void) {
@@ -241,7 +240,7 @@ void host_close(void) {
     door = -1;
 }
 
-/* Opens the interface: all extended frames come, and its own. */
+/* Opens the interface for all extended frames, including its own. */
 static int open_interface(void) {
     const struct can_filter all = {CAN_EFF_FLAG, CAN_EFF_FLAG | CAN_RTR_FLAG};
     raw_want_own();
@@ -249,7 +248,7 @@ static int open_interface(void) {
     return error ? error : sessions_bind(interface_asked());
 }
 
-/* Only for the user who has started it. */
+/* Accepts a bridge, only from the user who has started this process. */
 static void let_in(void) {
     struct ucred peer = {0};
     int fd = accept4(door, NULL, NULL, SOCK_CLOEXEC | SOCK_NONBLOCK);
@@ -280,7 +279,7 @@ static void refuse_all(int error) {
     }
 }
 
-/* Waits, and takes what comes. */
+/* Waits for input and handles it. */
 static void wait_for_all(int64_t nanoseconds) {
     static struct pollfd polled[2 + MEMBERS];
     struct timespec left = {nanoseconds / (int64_t)SECOND, nanoseconds % (int64_t)SECOND};
@@ -312,7 +311,8 @@ static void wait_for_all(int64_t nanoseconds) {
     }
 }
 
-/* As in the kernel, what was being received when the last socket was closed is given up in its time. */
+/* Like the kernel, it gives up a message that was being received when the last socket was closed only after its
+ * timeout. */
 static void end_transfers(void) {
     while (!members && transfers_go_on() && !sessions_ended()) {
         first_waiting = end_waiting;

@@ -1,10 +1,10 @@
-/* Declarations that the files of the host of an interface share: see j1939.h. */
+/* Declarations that the files of an interface's host share: see j1939.h. */
 #ifndef J1939_HOST_H
 #define J1939_HOST_H
 
 #include "j1939.h"
 
-/* A socket that is bound. */
+/* A socket of this interface. */
 struct member {
     struct member *next;
     int fd;
@@ -12,16 +12,16 @@ struct member {
     struct j1939_socket socket;
     struct j1939_filter *filters;
     size_t filter_count;
-    struct transfer *queue; /* its messages that are to be sent, the oldest first */
-    struct told *backlog;   /* what its bridge had no room for */
+    struct transfer *queue; /* messages that wait to be sent, the oldest first */
+    struct told *backlog;   /* messages for which the bridge's connection had no room */
 };
 
-/* A frame that was received, and where it goes. */
+/* A received frame, with its source and destination. */
 struct heard {
     struct wire_way way;
-    bool is_from_us, is_to_us; /* its addresses are those of sockets here */
-    bool is_local;             /* sent by this interface, and not by a transfer of several frames */
-    bool is_frame;             /* and no message that has come whole */
+    bool is_from_us, is_to_us; /* the addresses belong to sockets of this host */
+    bool is_local;             /* sent by this interface, but not by a transfer of several frames */
+    bool is_frame;             /* a single frame; false for a message that was put together */
     const struct member *sender;
     uint64_t moment;
     size_t length;
@@ -32,16 +32,17 @@ struct heard {
 
 bool host_is_asked(void);
 int host_run(void);
-/* Lets no more sockets in. */
+/* Stops accepting connections. */
 void host_close(void);
 
-/* Claims whose time has passed are good before the next message is resolved, or were contested. */
+/* Settles each claim whose time has passed, before the host resolves the next message: the claim becomes good, or was
+ * contested. */
 void host_settle_claims(void);
-/* The moment of the frame that is being taken, else that of now, since 1970. */
+/* The timestamp of the frame that is being handled, otherwise the present time, since 1970. */
 uint64_t host_moment(void);
-/* Sends a frame, whose names are resolved; an errno, or 0, and its number. */
+/* Resolves the names of a frame and sends it. Returns an errno, or 0 and the frame's number. */
 int host_put(const struct wire_way *way, const uint8_t *data, size_t length, uint64_t *number);
-/* Resolves the names of a message that is to be sent. Returns an errno, or 0. */
+/* Resolves the names of a message before it is sent. Returns an errno, or 0. */
 int host_resolve(struct wire_way *way, const uint8_t *data, size_t length);
 
 /* ---- j1939_members.c: the sockets ---- */
@@ -49,37 +50,38 @@ int host_resolve(struct wire_way *way, const uint8_t *data, size_t length);
 extern struct member *members;
 extern unsigned member_count;
 void member_add(int fd);
-/* Takes what a bridge asks; a bridge that is gone is forgotten. */
+/* Handles a request of a bridge; removes the member if its bridge is gone. */
 void member_serve(struct member *member);
-/* Ends the connection, and gives up what the socket sends. */
+/* Ends the connection, and gives up the socket's messages. */
 void member_remove(struct member *member);
-/* Sends what waited for room. */
+/* Sends messages that waited for room. */
 void member_flush(struct member *member);
 void member_tell(struct member *member, const struct j1939_told *told, const void *data, size_t length);
-/* So many bytes, from the beginning of a segment on, count no longer for SO_SNDBUF. */
+/* Reports that so many bytes, from the beginning of a segment on, no longer count for SO_SNDBUF. */
 void member_tell_freed(struct member *member, uint32_t length);
-/* Whether a socket, or any, receives what comes by this way. */
+/* Whether this socket, or any socket, receives messages with this source and destination. */
 bool member_wants(const struct member *member, const struct wire_way *way);
 bool members_want(const struct wire_way *way);
-/* Hands a message to all that receive it. */
+/* Hands a message to all sockets that receive it. */
 void members_deliver(const struct wire_way *way, const void *data, size_t length, const struct heard *heard);
 
-/* ---- j1939_names.c: which node has which address ---- */
+/* ---- j1939_names.c: the addresses of nodes ---- */
 
-/* A socket is bound to these, or no longer. Returns an errno, or 0. */
+/* Notes that a socket is bound to this name and address, or no longer bound. Returns an errno, or 0. */
 int names_use(uint64_t name, uint8_t address);
 void names_release(uint64_t name, uint8_t address);
 bool names_are_local(uint8_t address);
-/* The name that has the address, or 0; the address of the name, J1939_IDLE_ADDR if it has none, and J1939_NO_ADDR
- * without a name. */
+/* The name that has the address, or 0; the address of the name: J1939_IDLE_ADDR if it has no address, and J1939_NO_ADDR
+ * if the name is 0. */
 uint64_t names_at(uint8_t address);
 uint8_t names_address(uint64_t name);
-/* A claim was on the bus at this moment; one is to be sent: then false if no socket has the name. */
+/* Notes that a claim was on the bus at this moment; and that a socket is about to send a claim: false if no socket has
+ * the name. */
 void names_claimed(uint64_t name, uint8_t address, uint64_t moment);
 bool names_claim(uint64_t name, uint8_t address);
-/* Claims that nobody has contested until this moment are good; returns when the next is. */
+/* Makes claims good that were not contested until this moment. Returns when the next claim is due. */
 uint64_t names_due(uint64_t known);
-/* The same for those that were good before the frame of this moment. */
+/* The same for claims that were good before the frame with this timestamp. */
 void names_expire(uint64_t moment);
 
 /* ---- j1939_transfers.c: messages on their way ---- */
@@ -89,68 +91,69 @@ enum transfer_state { TRANSFER_NEW, TRANSFER_ACTIVE, TRANSFER_ABORTING, TRANSFER
 
 struct transfer {
     struct transfer *next, *next_queued;
-    struct member *owner; /* NULL: it is received, or its socket is gone */
+    struct member *owner; /* NULL: a received message, or its socket is gone */
     bool is_sent, is_queued;
     enum transfer_kind kind;
     enum transfer_state state;
     struct wire_way way;
     bool is_from_us, is_to_us;
-    uint8_t last_heard, last_sent; /* commands */
-    uint32_t size, filled, freed;  /* bytes: all, those that are there, those that are no longer needed */
+    uint8_t last_heard, last_sent; /* the last command in each direction */
+    uint32_t size, filled, freed;  /* bytes: of the whole message, present, and no longer needed */
     uint8_t *data;
     unsigned retries;
     int error;
     uint32_t key;
-    uint64_t frame; /* the number of its only frame */
-    /* Packets: all, the end of the block, those that were sent, confirmed, received; how many a block has, and how many
-     * are before it. */
+    uint64_t frame; /* the number of the only frame */
+    /* Packets: all; the end of the block; sent; confirmed; received; how many a block has, and how many come before the
+     * block. */
     uint32_t total, last, sent, confirmed, received, block, offset;
-    uint64_t send_at, due; /* when it goes on, and when it is given up, by the clock; or NEVER */
+    uint64_t send_at, due; /* when it continues, and when it is given up, by the clock; or NEVER */
 };
 
-/* One that goes on between these ends, in this direction or the other; NULL if none does. */
+/* Finds an active transfer between these ends, in this direction or the reverse; NULL if there is no such transfer. */
 struct transfer *transfer_find(const struct wire_way *way, enum transfer_kind kind, bool is_reverse, bool is_sent);
-/* A new one, without data, or with room for what is received; NULL if there is no memory. */
+/* Makes a new transfer: to receive, with a zeroed buffer; or to send, without data. NULL if there is no memory. */
 struct transfer *transfer_receive(const struct wire_way *way, enum transfer_kind kind, uint32_t size);
 struct transfer *transfer_make(const struct wire_way *way, enum transfer_kind kind, uint32_t size);
-/* It goes on from now; false if another does between the same ends. */
+/* Makes the transfer active; false if another is active between the same ends. */
 bool transfer_activate(struct transfer *transfer);
-/* Forgets it where nothing will happen to it any more; or whatever may. */
+/* Frees a transfer to which nothing more will happen; or frees it in any case. */
 void transfer_settle(struct transfer *transfer);
 void transfer_forget(struct transfer *transfer);
-/* The receiver has confirmed some: a segment before that counts no longer. */
+/* After a confirmation of the receiver: a segment before the confirmed bytes no longer counts. */
 void transfer_drop_old(struct transfer *transfer);
-/* Its timers: it goes on after some milliseconds, or after a pause; it is given up; or neither. */
+/* Sets the timers: the transfer continues after some milliseconds, or after a pause; it is given up after some
+ * milliseconds; or both timers are off. */
 void transfer_go_on(struct transfer *transfer, unsigned milliseconds);
 void transfer_try_again(struct transfer *transfer);
 void transfer_wait(struct transfer *transfer, unsigned milliseconds);
 void transfer_stop(struct transfer *transfer);
-/* It has come to its end, or has failed; the socket's next one begins. */
+/* Ends a transfer that is complete, or that has failed; the socket's next transfer begins. */
 void transfer_complete(struct transfer *transfer, const struct heard *heard);
 void transfer_end(struct transfer *transfer);
 /* Sends an abort with this reason, and waits for the end. */
 void transfer_cancel(struct transfer *transfer, uint8_t reason);
 void transfer_notice(const struct transfer *transfer, enum wire_event what);
 void transfer_tell_error(const struct transfer *transfer);
-/* Its frame was on the bus; returns its socket. */
+/* Returns the socket whose transfer sent this frame; and notes that the frame was on the bus. */
 const struct member *transfers_echo(uint64_t number);
 void transfers_sent(uint64_t number);
-/* Goes on with those whose time has come, and gives up those that have waited in vain until what is known; returns when
- * the next is. */
+/* Continues transfers that are due, and gives up those that had no answer until `known`. Returns when the next is
+ * due. */
 uint64_t transfers_due(uint64_t now, uint64_t known);
 bool transfers_go_on(void);
-/* Forgets those of a socket. */
+/* Frees the transfers of a socket. */
 void transfers_leave(const struct member *owner);
 
-/* ---- j1939_queue.c: the messages of a socket, one after the other ---- */
+/* ---- j1939_queue.c: a socket's messages, one after the other ---- */
 
 /* Takes a message with its first bytes. Returns an errno, or 0. */
 int queue_send(struct member *owner, const struct j1939_ask *ask, const void *data, size_t length);
-/* Adds the next bytes; those of a message that is over are forgotten. */
+/* Adds the next bytes of a message; drops them if the message is over. */
 void queue_fill(struct member *owner, uint32_t key, const void *data, size_t length);
-/* If this is the first of its socket, the next one begins. */
+/* If this transfer is the first of its socket, begins the next one. */
 void queue_begin_next(struct transfer *transfer);
-/* Gives up all that the socket sends. */
+/* Gives up all messages of the socket. */
 void queue_leave(struct member *owner);
 
 /* ---- j1939_send.c: the frames of transfers ---- */
@@ -166,7 +169,7 @@ enum {
     ETP_OFFSET = 0x16,
     ETP_DONE = 0x17,
     ABORT = 0xff,
-    SOME_DATA = 0xff /* in place of the last command that was heard */
+    SOME_DATA = 0xff /* takes the place of the last received command */
 };
 enum abort_reason {
     ABORT_BUSY = 1,
@@ -187,15 +190,15 @@ static inline bool is_to_all(const struct wire_way *way) {
 bool is_of_transport(uint32_t pgn);
 uint32_t number_at(const uint8_t *data, unsigned bytes);
 int errno_of_abort(uint8_t reason);
-/* Sends what is next. Returns an errno, or 0. */
+/* Sends the transfer's next frame. Returns an errno, or 0. */
 int transfer_send_next(struct transfer *transfer);
-/* Sends an abort to whom this came from, about messages of this group; or to the other end of a transfer. */
+/* Sends an abort to the sender of this frame, about messages of this group; or to the other end of a transfer. */
 void send_abort(const struct heard *heard, enum transfer_kind kind, uint8_t reason, uint32_t pgn);
 void transfer_send_abort(const struct transfer *transfer, uint8_t reason);
 
-/* ---- j1939_receive.c: the frames of transfers that are received ---- */
+/* ---- j1939_receive.c: received frames of transfers ---- */
 
-/* Takes a frame of a transfer; false if it is none. */
+/* Handles a frame of a transfer; false if the frame belongs to no transfer. */
 bool transfers_take(const struct heard *heard);
 
 #endif

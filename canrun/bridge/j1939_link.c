@@ -1,4 +1,4 @@
-/* The connection of a socket of J1939 to the host of its interface. */
+/* The connection of a J1939 socket to the host of its interface. */
 #define _GNU_SOURCE
 #include "j1939.h"
 
@@ -34,7 +34,7 @@ void link_close(void) {
     fd = -1;
 }
 
-/* FNV-1a, of texts that say which server it is, and in virtual time which run. */
+/* Continues the hash FNV-1a with a text. The texts identify the server and, in virtual time, the run. */
 static uint64_t hash_of(const char *text, uint64_t hash) {
     for (; text && *text; text++) {
         hash = (hash ^ (uint8_t)*text) * 0x100000001b3;
@@ -78,7 +78,8 @@ int link_open(int index, struct sockaddr_un *name, socklen_t *length) {
     return 0;
 }
 
-/* The next message of the connection; its length without the head, or -1: there is none, or the host is gone. */
+/* Reads the next message of the connection. Returns the length of its data; -1 if there is no message, or the host is
+ * gone. */
 static ssize_t read_one(struct j1939_told *told) {
     struct iovec parts[] = {{told, sizeof *told}, {data_room, sizeof data_room}};
     ssize_t length = recvmsg(fd, &(struct msghdr){.msg_iov = parts, .msg_iovlen = 2}, MSG_DONTWAIT);
@@ -114,7 +115,7 @@ static int reply(void) {
         if (length >= 0) {
             keep(&told, (size_t)length);
         } else if (fd >= 0 && poll(&(struct pollfd){fd, POLLIN, 0}, 1, PATIENCE * 1000) <= 0 && clock_now() >= until) {
-            link_close(); /* A reply that comes late is none to another request. */
+            link_close(); /* A late reply must not be taken for the reply to another request. */
             return refused(ETIMEDOUT, "the host of the interface does not reply");
         }
     }

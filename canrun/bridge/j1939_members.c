@@ -1,4 +1,4 @@
-/* The sockets of J1939 that are bound to an interface, each with its bridge at the other end of a connection. */
+/* The J1939 sockets of an interface, each with a connection to its bridge. */
 #define _GNU_SOURCE
 #include "j1939_host.h"
 
@@ -9,7 +9,7 @@
 #include <sys/uio.h>
 #include <unistd.h>
 
-/* The most that waits for a bridge that does not read; further messages are lost, as at a full socket. */
+/* The most messages that wait for a bridge that does not read. Further messages are lost, as at a full socket. */
 #define BACKLOG 1024
 
 struct member *members;
@@ -36,7 +36,7 @@ void member_add(int fd) {
     member_count++;
 }
 
-/* The socket is bound no longer, and what it sends is given up. */
+/* Unbinds the socket, and gives up its messages. */
 static void unbind(struct member *member) {
     queue_leave(member);
     if (member->is_bound) {
@@ -63,7 +63,7 @@ void member_remove(struct member *member) {
     free(member);
 }
 
-/* ---- what is said to a bridge ---- */
+/* ---- messages to a bridge ---- */
 
 static bool put(const struct member *member, const struct j1939_told *told, const void *data, size_t length) {
     struct iovec parts[] = {{(void *)told, sizeof *told}, {(void *)data, length}};
@@ -110,7 +110,7 @@ static void reply(struct member *member, int error) {
     member_tell(member, &told, refusal, error ? strlen(refusal) : 0);
 }
 
-/* ---- what a bridge asks ---- */
+/* ---- requests of a bridge ---- */
 
 static int bind_member(struct member *member, const struct j1939_socket *socket) {
     if (member->is_bound) {
@@ -144,7 +144,7 @@ static int send_of(struct member *member, const struct j1939_ask *ask, const voi
     return 0;
 }
 
-/* The last that leaves closes the door first, so that who comes after its end finds no old table. */
+/* The last socket that leaves first closes the listening socket. So a later socket does not find an outdated table. */
 static void leave(struct member *member) {
     unbind(member);
     if (member_count == 1) {

@@ -1,6 +1,6 @@
-/* The names of J1939, and the addresses that their nodes have claimed, as net/can/j1939/bus.c and address-claim.c of
- * the kernel have them. A claim is good once nobody has contested it for 250 ms; one that the host sends counts when it
- * was on the bus. */
+/* The names of J1939, and the addresses that their nodes have claimed, as in net/can/j1939/bus.c and address-claim.c of
+ * the kernel. A claim becomes good if it is not contested for 250 ms. The host's own claims count from the moment at
+ * which they were on the bus. */
 #include "j1939_host.h"
 
 #include <errno.h>
@@ -11,16 +11,16 @@
 struct node {
     struct node *next;
     uint64_t name;
-    uint64_t due;    /* when its claim is good, by the clock, or NEVER; */
-    uint64_t until;  /* and by the moments of frames */
-    uint8_t address; /* that it has claimed last */
+    uint64_t due;    /* when its claim becomes good, by the clock, or NEVER; */
+    uint64_t until;  /* the same by the timestamps of frames */
+    uint8_t address; /* the address of its last claim */
     unsigned users;  /* sockets that are bound to the name */
 };
 static struct node *nodes;
 
 static struct {
-    struct node *node; /* that has it */
-    unsigned users;    /* sockets that are bound to it, or to the name of its node */
+    struct node *node; /* the node that has this address */
+    unsigned users;    /* sockets that are bound to this address, or to the name of its node */
 } addresses[256];
 
 static struct node *find(uint64_t name) {
@@ -47,7 +47,7 @@ static bool has_address(const struct node *node) {
     return is_unicast(node->address) && addresses[node->address].node == node;
 }
 
-/* A node that no socket uses, and that neither has an address nor claims one, is forgotten. */
+/* Frees a node that no socket uses, and that neither has an address nor claims one. */
 static void forget_idle(struct node *node) {
     struct node **place = &nodes;
     if (node->users || node->due != NEVER || has_address(node)) {
@@ -118,7 +118,7 @@ bool names_claim(uint64_t name, uint8_t address) {
     return node;
 }
 
-/* The node claims this address: who has it keeps it only with a lower name. */
+/* The node claims this address. The address's present node keeps it only if its name is lower. */
 static void contest(struct node *node, uint8_t address, uint64_t moment) {
     if (node->address != address) {
         take_address(node);

@@ -1,4 +1,4 @@
-/* The messages that a socket of J1939 sends wait in a queue of its own, and begin one after the other. */
+/* The messages that a J1939 socket sends: they wait in the socket's queue, and begin one after the other. */
 #include "j1939_host.h"
 
 #include <errno.h>
@@ -44,7 +44,7 @@ static enum transfer_kind kind_of(uint32_t size) {
     return size <= ONE_FRAME ? TRANSFER_SIMPLE : size <= TP_LONGEST ? TRANSFER_TP : TRANSFER_ETP;
 }
 
-/* Whether such a message can be sent. Returns an errno, or 0. */
+/* Whether such a message may be sent. Returns an errno, or 0. */
 static int check(const struct wire_way *way, uint32_t size) {
     if (is_of_transport(way->pgn)) {
         return refused(EDOM, "this group is that of transfers themselves");
@@ -58,7 +58,8 @@ static int check(const struct wire_way *way, uint32_t size) {
     return 0;
 }
 
-/* It is the first of its socket: if another goes on between the same ends all are given up. */
+/* Begins the first message of its socket. If another transfer is active between the same ends, all messages are given
+ * up. */
 static int begin(struct transfer *transfer) {
     struct member *owner = transfer->owner;
     if (transfer_activate(transfer)) {

@@ -1,12 +1,11 @@
-/* CAN_J1939: the frames of transfers that are received, those of this host's own among them: as in the kernel, what is
- * sent counts once it was on the bus, and a transfer between two sockets of one interface has a sender and a receiver
- * here. */
+/* CAN_J1939: received frames of transfers, including those of this host. As in the kernel, a sent frame counts once it
+ * was on the bus. A transfer between two sockets of one interface has both a sender and a receiver here. */
 #include "j1939_host.h"
 
 #include <stddef.h>
 #include <string.h>
 
-/* Milliseconds until the next frame has to come. */
+/* How many milliseconds to wait for the next frame. */
 enum { REPLY_TIME = 1250, DATA_TIME = 750, HOLD_TIME = 550 };
 
 static uint32_t group_of(const uint8_t *data) {
@@ -14,7 +13,7 @@ static uint32_t group_of(const uint8_t *data) {
     return has_destination(pgn) ? pgn & 0xffff00 : pgn;
 }
 
-/* The reason for which a command is refused whose group is not that of the transfer; 0: none is sent. */
+/* The reason for refusing a command whose group is not that of the transfer; 0: no abort is sent. */
 static uint8_t reason_for_group(uint8_t command) {
     switch (command) {
     case TP_RTS:
@@ -47,7 +46,7 @@ static void cancel(struct transfer *transfer, uint8_t reason) {
 
 /* ---- the beginning ---- */
 
-/* Why a transfer of this size can't begin; 0: it can. */
+/* The reason why a transfer of this size cannot begin; 0: it can. */
 static uint8_t reason_for_size(enum transfer_kind kind, uint32_t size) {
     if (kind == TRANSFER_ETP) {
         return size > ETP_LONGEST || size <= TP_LONGEST ? ABORT_FAULT : size > WIRE_LARGEST_J1939 ? ABORT_RESOURCE : 0;
@@ -86,7 +85,7 @@ static struct transfer *begin(const struct heard *heard, enum transfer_kind kind
     return transfer;
 }
 
-/* A request for a transfer that there is; false where it goes no further. */
+/* Handles a repeated request for an active transfer; false if the request has been dealt with. */
 static bool request_again(struct transfer *transfer, const struct heard *heard) {
     if (!transfer->is_sent) {
         if (is_of_other_group(transfer, heard)) {
@@ -124,7 +123,7 @@ static void take_request(const struct heard *heard, enum transfer_kind kind, boo
     transfer_wait(transfer, REPLY_TIME);
 }
 
-/* ---- commands about transfers that there are ---- */
+/* ---- commands for active transfers ---- */
 
 static void take_clear(const struct heard *heard, enum transfer_kind kind, bool is_sent) {
     struct transfer *transfer = transfer_find(&heard->way, kind, true, is_sent);
@@ -213,7 +212,8 @@ static void take_command(const struct heard *heard, enum transfer_kind kind) {
         }
         return;
     }
-    /* Frames of a receiver are of transfers that this host sends, and frames of a sender of those that it receives. */
+    /* Frames of a receiver belong to transfers that this host sends; frames of a sender belong to those that it
+     * receives. */
     bool is_reply = command != ETP_OFFSET && command != ABORT;
     for (int side = 0; side < 2; side++) {
         bool is_sent = is_reply ? side : !side;
@@ -246,7 +246,7 @@ static bool awaits_data(const struct transfer *transfer) {
     }
 }
 
-/* Where a packet belongs: its number from 0 on; `total` where it has no place. */
+/* The number of a packet, from 0 on; UINT32_MAX if there is no room for the packet. */
 static uint32_t place_of(const struct transfer *transfer, const uint8_t *data) {
     int64_t packet = (int64_t)data[0] - 1 + transfer->offset;
     bool fits = packet >= 0 && packet <= transfer->total && transfer->received < transfer->total &&

@@ -4,7 +4,7 @@
 #include <errno.h>
 #include <string.h>
 
-/* Milliseconds: between packets to all; until a reply has to come; until a frame is back from the bus. */
+/* Milliseconds: between packets to all nodes; for a reply; for a frame to come back from the bus. */
 enum { PAUSE_TO_ALL = 50, REPLY_TIME = 1250, ECHO_TIME = 250, SIMPLE_TIME = 10000 };
 
 bool is_of_transport(uint32_t pgn) {
@@ -30,7 +30,7 @@ int errno_of_abort(uint8_t reason) {
     return reason < sizeof known / sizeof *known ? known[reason] : EPROTO;
 }
 
-/* The way to whom a message comes from. */
+/* The way back to the sender of a message. */
 static struct wire_way back(const struct wire_way *way) {
     struct wire_way result = *way;
     result.name = way->to_name;
@@ -40,7 +40,7 @@ static struct wire_way back(const struct wire_way *way) {
     return result;
 }
 
-/* Sends a frame of control about messages of this group: its first 5 bytes are given. */
+/* Sends a control frame about messages of this group; `front` are its first 5 bytes. */
 static int put_control(const struct wire_way *way, enum transfer_kind kind, const uint8_t front[5]) {
     uint8_t data[CAN_MAX_DLEN];
     struct wire_way control = *way;
@@ -66,7 +66,7 @@ void transfer_send_abort(const struct transfer *transfer, uint8_t reason) {
     }
 }
 
-/* ---- what is sent ---- */
+/* ---- frames of the sender ---- */
 
 static int send_request(struct transfer *transfer) {
     uint8_t front[5] = {TP_RTS, 0xff, 0xff, (uint8_t)transfer->total, (uint8_t)transfer->total};
@@ -124,7 +124,7 @@ static int send_packet(struct transfer *transfer) {
     return error;
 }
 
-/* Sends what is left of the block, as far as there are data and room, or the next packet to all. */
+/* Sends the rest of the block, as far as there are data and room; or one packet to all nodes. */
 static int send_packets(struct transfer *transfer) {
     uint32_t end = is_to_all(&transfer->way) ? transfer->total : transfer->last, before = transfer->sent;
     int error = 0;
@@ -164,7 +164,7 @@ static int send_next_of_sender(struct transfer *transfer) {
     }
 }
 
-/* ---- what a receiver replies ---- */
+/* ---- replies of the receiver ---- */
 
 static int reply(struct transfer *transfer, const uint8_t front[5], bool is_marked) {
     struct wire_way way = back(&transfer->way);

@@ -1,12 +1,12 @@
-/* The transfers of J1939: messages on their way, one frame long or several, from and to all sockets of an interface.
- * Transfers of a socket begin one after the other; no two with the same ends go on at the same time. */
+/* The transfers of J1939: messages of one or several frames, from and to all sockets of an interface. A socket's
+ * transfers begin one after the other. Two transfers with the same ends are never active at the same time. */
 #include "j1939_host.h"
 
 #include <errno.h>
 #include <stdlib.h>
 #include <string.h>
 
-/* Milliseconds that an abort is waited for; and the pause before what was refused is tried again: of 10 to 25. */
+/* Milliseconds: for the end of an abort; and the pause before a refused frame is tried again, 10 to 25. */
 enum { ABORT_TIME = 500, LEAST_PAUSE = 10, PAUSES = 16, RETRIES = 100 };
 
 static struct transfer *active, **active_end = &active;
@@ -38,7 +38,7 @@ void transfer_drop_old(struct transfer *transfer) {
     }
 }
 
-/* The end is reported only now, as by the kernel. */
+/* Like the kernel, it reports the end only now. */
 void transfer_settle(struct transfer *transfer) {
     bool is_used = transfer->is_queued || transfer->send_at != NEVER || transfer->due != NEVER ||
                    transfer->state == TRANSFER_ACTIVE || transfer->state == TRANSFER_ABORTING;
@@ -58,7 +58,7 @@ void transfer_settle(struct transfer *transfer) {
     transfer_forget(transfer);
 }
 
-/* Transfers that are over keep their place until they are forgotten: their timers may run. */
+/* Finished transfers keep their place until they are freed, because their timers may still run. */
 static void list(struct transfer *transfer) {
     transfer->next = NULL;
     *active_end = transfer;
@@ -133,7 +133,7 @@ void transfer_stop(struct transfer *transfer) {
     transfer->send_at = transfer->due = NEVER;
 }
 
-/* The pause differs from one to the next, so that two senders do not meet again and again. */
+/* The pause differs each time, so that two senders do not collide again and again. */
 void transfer_try_again(struct transfer *transfer) {
     static uint32_t state = 1;
     state = state * 1664525u + 1013904223u;
@@ -159,7 +159,7 @@ void transfer_complete(struct transfer *transfer, const struct heard *heard) {
     transfer_end(transfer);
 }
 
-/* ---- what goes wrong ---- */
+/* ---- failures ---- */
 
 void transfer_notice(const struct transfer *transfer, enum wire_event what) {
     struct j1939_told told = {.kind = TOLD_NOTICE};
@@ -227,10 +227,10 @@ static void time_out(struct transfer *transfer) {
     transfer_settle(transfer);
 }
 
-/* A frame was refused, and not for lack of room. */
+/* A frame was refused, for another reason than lack of room. */
 static void fail(struct transfer *transfer, int error) {
     if (error == ENETDOWN) {
-        return; /* It is given up in its time. */
+        return; /* The transfer will time out. */
     }
     if (transfer->kind == TRANSFER_SIMPLE) {
         transfer->error = -error;
@@ -286,7 +286,7 @@ void transfers_sent(uint64_t number) {
     }
 }
 
-/* The first whose time to go on has come, or that has waited in vain until what is known; NULL if there is none. */
+/* Returns the first transfer that is due, or that had no answer until `known`; NULL if there is none. */
 static struct transfer *next_due(uint64_t now, uint64_t known) {
     struct transfer *best = NULL;
     uint64_t soonest = NEVER;

@@ -1,5 +1,5 @@
-/* The messages that a socket of J1939 writes go to the host as far as SO_SNDBUF has room for their segments; a write
- * waits for the rest. */
+/* The messages of a J1939 socket's writes go to the host as far as SO_SNDBUF has room for their segments. The write
+ * waits with the rest. */
 #include "j1939.h"
 
 #include <errno.h>
@@ -7,16 +7,16 @@
 #include <string.h>
 #include <sys/socket.h>
 
-/* Writes that wait, at most. */
+/* The most writes that wait. */
 #define TURNS 64
-/* Requests that stay in the socket, at most. */
+/* The most requests that stay in the socket. */
 #define KEPT 64
-/* The number of bytes that the kernel counts for a segment: of its buffer, whose size is a power of two, some are no
+/* How many bytes the kernel counts for a segment. Its buffer's size is a power of two, and part of the buffer is not
  * data. */
 #define BUFFER_HEAD 256
 #define BUFFER_LEAST 512
 #define BUFFER_OTHER 384
-/* The least and, without privilege, the most that SO_SNDBUF may be. */
+/* The smallest value of SO_SNDBUF, and the largest without privilege. */
 #define ROOM_LEAST 4608
 #define ROOM_MOST 212992
 
@@ -32,11 +32,11 @@ struct turn {
 static struct turn *turns;
 static unsigned turn_count;
 
-static uint32_t keys, keys_before; /* messages until now; and those before they were counted anew */
-static unsigned pending;           /* messages that are not over */
+static uint32_t keys, keys_before; /* the number of messages; and its value when counting began anew */
+static unsigned pending;           /* messages that are not over yet */
 static int used, room = ROOM_MOST;
-/* The message whose rest the next write has. */
-static uint32_t open_key, open_left; /* how many bytes that is */
+/* The message whose rest comes with the next write. */
+static uint32_t open_key, open_left; /* the length of the rest */
 
 static int cost_of(uint32_t length) {
     int size = BUFFER_LEAST;
@@ -86,7 +86,7 @@ void writes_end(uint32_t key) {
     }
 }
 
-/* How many bytes of a write there is room for, and what they count. */
+/* How many bytes of a write have room, and their cost. */
 static size_t fitting(const struct turn *turn, int *cost) {
     size_t length = 0, left = turn->length - turn->done;
     *cost = 0;
@@ -101,7 +101,7 @@ static size_t fitting(const struct turn *turn, int *cost) {
     return length;
 }
 
-/* Hands the next bytes to the host. Returns an errno, or 0. */
+/* Sends the next bytes to the host. Returns an errno, or 0. */
 static int hand_on(struct turn *turn, size_t length, int cost) {
     struct j1939_ask ask = {
         .kind = ASK_SEND, .key = turn->key, .size = turn->size, .is_first = turn->is_first, .way = turn->way};
@@ -109,7 +109,7 @@ static int hand_on(struct turn *turn, size_t length, int cost) {
     if (error && error != EBUSY) {
         return error;
     }
-    /* One that is refused as another is active was begun, and has its end. */
+    /* A message that is refused because another is active has begun, and will end. */
     used += cost;
     pending += turn->is_first;
     keys += turn->is_first;
@@ -121,7 +121,7 @@ static int hand_on(struct turn *turn, size_t length, int cost) {
     return error;
 }
 
-/* Goes on with a write, as far as there is room. Returns an errno; 0: all of it was handed on; or SENT_LATER. */
+/* Continues a write as far as there is room. Returns an errno; 0 if all bytes were sent to the host; or SENT_LATER. */
 static int go_on(struct turn *turn) {
     bool is_over = false;
     while (!is_over) {
@@ -143,7 +143,7 @@ static int go_on(struct turn *turn) {
     return 0;
 }
 
-/* The result of a write: the bytes that were handed on, if it has waited in vain for the rest. */
+/* Replies to a write. If it has waited in vain, the result is the number of bytes sent to the host. */
 static void finish(const struct turn *turn, int error) {
     bool is_part = turn->done && (error == EAGAIN || error == EINTR);
     request_reply(turn->reply_to, is_part ? 0 : error, (int)turn->done | (writes_are_full(0) ? WIRE_FULL : 0));
@@ -198,7 +198,7 @@ int writes_add(const struct wire_request *request, const struct wire_way *way, u
                size_t length, int reply_to) {
     bool is_rest = request->option;
     if (is_rest && !open_left) {
-        return 0; /* The message is over, and what is left of it with it, as in the kernel. */
+        return 0; /* As in the kernel, the rest of a message that is over is dropped. */
     }
     if (!is_rest && open_left && open_left != size) {
         return refused(EIO, "the rest of the message before has another length");

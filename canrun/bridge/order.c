@@ -1,24 +1,25 @@
-/* The order of what the sessions of a socket bring: that of their moments. A server hands over what each session has
- * received by itself, so an item waits until it is known that no session has an older one under way: after it came,
- * each session is asked how many items were queued for it, and those have to come first. */
+/* Merges the items of a socket's sessions by their timestamps. A server sends to each session separately. So an item
+ * waits until no session can have an older item on its way. After the item came, each session is asked how many items
+ * were queued for it, and these items have to come first. */
 #include "../shared/planted.h"
 #include "bridge.h"
 
 #include <poll.h>
 #include <stdlib.h>
 
-/* Items that wait at most; past that the oldest go as they are. */
+/* The most items that wait; beyond that, the oldest are handed over without waiting. */
 #define HELD 4096
-/* How soon a question is put again that found no room, in nanoseconds. */
+/* How many nanoseconds until a question that found no room is repeated. */
 #define PAUSE 1000000
 
 static struct held {
     struct item item;
     int index;
-    unsigned rank; /* how many came by this interface before with the same moment: on a bus, the same frame by each */
+    unsigned rank; /* how many items with the same timestamp this interface brought before; on one bus, the same frame
+                      has the same rank at each interface */
 } held[HELD];
 static unsigned count;
-/* A question is open, for items up to this moment. */
+/* A question is open, for items up to this timestamp. */
 static bool is_open;
 static uint64_t until;
 
@@ -30,7 +31,7 @@ static int compare(const void *one, const void *other) {
     return first->rank != second->rank ? (int)(first->rank - second->rank) : first->index - second->index;
 }
 
-/* Hands on what is not after this moment. */
+/* Hands over the items up to this timestamp. */
 static void release(uint64_t moment) {
     unsigned done = 0;
     qsort(held, count, sizeof *held, compare);
@@ -45,7 +46,7 @@ static void release(uint64_t moment) {
     outbox_flush();
 }
 
-/* Waits where a sweep delays this frame; whether it loses it. */
+/* Waits if a sweep delays this frame. Returns whether the sweep loses the frame. */
 static bool is_lost(const struct item *item, int index) {
     static struct planted planted;
     static bool is_read;
@@ -88,7 +89,7 @@ void order_flush(void) {
     release(UINT64_MAX);
 }
 
-/* Begins to ask: about all that has come until now. */
+/* Begins to ask about all items until now. */
 static void ask_all(void) {
     until = 0;
     for (unsigned i = 0; i < count; i++) {

@@ -1,5 +1,5 @@
-/* Messages on their way to the program: a ring of those that its socket has no room for yet, and the counts of those
- * that were lost. */
+/* Messages on their way to the program: a ring of messages that its socket has no room for yet, and the counts of lost
+ * messages. */
 #define _GNU_SOURCE
 #include "bridge.h"
 
@@ -9,37 +9,38 @@
 #include <sys/socket.h>
 
 #define RING 1048576
-/* Messages that wait for a program which has not said how many should: as many again wait in its socket, or fewer. */
+/* How many messages wait for a program that has set no limit. At most as many are in its socket besides. */
 #define USUAL_ROOM 4096
-/* From here on the server keeps what comes; the rest of the room is for what comes with the replies to commands. */
+/* From here on the server keeps further items. The rest of the room is for items that come with replies to commands. */
 #define CROWDED 2048
-/* The room for a program that has set SO_RCVBUF, and that is to lose frames as it asked. */
+/* The room for a program that has set SO_RCVBUF, and so wants frames to be lost. */
 #define SMALL_ROOM 64
-/* Half of what the kernel counts for a frame, as SO_RCVBUF has it. */
+/* Half of the bytes that the kernel counts for a frame, as in SO_RCVBUF. */
 #define FRAME_ROOM 384
-/* Messages that are handed over by one call. */
+/* How many messages are sent in one call. */
 #define BATCH 32
-/* When the server is asked what it lost: after a number of frames, and of nanoseconds after the first of them. */
+/* When the server is asked for its count of lost frames: after so many frames, or so many nanoseconds after the
+ * first. */
 #define COUNT_FRAMES 256
 #define COUNT_PAUSE 20000000
 
-/* A message is its note and its data, which begin at such a place. */
+/* A message is its note and its data; each begins at a multiple of this. */
 #define PLACE 8
 static char ring[RING] __attribute__((aligned(PLACE)));
-/* Messages are from `first` on; if `end` is not after it, they go on at 0 after `wrap`. */
+/* Messages begin at `first`. If `end` is not after `first`, they continue at 0 after `wrap`. */
 static size_t first, end, wrap;
 static unsigned count, room = USUAL_ROOM;
 static uint32_t dropped, dropped_before;
 static bool is_full, is_small;
-/* Datagrams that are in the program's socket, or were read; and their bytes. */
+/* The number and the total length of datagrams that were put into the program's socket. */
 static uint64_t put_count, put_bytes;
-/* In virtual time: the program's socket has no room, until poll says so; looking again is a call of the kernel. */
+/* In virtual time: the program's socket has no room until poll reports it. To try again would be one more call. */
 static bool is_blocked;
 static bool is_counted, is_stamped;
 static unsigned uncounted;
 static uint64_t count_at;
 
-/* Before the data of a message there is its way, if all have one. */
+/* The size of the way before a message's data; 0 if messages have no ways. */
 static size_t way_size;
 
 static size_t size_of(size_t length) {
@@ -130,7 +131,7 @@ void outbox_has_room(void) {
     is_blocked = false;
 }
 
-/* Writes the note of a message that comes after so many others, if it has bytes; returns their number. */
+/* Writes the note of a message, if the message has data. Returns the total length with this message. */
 static uint64_t write_note(struct wire_note *note, uint64_t *notes, uint64_t bytes) {
     note->from = bytes;
     if (note->length) {
@@ -142,7 +143,7 @@ static uint64_t write_note(struct wire_note *note, uint64_t *notes, uint64_t byt
     return bytes + note->length;
 }
 
-/* Lays out the messages that are handed over next, and writes their notes; returns how many there are. */
+/* Lays out the next messages to be sent, and writes their notes. Returns their number. */
 static unsigned lay_out(struct mmsghdr messages[BATCH], struct iovec parts[BATCH]) {
     uint64_t notes = put_count, bytes = put_bytes;
     unsigned batch = MIN(count, BATCH);
@@ -158,7 +159,7 @@ static unsigned lay_out(struct mmsghdr messages[BATCH], struct iovec parts[BATCH
     return batch;
 }
 
-/* The first of them has been handed over. */
+/* Removes the first message after it was sent. */
 static void take_first(void) {
     put_count += note_at(first)->length > 0;
     put_bytes += note_at(first)->length;
@@ -205,7 +206,7 @@ bool outbox_is_empty(void) {
     return count == 0;
 }
 
-/* A frame in a Unix socket is counted where it comes from. Frames that the notes have no room for wait here. */
+/* For a Unix socket the kernel counts a frame at its sender. Frames without room for their notes wait here. */
 static void set_room(int option, int number) {
     int most = MIN(number, WIRE_ROOM / 2), beyond = (number - most) / FRAME_ROOM;
     setsockopt(PROGRAM, SOL_SOCKET, option == SO_RCVBUF ? SO_SNDBUF : SO_SNDBUFFORCE, &most, sizeof most);

@@ -1,5 +1,5 @@
-/* The steps that a bridge takes in the way of its socket's protocol, as struct proto_ops of the kernel. A protocol is a
- * file of this folder, or several, and a line of the table in main.c. NULL: it does nothing there. */
+/* The functions in which protocols differ, like struct proto_ops of the kernel. A protocol is a file of this folder, or
+ * several, and a line of the table in main.c. NULL: the protocol does nothing there. */
 #ifndef PROTOCOL_H
 #define PROTOCOL_H
 
@@ -9,42 +9,43 @@
 #include <stddef.h>
 
 struct protocol {
-    /* If a protocol has this, requests stay in the socket while it is so, and the program finds no room; so many are
-     * there already. */
+    /* While this returns true, requests stay in the socket, so that the program finds no room. `kept` requests are
+     * already there. */
     bool (*is_full)(unsigned kept);
 
     /* Called before the first request. */
     void (*open)(void);
 
-    /* Requests, see enum wire_kind. They return an errno, or 0. */
+    /* Requests, see enum wire_kind. Each returns an errno, or 0. */
     int (*bind)(const struct sockaddr_can *address);
     int (*connect)(const struct sockaddr_can *address);
-    /* Adds what the address of the socket, or of its peer, has besides the interface that it is bound to. */
+    /* Completes the address of the socket or its peer, which already has the interface. */
     int (*getname)(struct sockaddr_can *address, bool is_peer);
     int (*setsockopt)(int option, const void *value, size_t length);
     int (*getsockopt)(int option, void *room, uint32_t *length);
-    /* Takes an option of SOL_SOCKET; false if it is for the outbox too. */
+    /* Takes an option of SOL_SOCKET; false if the outbox needs the option too. */
     bool (*set_socket)(int option, int number);
-    /* Sends a message. If that has to wait it returns SENT_LATER, and the reply is given by the pipe in the end. */
+    /* Sends a message. If the message must wait, it returns SENT_LATER, and the reply is sent on the pipe in the
+     * end. */
     int (*sendmsg)(const struct wire_request *request, const char *data, size_t length, int reply_to,
                    struct wire_reply *reply);
-    /* Other requests, whose reply's data are written here. */
+    /* Handles other requests, and writes the reply's data to `data`. */
     int (*request)(const struct wire_request *request, int reply_to, struct wire_reply *reply, char *data);
-    /* A signal ends the wait of the write whose reply comes by this pipe. */
+    /* Ends the wait of the write with this reply pipe, because of a signal. */
     void (*cancel)(int asks);
 
-    /* Takes data that came without a request, if they are no message. */
+    /* Takes data that came without a request, if they are not a message. */
     bool (*takes)(const char *data, size_t length);
-    /* Takes a frame that a session has brought. Nothing can be sent in this call. */
+    /* Takes a frame that a session has received. This function must not send. */
     void (*receive)(const struct item *item, int index);
 
-    /* Does what is due; returns how many nanoseconds there are until the next is, or -1. */
+    /* Does the work that is due. Returns the nanoseconds until more is due, or -1. */
     int64_t (*due)(void);
-    /* Whether a message that was accepted is still to be sent. A close waits for its end. */
+    /* Whether an accepted message is still unsent. A close waits for its end. */
     bool (*is_busy)(void);
-    /* Whether more requests may come. */
+    /* Whether the bridge may read more requests. */
     bool (*takes_requests)(void);
-    /* A descriptor that is to be ready before it has something due, or -1. */
+    /* A descriptor whose input makes `due` run, or -1. */
     int (*descriptor)(void);
 };
 extern const struct protocol raw_protocol, bcm_protocol, isotp_protocol, j1939_protocol;

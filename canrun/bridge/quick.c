@@ -12,7 +12,7 @@
 #include <sys/syscall.h>
 #include <unistd.h>
 
-/* The one session that may be lent; NULL if there is none. */
+/* The session that may be lent; NULL if there is none. The socket must have only this one session. */
 static struct session *session_to_lend(void) {
     bool is_one = is_virtual() && session_count == 1 && is_bound && sessions[0]->index == bound_index;
     return is_one && sessions[0]->fd >= 0 && sessions[0]->is_local ? sessions[0] : NULL;
@@ -99,7 +99,7 @@ bool quick_serve(const char *data, size_t length) {
         return false;
     }
     if (quick.ifindex == WIRE_LEFT) {
-        return true; /* It has its reply since this bridge woke. */
+        return true; /* The write has its reply since this bridge woke. */
     }
     data += sizeof quick;
     length -= sizeof quick;

@@ -1,5 +1,5 @@
-/* CAN_RAW: options, filters, and frames both ways. The server has the options too and does the filtering, but for
- * filters that are too many for one of its messages. */
+/* CAN_RAW: options, filters, and frames in both directions. The server has the options too and filters the frames,
+ * unless the filters are too many for one of its messages. */
 #define _GNU_SOURCE
 #include "bridge.h"
 
@@ -10,9 +10,9 @@
 #include <stdlib.h>
 #include <string.h>
 
-/* CAN_RAW_XL_FRAMES, which older headers have not. No interface has CAN XL, but who has it on has FD frames too. */
+/* CAN_RAW_XL_FRAMES, which older headers lack. No interface has CAN XL, but this option also allows FD frames. */
 #define RAW_XL_FRAMES 7
-/* The most characters of filters in a message, which has 1024 with its command. */
+/* The most characters of filters in a message. With its command the message has 1024. */
 #define FILTER_TEXT 1000
 
 static struct options options = {.loopback = 1};
@@ -20,7 +20,7 @@ static struct can_filter all_pass[1];
 static struct can_filter *filters = all_pass;
 static size_t filter_count = 1;
 static unsigned filter_lists;
-static bool filters_here; /* they are too many for the server */
+static bool filters_here; /* the filters are too many for the server */
 
 /* ---- options ---- */
 
@@ -29,7 +29,7 @@ static bool is_of_errors(const struct can_filter *filter) {
     return filter->can_mask & CAN_ERR_FLAG;
 }
 
-/* A filter as the kernel reduces it: one for 11 bits looks at no others. */
+/* A filter as the kernel reduces it: a filter for 11-bit identifiers ignores the other bits. */
 static struct can_filter reduced(const struct can_filter *filter) {
     struct can_filter result = *filter;
     if (filter->can_mask & CAN_EFF_FLAG && !(filter->can_id & CAN_EFF_FLAG)) {
@@ -47,7 +47,7 @@ static uint32_t error_classes(void) {
     return classes;
 }
 
-/* Writes the filters of frames; returns how many there are, or -1 if they have no room. */
+/* Writes the filters for frames. Returns their number, or -1 if they do not fit. */
 static int filter_words(char words[FILTER_TEXT + 20]) {
     size_t length = 0;
     int count = 0;
@@ -66,14 +66,14 @@ static int filter_words(char words[FILTER_TEXT + 20]) {
     return count;
 }
 
-/* The command for the filters; if they are too many, or none are wanted, all or nothing passes. */
+/* The filter command. If the filters are too many, all frames pass; with `is_none` no frame passes. */
 static size_t filter_command(char *text, size_t size, bool is_none) {
     char words[FILTER_TEXT + 20] = " 0 0";
     int count = is_none ? 0 : filters_here ? 1 : filter_words(words);
     return (size_t)snprintf(text, size, "< filter %d%s >", count, is_none ? "" : words);
 }
 
-/* Whether the program's queue is full, and the server queues nothing for it. */
+/* Whether the program's queue is full, so that the server queues nothing for the program. */
 static bool is_full;
 
 void raw_setup(struct session *session, char *text, size_t size) {
@@ -111,7 +111,7 @@ void raw_setup(struct session *session, char *text, size_t size) {
     *given = wanted;
 }
 
-/* The place of an option of one number; NULL for others. */
+/* The address of an option with a single number; NULL for others. */
 static void *place_of(int option) {
     switch (option) {
     case CAN_RAW_LOOPBACK: return &options.loopback;
@@ -205,7 +205,7 @@ int raw_send(struct session *to, const struct canfd_frame *frame, bool is_fd, co
     if (frame->len > (is_fd ? CANFD_MAX_DLEN : CAN_MAX_DLEN)) {
         return refused(EINVAL, "the frame is too long");
     }
-    /* The server makes its own error message frames, and takes none: they are accepted, as by vcan, and go nowhere. */
+    /* The server makes its own error message frames and accepts none. As by vcan, they are accepted, but not sent. */
     if (frame->can_id & CAN_ERR_FLAG) {
         return 0;
     }
@@ -218,8 +218,8 @@ bool raw_is_error(const void *data) {
     return identifier & CAN_ERR_FLAG;
 }
 
-/* In virtual time, has the server queue nothing for a program that would lose it, so that nobody takes a turn for it.
- */
+/* In virtual time: makes the server queue nothing for a program that would lose it, so that no thread takes a turn for
+ * it. */
 static int64_t raw_due(void) {
     if (is_virtual() && outbox_is_full() != is_full) {
         is_full = !is_full;
@@ -245,7 +245,7 @@ int raw_write(int index, const void *data, size_t length, const struct later *la
 static int raw_sendmsg(const struct wire_request *request, const char *data, size_t length, int reply_to,
                        struct wire_reply *reply) {
     struct later later = request_later(request, reply_to, (int)length);
-    /* A byte of data has the library say that this frame goes nowhere. */
+    /* A reply with a byte of data makes the library report that this frame is not sent. */
     reply->length = length >= CAN_MTU && raw_is_error(data);
     return raw_write(request->ifindex, data, length, request_waits(request, reply_to) ? &later : NULL);
 }
@@ -259,7 +259,7 @@ static int raw_bind(const struct sockaddr_can *address) {
     return sessions_bind(address->can_ifindex);
 }
 
-/* The rule of linux/can.h, for filters that the server has no room for. */
+/* The rule of linux/can.h, for filters that do not fit into the server's message. */
 static bool passes(canid_t identifier) {
     bool any = false, all = true;
     for (size_t i = 0; i < filter_count; i++) {

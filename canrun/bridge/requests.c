@@ -1,4 +1,4 @@
-/* The program's requests: one at a time, each with a pipe for its reply. */
+/* The program's requests, one at a time, each with a pipe for its reply. */
 #define _GNU_SOURCE
 #include "bridge.h"
 
@@ -13,7 +13,7 @@
 #include <sys/stat.h>
 #include <unistd.h>
 
-/* Nanoseconds that a write of a thread waits in which no signal ends the wait. */
+/* How many nanoseconds a write waits in a thread in which no signal ends the wait. */
 #define SHORT_WAIT SECOND
 
 struct reply {
@@ -21,8 +21,8 @@ struct reply {
     char data[WIRE_REPLY];
 };
 
-/* While a protocol is full the request that has filled it stays in the socket, so that the program's end has no room,
- * and is not ready to be written. So do those that come after it, which are read all the same. */
+/* While a protocol is full, the request that has filled it stays in the socket. So the program's end has no room, and
+ * poll does not report it as writable. Later requests stay there too, but the bridge reads them. */
 static int kept_length;
 static unsigned kept_count;
 
@@ -32,14 +32,14 @@ void request_release(void) {
         if (recv(PROGRAM, &(char){0}, 1, MSG_DONTWAIT) >= 0) {
             kept_count--;
         } else if (errno != ECONNRESET) {
-            /* ECONNRESET, if the program has left something unread, comes once in place of a request. */
+            /* If the program has left data unread, ECONNRESET comes once in place of a request. */
             kept_count = 0;
         }
     }
     kept_length = kept_count ? kept_length : 0;
 }
 
-/* Has a line come to the standard error of the process that made the socket, once; its number is in the name. */
+/* Prints one line, only once, on standard error of the process that made the socket; its number is in the name. */
 static void say(const char *what, int error) {
     static bool is_said;
     char path[64], line[400];
@@ -50,19 +50,20 @@ static void say(const char *what, int error) {
     if (fd >= 0) {
         int length = snprintf(line, sizeof line, "canbusd-run: %s: %s: %s\n", what, strerror(error), refusal);
         if (write(fd, line, MIN((size_t)length, sizeof line - 1)) < 0) {
-            /* Nobody reads it. */
+            /* No process reads the line. */
         }
         close(fd);
     }
 }
 
-/* A write that did not go through the library has returned, as if it were done: the socket has its error. */
+/* Refuses a write that bypassed the library. The write has already returned as successful, so the socket gets the
+ * error. */
 static void refuse_bare(int error) {
     say("a write that went past canbusd-run, as by io_uring, was refused", error);
     error_set(error);
 }
 
-/* A program with the reply finds the socket ready to be written, if it is. */
+/* Sends the reply. Before that it makes the socket writable again, if possible, for the program that gets the reply. */
 static void put_reply(int to, int error, struct reply *reply) {
     request_release();
     if (to == NOBODY) {
@@ -109,7 +110,7 @@ bool is_same_pipe(int one, int other) {
            first.st_dev == second.st_dev;
 }
 
-/* The write whose reply comes by this pipe waits no longer; it may have had its reply. */
+/* Ends the wait of the write with this reply pipe. The write may already have its reply. */
 static int cancel(int asks) {
     if (protocol->cancel) {
         protocol->cancel(asks);
@@ -119,15 +120,15 @@ static int cancel(int asks) {
     return SENT_LATER;
 }
 
-/* The other end of the pair by which a close waits, once the socket is closed. */
+/* Once the socket is closed: the end of the pair through which a close waits. */
 static int close_waiter = -1;
 
 int close_waiter_fd(void) {
     return close_waiter;
 }
 
-/* The program closes a copy of the socket. If it was the last, and a message is being sent, the close waits for the
- * end of this bridge. */
+/* The program closes a copy of the socket. If this was the last copy, and a message is being sent, the close waits for
+ * the end of this bridge. */
 static int begin_close(int pair) {
     struct pollfd polled = {pair, POLLIN, 0};
     if (protocol_is_busy() && poll(&polled, 1, PATIENCE * 1000) > 0 && program_is_gone() && close_waiter < 0) {
@@ -165,7 +166,7 @@ static int get_address(bool is_peer, struct reply *reply) {
     return error;
 }
 
-/* The interface that the socket is bound to as a device, of which CAN takes no notice. */
+/* The interface that the socket is bound to as a device; CAN ignores it. */
 static int device;
 
 static int set_socket_option(const struct wire_request *request) {
@@ -175,7 +176,7 @@ static int set_socket_option(const struct wire_request *request) {
     return 0;
 }
 
-/* Carries out a request whose data are these, and whose reply goes there; returns an errno, 0, or SENT_LATER. */
+/* Handles a request with these data, and with this reply pipe. Returns an errno, 0, or SENT_LATER. */
 static int carry_out(const struct wire_request *request, const char *data, size_t length, int to, struct reply *reply) {
     switch (request->kind) {
     case WIRE_SEND: return protocol->sendmsg(request, data, length, to, &reply->head);
@@ -227,8 +228,8 @@ bool request_is_kept(void) {
     return recv(PROGRAM, &(char){0}, 1, MSG_DONTWAIT | MSG_PEEK | MSG_TRUNC) > 0;
 }
 
-/* Carries out a quick write, or one that did not go through the library. This waits for room, as there is no reply that
- * could say that there is none. */
+/* Handles a quick write, or a write that bypassed the library. The latter waits for room, because it has no reply to
+ * report a lack of room. */
 static void serve_bare(const char *data, size_t length) {
     struct wire_request request = {.kind = WIRE_SEND, .ifindex = WIRE_BOUND, .length = (uint32_t)length};
     struct reply reply = {.head = {0}};
@@ -255,7 +256,7 @@ bool request_serve(void) {
     int to;
     ssize_t length = next_request(&message);
     if (length <= 0) {
-        /* ECONNRESET: it has left frames unread. What it has sent before its end comes first. */
+        /* ECONNRESET: the program has left frames unread. Its earlier requests come first. */
         return length < 0 && (errno == EAGAIN || errno == EINTR || errno == ECONNRESET);
     }
     length = MIN(length, (ssize_t)sizeof data);

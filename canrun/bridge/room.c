@@ -1,19 +1,20 @@
-/* Frames that wait for room in a transmit queue, each in its turn at its interface. Nothing else waits for them. */
+/* Frames that wait for room in a transmit queue, in their order at each interface. Other work does not wait for
+ * them. */
 #include "bridge.h"
 
 #include <errno.h>
 #include <poll.h>
 #include <string.h>
 
-/* The most frames that wait; while they do, no more requests are taken. */
+/* The most frames that wait. When so many wait, no more requests are taken. */
 #define WAITERS 64
-/* How often the counts of an interface are looked at, in nanoseconds: at first, and at last. */
+/* The pause between two looks at the counts of an interface, in nanoseconds: the shortest and the longest. */
 #define SHORT_PAUSE 100000
 #define LONG_PAUSE 2000000
-/* A frame that waits is sent where there is room for it, as a refused send is an entry of the server's record. Where
- * others took what became free at so many looks one after the other it is tried all the same. */
+/* A waiting frame is sent only if there is room for it, because a refused send is an entry of the server's record.
+ * After so many looks in a row at which others had taken the free room, it is sent all the same. */
 #define MOST_MISSED 16
-/* What half of a queue is taken for that was never full. */
+/* Half the assumed length of a queue that was never full. */
 #define FEW_PLACES 4
 
 static struct waiter {
@@ -24,7 +25,7 @@ static struct waiter {
 } waiters[WAITERS];
 static unsigned count;
 
-/* The place of the first that waits at this interface; `count` where none does. */
+/* The index of the first waiting frame of this interface; `count` if there is none. */
 static unsigned first_at(int index) {
     unsigned at = 0;
     while (at < count && waiters[at].index != index) {
@@ -33,7 +34,7 @@ static unsigned first_at(int index) {
     return at;
 }
 
-/* Takes a waiter out, and reports how its wait has ended. */
+/* Removes a waiting frame, and reports the end of its wait. */
 static void finish(unsigned at, int error) {
     struct later later = waiters[at].later;
     count--;
@@ -43,13 +44,14 @@ static void finish(unsigned at, int error) {
     }
 }
 
-/* The queue was full: its counts are looked at after a while. */
+/* The queue was full: begins to look at its counts. */
 static void begin_looking(struct session *session) {
     session->pause = SHORT_PAUSE;
     session->look_at = clock_now();
 }
 
-/* Whether the queue may be half full with one frame more, as far as that is known, so that the counts are asked for. */
+/* Whether the queue may be half full with one more frame, as far as its size is known. If so, the counts are asked
+ * for. */
 static bool is_half_full(const struct session *session) {
     uint64_t half = session->was_full ? (session->places + 1) / 2 : FEW_PLACES;
     return session->waiting + session->since + 1 >= half;
@@ -62,7 +64,7 @@ static int send_now(struct session *to, const struct canfd_frame *frame, bool is
     return error;
 }
 
-/* The same for a frame that waits if there is no room: then it is sent only if there is. */
+/* The same for a frame that may wait: it is sent only if there is room. */
 static int send_to_room(struct session *to, const struct canfd_frame *frame, bool is_fd) {
     if (!session_has_room(to)) {
         int error = session_look(to);
@@ -98,7 +100,7 @@ void room_look(int index) {
     }
 }
 
-/* Whether the first that waits is to be sent: there is room, or others were faster all the time. */
+/* Whether to send the first waiting frame: there is room, or others were always faster. */
 static bool is_time(struct session *session, uint64_t gone_before) {
     session->missed += session->gone != gone_before;
     bool is_time = session_has_room(session) || session->missed >= MOST_MISSED;
@@ -106,13 +108,13 @@ static bool is_time(struct session *session, uint64_t gone_before) {
     return is_time;
 }
 
-/* Whether a write that waits has ended: its process was killed. */
+/* Whether a waiting write has ended, because its process was killed. */
 static bool is_abandoned(const struct later *later) {
     struct pollfd polled = {later->reply_to, 0, 0};
     return later->reply_to >= 0 && poll(&polled, 1, 0) > 0 && polled.revents & POLLERR;
 }
 
-/* Sends what there is room for; if a send fails otherwise, so does each wait. */
+/* Sends the frames that have room. If a send fails for another reason, all waits fail. */
 static void look(struct session *session) {
     uint64_t gone_before = session->gone;
     int error = session_look(session);
@@ -141,7 +143,7 @@ static void look(struct session *session) {
     }
 }
 
-/* Ends the waits that are in vain; returns how many nanoseconds there are until the next is, or -1. */
+/* Ends waits whose time is over. Returns the nanoseconds until the next end, or -1. */
 static int64_t end_vain(void) {
     uint64_t now = count ? clock_now() : 0, until = UINT64_MAX;
     for (unsigned at = 0; at < count;) {

@@ -1,4 +1,4 @@
-/* A session of the server: its messages, its commands, and what becomes of a frame that it sends. */
+/* A session of the server: its messages, its commands, and the verdicts on its frames. */
 #define _GNU_SOURCE
 #include "bridge.h"
 
@@ -12,9 +12,9 @@
 #include <sys/time.h>
 #include <unistd.h>
 
-/* The longest text of commands that are given at once: filters, and the echo. */
+/* The longest text of commands in one write: filters and the echo. */
 #define LONGEST 2048
-/* The errno of a server's refusal, as SocketCAN has it. */
+/* The errno for a server's refusal, as in SocketCAN. */
 static int error_of(const char *reply) {
     static const struct {
         const char *text;
@@ -43,16 +43,16 @@ static void lose(struct session *session) {
 void session_end(struct session *session) {
     if (session && session->fd >= 0) {
         if (session->is_shared) {
-            shutdown(session->fd, SHUT_RDWR); /* Programs have copies. */
+            shutdown(session->fd, SHUT_RDWR); /* Programs have copies of the descriptor. */
         }
         close(session->fd);
     }
     free(session);
 }
 
-/* ---- which received frames this session has sent ---- */
+/* ---- which received frames came from this session ---- */
 
-/* A frame of this session has got this number, and others have got those since the last one. */
+/* Notes that a frame of this session has this number. The numbers since the last one belong to other frames. */
 static void keep_number(struct session *session, uint64_t number) {
     if (!session->sent_end) {
         session->sent_end = number;
@@ -75,7 +75,7 @@ uint64_t session_last_number(const struct session *session) {
     return session->sent_end - 1;
 }
 
-/* Takes the text that accepts a frame, with its number; false if it is another. */
+/* Reads a message that accepts a frame, and the frame's number; false if it is another message. */
 static bool note_sent(struct session *session, const char *text) {
     static const char word[] = "ack ";
     uint64_t number;
@@ -89,8 +89,8 @@ static bool note_sent(struct session *session, const char *text) {
     return true;
 }
 
-/* The flags of recvmsg: MSG_DONTROUTE of what the host has sent, by the same interface; MSG_CONFIRM of what this socket
- * has. The server accepts a frame before it hands it over. */
+/* The flags of recvmsg: MSG_DONTROUTE for frames of the same interface, and MSG_CONFIRM for frames of this socket. The
+ * server accepts a frame before it sends the frame back. */
 static uint32_t message_flags(const struct session *session, const struct item *item) {
     if (item->origin != ORIGIN_SAME) {
         return 0;
@@ -98,9 +98,9 @@ static uint32_t message_flags(const struct session *session, const struct item *
     return MSG_DONTROUTE | (is_own_number(session, item->number) ? MSG_CONFIRM : 0);
 }
 
-/* ---- what the server says ---- */
+/* ---- messages of the server ---- */
 
-/* Takes the counts; false if the text is another. */
+/* Reads the counts; false if the message is another one. */
 static bool note_counts(struct session *session, const char *text, unsigned long *queued, unsigned *dropped) {
     unsigned long done, waiting, lost;
     if (strncmp(text, "stats ", 6) ||
@@ -141,7 +141,7 @@ static void handle_reply(struct session *session, const char *text) {
     }
 }
 
-/* Handles the messages in the input; a part of one waits for the rest. */
+/* Handles the complete messages in the input; the rest stays there. */
 static void handle_input(struct session *session) {
     char *at = session->input, *end = at + session->have, *close_at;
     while ((close_at = memchr(at, '>', (size_t)(end - at)))) {
@@ -169,12 +169,12 @@ static void handle_input(struct session *session) {
     session->have = (size_t)(end - at);
     memmove(session->input, at, session->have);
     if (session->have == sizeof session->input) {
-        session->have = 0; /* Longer than any message: this is no canbusd. */
+        session->have = 0; /* The text is longer than any message: this is not a canbusd. */
     }
 }
 
-/* How long a read waits, in nanoseconds: writes of several threads do not wait one after the other for a server that
- * does not reply. */
+/* How many nanoseconds a read waits. For a server that does not reply the time is short, so that writes of several
+ * threads do not wait one after the other. */
 static uint64_t patience_with(const struct session *session) {
     return session->is_silent ? SECOND / 10 : PATIENCE * SECOND;
 }
@@ -196,8 +196,8 @@ bool session_read(struct session *session, bool waits) {
 
 /* ---- commands ---- */
 
-/* Writes all of it, or loses the session. What comes meanwhile is handled: a server that waits for its reader takes no
- * commands, and one that has closed takes none, but may have said why. */
+/* Writes the whole text, or drops the session. Meanwhile it handles input: a server that waits for its reader takes no
+ * commands. Nor does a server that has closed, but it may have sent the reason. */
 static void put_text(struct session *session, const char *text, size_t length) {
     uint64_t until = 0;
     size_t written = 0;
@@ -211,7 +211,7 @@ static void put_text(struct session *session, const char *text, size_t length) {
         if (wait_for_session(session, until)) {
             session_read(session, false);
         } else {
-            lose(session); /* Half a command was written perhaps. */
+            lose(session); /* Perhaps only half of a command was written. */
         }
     }
 }
@@ -223,7 +223,7 @@ static void set_silent(struct session *session, bool is_silent) {
     setsockopt(session->fd, SOL_SOCKET, SO_RCVTIMEO, &time, sizeof time);
 }
 
-/* Waits until no more than this is due; false if it does not come in time. */
+/* Waits until at most this is due; false if the rest does not come in time. */
 static bool settle(struct session *session, enum due most) {
     while (session->due > most && session->fd >= 0) {
         if (!session_read(session, true)) {
@@ -237,17 +237,18 @@ static bool settle(struct session *session, enum due most) {
     return true;
 }
 
-/* Waits for what is due. Returns 0, or the errno of the refusal. */
+/* Waits for the verdict. Returns 0, or the errno of the refusal. */
 static int verdict(struct session *session) {
     if (!settle(session, DUE_COUNTS)) {
         return refused(ETIMEDOUT, "the server does not reply");
     }
-    /* What it said before its end counts: it may have too many sessions. */
+    /* The server's last message counts: it may have too many sessions. */
     int error = error_of(session->reply);
     return error ? error : session->due > DUE_COUNTS ? refused(ENXIO, "the server is gone") : 0;
 }
 
-/* Gives commands that end with this reply, and waits for it; after what was given up as the server did not reply. */
+/* Sends commands that end with this reply, and waits for it. Before that it waits for a reply that was given up
+ * earlier. */
 static int give(struct session *session, const char *text, size_t length, enum due due) {
     if (!settle(session, DUE_NOTHING)) {
         return refused(ETIMEDOUT, "the server does not reply");
@@ -258,7 +259,7 @@ static int give(struct session *session, const char *text, size_t length, enum d
     return verdict(session);
 }
 
-/* ---- what a program did with the session while that was lent ---- */
+/* ---- frames that a program has sent through the lent session ---- */
 
 bool session_brings_nothing(const struct session *session) {
     return session->fd >= 0 && session->is_local && session->given.filters == NO_FILTERS && !session->given.errors &&
@@ -271,7 +272,7 @@ void session_note_number(struct session *session, uint64_t number) {
 
 int session_take_over(struct session *session, const char *text, size_t length, bool is_new) {
     if (!length && !is_new) {
-        set_silent(session, true); /* The program has waited already. */
+        set_silent(session, true); /* The program has already waited. */
     }
     memcpy(session->input, text, length);
     session->have = length;

@@ -1,4 +1,5 @@
-/* The sessions of a socket: one for each interface that it is bound to, and one for each other that it sends on. */
+/* The sessions of a socket: one for each interface that it is bound to, and one for each other interface that it sends
+ * on. */
 #define _GNU_SOURCE
 #include "bridge.h"
 
@@ -12,7 +13,7 @@ int session_count;
 bool is_bound;
 int bound_index;
 
-/* Says which interface it was, if the server has no room for one session more. */
+/* Names the interface, if the server has no room for one more session. */
 static int explain(int error, const char *name) {
     static char why[240];
     const char *address = getenv("CANBUSD_ADDRESS");
@@ -26,7 +27,7 @@ static int explain(int error, const char *name) {
     return refused(error, why);
 }
 
-/* Opens the interface of this index in raw mode, and returns its session, which is the caller's. */
+/* Opens the interface with this index in raw mode, and returns its session, which the caller owns. */
 static int start_raw(int index, bool is_receiving, struct session **started) {
     char name[IFNAMSIZ], text[2048];
     if (!interface_name(index, name)) {
@@ -42,7 +43,7 @@ static int start_raw(int index, bool is_receiving, struct session **started) {
     session->index = index;
     session->is_receiving = is_receiving;
     raw_setup(session, text + length, sizeof text - length);
-    session->is_receiving = false; /* Before the filters are there, too much would come. */
+    session->is_receiving = false; /* Before the filters are set, too many frames would come. */
     error = session_command(session, text);
     session->is_receiving = is_receiving;
     if (error) {
@@ -64,7 +65,7 @@ static int start_all(struct session *started[INTERFACE_MOST], int *count) {
     return *count || error ? error : refused(ENODEV, "CANBUSD_INTERFACES has no interface");
 }
 
-/* Ends all sessions, and what waits for them. */
+/* Ends all sessions, and gives up the frames that wait for them. */
 static void end_all(void) {
     order_flush();
     while (session_count) {
@@ -83,7 +84,7 @@ bool sessions_leave(void) {
     return was_bound;
 }
 
-/* As in the kernel, a bind that is refused changes nothing. */
+/* As in the kernel, a refused bind changes nothing. */
 int sessions_bind(int index) {
     struct session *started[INTERFACE_MOST];
     int count = 0, error;

@@ -1,4 +1,4 @@
-/* Virtual time, as the bridge sees it. */
+/* The bridge's functions for virtual time. */
 #include "../virtual/turns.h"
 
 bool is_virtual(void);

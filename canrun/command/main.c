@@ -1,4 +1,4 @@
-/* canbusd-run: becomes a program whose CAN sockets are those of a canbusd server. */
+/* canbusd-run: becomes a program with CAN sockets of a canbusd server. */
 #define _GNU_SOURCE
 #include "program.h"
 #include "server.h"
@@ -19,7 +19,8 @@
 
 #define LIBRARY "libcanbusd-run.so"
 #define VIRTUAL_LIBRARY "libcanbusd-virtual.so"
-/* The statuses of env, timeout and their kin: a fault of the command itself, a program that can't be run, and none. */
+/* The statuses of env, timeout and similar commands: an error of the command itself, a program that cannot be run, no
+ * such program. */
 enum { STATUS_FAULT = 125, STATUS_NOT_RUN = 126, STATUS_NOT_FOUND = 127 };
 
 /* clang-format off */
@@ -60,12 +61,13 @@ static const char HELP[] =
 struct words {
     const char *address, *interfaces;
     int waits, is_virtual, is_static;
-    int is_supervised;        /* with the library: PROGRAM gets a supervisor */
-    const char *virtual_word; /* an option that only --virtual has */
+    int is_supervised;        /* with the library: a supervisor is to be started for PROGRAM */
+    const char *virtual_word; /* an option that is only valid with --virtual */
     struct virtual_options virtual;
     char **program;
-    int is_ready;      /* PROGRAM begins runs in virtual time by itself, in children of it */
-    const char *child; /* the first of a run, which this process has forked: its number, a colon, and the pipe to it */
+    int is_ready;      /* PROGRAM itself begins runs in virtual time, in its children */
+    const char *child; /* a run's first process, which this process has forked: its number, a colon, and the descriptor
+                          of the pipe to it */
 };
 
 static int fault(const char *text, const char *word) {
@@ -73,7 +75,7 @@ static int fault(const char *text, const char *word) {
     return STATUS_FAULT;
 }
 
-/* The value of an option, as `--name VALUE` or `--name=VALUE`; NULL if the word is another. */
+/* The value of an option, `--name VALUE` or `--name=VALUE`; NULL if the word is another option. */
 static const char *value_of(const char *name, char ***at) {
     size_t length = strlen(name);
     if (strncmp(**at, name, length) != 0) {
@@ -85,7 +87,7 @@ static const char *value_of(const char *name, char ***at) {
     return (**at)[length] ? NULL : (*at)[1] ? *++*at : "";
 }
 
-/* Takes an option of --virtual; false if it is none. `fault` is set where its value is wrong. */
+/* Takes an option of --virtual; false if it is another option. Sets `status` if the value is invalid. */
 static int take_virtual(char ***at, struct words *words, int *status) {
     static const char *const names[] = {"date", "until", "stall", "seed", "jitter"};
     for (size_t i = 0; i < sizeof names / sizeof *names; i++) {
@@ -105,7 +107,7 @@ static int take_virtual(char ***at, struct words *words, int *status) {
     return 0;
 }
 
-/* Options that exclude each other: canbusd-run starts no server, so with --virtual there is none yet. */
+/* Refuses options that exclude each other. canbusd-run starts no server, so with --virtual there is no server yet. */
 static int check_words(const struct words *words) {
     if (words->virtual_word && !words->is_virtual) {
         return fault("only --virtual has this option", words->virtual_word);
@@ -123,7 +125,7 @@ static int check_words(const struct words *words) {
     return *words->program || words->child ? 0 : fault("which program? --help shows how it is used", NULL);
 }
 
-/* Returns 0, or a status after a line on standard error. */
+/* Reads the command line. Returns 0, or a status after a line on standard error. */
 static int read_words(char **at, struct words *words) {
     int status = 0;
     for (; *at && !strncmp(*at, "--", 2); at++) {
@@ -172,7 +174,7 @@ static int no_interface(const char *name, size_t length, const char *all) {
     return STATUS_FAULT;
 }
 
-/* Has the program find these interfaces, of all that the server has; returns 0, or a status after a line. */
+/* Lets the program see only these interfaces of the server. Returns 0, or a status after a line. */
 static int show_interfaces(const char *list, const char *all) {
     for (const char *at = list;; at++) {
         char name[IFNAMSIZ] = "";
@@ -189,7 +191,7 @@ static int show_interfaces(const char *list, const char *all) {
     }
 }
 
-/* Puts a text in front of a list of the environment, unless it is there. */
+/* Puts a text before the other entries of an environment variable, unless it is already there. */
 static void put_first(const char *variable, const char *text, const char *separator) {
     const char *before = getenv(variable);
     char *whole;
@@ -201,7 +203,7 @@ static void put_first(const char *variable, const char *text, const char *separa
     }
 }
 
-/* Has the loader load a library before all others; what it needs is beside it. */
+/* Makes the loader load a library before all others. The library's own files are in the same folder. */
 static int preload(const char *name) {
     char path[PATH_MAX], library[PATH_MAX + sizeof VIRTUAL_LIBRARY];
     ssize_t length = readlink("/proc/self/exe", path, sizeof path - 1);
@@ -219,7 +221,7 @@ static int preload(const char *name) {
         return fault(library, strerror(errno));
     }
     put_first("LD_PRELOAD", library, ":");
-    /* gcc's address sanitizer wants to be the first library, though it need not be. */
+    /* gcc's address sanitizer wants to be the first library, without needing to be. */
     put_first("ASAN_OPTIONS", "verify_asan_link_order=0", ":");
     return 0;
 }
@@ -245,7 +247,7 @@ static int become(char **program, int is_supervised) {
     return error == ENOENT ? STATUS_NOT_FOUND : STATUS_NOT_RUN;
 }
 
-/* Begins anew with the library, by which a supervisor makes the calls of the program. */
+/* Starts this command again with the library, as the supervisor of the program. */
 static int begin_supervised(char **program) {
     size_t count = 0;
     while (program[count]) {
@@ -259,7 +261,7 @@ static int begin_supervised(char **program) {
     return fault("/proc/self/exe can't be run", strerror(errno));
 }
 
-/* Runs the program or the child, and all that it starts, with a simulated clock. */
+/* Runs the program or the child, and all that it starts, in virtual time. */
 static int run_virtual(const struct words *words) {
     char path[PATH_MAX];
     int status = 0, child, settings;
@@ -298,7 +300,7 @@ int main(int count, char **all) {
         return run_virtual(&words);
     }
     if (words.is_ready) {
-        personality(ADDR_NO_RANDOMIZE); /* Its children have the addresses of other runs. */
+        personality(ADDR_NO_RANDOMIZE); /* Then its children have the same addresses in each run. */
         status = preload(VIRTUAL_LIBRARY);
         return status ? status : become(words.program, 0);
     }

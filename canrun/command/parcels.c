@@ -1,4 +1,4 @@
-/* Messages of a program whose calls the supervisor makes. See supervise.h. */
+/* Messages of a program with a supervisor. See supervise.h. */
 #define _GNU_SOURCE
 #include "supervise.h"
 
@@ -14,16 +14,16 @@
 #include <sys/uio.h>
 #include <time.h>
 
-/* The result of a call that a signal interrupts: it begins anew, or is EINTR, as the handler says. */
+/* The kernel's ERESTARTSYS: the interrupted call is restarted or returns EINTR, as the handler's flags say. */
 #define RESTART 512
-/* Milliseconds after which a call that waits looks for signals: nobody else reports them. */
+/* How many milliseconds a waiting call sleeps between two checks for signals, which nothing else reports. */
 #define LOOK 20
-/* The most of a message, of control messages, and of pieces. */
+/* The largest message, its largest control data, and its most pieces. */
 #define LONGEST WIRE_LARGEST
 #define CONTROL 1024
 #define PIECES 1024
 
-/* A message of the program, and the room for it here. */
+/* A message of the program, with its copy here. */
 struct parcel {
     struct msghdr theirs, ours;
     struct iovec parts[PIECES], whole;
@@ -32,7 +32,7 @@ struct parcel {
     char data[LONGEST + 1];
 };
 
-/* The number of bytes that its pieces have, as far as there is room here. */
+/* The total length of the message's pieces, up to the size of the copy. */
 static size_t length_of(const struct parcel *parcel) {
     size_t length = 0;
     for (size_t i = 0; i < parcel->theirs.msg_iovlen; i++) {
@@ -41,7 +41,7 @@ static size_t length_of(const struct parcel *parcel) {
     return length;
 }
 
-/* Reads the head of a message: that of a call with one piece, an address and its length; or a message that it names. */
+/* Reads the head of a message: its struct msghdr, or the single piece and the address among the call's arguments. */
 static int read_head(const struct call *call, struct parcel *parcel) {
     int number = call->asked->data.nr;
     const __u64 *words = call->words;
@@ -89,12 +89,12 @@ int64_t wait_for(const struct call *call, short events, const struct timeval *li
     }
 }
 
-/* Whether a call waits, with these flags. */
+/* Whether a call with these flags may wait. */
 static bool may_wait(const struct call *call, int flags) {
     return !(flags & (MSG_DONTWAIT | MSG_ERRQUEUE)) && !(fcntl(call->fd, F_GETFL) & O_NONBLOCK);
 }
 
-/* Writes a message. One of ISO-TP may have to wait for the one before, which a signal ends. */
+/* Sends a message. An ISO-TP message may have to wait for the one before; a signal ends the wait. */
 static int64_t put_message(const struct call *call, const struct msghdr *message, int flags) {
     const struct timeval no_limit = {0, 0};
     int type = 0;
@@ -142,7 +142,8 @@ static int64_t send_message(const struct call *call, struct parcel *parcel, int 
     return put_message(call, &parcel->ours, flags);
 }
 
-/* Gives the program the address of a message, as it has room; as the kernel, once that has been received. */
+/* Writes a message's address into the program's buffer, as much as fits. Like the kernel, it does so after the message
+ * was received. */
 static int64_t give_name(const struct call *call, const struct parcel *parcel, int64_t value) {
     socklen_t room;
     if (!parcel->theirs.msg_name) {
@@ -160,7 +161,7 @@ static int64_t give_name(const struct call *call, const struct parcel *parcel, i
                : -EFAULT;
 }
 
-/* Gives the program the facts about a message besides its bytes. */
+/* Writes the facts of a message besides its bytes to the program. */
 static int64_t give_head(const struct call *call, struct parcel *parcel, int64_t value) {
     struct msghdr *theirs = &parcel->theirs;
     const struct msghdr *ours = &parcel->ours;
@@ -176,7 +177,7 @@ static int64_t give_head(const struct call *call, struct parcel *parcel, int64_t
     return give(call, call->words[1], theirs, sizeof *theirs) ? value : -EFAULT;
 }
 
-/* Gives the program what was received. */
+/* Writes a received message to the program. */
 static int64_t give_message(const struct call *call, struct parcel *parcel, size_t length, int64_t value) {
     size_t at = 0;
     for (size_t i = 0; at < length && i < parcel->theirs.msg_iovlen; i++) {

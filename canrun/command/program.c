@@ -1,4 +1,4 @@
-/* Whether a program can be run so: what its file says of how it is loaded. See program.h. */
+/* Checks from its file how a program is loaded, and whether it can be run in this way. See program.h. */
 #define _GNU_SOURCE
 #include "program.h"
 
@@ -42,7 +42,7 @@ static bool read_at(int fd, void *data, size_t length, size_t offset) {
     return pread(fd, data, length, (off_t)offset) == (ssize_t)length;
 }
 
-/* Go marks its programs by a note of this owner; the linker of a program with C in it puts it after others. */
+/* Whether a segment has Go's note. The linker of a Go program with C code puts this note after others. */
 static bool has_note_of_go(int fd, const Elf64_Phdr *segment) {
     struct {
         Elf64_Nhdr head;
@@ -72,13 +72,14 @@ static bool is_loader_of_musl(int fd, const Elf64_Phdr *segment) {
 
 static const char OF_MUSL[] = "is linked with musl, and not with glibc";
 
-/* Why a program of this file takes no library; one of 32 bit has no other way either. */
+/* The reason why the program in this file does not load the library. For a 32-bit program there is no other way
+ * either. */
 static const char *elf_obstacle(int fd, bool *is_32_bit) {
     Elf64_Ehdr head;
     Elf64_Phdr segment;
     bool is_dynamic = false, is_go = false, is_musl = false;
     if (!read_at(fd, &head, sizeof head, 0) || memcmp(head.e_ident, ELFMAG, SELFMAG) != 0) {
-        return NULL; /* A script: what counts is what it runs. */
+        return NULL; /* A script: its interpreter counts. */
     }
     *is_32_bit = head.e_ident[EI_CLASS] != ELFCLASS64;
     if (*is_32_bit) {
@@ -96,7 +97,7 @@ static const char *elf_obstacle(int fd, bool *is_32_bit) {
                          : NULL;
 }
 
-/* The loader ignores what it should preload where a program gets other rights by its file. */
+/* Whether a program gets other rights from its file; then the loader ignores the library. */
 static bool is_privileged(const char *path) {
     struct stat status;
     if (stat(path, &status)) {
@@ -107,8 +108,8 @@ static bool is_privileged(const char *path) {
            (geteuid() != 0 && getxattr(path, "security.capability", NULL, 0) > 0);
 }
 
-/* Whether a program is linked statically, but its CAN sockets would not be the kernel's: ldconfig makes none, and
- * valgrind and the loader run another program, with the library. */
+/* Whether a statically linked program causes no wrong CAN sockets: ldconfig makes none, and valgrind and the loader run
+ * another program, with the library. */
 static bool is_harmless(const char *path) {
     static const char *const names[] = {"ldconfig", "sln", "ld-linux", "ld.so", "ld64.so"};
     const char *slash = strrchr(path, '/'), *name = slash ? slash + 1 : path;
@@ -120,7 +121,7 @@ static bool is_harmless(const char *path) {
     return strstr(path, "/valgrind/");
 }
 
-/* The same of the file of this path. */
+/* The same for the file with this path. */
 static const char *file_obstacle(const char *path, bool *is_32_bit) {
     int fd = open(path, O_RDONLY | O_CLOEXEC);
     const char *obstacle = fd >= 0 ? elf_obstacle(fd, is_32_bit) : NULL;

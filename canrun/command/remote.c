@@ -1,4 +1,4 @@
-/* The program whose calls the supervisor makes: its memory, its replies, its signals. See supervise.h. */
+/* The memory, descriptors and signals of a program with a supervisor, and replies to it. See supervise.h. */
 #define _GNU_SOURCE
 #include "supervise.h"
 
@@ -25,7 +25,6 @@ bool give(const struct call *call, uint64_t there, const void *here, size_t leng
     return !length || process_vm_writev(call->thread, &ours, 1, &theirs, 1, 0) == (ssize_t)length;
 }
 
-/* The result of a call of the library, as the kernel returns it. */
 int64_t result(int64_t value) {
     return value < 0 ? -errno : value;
 }
@@ -38,7 +37,6 @@ void reply(const struct call *call, int64_t value, uint32_t flags) {
     ioctl(call->listener, SECCOMP_IOCTL_NOTIF_SEND, &said);
 }
 
-/* The kernel makes the call itself. */
 void let_go_on(const struct call *call) {
     reply(call, 0, SECCOMP_USER_NOTIF_FLAG_CONTINUE);
 }
@@ -47,7 +45,6 @@ bool is_waited_for(const struct call *call) {
     return !ioctl(call->listener, SECCOMP_IOCTL_NOTIF_ID_VALID, &call->asked->id);
 }
 
-/* Whether the thread has a signal that it takes. */
 bool has_signal(const struct call *call) {
     char path[64], line[128];
     unsigned long own = 0, shared = 0, blocked = 0, ignored = 0;
@@ -65,7 +62,7 @@ bool has_signal(const struct call *call) {
 
 /* ---- programs ---- */
 
-/* The files of programs that were looked at. */
+/* A cache of checked program files. */
 static struct {
     dev_t device;
     ino_t file;
@@ -73,7 +70,6 @@ static struct {
 } files[16];
 static pthread_mutex_t files_lock = PTHREAD_MUTEX_INITIALIZER;
 
-/* Whether a program that was started by this one has the library: then it makes its calls by itself. */
 bool has_library(pid_t thread) {
     static unsigned next;
     char path[64];
@@ -115,7 +111,6 @@ pid_t process_of(pid_t thread) {
 
 /* ---- descriptors ---- */
 
-/* A copy of the descriptor; -1 and errno if there is none, or this process may not have one. */
 int copy_descriptor(pid_t process, int fd) {
     int pidfd = (int)syscall(SYS_pidfd_open, process, 0);
     int copy = pidfd < 0 ? -1 : (int)syscall(SYS_pidfd_getfd, pidfd, fd, 0), error = errno;

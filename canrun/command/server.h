@@ -1,4 +1,4 @@
-/* The server that a program is to use: whether it is there, and how it is named to the bridges. */
+/* The server for a program: checks that it runs, and finds its address and names for the bridges. */
 #ifndef SERVER_H
 #define SERVER_H
 
@@ -8,14 +8,14 @@
 #include <stdbool.h>
 
 struct server {
-    /* As a bridge can use it: an absolute path, or a host that is a number. */
+    /* The address in a form for the bridges: an absolute path, or a host that is a number. */
     char address[PATH_MAX + 300];
     /* The names of all its interfaces, joined by commas. */
     char interfaces[INTERFACE_NAMES];
 };
 
-/* Looks whether a canbusd listens at this address; if `waits`, until one does. False after a line on standard error.
- */
+/* Checks whether a canbusd listens at this address; with `waits` it waits for one. False after a line on standard
+ * error. */
 bool server_find(const char *text, bool waits, struct server *server);
 
 #endif

@@ -1,4 +1,4 @@
-/* Starts a program whose system calls a supervisor makes: see static.h. */
+/* Starts a program with a supervisor for its system calls: see static.h. */
 #define _GNU_SOURCE
 #include "static.h"
 
@@ -23,7 +23,7 @@
 #include <unistd.h>
 
 #define STATUS_FAULT 125
-/* Calls that run at one moment; more wait. */
+/* The stack size of a thread that makes one call. */
 #define STACK 262144
 
 #ifdef __x86_64__
@@ -33,8 +33,8 @@
 #else
 #define ARCHITECTURE 0
 #endif
-/* Of a newer Linux than some headers: once the supervisor has a call, only a signal that kills ends it. So no frame is
- * written twice, or is lost with a call that a signal interrupts. */
+/* This flag is newer than some headers. Once the supervisor has received a call, only a fatal signal ends the call. So
+ * no frame is written twice, or is lost with an interrupted call. */
 #ifndef SECCOMP_FILTER_FLAG_WAIT_KILLABLE_RECV
 #define SECCOMP_FILTER_FLAG_WAIT_KILLABLE_RECV (1UL << 5)
 #endif
@@ -53,17 +53,19 @@ static int fault(const char *why) {
 #define ALLOW BPF_STMT(BPF_RET | BPF_K, SECCOMP_RET_ALLOW)
 #define NOTIFY BPF_STMT(BPF_RET | BPF_K, SECCOMP_RET_USER_NOTIF)
 
-/* Calls of sockets, whose descriptors begin at STATIC_FIRST. A read waits in the kernel: it gets the frame as it is. */
+/* Calls on sockets, whose descriptors begin at STATIC_FIRST. A read that has to wait does so in the kernel, and gets
+ * the frame unchanged. */
 static const unsigned CALLS[] = {
     SYS_bind,   SYS_connect, SYS_setsockopt, SYS_getsockopt, SYS_getsockname, SYS_getpeername, SYS_listen,
     SYS_accept, SYS_accept4, SYS_shutdown,   SYS_recvfrom,   SYS_recvmsg,     SYS_sendto,      SYS_sendmsg,
     SYS_write,  SYS_writev,  SYS_read,       SYS_readv,      SYS_dup,         SYS_close,       SYS_fcntl};
-/* Requests about interfaces, of any descriptor; those of a socket's own are caught as a call of it. */
+/* Requests about interfaces, on any descriptor. The requests on a socket itself are caught as calls on the socket. */
 static const unsigned REQUESTS[] = {SIOCGIFINDEX,  SIOCGIFNAME,   SIOCGIFMTU, SIOCGIFFLAGS, SIOCGIFHWADDR,
                                     SIOCGIFTXQLEN, SIOCGIFMETRIC, SIOCGIFMAP, SIOCSIFFLAGS};
 #define COUNT(list) (sizeof(list) / sizeof *(list))
 
-/* Adds comparisons with each of a list: if one is equal the next instructions follow, else those are skipped. */
+/* Adds a comparison with each value of a list. If one is equal, the following instructions run; otherwise so many are
+ * skipped. */
 static size_t compare(struct sock_filter *code, const unsigned *list, size_t count, unsigned skipped) {
     for (size_t i = 0; i < count; i++) {
         bool is_last = i + 1 == count;
@@ -73,7 +75,7 @@ static size_t compare(struct sock_filter *code, const unsigned *list, size_t cou
     return count;
 }
 
-/* Installs the filter; returns the descriptor of the notifications, or -1 and errno. */
+/* Installs the filter. Returns the descriptor of the notifications, or -1 and errno. */
 static int install(void) {
     const struct sock_filter head[] = {LOAD(arch), IS(ARCHITECTURE, 1, 0), ALLOW, LOAD(nr), IS(SYS_socket, 0, 8),
                                        /* CAN, and NETLINK_ROUTE, which is 0. */
@@ -111,7 +113,7 @@ static void *do_job(void *given) {
     return NULL;
 }
 
-/* Standard error of the program is for the notes of the library, as long as that runs which was started. */
+/* Once the process that was started has ended, its standard error gets no more notes of the library. */
 static void leave_output(struct pollfd *program) {
     int null = open("/dev/null", O_RDWR | O_CLOEXEC);
     dup2(null, STDERR_FILENO);
@@ -144,7 +146,8 @@ void static_serve(int listener, int program) {
     }
 }
 
-/* Nobody waits for a supervisor; it keeps this descriptor, and standard error. */
+/* Leaves the program's descriptors and session, so that no process waits for a supervisor. It keeps `kept` and standard
+ * error. */
 static void leave_program(unsigned kept) {
     int null = open("/dev/null", O_RDWR | O_CLOEXEC);
     dup2(null, STDIN_FILENO);
@@ -160,7 +163,7 @@ static void leave_program(unsigned kept) {
     signal(SIGPIPE, SIG_IGN);
     prctl(PR_SET_NAME, "canbusd-static");
     if (chdir("/")) {
-        /* Then a folder stays in use. */
+        /* The folder stays in use then. */
     }
 }
 
@@ -194,7 +197,7 @@ static int take(int by) {
     return fd;
 }
 
-/* Forks a supervisor that is no child of this process, and gets its number by the pair. */
+/* Forks a supervisor that is not a child of this process, and receives its process number on the pair. */
 static pid_t start_supervisor(const int pair[2]) {
     pid_t number = -1, program = getpid(), child = fork();
     if (child == 0) {
@@ -233,7 +236,7 @@ int static_run(const char *path, char **program) {
     if (supervisor < 0) {
         return fault("no process for the supervisor");
     }
-    /* Where only ancestors may look into a process (Yama). */
+    /* Needed if only ancestors may read a process's memory (Yama). */
     prctl(PR_SET_PTRACER, supervisor, 0, 0, 0);
     int listener = ARCHITECTURE ? install() : (errno = ENOSYS, -1);
     if (listener < 0) {

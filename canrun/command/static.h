@@ -1,26 +1,26 @@
-/* --static: programs that take no library, since they are linked statically or with musl, or are of Go. Their system
- * calls about CAN sockets and netlink wait, by seccomp's user notification, for a supervisor, which makes them by the
- * functions of the library on a copy of the descriptor. The supervisor is a process with the library; the program stays
- * the process that was started. */
+/* --static: programs that do not load the library, since they are linked statically or with musl, or are written in Go.
+ * Their system calls on CAN sockets and netlink wait for a supervisor, through seccomp's user notification. The
+ * supervisor makes these calls with the library's functions, on a copy of the descriptor. It is a process with the
+ * library; the program keeps the process that was started. */
 #ifndef STATIC_H
 #define STATIC_H
 
 #include <linux/seccomp.h>
 #include <stdbool.h>
 
-/* The place of the sockets' descriptors, so that the filter of system calls knows them: below those that select
- * can't have. */
+/* The range of the sockets' descriptors, so that the filter of system calls recognizes them. It is below the limit of
+ * select. */
 #define STATIC_FIRST 960
 #define STATIC_PAST 1024
 
-/* Becomes this program, whose calls a supervisor makes from now on. Returns a status, after a line, if it can't. */
+/* Becomes this program, with a supervisor for its calls. If this fails it prints a line and returns a status. */
 int static_run(const char *path, char **program);
 
-/* The supervisor: serves the calls that come by this descriptor until nobody makes any; `program` is a descriptor of
- * the process that was started. */
+/* The supervisor: serves the calls of this listener until no process makes any. `program` is a pidfd of the process
+ * that was started. */
 void static_serve(int listener, int program);
 
-/* Makes a call of the program; the reply goes by the listener. */
+/* Makes a call of the program, and sends the reply to the listener. */
 void static_call(int listener, const struct seccomp_notif *asked);
 
 #endif

@@ -1,5 +1,5 @@
-/* Makes a system call of a program that takes no library: see static.h. The functions are those of the library, which
- * this process has. */
+/* Makes a system call for a program without the library: see static.h. It uses the functions of the library, which this
+ * process has loaded. */
 #define _GNU_SOURCE
 #include "supervise.h"
 
@@ -22,21 +22,22 @@
 #include <time.h>
 #include <unistd.h>
 
-/* The most of an option. */
+/* The longest value of an option. */
 #define OPTION 8192
-/* Seconds that a close waits for the end of a message. */
+/* How many seconds a close waits until a message has been sent. */
 #define CLOSE_TIME 60
 
 /* ---- sockets ---- */
 
-/* Closes a copy. It is not the program's close, which may wait for the end of a message. */
+/* Closes a copy of a descriptor. This is not the program's close, which may wait for the end of a message. */
 static void drop(int fd) {
     close_range((unsigned)fd, (unsigned)fd, 0);
 }
 
 static pthread_mutex_t places = PTHREAD_MUTEX_INITIALIZER;
 
-/* Puts a socket at a place of the program that is free, which is what its call returns. */
+/* Puts a socket at a free descriptor of the program in the range; the program's call returns this descriptor. Returns
+ * 0, or a negative errno. */
 static int put_socket(const struct call *call, int fd, bool is_cloexec) {
     char path[64], target[8];
     for (uint32_t at = STATIC_FIRST; at < STATIC_PAST; at++) {
@@ -54,7 +55,7 @@ static int put_socket(const struct call *call, int fd, bool is_cloexec) {
     return -EMFILE;
 }
 
-/* Gives a socket to the program, and with it the reply; it is closed here. */
+/* Gives a socket to the program together with the reply, and closes it here. */
 static void hand_over(const struct call *call, int fd, bool is_cloexec) {
     pthread_mutex_lock(&places);
     int error = put_socket(call, fd, is_cloexec);
@@ -65,7 +66,7 @@ static void hand_over(const struct call *call, int fd, bool is_cloexec) {
     }
 }
 
-/* Reports once that there is no CAN_J1939: its errors and the wait of its close need the library in the program. */
+/* Reports once that there is no CAN_J1939: its errors and its close need the library in the program. */
 static void note_no_j1939(void) {
     static bool is_said;
     if (!__atomic_exchange_n(&is_said, true, __ATOMIC_RELAXED)) {
@@ -88,14 +89,14 @@ static void make_socket(const struct call *call) {
     }
 }
 
-/* Whether the call is for a copy of the descriptor, which gets a place beside it. */
+/* Whether the call makes a copy of the descriptor; the copy must be in the range too. */
 static bool is_copying(const struct call *call) {
     int number = call->asked->data.nr;
     return number == SYS_dup ||
            (number == SYS_fcntl && (call->words[1] == F_DUPFD || call->words[1] == F_DUPFD_CLOEXEC));
 }
 
-/* Whether a descriptor is a socket that the library knows: the program may have others at such numbers. */
+/* Whether a descriptor is a socket that the library handles: the program may have other files in the range. */
 static bool is_ours(int fd, bool *is_can) {
     int domain = 0;
     getsockopt(fd, SOL_SOCKET, SO_DOMAIN, &domain, &(socklen_t){sizeof domain});
@@ -137,7 +138,7 @@ static int64_t get_address(const struct call *call) {
                : -EFAULT;
 }
 
-/* A filter of packets names memory of the program. */
+/* Attaches a packet filter, which is in the program's memory. */
 static int64_t attach_filter(const struct call *call) {
     struct sock_fprog program;
     struct sock_filter *code = malloc(BPF_MAXINSNS * sizeof *code);
@@ -188,7 +189,7 @@ static bool is_of_moment(const struct call *call) {
 }
 
 static int64_t do_request(const struct call *call) {
-    struct ifreq request; /* It has room for a moment, or a number. */
+    struct ifreq request; /* It has room for a timestamp or a number. */
     bool is_of_interface = !is_of_moment(call) && call->words[1] >> 8 == 0x89 && call->words[1] != SIOCATMARK;
     size_t length = is_of_interface ? sizeof request : is_of_moment(call) ? sizeof(struct timespec) : sizeof(int);
     if (is_of_interface && !take(call, &request, call->words[2], length)) {
@@ -198,7 +199,7 @@ static int64_t do_request(const struct call *call) {
     return value < 0 || give(call, call->words[2], &request, length) ? value : -EFAULT;
 }
 
-/* Whether the library has a say in a request; others are of any descriptor. */
+/* Whether the library handles this request on a descriptor; other requests are the kernel's. */
 static bool is_of_socket(const struct call *call, bool is_can) {
     unsigned request = (unsigned)call->words[1];
     return (request >> 8 == 0x89 && request != SIOCATMARK && request != SIOCGPGRP && request != SIOCSPGRP &&
@@ -208,8 +209,8 @@ static bool is_of_socket(const struct call *call, bool is_can) {
 
 /* ---- one call ---- */
 
-/* Whether the kernel may make the call: a read that waits for a frame, and wants no more than its bytes. Other
- * protocols may have an error in place of a message. */
+/* Whether the kernel may make the call: a read that waits for a frame and needs only its bytes. Other protocols may
+ * have an error in place of a message. */
 static bool is_plain_wait(const struct call *call) {
     int number = call->asked->data.nr, type = 0;
     struct pollfd polled = {call->fd, POLLIN, 0};
@@ -219,7 +220,7 @@ static bool is_plain_wait(const struct call *call) {
            type == SOCK_RAW && poll(&polled, 1, 0) == 0;
 }
 
-/* The library's: it says for whom this thread makes calls from now on. */
+/* A function of the library: sets the process for which this thread now makes calls. */
 __attribute__((weak)) void canbusd_run_serves(pid_t process);
 
 static int64_t make_call(const struct call *call) {
@@ -246,7 +247,7 @@ static int64_t make_call(const struct call *call) {
     }
 }
 
-/* Reports once that this process may not look into the program. */
+/* Reports once that this process is not allowed to read the program's memory. */
 static void note_no_access(void) {
     static bool is_said;
     if (!__atomic_exchange_n(&is_said, true, __ATOMIC_RELAXED)) {
@@ -255,7 +256,7 @@ static void note_no_access(void) {
     }
 }
 
-/* Whether the call is made here; else the kernel makes it. */
+/* Whether this process makes the call; otherwise the kernel does. */
 static bool is_wanted(const struct call *call, bool is_known, bool is_can) {
     int number = call->asked->data.nr;
     return number == SYS_ioctl   ? is_of_socket(call, is_can)
@@ -264,7 +265,7 @@ static bool is_wanted(const struct call *call, bool is_known, bool is_can) {
                                  : is_known && !(is_can && is_plain_wait(call));
 }
 
-/* Makes the call of a descriptor, or lets the kernel make it. */
+/* Makes a call on a descriptor, or lets the kernel make it. */
 static void call_of_descriptor(struct call *call) {
     int number = call->asked->data.nr;
     bool is_can = false;
@@ -287,7 +288,8 @@ static void call_of_descriptor(struct call *call) {
     if (is_here) {
         value = make_call(call);
     } else if (number == SYS_close && is_can) {
-        wait_for(call, POLLOUT, &(struct timeval){CLOSE_TIME, 0}); /* A message is sent before its socket is closed. */
+        wait_for(call, POLLOUT,
+                 &(struct timeval){CLOSE_TIME, 0}); /* The message is sent before its socket is closed. */
     }
     drop(call->fd);
     if (is_here) {

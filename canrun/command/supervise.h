@@ -1,4 +1,4 @@
-/* Declarations that the files of the supervisor share, see static.h. */
+/* Declarations that the files of the supervisor share; see static.h. */
 #ifndef SUPERVISE_H
 #define SUPERVISE_H
 
@@ -9,47 +9,48 @@
 #include <sys/time.h>
 #include <sys/types.h>
 
-/* A call of the program, which waits for a reply. */
+/* A call of the program, which waits for its reply. */
 struct call {
     int listener;
     const struct seccomp_notif *asked;
     pid_t thread, process;
-    int fd; /* a copy of the program's */
+    int fd; /* a copy of the program's descriptor */
     const __u64 *words;
 };
 
-/* ---- remote.c: the program ---- */
+/* ---- remote.c: the program's memory and descriptors ---- */
 
-/* Copy from, or to, memory of the program; false if it has none there. */
+/* Copy from or to the program's memory; false if the address is invalid. */
 bool take(const struct call *call, void *here, uint64_t there, size_t length);
 bool give(const struct call *call, uint64_t there, const void *here, size_t length);
 
-/* The result of a call of the library, as the kernel returns it: an errno is below 0. */
+/* Converts the result of a library call to the kernel's form: a failure is a negative errno. */
 int64_t result(int64_t value);
 
-/* Replies to the call; or has the kernel make it. */
+/* Replies to the call; or lets the kernel make it. */
 void reply(const struct call *call, int64_t value, uint32_t flags);
 void let_go_on(const struct call *call);
 
-/* Whether the call is still waited for; whether its thread has a signal that it takes. */
+/* Whether the program still waits for the call; whether its thread has a signal that it will handle. */
 bool is_waited_for(const struct call *call);
 bool has_signal(const struct call *call);
 
-/* Whether a program has the library: then it makes its calls by itself. */
+/* Whether a program has loaded the library, and so makes its calls itself. */
 bool has_library(pid_t thread);
 
 /* The process of a thread. */
 pid_t process_of(pid_t thread);
 
-/* A copy of a descriptor of a process; -1 and errno if it has none, or this process may not have one. */
+/* Copies a descriptor of a process. Returns -1 and errno if the process has no such descriptor, or this process lacks
+ * the rights. */
 int copy_descriptor(pid_t process, int fd);
 
 /* ---- parcels.c ---- */
 
-/* Waits until the socket can be read, or written: returns 0, or what the call returns then. */
+/* Waits until the socket can be read or written. Returns 0, or the result of the call. */
 int64_t wait_for(const struct call *call, short events, const struct timeval *limit);
 
-/* Makes a call that sends a message, or receives one. */
+/* Makes a call that sends or receives a message. */
 int64_t carry_message(const struct call *call, bool sends);
 
 #endif

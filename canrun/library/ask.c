@@ -1,5 +1,5 @@
-/* A request to the bridge of a socket, and its reply. Nothing is kept for it: the reply comes by a pipe of its own, so
- * any number of threads and processes can ask at once. */
+/* A request to the bridge of a socket, and its reply. The reply comes on a separate pipe and no state is kept, so any
+ * number of threads and processes can ask at once. */
 #define _GNU_SOURCE
 #include "library.h"
 
@@ -33,19 +33,19 @@ int put_request(int fd, int with, const struct wire_request *request, const stru
     rights->cmsg_type = SCM_RIGHTS;
     rights->cmsg_len = CMSG_LEN(sizeof(int));
     memcpy(CMSG_DATA(rights), &with, sizeof(int));
-    /* Requests are taken at once, so there is room soon also if the program does not want to wait. */
+    /* The bridge takes requests at once, so there is room soon, even if the program does not want to wait. */
     return syscall(SYS_sendmsg, fd, &message, MSG_NOSIGNAL) >= 0 ? 0 : errno;
 }
 
-/* The place for the reply, and its request. */
+/* A request that waits for its reply. */
 struct asked {
     int fd, reply_from;
     const char *what;
     bool may_end;        /* a signal ends the wait */
-    bool is_interrupted; /* one has, whose handler has no SA_RESTART */
+    bool is_interrupted; /* a signal came, and its handler has no SA_RESTART */
 };
 
-/* Has the bridge end the wait of a write; the reply says whether that came too late. */
+/* Makes the bridge end the wait of a write. If this comes too late, the reply says so. */
 static void cancel(struct asked *asked) {
     struct wire_request request = {.kind = WIRE_CANCEL};
     while (put_request(asked->fd, asked->reply_from, &request, NULL, 0) == EINTR) {
@@ -53,8 +53,8 @@ static void cancel(struct asked *asked) {
     asked->may_end = false;
 }
 
-/* Reads up to this many bytes; fewer only at the end. A signal is no reason to forget what became of a request; the
- * kernel goes on by itself where its handler has SA_RESTART. */
+/* Reads this many bytes; fewer only at the end of the pipe. After a signal it reads on, because the reply has the
+ * request's result. The kernel itself continues the read if the handler has SA_RESTART. */
 static size_t read_whole(struct asked *asked, void *data, size_t length) {
     size_t done = 0;
     while (done < length) {
@@ -106,7 +106,7 @@ int ask(int fd, const char *what, const struct wire_request *request, const stru
     }
     int result = error ? refuse_unsent(what, error) : get_reply(&asked, answer);
     error = result ? errno : before;
-    /* A program with SA_RESTART does not know of EINTR: then there is no room, as without --wait. */
+    /* A program with SA_RESTART does not expect EINTR, so it gets the error for no room, as without --wait. */
     error = wait_end(wait) && result && error == EINTR && !asked.is_interrupted ? ENOBUFS : error;
     syscall(SYS_close, ends[0]);
     errno = error;

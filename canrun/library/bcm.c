@@ -1,4 +1,4 @@
-/* CAN_BCM, the broadcast manager: connect has the place of bind, there are no options, and no address is returned. */
+/* CAN_BCM, the broadcast manager: it has connect in place of bind, no options, and returns no address. */
 #define _GNU_SOURCE
 #include "library.h"
 
@@ -27,7 +27,7 @@ static ssize_t bcm_sendmsg(const struct socket *sock, const struct msghdr *messa
                : answer.value;
 }
 
-/* As in the kernel, nothing says that there was no room for all of a message. */
+/* As in the kernel, the program does not learn that a message was longer than its buffer. */
 static ssize_t bcm_recvmsg(const struct socket *sock, struct msghdr *message, int flags) {
     ssize_t done = can_recvmsg(sock, message, flags);
     message->msg_flags &= ~MSG_TRUNC;

@@ -1,4 +1,4 @@
-/* close, dup2 and dup3: the close of a socket whose protocol lingers waits until its message has been sent, as in the
+/* close, dup2 and dup3: closing a socket of a protocol that lingers waits until its message has been sent, as in the
  * kernel. */
 #define _GNU_SOURCE
 #include "library.h"
@@ -13,8 +13,8 @@ static void put_byte(int fd) {
     syscall(SYS_sendto, fd, "", 1L, MSG_NOSIGNAL, NULL, 0L);
 }
 
-/* Waits for the end of the bridge, which has the other end of the pair, or until it does not wait. A signal ends that:
- * the message is given up, and nothing of it comes once that is done. */
+/* Waits until the bridge ends or closes its end of the pair. A signal ends the wait: the bridge gives the message up,
+ * and sends none of its frames after that. */
 static void await_end(int fd) {
     struct pollfd polled = {fd, POLLIN, 0};
     if (syscall(SYS_ppoll, &polled, 1L, NULL, NULL, 0L) < 0) {
@@ -51,7 +51,7 @@ EXPORT int close(int fd) {
     return lingers(fd) ? close_patiently(fd) : real()->close(fd);
 }
 
-/* A copy of the socket that a call takes the place of; it is closed after the call. -1 for none. */
+/* Makes a copy of a socket that a call will replace; the copy is closed after the call. -1 if no copy is needed. */
 static int copy_of_replaced(int from, int to) {
     return from != to && lingers(to) ? fcntl(to, F_DUPFD_CLOEXEC, 0) : -1;
 }

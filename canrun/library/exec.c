@@ -1,5 +1,5 @@
-/* Starting programs: a line of standard error names one whose CAN sockets are the kernel's, as its file shows that it
- * takes no library. The calls are the C library's own. */
+/* Starts of programs. If a program's file shows that it does not load the library, a line on standard error names it:
+ * its CAN sockets are the kernel's. The calls themselves are the C library's own. */
 #define _GNU_SOURCE
 #include "library.h"
 
@@ -10,7 +10,7 @@
 #include <stdio.h>
 #include <sys/syscall.h>
 
-/* Names the program of this file, which may be one that PATH finds; NULL for none. */
+/* Names the program of this file, if necessary; PATH is searched for it if `is_searched`. */
 static void note(const char *file, bool is_searched) {
     char path[PATH_MAX], line[PATH_MAX + 192];
     int before = errno;

@@ -1,6 +1,6 @@
-/* Files below /sys/class/net, where programs such as those of Qt look for devices: each interface of the server has a
- * folder there with the files that say what it is. A file that is opened is one of memory, which only has its text; of
- * a folder, and for permissions, that of lo stands for it. */
+/* Files below /sys/class/net, in which programs such as Qt's look for devices. Each interface of the server has a
+ * folder there with files of its facts. An opened file is a memory file that contains only the text. Facts of a folder,
+ * and permissions, are those of lo. */
 #define _GNU_SOURCE
 #include "library.h"
 
@@ -18,16 +18,16 @@
 #include <sys/syscall.h>
 
 #define FOLDER "/sys/class/net/"
-/* As linux/if.h has it. */
+/* IFF_ECHO of linux/if.h. */
 #define FLAG_ECHO 0x40000
 
-/* The interface of a path, and the file of its folder, or an empty name for the folder itself. */
+/* The interface of a path, and the file in its folder; the name is empty for the folder itself. */
 struct place {
     int index;
     const char *file;
 };
 
-/* Whether a path is below /sys/class/net, in the folder of an interface of the server. */
+/* Whether a path is in the folder of one of the server's interfaces below /sys/class/net. */
 static bool find_place(const char *path, struct place *place) {
     const size_t length = sizeof FOLDER - 1;
     char name[IFNAMSIZ];
@@ -48,7 +48,7 @@ static bool find_place(const char *path, struct place *place) {
 
 /* ---- texts ---- */
 
-/* Writes the text of a file about what changes; false if it is another, or not known. */
+/* Writes the text of a file with a changing fact; false if there is no such file, or the fact is unknown. */
 static bool write_fact(const struct place *place, char *text, size_t size) {
     struct link_facts facts = links_facts(place->index);
     const struct {
@@ -115,7 +115,7 @@ static int open_place(const struct place *place, int flags) {
     return fd;
 }
 
-/* The path whose facts are those of this one. */
+/* Returns the path whose facts the program gets for this path. */
 static const char *stand_in(const char *path, char room[PATH_MAX]) {
     struct place place;
     char text[128];
@@ -177,7 +177,7 @@ EXPORT FILE *fopen64(const char *restrict path, const char *restrict mode) {
     return find_place(path, &place) ? open_stream(&place, mode) : real()->fopen64(path, mode);
 }
 
-/* ---- what a path is ---- */
+/* ---- facts of paths ---- */
 
 EXPORT int stat(const char *restrict path, struct stat *restrict facts) {
     char room[PATH_MAX];
@@ -226,7 +226,7 @@ EXPORT int faccessat(int folder, const char *path, int mode, int flags) {
 
 /* ---- the list of interfaces ---- */
 
-/* The streams of /sys/class/net that are open, each with the interface that is listed next. */
+/* The open streams of /sys/class/net, each with the next interface of its list. */
 static struct {
     const DIR *stream;
     int next;
@@ -238,7 +238,7 @@ static struct {
 #define LISTS (sizeof lists / sizeof *lists)
 static pthread_mutex_t lists_lock = PTHREAD_MUTEX_INITIALIZER;
 
-/* The place of a stream among these; LISTS if it has none. With NULL a free one. */
+/* The place of a stream in `lists`; LISTS if it has no place. NULL finds a free place. */
 static size_t list_of(const DIR *stream) {
     size_t at = 0;
     while (at < LISTS && lists[at].stream != stream) {
@@ -283,7 +283,8 @@ EXPORT void rewinddir(DIR *stream) {
     real()->rewinddir(stream);
 }
 
-/* The next interface of the server after the kernel's; NULL if there is none. Both forms of an entry are alike. */
+/* The next interface of the server, after the kernel's; NULL at the end. Both forms of an entry have the same
+ * layout. */
 static struct dirent64 *next_interface(const DIR *stream) {
     char name[IFNAMSIZ];
     int before = errno;
@@ -312,7 +313,7 @@ EXPORT struct dirent64 *readdir64(DIR *stream) {
     return next ? next : next_interface(stream);
 }
 
-/* Programs that are built with _FORTIFY_SOURCE call these. */
+/* Programs built with _FORTIFY_SOURCE call these. */
 EXPORT int __open_2(const char *path, int flags);
 EXPORT int __open64_2(const char *path, int flags);
 

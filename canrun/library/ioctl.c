@@ -1,4 +1,4 @@
-/* ioctl: what is asked of an interface, and the moment of the last frame. */
+/* ioctl: facts of an interface, and the timestamp of the last frame. */
 #define _GNU_SOURCE
 #include "library.h"
 
@@ -24,13 +24,13 @@ static bool is_of_stamp(unsigned long request) {
            request == SIOCGSTAMPNS_NEW;
 }
 
-/* Of the flags a request has room for the first 16. */
+/* A request has room for the first 16 flags only. */
 static short flags_of(int index) {
     struct link_facts facts = links_facts(index);
     return (short)link_flags(&facts);
 }
 
-/* The facts of an interface of the server. */
+/* Writes a fact of an interface of the server. */
 static int fact_of_interface(unsigned long request, struct ifreq *interface) {
     if (request == SIOCGIFNAME) {
         char name[IFNAMSIZ];
@@ -68,7 +68,7 @@ static int interface_ioctl(unsigned long request, void *argument) {
     return result || copy_to(argument, &interface, sizeof interface) ? result : fail(EFAULT);
 }
 
-/* The moment of the frame that was read last. */
+/* Writes the timestamp of the last frame that was read. */
 static int stamp_ioctl(const struct socket *sock, unsigned long request, void *argument) {
     struct shared *one = share_enter(sock);
     uint64_t stamp = one ? last_moment(one->memory, sock->fd) : 0;

@@ -8,7 +8,7 @@
 #include <string.h>
 #include <sys/syscall.h>
 
-/* A write has failed: if that was by the error of the socket, nobody else hears of it. */
+/* After a failed write: if the socket's error caused it, no other call gets that error. */
 static void forget_error(int fd) {
     static const int known[] = {EMSGSIZE, ECOMM, EBADMSG, EILSEQ, ETIMEDOUT};
     for (size_t i = 0; i < sizeof known / sizeof *known; i++) {
@@ -37,7 +37,7 @@ static ssize_t isotp_sendmsg(const struct socket *sock, const struct msghdr *mes
     return answer.value;
 }
 
-/* The kernel refuses other flags, and a socket that is not bound, to which nothing can have come. */
+/* The kernel refuses other flags. It also refuses a socket that is not bound, which cannot have received anything. */
 static int check_read(const struct socket *sock, int flags) {
     struct sockaddr_can can = {0};
     struct answer answer = {.data = &can, .room = sizeof can};

@@ -1,5 +1,4 @@
-/* CAN_J1939: messages that the host of an interface cuts into frames, and an error queue that says what became of them.
- */
+/* CAN_J1939: the host of an interface cuts messages into frames; an error queue reports their ends. */
 #define _GNU_SOURCE
 #include "library.h"
 
@@ -14,15 +13,15 @@
 #include <sys/un.h>
 #include <time.h>
 
-/* The most bytes that go with one request: whole segments of 1785. */
+/* The most bytes in one request: full segments of 1785. */
 #define PIECE (36 * 1785)
 _Static_assert(PIECE + sizeof(struct wire_j1939) <= WIRE_LARGEST, "a request has room for a piece");
-/* How often a host may end just when it was to be asked. */
+/* How often a request may find that the host has just ended. */
 #define TRIES 100
 
 /* ---- the host of an interface ---- */
 
-/* Starts the host at its name; another program may have been faster. Returns 0, or -1 and errno. */
+/* Starts the host with this name; another program may have been faster. Returns 0, or -1 and errno. */
 static int start_host(const struct sockaddr_un *name, socklen_t length) {
     int before = errno;
     int end = (int)syscall(SYS_socket, AF_UNIX, SOCK_SEQPACKET | SOCK_CLOEXEC, 0);
@@ -40,7 +39,7 @@ static int start_host(const struct sockaddr_un *name, socklen_t length) {
     return error && error != EADDRINUSE ? refuse("bind", error, "the host of the interface can't be started") : 0;
 }
 
-/* Has the bridge connect to the host of this interface, which is started if need be. */
+/* Makes the bridge connect to the host of this interface, and starts the host if necessary. */
 static int provide_host(const struct socket *sock, int index) {
     const struct wire_request request = {.kind = WIRE_HOST, .ifindex = index};
     for (int i = 0; i < TRIES; i++) {
@@ -87,7 +86,7 @@ static int j1939_connect(const struct socket *sock, const struct sockaddr *addre
 
 /* ---- options ---- */
 
-/* As in the kernel, setting a flag returns its value, and one below 0 is an errno. */
+/* As in the kernel, setting a flag returns its value; a negative value is an errno. */
 static int flag_result(int value) {
     return value < 0 && value > -4096 ? fail(-value) : value;
 }
@@ -108,7 +107,7 @@ static int j1939_setsockopt(const struct socket *sock, int level, int option, co
         return set_filters(sock, value, length);
     }
     if (level == SOL_SOCKET && (option == SO_SNDBUF || option == SO_SNDBUFFORCE)) {
-        /* The size of the pair is that of requests, and not of messages. */
+        /* The buffer size of the socket pair is for requests, not for messages. */
         struct wire_request request = {.kind = WIRE_SOCKET_SET, .option = option};
         return length < sizeof number ? fail(EINVAL)
                : !copy_from(&request.number, value, sizeof number)
@@ -123,7 +122,7 @@ static int j1939_setsockopt(const struct socket *sock, int level, int option, co
     return result;
 }
 
-/* The priority of the socket is 7 less the one of its messages. */
+/* The socket's priority is 7 minus that of its messages. */
 static int get_priority(const struct socket *sock, void *value, socklen_t *length, socklen_t has) {
     int priority = 0;
     struct answer answer = {.data = &priority, .room = sizeof priority};
@@ -159,7 +158,8 @@ static int j1939_getsockopt(const struct socket *sock, int level, int option, vo
 
 /* ---- writes ---- */
 
-/* The bytes of a message from here on, as pieces, after the first which is another's. Returns how many there are. */
+/* Writes the rest of a message as pieces after the first piece, which is for other data. Returns the number of
+ * pieces. */
 static size_t pieces_from(const struct msghdr *message, size_t from, size_t length, struct iovec *pieces) {
     size_t count = 0;
     for (size_t i = 0; i < message->msg_iovlen && length; i++) {
@@ -182,7 +182,7 @@ static int read_address(const struct msghdr *message, struct wire_j1939 *head) {
                : fail(EFAULT);
 }
 
-/* The socket is not ready to be written until the bridge takes this out of it. */
+/* Fills the socket, so that poll does not report it as writable until the bridge takes this request. */
 static void fill(int fd) {
     struct iovec fillers[FILLERS];
     struct pollfd polled = {fd, POLLOUT, 0};
@@ -232,7 +232,7 @@ static ssize_t j1939_sendmsg(const struct socket *sock, const struct msghdr *mes
 
 /* ---- reads ---- */
 
-/* Adds a control message, of which a part is given if there is no room for all, as in the kernel. */
+/* Adds a control message. If there is no room for all of it, a part is added, as in the kernel. */
 static void put_control(struct msghdr *message, size_t room, int level, int type, const void *data, size_t length) {
     size_t used = message->msg_controllen, left = room - used;
     if (left < sizeof(struct cmsghdr)) {
@@ -247,7 +247,7 @@ static void put_control(struct msghdr *message, size_t room, int level, int type
     message->msg_controllen = used + MIN(left, CMSG_SPACE(length));
 }
 
-/* The source of a message, and its own control messages, which are before those of all sockets. */
+/* Adds the source of a message and J1939's control messages, before those of all sockets. */
 int j1939_describe(struct msghdr *message, size_t room, const struct wire_way *way, int index) {
     struct sockaddr_can can = {.can_family = AF_CAN, .can_ifindex = index};
     can.can_addr.j1939.name = way->name;
@@ -319,7 +319,7 @@ static struct sock_extended_err entry_of(const struct wire_notice *notice, int s
                                       .ee_data = stamps & SOF_TIMESTAMPING_OPT_ID ? notice->key : 0};
 }
 
-/* Copies bytes into the pieces of a message; returns how many there was room for, or -1. */
+/* Copies bytes into the pieces of a message. Returns how many fitted, or -1. */
 static ssize_t scatter(struct msghdr *message, const char *data, size_t length) {
     size_t room = room_of(message, length), done = 0;
     for (const struct iovec *part = message->msg_iov; done < room; part++) {

@@ -1,4 +1,4 @@
-/* Asking the keeper of the interfaces, see link.h, which is started if need be. */
+/* Asks the keeper of the interfaces (see link.h), and starts it if necessary. */
 #define _GNU_SOURCE
 #include "library.h"
 
@@ -10,12 +10,12 @@
 #include <sys/syscall.h>
 #include <sys/un.h>
 
-/* Milliseconds that a keeper is given for a reply: more than it gives a server. */
+/* How many milliseconds to wait for a keeper's reply: longer than the keeper waits for a server. */
 #define PATIENCE 6000
-/* Programs that may ask at one moment. */
+/* How many programs may ask at the same time. */
 #define BACKLOG 128
 
-/* FNV-1a. */
+/* A step of the hash FNV-1a. */
 static uint64_t mix(uint64_t sum, const void *data, size_t length) {
     for (const unsigned char *at = data, *end = at + length; at < end; at++) {
         sum = (sum ^ *at) * 0x100000001B3u;
@@ -23,8 +23,9 @@ static uint64_t mix(uint64_t sum, const void *data, size_t length) {
     return sum;
 }
 
-/* The name of this user's keeper, for this server and these interfaces, of which the numbers are places in their list:
- * another server may come to have the same path. */
+/* The name of this user's keeper for this server and these interfaces. The names of the interfaces are part of it,
+ * because an index is only a place in their list. So is the socket's file, because another server may get the same
+ * path. */
 static socklen_t name_keeper(struct sockaddr_un *name) {
     const char *server = getenv("CANBUSD_ADDRESS");
     struct stat file;
@@ -40,7 +41,7 @@ static socklen_t name_keeper(struct sockaddr_un *name) {
     return (socklen_t)(offsetof(struct sockaddr_un, sun_path) + 1 + (size_t)length);
 }
 
-/* Starts a keeper that listens at this name. A second one that comes too late is no error. */
+/* Starts a keeper that listens at this name. It is not an error if another process was faster. */
 static int start_keeper(const struct sockaddr_un *name, socklen_t length) {
     int fd = (int)syscall(SYS_socket, AF_UNIX, SOCK_SEQPACKET | SOCK_CLOEXEC | SOCK_NONBLOCK, 0), error = 0;
     if (fd < 0) {
@@ -55,7 +56,7 @@ static int start_keeper(const struct sockaddr_un *name, socklen_t length) {
     return error;
 }
 
-/* Connects; returns a descriptor, or -1 and errno. A keeper of another user is none. */
+/* Connects to the keeper. Returns a descriptor, or -1 and errno. A keeper of another user is refused. */
 static int connect_keeper(const struct sockaddr_un *name, socklen_t length) {
     struct ucred peer = {0};
     int fd = (int)syscall(SYS_socket, AF_UNIX, SOCK_SEQPACKET | SOCK_CLOEXEC, 0);
@@ -70,7 +71,8 @@ static int connect_keeper(const struct sockaddr_un *name, socklen_t length) {
     return error ? fail(error) : fd;
 }
 
-/* Sends the request, and gets the reply; returns an errno, or 0. The copy of a socket goes with it, if there is one. */
+/* Sends the request and receives the reply. Returns an errno, or 0. The copy of a socket goes with the request, if
+ * there is one. */
 static int talk(int fd, const struct link_request *request, int copy, struct link_reply *reply) {
     struct pollfd polled = {fd, POLLIN, 0};
     union {
@@ -101,7 +103,7 @@ int keeper_ask(const struct link_request *request, int copy, struct link_reply *
     socklen_t length = name_keeper(&name);
     int before = errno, error = 0;
     *reply = (struct link_reply){0};
-    /* The second is for a keeper that ends, as its server has. */
+    /* The second try is for a keeper that ends because its server has ended. */
     for (int i = 0; i < 2; i++) {
         int fd = connect_keeper(&name, length);
         if (fd < 0 && errno == ECONNREFUSED && request->kind != LINK_LOOK) {

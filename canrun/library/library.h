@@ -1,7 +1,7 @@
 /* The common part of the preloaded library's files.
  *
- * The library has no state about sockets. A CAN socket is one end of a pair of Unix sockets whose name says so, and
- * stays one across fork, dup, exec and SCM_RIGHTS; poll, select, epoll, fcntl and close are the kernel's own. */
+ * The library keeps no state about sockets. A CAN socket is one end of a pair of Unix sockets; its name marks it, and
+ * the mark survives fork, dup, exec and SCM_RIGHTS. poll, select, epoll, fcntl and close are the kernel's own. */
 #ifndef LIBRARY_H
 #define LIBRARY_H
 
@@ -28,7 +28,7 @@
 
 #define EXPORT __attribute__((visibility("default")))
 
-/* The functions of the C library that are called by those of this one. */
+/* The C library's functions that this library calls and replaces. */
 #define REAL_FUNCTIONS(X) \
     X(socket)             \
     X(socketpair)         \
@@ -109,169 +109,175 @@ struct real {
 #undef X
 };
 
-/* They are found when the library is loaded, or by the first call where another library calls before that. */
+/* Returns the C library's functions. They are looked up when this library is loaded, or by the first call if another
+ * library calls before that. */
 const struct real *real(void);
 
-/* System calls of this library are not its own. */
+/* This library replaces syscall(); its own system calls go to the C library's function. */
 #define syscall(...) real()->syscall(__VA_ARGS__)
 
-/* dlsym of the C library, in place of that of this one. */
+/* Returns dlsym of the C library, which this library replaces. */
 void *(*real_dlsym(void))(void *restrict, const char *restrict);
 
 /* Sets errno, and returns -1. */
 int fail(int error);
 
-/* The same. With CANBUSD_RUN_DEBUG=1 a line of standard error says what was refused, and why. */
+/* Sets errno and returns -1. With CANBUSD_RUN_DEBUG=1 a line on standard error names the refused call and the
+ * reason. */
 int refuse(const char *what, int error, const char *why);
 
-/* Copies from or to memory that a program names; false if there is none, EFAULT. It leaves errno as it was. */
+/* Copies from or to the program's memory. False if the address is invalid (EFAULT). It leaves errno unchanged. */
 bool copy_from(void *room, const void *program, size_t length);
 bool copy_to(void *program, const void *data, size_t length);
 
-/* The most pieces of a message, as the kernel has it. */
+/* The largest number of pieces of a message, as in the kernel. */
 #define PIECES_MOST 1024
 
-/* How many of these bytes the pieces of a message have room for. */
+/* How many of these bytes fit into the pieces of a message. */
 size_t room_of(const struct msghdr *message, size_t length);
 
-/* The parts of a reply besides its error. The data are cut if there is no room. */
+/* The parts of a reply besides its error. The data are cut if the buffer is too small. */
 struct answer {
     int value;
     void *data;
     size_t room, length;
 };
 
-/* Asks the bridge of a socket; the data are these pieces. Returns 0, or -1 and errno; `what` is the call that is
- * refused then. */
+/* Sends a request with these pieces of data to the bridge of a socket, and waits for the reply. Returns 0, or -1 and
+ * errno; a refusal's message names the call `what`. */
 int ask(int fd, const char *what, const struct wire_request *request, const struct iovec *data, size_t pieces,
         struct answer *answer);
 
-/* Asks for a write that may wait for room. */
+/* Sends a request for a write that may wait for room. */
 int ask_patiently(const struct socket *sock, struct wire_request *request, const struct msghdr *message,
                   struct answer *answer);
 
-/* Sends a request with a descriptor, and waits for no reply. Returns an errno, or 0. */
+/* Sends a request with a descriptor, and does not wait for a reply. Returns an errno, or 0. */
 int put_request(int fd, int with, const struct wire_request *request, const struct iovec *data, size_t pieces);
 
-/* The result of a call whose request failed with this errno: -1, and errno. */
+/* Refuses a call whose request could not be sent, for this errno. Returns -1 and sets errno. */
 int refuse_unsent(const char *what, int error);
 
-/* ---- stop.c: with --wait, signals that end a write which waits for room ---- */
+/* ---- stop.c: with --wait, signals end the writes that wait for room ---- */
 
-/* A write begins to wait for a reply by this pipe; NULL without --wait, or where too many wait. */
+/* Registers a write that begins to wait for a reply on this pipe. Returns NULL without --wait, or if too many writes
+ * wait. */
 struct wait *wait_begin(int fd, int reply_from);
-/* Its request has been sent; true if a signal came before that, and nothing has ended the wait yet. */
+/* Notes that the request has been sent. True if such a signal came before that: the caller must then cancel the
+ * request. */
 bool wait_is_over(struct wait *wait);
-/* The reply is there; whether such a signal came before. */
+/* Ends the registration after the reply. Returns whether such a signal came before the reply. */
 bool wait_end(struct wait *wait);
-/* Whether such a signal has ended a wait, and no write found room since then. */
+/* Whether such a signal has ended a wait, and no write has found room since then. */
 bool waits_are_over(void);
-/* A write has found room. */
+/* Notes that a write has found room. */
 void waits_begin(void);
 
-/* Asks the bridge of a socket of CAN_RAW for a quick write, and returns what became of it: it was done; it was refused,
- * and errno says why; it is to wait for room; or none can be had, and it is to be asked for by a pipe, too. */
+/* Asks the bridge of a CAN_RAW socket for a quick write. The write is done; or it is refused, and errno has the reason;
+ * or it is to wait for room; or no quick write is possible. In the last two cases the caller asks again with a pipe. */
 enum quick { QUICK_DONE, QUICK_REFUSED, QUICK_NO_ROOM, QUICK_NONE };
 enum quick ask_quickly(const struct socket *sock, const struct wire_request *request, const struct msghdr *message,
                        struct answer *answer);
 
-/* ---- share.c: the memory that a bridge shares with the programs of its socket ---- */
+/* ---- share.c: memory that a bridge shares with the programs of its socket ---- */
 
 struct loaned {
-    int fd; /* 0: none */
+    int fd; /* 0: no descriptor */
     uint32_t session;
     uint64_t inode;
 };
 struct shared {
-    uint32_t users;  /* how many threads use it */
-    uint32_t writes; /* of this process */
+    uint32_t users;  /* how many threads use this entry */
+    uint32_t writes; /* quick writes of this process */
     char name[WIRE_NAME_ROOM];
     struct wire_memory *memory;
     struct loaned copy;
 };
 
-/* The shared memory of a socket, until share_leave; NULL if it can't be had. */
+/* Returns the shared memory of a socket, valid until share_leave; NULL if it is not available. */
 struct shared *share_enter(const struct socket *sock);
 void share_leave(struct shared *one);
 
-/* Asks for the descriptor of the session that is lent now. */
+/* Asks the bridge for the descriptor of the session that it lends now. */
 void share_borrow(struct shared *one, int fd);
 
-/* Makes that of a socket that is being made; returns its descriptor, or -1 and errno. */
+/* Makes the shared memory of a new socket. Returns its descriptor, or -1 and errno. */
 int share_make(const char *name);
 
-/* ---- notes.c: what is known of a datagram besides its bytes ---- */
+/* ---- notes.c: facts about a datagram besides its bytes ---- */
 
-/* Finds the note of a datagram that has just been read, or looked at (`is_peeked`), and that begins with these bytes;
- * of J1939 also its way, else that is NULL. False if there are no notes. */
+/* Finds the note of a datagram that begins with these bytes. The program has just read the datagram, or peeked at it
+ * (`is_peeked`). For J1939 it finds the way too; otherwise `way` is NULL. False if there are no notes. */
 bool note_of(struct wire_memory *memory, int fd, bool is_peeked, const void *head, size_t length,
              struct wire_note *note, struct wire_way *way);
 
-/* Whether this process looks for notes, and that one was read from this socket without. */
+/* Returns whether this process looks for notes; records that a datagram was read without looking for its note. */
 bool notes_are_looked_for(void);
 void note_plain_read(struct wire_notes *received);
 
-/* The moment of the datagram that was read last, by whomever; 0 before that. */
+/* The timestamp of the last datagram that any process has read; 0 before the first read. */
 uint64_t last_moment(const struct wire_memory *memory, int fd);
 
-/* ---- loan.c: in virtual time, writes by a session that the bridge lends ---- */
+/* ---- loan.c: in virtual time, writes through a session that the bridge lends ---- */
 
 void loan_keep(struct loaned *copy, int fd, uint32_t session);
 void loan_forget(struct loaned *copy);
-/* Whether a session is lent of which this is no copy. */
+/* Whether the bridge lends a session of which this is not a copy. */
 bool loan_is_new(const struct wire_memory *memory, const struct loaned *copy);
 
-/* Makes a write by the session, whose reply comes at this place: it is there; the bridge is to look at what is left; or
- * the write can't be made so. */
+/* Makes a write through the lent session, with this place for the reply. The reply is there; or the bridge must handle
+ * the reply's text; or the write cannot be made in this way. */
 enum talk { TALK_DONE, TALK_LEFT, TALK_NONE };
 enum talk loan_talk(struct wire_memory *memory, const struct loaned *copy, const struct wire_request *request,
                     const struct iovec *data, size_t pieces, uint32_t at);
 
-/* Takes the error that a socket has by itself, as SO_ERROR does; 0 if it has none. It leaves errno as it was. */
+/* Takes the socket's own error, as SO_ERROR does; 0 if there is none. It leaves errno unchanged. */
 int take_error(int fd);
 
-/* Takes the error of a socket of which a read got no bytes: -1 and errno, or 0 if another call has taken it. */
+/* Takes the error of a socket from which a read got no bytes. Returns -1 and errno, or 0 if another call has taken the
+ * error. */
 int take_shown(int fd);
 
-/* Notes that this is a socket that may have an error which poll shows. */
+/* Notes that this socket may have an error that poll reports. */
 void note_error_of(int fd);
 
-/* Notes that this is one that has an error queue; whether it is. */
+/* Records that this socket has an error queue; returns whether a socket has an error queue. */
 void note_queue_of(int fd);
 bool has_error_queue(int fd);
 
-/* The events of a socket that has an error, for those of the kernel. */
+/* Returns the events of a socket that has an error; `events` are the kernel's. */
 uint32_t error_events(int fd, uint32_t events);
 
 /* ---- watch.c ---- */
 
-/* ppoll, if one of the sockets has an error queue. */
+/* Does ppoll if one of the sockets has an error queue. */
 int watched_poll(struct pollfd *fds, nfds_t count, const struct timespec *timeout, const sigset_t *mask);
 
 /* ---- j1939.c ---- */
 
-/* Fills in where a message of J1939 comes from; the control messages of all sockets are there already. Returns 0, or -1
+/* Fills in the source of a J1939 message; the control messages of all CAN sockets are already there. Returns 0, or -1
  * and errno. */
 int j1939_describe(struct msghdr *message, size_t room, const struct wire_way *way, int index);
 
-/* Whether the next message of a socket says that it has an error, as far as that has not been taken; it is taken out.
- */
+/* Returns whether the next message of a socket reports an error, which may be taken already; removes that message. */
 bool has_error(int fd);
 void drop_error(int fd);
 
-/* The C library's end of a program whose buffer is too small. */
+/* The C library's abort of a program whose buffer is too small. */
 void __chk_fail(void) __attribute__((noreturn));
 
 /* Makes a CAN socket. */
 int can_socket(int type, int protocol);
 
-/* Starts the bridge of a socket whose other end is this, with the memory of this descriptor. Returns 0, or an errno. */
+/* Starts the bridge of a socket; `end` is the bridge's end of the pair, and `memory` the descriptor of the shared
+ * memory. Returns 0, or an errno. */
 int start_bridge(int end, int memory);
 
-/* The length of the server's transmit queues, as far as it can be seen. */
+/* The length of the server's transmit queues, if it is known. */
 int queue_length(void);
 
-/* The index of the interface of this name, or -1 and errno; the name of this index, or -1 and errno. */
+/* The index of the interface with this name, and the name of the interface with this index; each returns -1 and errno
+ * if there is no such interface. */
 int index_of_name(const char *name);
 int name_of_index(int index, char name[IFNAMSIZ]);
 

@@ -1,4 +1,4 @@
-/* Interfaces of the server as links: what a message of the program asks, and the answer to it. */
+/* Interfaces of the server as links: reads the program's messages and makes the answers. */
 #define _GNU_SOURCE
 #include "links.h"
 
@@ -11,12 +11,12 @@
 #include <string.h>
 #include <sys/syscall.h>
 
-/* The most of a refused request that is sent back with the refusal. */
+/* How many bytes of a refused request come back with the refusal. */
 #define ECHOED 1024
 
 /* ---- attributes ---- */
 
-/* The attribute of this type among these; NULL if there is none. The last one counts. */
+/* Finds the attribute of this type; NULL if there is none. The last one counts. */
 static const struct nlattr *find(const void *attributes, size_t length, unsigned type) {
     const char *at = attributes;
     const struct nlattr *found = NULL;
@@ -41,7 +41,7 @@ static const struct nlattr *find_in(const struct nlattr *nest, unsigned type) {
     return nest ? find(nest + 1, length_of(nest), type) : NULL;
 }
 
-/* Copies a value of this length; false if there is none. */
+/* Copies a value of this length; false if there is no such value. */
 static bool get(const struct nlattr *one, void *value, size_t length) {
     if (length_of(one) < length) {
         return false;
@@ -55,20 +55,20 @@ static bool is_text(const struct nlattr *one, const char *text) {
            (length_of(one) == strlen(text) || !((const char *)(one + 1))[strlen(text)]);
 }
 
-/* ---- what is asked ---- */
+/* ---- questions ---- */
 
 struct question {
     const struct nlmsghdr *head;
     struct ifinfomsg link;
     const void *attributes;
-    size_t length; /* of these */
+    size_t length; /* the length of the attributes */
 };
 
 static const struct nlattr *attribute(const struct question *question, unsigned type) {
     return find(question->attributes, question->length, type);
 }
 
-/* Reads a message about links; false if it is another. A request for a dump may have a short head. */
+/* Reads a message about links; false if it is another message. A dump request may have a short head. */
 static bool read_question(const struct nlmsghdr *head, struct question *question) {
     bool is_of_link = head->nlmsg_type == RTM_GETLINK || head->nlmsg_type == RTM_NEWLINK ||
                       head->nlmsg_type == RTM_SETLINK || head->nlmsg_type == RTM_DELLINK;
@@ -85,7 +85,8 @@ static bool read_question(const struct nlmsghdr *head, struct question *question
     return true;
 }
 
-/* The interface of the server that is named, by its index or its name; 0 for none. The kernel's own come first. */
+/* The interface of the server that the message names by index or name; 0 if there is none. The kernel's own interfaces
+ * take precedence. */
 static int index_asked(const struct question *question) {
     char name[IFNAMSIZ] = "";
     if (question->link.ifi_index) {
@@ -129,8 +130,8 @@ bool addresses_are_asked(const struct nlmsghdr *asked) {
 
 /* ---- answers ---- */
 
-/* Puts what has come of a request: an errno, or 0 if that is asked for. A text says why, as that of the kernel's
- * extended acknowledgements. */
+/* Adds the result of a request: an errno, or 0 if the program asked for an acknowledgement. The text is for the
+ * kernel's extended acknowledgements. */
 static void put_verdict(struct outgoing *out, const struct nlmsghdr *asked, int error, const char *why) {
     struct {
         struct nlmsghdr head;
@@ -160,7 +161,7 @@ static void put_verdict(struct outgoing *out, const struct nlmsghdr *asked, int 
     mail_put(out, LINK_ANSWER, &verdict.head, &verdict, verdict.head.nlmsg_len);
 }
 
-/* If the server does not reply there is an interface all the same, of which nothing is known. */
+/* If the server does not reply, the interface is listed without facts. */
 static void put_link(struct outgoing *out, const struct nlmsghdr *asked, int index) {
     struct link_message message;
     struct link_reply reply;
@@ -210,7 +211,7 @@ struct link_facts links_facts(int index) {
 
 /* ---- changes ---- */
 
-/* The bit rate that is asked for: as such, or by a time quantum in nanoseconds, and their number in a bit. */
+/* The requested bit rate: the rate itself, or it follows from the time quantum and the number of quanta in a bit. */
 static uint32_t rate_asked(const struct nlattr *data, unsigned type) {
     struct can_bittiming timing;
     if (!get(find_in(data, type), &timing, sizeof timing)) {
@@ -220,7 +221,7 @@ static uint32_t rate_asked(const struct nlattr *data, unsigned type) {
     return timing.bitrate || !timing.tq ? timing.bitrate : (uint32_t)(1000000000 / bit);
 }
 
-/* A note for the program's user, which is not written twice in a row. */
+/* Prints a note for the program's user, but not twice in a row. */
 static void note(const char *text) {
     static pthread_mutex_t lock = PTHREAD_MUTEX_INITIALIZER;
     static char said[sizeof((struct link_reply *)0)->text];
@@ -237,7 +238,7 @@ static void note(const char *text) {
     }
 }
 
-/* Has the keeper make a change. Returns an errno, and why; or 0. */
+/* Makes the keeper carry out a change. Returns an errno with its reason, or 0. */
 static int ask_for_change(const struct link_request *request, struct link_reply *reply) {
     int error = keeper_ask(request, -1, reply);
     if (!error) {
@@ -246,7 +247,8 @@ static int ask_for_change(const struct link_request *request, struct link_reply 
     return error;
 }
 
-/* Names, queues and the like are the server's. Returns an errno, and why; or 0. */
+/* Refuses changes of facts that only the server sets, such as names and queues. Returns an errno with its reason, or
+ * 0. */
 static int check_fixed(const struct question *question, int index, char *why) {
     static const struct {
         unsigned type;
@@ -278,14 +280,14 @@ static int check_fixed(const struct question *question, int index, char *why) {
     return 0;
 }
 
-/* As in the kernel, no mask of flags that are not 0 is one of all. */
+/* As in the kernel: flags without a mask change all flags, unless they are 0. */
 static uint32_t flags_changed(const struct ifinfomsg *link) {
     return link->ifi_flags && !link->ifi_change ? UINT32_MAX : link->ifi_change;
 }
 
-/* Carries out a request to change an interface. Returns an errno, and why; or 0. */
+/* Carries out a request to change an interface. Returns an errno with its reason, or 0. */
 static int change(const struct question *question, int index, struct link_reply *reply) {
-    /* The kernel takes it of RTM_NEWLINK only. */
+    /* The kernel accepts this attribute only in RTM_NEWLINK. */
     bool has_info = question->head->nlmsg_type == RTM_NEWLINK;
     const struct nlattr *info = has_info ? attribute(question, IFLA_LINKINFO) : NULL;
     const struct nlattr *data = find_in(info, IFLA_INFO_DATA);
@@ -328,7 +330,7 @@ int links_set_up(int index, bool is_up) {
     return ask_for_change(&request, &reply) ? refuse("ioctl", reply.error, reply.text) : 0;
 }
 
-/* The process whose calls this thread makes, as a supervisor does, see ../command/static.h; else 0. */
+/* The process whose calls this thread makes for a supervisor (see ../command/static.h); otherwise 0. */
 static __thread pid_t served;
 
 EXPORT void canbusd_run_serves(pid_t process) {
@@ -353,7 +355,7 @@ bool links_answer(const struct nlmsghdr *asked, struct outgoing *out) {
     if (is_get) {
         put_link(out, asked, index);
     }
-    /* As a card's, an interface can't be removed, which is no error. */
+    /* Like a hardware interface, this one cannot be removed; the request is not an error. */
     int error = is_get || asked->nlmsg_type == RTM_DELLINK ? 0 : change(&question, index, &reply);
     if (error) {
         int before = errno;

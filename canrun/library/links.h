@@ -1,4 +1,4 @@
-/* Interfaces of the server as links of netlink: links.c answers, netlink.c carries the answers. */
+/* Interfaces of the server as netlink links: links.c makes the answers, and netlink.c sends them. */
 #ifndef LINKS_H
 #define LINKS_H
 
@@ -7,47 +7,48 @@
 #include <stdbool.h>
 #include <stddef.h>
 
-/* A datagram that takes the place of one of the program. */
+/* A datagram that is sent in place of the program's own. */
 #define OUTGOING 32768
 struct outgoing {
-    bool explains; /* refusals have texts, as the program asked for */
+    bool explains; /* the program has asked for the texts of refusals */
     size_t length;
     char data[OUTGOING];
 };
 
-/* Adds a message that is sent back by the kernel: this head's, of this type, and what follows. False if there is no
+/* Adds a message that the kernel will send back: a copy of this head with this type, and the data. False if there is no
  * room. */
 bool mail_put(struct outgoing *out, enum link_mail type, const struct nlmsghdr *head, const void *data, size_t length);
 
-/* Answers a message that is about an interface of the server; false if it is the kernel's, as it is. */
+/* Answers a message about an interface of the server; false if the message must go to the kernel unchanged. */
 bool links_answer(const struct nlmsghdr *asked, struct outgoing *out);
 
-/* Whether this asks for all links, also for ours. */
+/* Whether the request asks for all links, including the server's. */
 bool links_are_asked(const struct nlmsghdr *asked);
 
-/* Whether such a request is for ours only: those of type can. A kernel without CAN takes that for all types. */
+/* Whether such a request asks only for links of type can, such as the server's. A kernel without CAN would list links
+ * of all types. */
 bool links_are_all(const struct nlmsghdr *asked);
 
-/* Whether this asks for the addresses of an interface of the server, which has none. */
+/* Whether the request asks for the addresses of an interface of the server. Such an interface has no address. */
 bool addresses_are_asked(const struct nlmsghdr *asked);
 
-/* How far a dump has come: the next interface, and the last one of which something is known, once that was asked for.
- */
+/* The position of a dump: the next interface, and the last interface with known facts, once the keeper was asked for
+ * it. */
 struct dump {
     int next, last;
     bool has_asked;
 };
 
-/* Writes messages of the next interfaces, as far as there is room, which is for at least one; returns their length. */
+/* Writes messages of the next interfaces into the buffer, which has room for at least one. Returns their length. */
 size_t links_dump(const struct nlmsghdr *asked, struct dump *dump, char *room, size_t size);
 
-/* The facts of an interface, as far as they are known. */
+/* The facts of an interface that the keeper already knows. */
 struct link_facts links_facts(int index);
 
 /* Sets an interface up or down. Returns 0, or -1 and errno. */
 int links_set_up(int index, bool is_up);
 
-/* Has this socket get events of links. Returns 0, or -1 and errno. */
+/* Makes this socket receive events of links. Returns 0, or -1 and errno. */
 int links_watch(int fd);
 
 #endif

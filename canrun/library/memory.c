@@ -1,6 +1,6 @@
-/* Memory of the program that a call names. The kernel copies it, as it does for its own calls: if there is none,
- * that is EFAULT and no SIGSEGV. Its copy takes as long as two other calls, so what is on the stack of the caller, or
- * on the page that was copied last, is copied here. */
+/* The program's memory. The kernel copies it, as in its own calls, so a wrong address is EFAULT and not SIGSEGV. Such a
+ * copy takes as long as two other calls. So memory on the caller's stack, or on the page of the last copy, is copied
+ * here. */
 #define _GNU_SOURCE
 #include "library.h"
 
@@ -10,10 +10,10 @@
 #include <sys/syscall.h>
 
 #define PAGE 4096
-/* How far above the frame of a call its callers have their own. */
+/* How far above the frame of a call the frames of its callers extend. */
 #define NEAR 32768
 
-/* The pages that were last read, and last written. */
+/* The pages of the last read and the last write. */
 static uintptr_t known[2] = {UINTPTR_MAX, UINTPTR_MAX};
 
 static bool is_known(uintptr_t from, size_t length, bool writes) {
@@ -24,7 +24,8 @@ static bool is_known(uintptr_t from, size_t length, bool writes) {
     return page == (from + length - 1) / PAGE && page == __atomic_load_n(&known[writes], __ATOMIC_RELAXED);
 }
 
-/* Copies by a call of the kernel, which says how much it has copied. If it may not, as in a sandbox, memcpy does. */
+/* Copies by a system call, which reports how many bytes it has copied. If the call is forbidden, as in a sandbox,
+ * memcpy does it. */
 static bool copy(void *here, void *program, size_t length, bool writes) {
     if (!length) {
         return true;

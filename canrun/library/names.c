@@ -1,4 +1,5 @@
-/* Names and indices of interfaces: if_nametoindex and its kin, which look at the kernel's own interfaces first. */
+/* Names and indices of interfaces: if_nametoindex and similar calls, which first ask for the kernel's own
+ * interfaces. */
 #define _GNU_SOURCE
 #include "library.h"
 
@@ -12,7 +13,7 @@
 #include <sys/syscall.h>
 #include <unistd.h>
 
-/* The server has no interface of this name: said once, with the names that it has. */
+/* Reports once that the server has no interface with this name, and lists its names. */
 static void note_names(const char *name) {
     static int is_said;
     char line[256];
@@ -48,7 +49,7 @@ EXPORT unsigned if_nametoindex(const char *name) {
     if (index) {
         return index;
     }
-    /* A program without a CAN socket asks for others. */
+    /* A program without a CAN socket may look for other interfaces. */
     int found = find_index(name, strstr(name, "can"));
     errno = found < 0 ? errno : before;
     return found < 0 ? 0 : (unsigned)found;
@@ -67,7 +68,7 @@ EXPORT char *if_indextoname(unsigned index, char name[IF_NAMESIZE]) {
     return NULL;
 }
 
-/* The kernel's interfaces, then those of the server, in one block for if_freenameindex. */
+/* Lists the kernel's interfaces and then the server's, in one block for if_freenameindex. */
 static struct if_nameindex *joined(const struct if_nameindex *kernel) {
     size_t count = 0, most = INTERFACE_MOST;
     for (; kernel && kernel[count].if_index; count++, most++) {
@@ -100,7 +101,7 @@ EXPORT void if_freenameindex(struct if_nameindex *list) {
     free(list);
 }
 
-/* ---- getifaddrs: an interface of CAN has no address ---- */
+/* ---- getifaddrs: a CAN interface has no address ---- */
 
 struct link {
     struct ifaddrs entry;
@@ -108,13 +109,13 @@ struct link {
     struct rtnl_link_stats counts;
 };
 
-/* Name and counts of an entry of the C library are elsewhere. */
+/* In an entry of the C library the name and the counts are in other places. */
 static bool is_ours(const struct ifaddrs *entry) {
     const struct link *link = (const struct link *)entry;
     return entry->ifa_name == link->name && entry->ifa_data == &link->counts;
 }
 
-/* The interfaces of the server, in one block; NULL if there are none, or no memory. */
+/* Makes entries of the server's interfaces, in one block; NULL if there are no interfaces, or no memory. */
 static struct link *links(void) {
     char name[IFNAMSIZ];
     int count = 0;
@@ -133,7 +134,7 @@ static struct link *links(void) {
     return all;
 }
 
-/* The place in a list where the interfaces of the server begin, or its end. */
+/* The place in a list at which the server's interfaces begin, or its end. */
 static struct ifaddrs **place_of_ours(struct ifaddrs **list) {
     while (*list && !is_ours(*list)) {
         list = &(*list)->ifa_next;

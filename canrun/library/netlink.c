@@ -1,8 +1,9 @@
-/* Sockets of netlink. They stay the kernel's own, so that poll, groups and numbers of ports are as they are, and the
- * library has no state about them. The answer to a message about an interface of the server is sent to the kernel, in
- * place of that message, as one of a type that it does not know: its refusal brings the answer back, and the read that
- * finds one takes it out. So comes the request of a dump of links, which is answered as it is read; the kernel's links
- * follow. If the kernel does not send back what it refuses, interfaces are not found by netlink. */
+/* Sockets of netlink. They remain the kernel's own, so poll, groups and port numbers are unchanged, and the library
+ * keeps no state about them. The answer to a message about a server's interface is sent to the kernel in its place,
+ * with a type that the kernel does not know. The kernel's refusal brings the answer back, and the read that finds a
+ * refusal takes the answer out. The request of a link dump comes back in the same way, and is answered when it is read;
+ * the kernel's links follow. If the kernel does not send back refused messages, netlink does not find the
+ * interfaces. */
 #define _GNU_SOURCE
 #include "library.h"
 
@@ -14,12 +15,12 @@
 #include <sys/mman.h>
 #include <sys/syscall.h>
 
-/* The most of a dump in one datagram, as the kernel has it. */
+/* The most bytes of a dump in one datagram, as in the kernel. */
 #define CHUNK 8192
-/* The most bytes of a message that brings an answer. */
+/* The most bytes of a message with an answer. */
 #define MAIL 4096
 
-/* The head of a refusal that brings something. */
+/* The head of a refusal with an answer. */
 struct refusal {
     struct nlmsghdr head;
     int error;
@@ -39,9 +40,9 @@ static bool is_mail(const struct refusal *refusal, ssize_t length) {
            (size_t)length >= sizeof *refusal + refusal->refused.nlmsg_len - sizeof refusal->refused;
 }
 
-/* Whether the kernel sends back what it refuses: gVisor does not. */
+/* Whether the kernel sends back refused messages: gVisor does not. */
 static bool is_carried(void) {
-    static int known; /* 0: not yet; 1: it does; -1 */
+    static int known; /* 0: not known yet; 1: yes; -1: no */
     int answer = __atomic_load_n(&known, __ATOMIC_RELAXED);
     struct {
         struct nlmsghdr head;
@@ -63,7 +64,7 @@ static bool is_carried(void) {
 
 /* ---- sending ---- */
 
-/* Room for a message of this length; NULL if there is none. */
+/* Makes room for a message of this length; NULL if there is no room. */
 static void *extend(struct outgoing *out, size_t length) {
     size_t at = NLMSG_ALIGN(out->length);
     if (at + length > sizeof out->data) {
@@ -86,7 +87,7 @@ bool mail_put(struct outgoing *out, enum link_mail type, const struct nlmsghdr *
     return mail;
 }
 
-/* The request of a dump that has come so far. */
+/* Adds the request of a dump, with its position. */
 static bool put_dump(struct outgoing *out, const struct nlmsghdr *asked, const struct dump *dump) {
     char data[MAIL];
     size_t length = sizeof *dump + asked->nlmsg_len;
@@ -98,7 +99,7 @@ static bool put_dump(struct outgoing *out, const struct nlmsghdr *asked, const s
     return mail_put(out, LINK_DUMP, asked, data, length);
 }
 
-/* The end of a dump that is for none of the kernel's links. */
+/* Adds the end of a dump without links of the kernel. */
 static bool put_done(struct outgoing *out, const struct nlmsghdr *asked) {
     struct {
         struct nlmsghdr head;
@@ -119,7 +120,7 @@ static bool put_plain(struct outgoing *out, const struct nlmsghdr *asked) {
     return place;
 }
 
-/* Puts the answer to a message; false if it is the kernel's. */
+/* Adds the answer to a message; false if the message is for the kernel. */
 static bool put_answer(struct outgoing *out, const struct nlmsghdr *asked) {
     const struct dump start = {.next = INTERFACE_FIRST};
     char name[IFNAMSIZ];
@@ -132,7 +133,8 @@ static bool put_answer(struct outgoing *out, const struct nlmsghdr *asked) {
     return addresses_are_asked(asked) ? put_done(out, asked) : links_answer(asked, out);
 }
 
-/* Puts answers, and what is the kernel's as it is, up to what is no message. False if nothing is ours. */
+/* Adds answers, and the kernel's messages unchanged, up to the first data that are not a message. False if no message
+ * is for the server. */
 static bool replace(const char *data, size_t length, struct outgoing *out) {
     bool has_ours = false;
     for (size_t at = 0; at + sizeof(struct nlmsghdr) <= length;) {
@@ -150,7 +152,7 @@ static bool replace(const char *data, size_t length, struct outgoing *out) {
     return has_ours;
 }
 
-/* The messages of a program, and what takes their place: a thread may have a small stack. */
+/* The messages of a program and their replacement. They are not on the stack, which may be small. */
 struct exchange {
     struct outgoing out;
     char data[OUTGOING];
@@ -207,7 +209,7 @@ static ssize_t netlink_sendmsg(const struct socket *sock, const struct msghdr *m
 
 /* ---- receiving ---- */
 
-/* Gives a message in place of what was received; as the kernel, it is cut if there is no room. */
+/* Returns this message to the program in place of the received one. As in the kernel, it is cut if there is no room. */
 static ssize_t give(struct msghdr *message, const char *data, size_t length, int flags) {
     size_t done = 0;
     for (size_t i = 0; i < message->msg_iovlen && done < length; i++) {
@@ -221,7 +223,7 @@ static ssize_t give(struct msghdr *message, const char *data, size_t length, int
     return (ssize_t)(flags & MSG_TRUNC ? length : done);
 }
 
-/* Asks for what comes after this part of a dump: the next part, or the kernel's links. */
+/* Asks for the rest of a dump: the next part, or the kernel's links. */
 static bool go_on(int fd, const struct nlmsghdr *asked, const struct dump *dump) {
     struct outgoing *out = mmap(NULL, sizeof *out, PROT_READ | PROT_WRITE, MAP_PRIVATE | MAP_ANONYMOUS, -1, 0);
     char name[IFNAMSIZ];
@@ -236,7 +238,7 @@ static bool go_on(int fd, const struct nlmsghdr *asked, const struct dump *dump)
     return is_sent;
 }
 
-/* Gives a part of a dump, as much as the program and a datagram have room for. */
+/* Returns a part of a dump, as much as fits into the program's buffer and a datagram. */
 static ssize_t give_dump(int fd, struct msghdr *message, const char *request, uint32_t port, int flags) {
     struct dump dump;
     struct nlmsghdr asked[MAIL / sizeof(struct nlmsghdr)];
@@ -245,7 +247,7 @@ static ssize_t give_dump(int fd, struct msghdr *message, const char *request, ui
     memcpy(asked, request + sizeof dump, sizeof *asked);
     memcpy(asked, request + sizeof dump, MIN((size_t)asked->nlmsg_len, sizeof asked));
     size_t room = room_of(message, sizeof part);
-    /* A reader that looks only at the length has room for it then. */
+    /* A reader that only asks for the length will provide enough room later. */
     size_t length = links_dump(asked, &dump, part, flags & MSG_PEEK ? sizeof part : room);
     for (size_t at = 0; at < length; at += ((struct nlmsghdr *)(part + at))->nlmsg_len) {
         ((struct nlmsghdr *)(part + at))->nlmsg_pid = port;
@@ -256,7 +258,7 @@ static ssize_t give_dump(int fd, struct msghdr *message, const char *request, ui
     return give(message, part, length, flags);
 }
 
-/* Reads the mail that is next, and gives what it brings. Returns 0 if another thread has read it. */
+/* Reads the next mail and returns its contents. Returns 0 if another thread has read it. */
 static ssize_t take_mail(int fd, struct msghdr *message, int flags) {
     char mail[sizeof(struct refusal) + MAIL];
     struct iovec part = {mail, sizeof mail};
@@ -307,7 +309,7 @@ static ssize_t netlink_recvmsg(const struct socket *sock, struct msghdr *message
 
 /* ---- groups and options ---- */
 
-/* Has the socket get events, if it may. */
+/* Makes the socket receive events, if possible. */
 static int watched(int fd, bool is_watched) {
     int before = errno;
     if (is_watched && is_route(fd) && is_carried()) {
@@ -327,7 +329,7 @@ static int netlink_bind(const struct socket *sock, const struct sockaddr *addres
 
 static int netlink_setsockopt(const struct socket *sock, int level, int option, const void *value, socklen_t length) {
     unsigned group;
-    /* With it the kernel would not send back the whole of what it refuses. */
+    /* With this option the kernel would not send refused messages back in full. */
     if (level == SOL_NETLINK && option == NETLINK_CAP_ACK && is_route(sock->fd)) {
         return length < sizeof(int) ? fail(EINVAL) : 0;
     }

@@ -1,5 +1,5 @@
-/* The notes of what was received. Which note is that of a datagram is seen by how many bytes are left in the socket, as
- * the kernel has it: so reads that go past the library, of other threads and of other processes do not confuse it. */
+/* The notes of received datagrams. The number of bytes left in the socket shows which note belongs to a datagram. So
+ * reads that bypass the library, or by other threads and processes, cause no confusion. */
 #define _GNU_SOURCE
 #include "library.h"
 
@@ -9,15 +9,15 @@
 #include <sys/syscall.h>
 #include <time.h>
 
-/* How often the bridge is waited for that is putting datagrams into the socket: its processor may do other work. */
+/* How often to wait for a bridge that is putting datagrams into the socket: its processor may be busy. */
 #define PATIENCE 20000
 #define YIELDS 100
 #define PAUSE 100000 /* nanoseconds */
-/* Notes that the bridge may be writing. */
+/* How many of the oldest notes the bridge may be overwriting. */
 #define BEING_WRITTEN 64
 
-/* The number of bytes that were read from the socket until now, at least and at most: the bridge may be putting more
- * there. */
+/* The number of bytes that were read from the socket until now, at least and at most. They differ while the bridge is
+ * putting more there. */
 struct span {
     int64_t least, most;
 };
@@ -31,7 +31,7 @@ static struct span read_until_now(const struct wire_notes *received, int fd) {
     return (struct span){put - left, meant - left};
 }
 
-/* Waits for the bridge; false if that was in vain. */
+/* Waits a little for the bridge; false if the patience is over. */
 static bool wait_for_bridge(int turn) {
     if (turn < YIELDS) {
         sched_yield();
@@ -43,7 +43,7 @@ static bool wait_for_bridge(int turn) {
     return turn < PATIENCE;
 }
 
-/* The notes that there are: from this one on, to that before `end`. */
+/* The available notes: from `first` up to the one before `end`. */
 struct range {
     uint64_t first, end;
 };
@@ -53,15 +53,15 @@ static struct range range_of(const struct wire_notes *received) {
     return (struct range){end > most ? end - most : 0, end};
 }
 
-/* A note that was found: its number, from 1 on, or 0; whether no other could be it. */
+/* A note that was found: its number, from 1 on, or 0; and whether no other note matches. */
 struct match {
     uint64_t at;
     bool is_one;
 };
 
-/* Looks for the note, from the last on. The best is one whose place fits, and of several the first after those that
- * were found before. One that was read by several at once, or that a filter of the socket has cut, is found by its
- * bytes. */
+/* Looks for the note, beginning with the last. The best note is one at the right place; of several, the first after
+ * those found before. If several readers took the datagram, or a filter of the socket has cut it, its bytes identify
+ * the note. */
 static struct match look(const struct wire_notes *received, uint64_t found, struct span span, bool is_peeked,
                          const void *head, size_t length) {
     struct range range = range_of(received);
@@ -87,8 +87,8 @@ static struct match look(const struct wire_notes *received, uint64_t found, stru
     return best;
 }
 
-/* The same, if several fit as the bridge is putting more into the socket. The next one after those that were found
- * is it, if nothing is read without a look for its note; else the bridge is waited for. */
+/* The same if several notes match because the bridge is putting more into the socket. If all reads look for their
+ * notes, the next note after those found before is the right one. Otherwise this waits for the bridge. */
 static uint64_t find(const struct wire_notes *received, uint64_t found, int fd, bool is_peeked, const void *head,
                      size_t length) {
     bool are_all_found = found && !__atomic_load_n(&received->is_mixed, __ATOMIC_RELAXED);
@@ -123,7 +123,7 @@ bool note_of(struct wire_memory *memory, int fd, bool is_peeked, const void *hea
     if (at && !is_peeked) {
         keep_found(received, found, at);
     }
-    /* A reader that was so late that its note is gone gets the last one. */
+    /* A reader that is so late that its note is overwritten gets the last one. */
     at = at ? at : range_of(received).end;
     if (at) {
         *note = received->notes[(at - 1) % WIRE_NOTES];

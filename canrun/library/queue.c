@@ -1,5 +1,5 @@
-/* The length of a transmit queue, for SIOCGIFTXQLEN. No message of the server has it, so it is taken from the command
- * line of the process that listens at the server's address, if that can be seen. */
+/* The length of a transmit queue, for SIOCGIFTXQLEN. No message of the server contains it. So it is taken from the
+ * command line of the process that listens at the server's address, if that process is visible. */
 #define _GNU_SOURCE
 #include "library.h"
 
@@ -11,10 +11,10 @@
 #include <string.h>
 #include <sys/syscall.h>
 
-/* As canbusd has it by default. */
+/* The default of canbusd. */
 #define USUAL 10
 
-/* Reads a file of /proc into room that ends with a 0; returns its length, or -1. */
+/* Reads a file of /proc and adds a 0 at the end. Returns its length, or -1. */
 static ssize_t read_proc(const char *process, const char *name, char *room, size_t size) {
     char path[64];
     snprintf(path, sizeof path, "/proc/%.16s/%.16s", process, name);
@@ -30,7 +30,7 @@ static ssize_t read_proc(const char *process, const char *name, char *room, size
     return have;
 }
 
-/* Whether the words of a command line are those of a server, and how long its queues are. */
+/* Returns the length of queues from the command line of a server; the default for other command lines. */
 static int length_of(const char *words, size_t size) {
     static const char option[] = "--txqueue";
     const size_t length = sizeof option - 1;
@@ -53,7 +53,7 @@ static int length_of_process(const char *process) {
     return size > 0 ? length_of(words, (size_t)size) : USUAL;
 }
 
-/* The process that listens at a path; 0 if it can't be seen. */
+/* The process that listens at a path; 0 if it is not visible. */
 static int process_at_path(const struct address *address) {
     struct ucred peer = {0};
     socklen_t length = sizeof peer;
@@ -65,7 +65,7 @@ static int process_at_path(const struct address *address) {
     return peer.pid;
 }
 
-/* Reads the file of all sockets of TCP; the inode of that which listens at a port of this host, or 0. */
+/* Reads the list of TCP sockets. Returns the inode of the socket that listens at this port, or 0. */
 static unsigned long inode_of_port(const char *name, unsigned short port) {
     static const char listens[] = "0A";
     unsigned long found = 0;
@@ -102,7 +102,7 @@ static bool has_socket(const char *process, unsigned long inode) {
     return found;
 }
 
-/* The same for the process that listens at a port, of those whose program is called canbusd. */
+/* The process that listens at a port, if its program is called canbusd; otherwise 0. */
 static int process_at_port(unsigned short port) {
     unsigned long inode = inode_of_port("/proc/net/tcp", port);
     inode = inode ? inode : inode_of_port("/proc/net/tcp6", port);

@@ -1,5 +1,5 @@
-/* Quick writes of CAN_RAW: the reply comes in memory that the bridge shares (share.c), and costs a third of what a pipe
- * does. In virtual time a write waits as the run's library has it, which knows the wait by its key. */
+/* Quick writes of CAN_RAW: the reply comes in memory that the bridge shares (share.c), which costs a third of a reply
+ * by a pipe. In virtual time the library of virtual time waits for the reply; the wait has a key. */
 #define _GNU_SOURCE
 #include "library.h"
 
@@ -12,11 +12,11 @@
 #include <sys/syscall.h>
 #include <time.h>
 
-/* The write of a process to a socket at which it asks for a session that is lent. */
+/* At this write to a socket a process asks for a session that the bridge lends. */
 #define BORROWING 4
 static bool is_off;
 
-/* The run's library has it, if there is one. */
+/* This function exists if the library of virtual time is loaded. */
 __attribute__((weak)) long canbusd_virtual_wait(uint32_t *word, uint32_t expected, uint64_t key,
                                                 const struct timespec *time);
 
@@ -40,14 +40,15 @@ static int put_quick(int fd, const struct wire_quick *quick, const struct iovec 
     struct msghdr message = {.msg_iov = parts, .msg_iovlen = 1 + pieces};
     parts[0] = (struct iovec){(void *)quick, sizeof *quick};
     memcpy(parts + 1, data, pieces * sizeof *data);
-    /* There is room nearly always; looking for it first is a call more, in virtual time. */
+    /* There nearly always is room. To check first would be one more call in virtual time. */
     return syscall(SYS_sendmsg, fd, &message, MSG_NOSIGNAL | MSG_DONTWAIT) >= 0 ? 0
            : errno != EAGAIN                                                    ? errno
            : syscall(SYS_sendmsg, fd, &message, MSG_NOSIGNAL) >= 0              ? 0
                                                                                 : errno;
 }
 
-/* Whether no reply will come: the bridge is gone, or the descriptor was another socket's when the request was sent. */
+/* Whether no reply will come: the bridge is gone, or the descriptor belonged to another socket when the request was
+ * sent. */
 static bool is_lost(int fd, const char *name) {
     struct pollfd polled = {fd, 0, 0};
     return memcmp(socket_of(fd).name, name, WIRE_NAME_ROOM) ||
@@ -64,7 +65,7 @@ static long wait_for_reply(struct wire_place *place, uint32_t state, uint64_t ke
                                 : syscall(SYS_futex, &place->state, FUTEX_WAIT, state, &look, NULL, 0);
 }
 
-/* Waits for the reply. No signal ends that: the verdict comes soon. */
+/* Waits for the reply. No signal ends this wait, because the verdict comes soon. */
 static bool await_reply(int fd, const char *name, struct wire_place *place, uint64_t key) {
     for (uint32_t state; (state = state_of(place)) != PLACE_REPLIED;) {
         long result = wait_for_reply(place, state, key);
@@ -110,7 +111,7 @@ static enum quick write_by(struct shared *one, const struct socket *sock, const 
     }
     if (!await_reply(sock->fd, sock->name, place, memory->key + quick.place)) {
         refuse_unsent("write", EPIPE);
-        return QUICK_REFUSED; /* The place stays taken, as a reply may come even so. */
+        return QUICK_REFUSED; /* The place stays taken, because a reply may still come. */
     }
     errno = before;
     enum quick result = get_reply(place, answer);
@@ -128,7 +129,7 @@ enum quick ask_quickly(const struct socket *sock, const struct wire_request *req
     if (!one) {
         return QUICK_NONE;
     }
-    /* A program that writes a frame or two borrows nothing for them. */
+    /* A program that writes only a few frames does not borrow the session. */
     if (__atomic_add_fetch(&one->writes, 1, __ATOMIC_RELAXED) >= BORROWING && loan_is_new(one->memory, &one->copy)) {
         share_borrow(one, sock->fd);
     }

@@ -1,4 +1,4 @@
-/* The functions of the C library that are called by those of this one, and errors. */
+/* The C library's functions that this library calls and replaces, and errors. */
 #define _GNU_SOURCE
 #include "library.h"
 
@@ -33,7 +33,7 @@ int fail(int error) {
     return -1;
 }
 
-/* Whether this is the first refusal that only a limit of the server explains, so that a line says so in any case. */
+/* Whether this is the first refusal that only a limit of the server explains. Then a line reports it in any case. */
 static bool is_news(int error) {
     static bool is_said[2];
     return (error == EUSERS || error == ENOSPC) &&

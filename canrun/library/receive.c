@@ -1,5 +1,4 @@
-/* Receiving: each call that reads from a socket. Those that the kernel wakes wait in the kernel, in the real recvmsg.
- */
+/* Receiving: each call that reads from a socket. A call that must wait does so in the kernel, in the real recvmsg. */
 #define _GNU_SOURCE
 #include "library.h"
 
@@ -13,10 +12,11 @@
 #include <time.h>
 
 #define SECOND 1000000000u
-/* In msg_flags, before a message is received: nobody asks what is known of it besides its bytes. */
+/* A value of msg_flags before a message is received: the program asks for the bytes only. */
 #define BYTES_ONLY MSG_NOSIGNAL
 
-/* The kernel makes the messages of SO_TIMESTAMP and SO_TIMESTAMPNS for Unix sockets too; the moment is the server's. */
+/* The kernel also makes the control messages of SO_TIMESTAMP and SO_TIMESTAMPNS for Unix sockets. This puts the
+ * server's timestamp there. */
 static bool correct_stamps(struct msghdr *message, uint64_t nanoseconds) {
     bool has_three = false;
     for (struct cmsghdr *one = CMSG_FIRSTHDR(message); one; one = CMSG_NXTHDR(message, one)) {
@@ -60,7 +60,7 @@ static void make_control(struct msghdr *message, size_t room, const struct wire_
     }
 }
 
-/* The address of who sent it; of ISO-TP it has no identifiers, as in the kernel. */
+/* Writes the address of the sender. For ISO-TP it has no identifiers, as in the kernel. */
 static bool make_name(const struct socket *sock, struct msghdr *message, int ifindex) {
     struct sockaddr_can can = {.can_family = AF_CAN, .can_ifindex = ifindex};
     socklen_t length = sock->protocol->address_size;
@@ -73,8 +73,8 @@ static ssize_t no_device(void) {
     return refuse("read", ENODEV, "the server is gone, and its interfaces with it");
 }
 
-/* The error of a socket whose next datagram says that it has one; 0 if another call has taken that. The bridge of a
- * socket ends only with it, or by a fault. */
+/* The error of a socket whose next datagram reports one; 0 if another call has taken the error. The bridge of a socket
+ * only ends together with the socket, or by a fault. */
 static int error_of(int fd) {
     struct answer answer = {0};
     return ask(fd, "read", &(struct wire_request){.kind = WIRE_ERROR}, NULL, 0, &answer) ? ENODEV : answer.value;
@@ -92,14 +92,15 @@ int take_shown(int fd) {
     return error ? (int)refuse_read(error) : 0;
 }
 
-/* Takes what is known of a message without data; false if the datagram said something else. */
+/* Takes the note of a message without data; false if there is no such message. */
 static bool take_empty(int fd, struct wire_empty *empty) {
     struct answer answer = {.data = empty, .room = sizeof *empty};
     return !ask(fd, "read", &(struct wire_request){.kind = WIRE_EMPTY}, NULL, 0, &answer) && answer.value;
 }
 
-/* The next message; its length, or -1 and errno. A datagram without bytes says that the socket has an error; it is
- * followed by the next where another call has taken the error; or, of J1939, that is a message without data. */
+/* Receives the next message. Returns its length, or -1 and errno. An empty datagram reports an error of the socket. If
+ * another call has taken the error, the next datagram follows. For J1939 an empty datagram may also be a message
+ * without data. */
 static ssize_t take(int fd, struct msghdr *message, int flags, struct wire_empty *empty) {
     size_t control = message->msg_controllen;
     for (;;) {
@@ -130,7 +131,7 @@ size_t room_of(const struct msghdr *message, size_t length) {
     return room;
 }
 
-/* Copies the first bytes that a program has received; returns how many. */
+/* Copies the first bytes that a program has received. Returns their number. */
 static size_t copy_head(const struct msghdr *message, size_t length, char *head, size_t room) {
     size_t done = 0;
     length = MIN(length, room);
@@ -142,7 +143,7 @@ static size_t copy_head(const struct msghdr *message, size_t length, char *head,
     return length;
 }
 
-/* Fills in what is known of a received message besides its bytes. */
+/* Fills in the facts about a received message besides its bytes. */
 static int describe(const struct socket *sock, struct msghdr *message, size_t control, const struct wire_empty *of) {
     const struct wire_note *note = &of->note;
     if (!sock->protocol->has_ways && message->msg_name && !make_name(sock, message, note->ifindex)) {
@@ -177,7 +178,7 @@ static ssize_t receive_noted(const struct socket *sock, struct msghdr *message, 
     return describe(sock, message, control, &of) ? -1 : length;
 }
 
-/* Notes that a message is read whose note nobody looks for. */
+/* Notes that this read does not look for its note. */
 static void note_plain(const struct socket *sock) {
     struct shared *one = share_enter(sock);
     if (one) {
@@ -207,13 +208,13 @@ ssize_t receive_message(const struct socket *sock, struct msghdr *message, int f
     return *length < 0 ? -1 : (ssize_t)room_of(message, (size_t)*length);
 }
 
-/* The kernel's CAN_RAW and CAN_BCM return what was copied, whatever MSG_TRUNC asks for. */
+/* The kernel's CAN_RAW and CAN_BCM return the copied length, even with MSG_TRUNC. */
 ssize_t can_recvmsg(const struct socket *sock, struct msghdr *message, int flags) {
     ssize_t length;
     return receive_message(sock, message, flags, &length);
 }
 
-/* Gives the address as far as there is room; as in the kernel that is looked at once a message has been taken. */
+/* Copies as much of the address as fits. As in the kernel, errors are found only after the message was taken. */
 static int give_name(struct sockaddr *from, socklen_t *room, const struct msghdr *message) {
     socklen_t has;
     if (!room || !copy_from(&has, room, sizeof has)) {
@@ -241,7 +242,7 @@ static ssize_t receive(const struct socket *sock, void *data, size_t length, int
     return result >= 0 && from && give_name(from, room, &message) ? -1 : result;
 }
 
-/* The same for a message that the program names. */
+/* The same for a struct msghdr of the program. */
 static ssize_t receive_named(const struct socket *sock, struct msghdr *named, int flags) {
     struct msghdr message;
     if (!copy_from(&message, named, sizeof message)) {
@@ -278,7 +279,7 @@ EXPORT ssize_t recv(int fd, void *data, size_t length, int flags) {
     return HAS(sock, recvmsg) ? receive(&sock, data, length, flags, NULL, NULL) : real()->recv(fd, data, length, flags);
 }
 
-/* A read of nothing takes no frame, as the kernel says of sockets. */
+/* As for the kernel's sockets, a read of 0 bytes takes no frame. */
 EXPORT ssize_t read(int fd, void *data, size_t length) {
     struct socket sock = socket_of(fd);
     if (!HAS(sock, recvmsg)) {
@@ -300,7 +301,7 @@ EXPORT ssize_t readv(int fd, const struct iovec *parts, int count) {
     return room_of(&message, 1) ? sock.protocol->recvmsg(&sock, &message, 0) : 0;
 }
 
-/* What is left of `timeout` since it began at `end` minus itself; as the kernel, it is looked at after each message. */
+/* Writes the remaining time to `timeout`. Like the kernel, it checks the time after each message. */
 static bool is_over(struct timespec *timeout, const struct timespec *end) {
     struct timespec now;
     clock_gettime(CLOCK_MONOTONIC, &now);
@@ -310,7 +311,7 @@ static bool is_over(struct timespec *timeout, const struct timespec *end) {
     return left == 0;
 }
 
-/* When a timeout that begins now is over; false and errno if it is none. */
+/* The end of a timeout that begins now; false and errno if the timeout is invalid. */
 static bool read_end(struct timespec *end, const struct timespec *timeout) {
     struct timespec now;
     if (!copy_from(end, timeout, sizeof *end)) {
@@ -352,7 +353,7 @@ EXPORT int recvmmsg(int fd, struct mmsghdr *messages, unsigned count, int flags,
     return (int)done;
 }
 
-/* The calls of programs that are built with _FORTIFY_SOURCE. */
+/* Programs built with _FORTIFY_SOURCE call these. */
 EXPORT ssize_t __read_chk(int fd, void *data, size_t length, size_t room);
 EXPORT ssize_t __recv_chk(int fd, void *data, size_t length, size_t room, int flags);
 EXPORT ssize_t __recvfrom_chk(int fd, void *restrict data, size_t length, size_t room, int flags,

@@ -1,4 +1,4 @@
-/* Sending: each call that writes to a socket. It waits for the server's verdict, so that a refusal is exact. */
+/* Sending: each call that writes to a socket. The call waits for the server's verdict, so that its error is exact. */
 #define _GNU_SOURCE
 #include "library.h"
 
@@ -10,20 +10,20 @@
 #include <string.h>
 #include <sys/syscall.h>
 
-/* Whether writes wait for room, as with --wait. */
+/* Whether writes wait for room (--wait). */
 static bool waits_for_room;
 
 __attribute__((constructor)) static void read_setting(void) {
     waits_for_room = getenv("CANBUSD_RUN_WAIT");
 }
 
-/* Whether SIGTERM does not reach this thread. */
+/* Whether this thread blocks SIGTERM. */
 static bool is_deaf(void) {
     sigset_t mask;
     return !pthread_sigmask(SIG_BLOCK, NULL, &mask) && sigismember(&mask, SIGTERM) == 1;
 }
 
-/* How long a write may wait for room. The mask of signals is looked at, which is a system call. */
+/* How long a write may wait for room. It reads the signal mask only if necessary, because that is a system call. */
 static enum wire_wait wait_for_room(void) {
     return !waits_for_room ? WIRE_WAIT : waits_are_over() ? WIRE_NO_WAIT : is_deaf() ? WIRE_SHORT_WAIT : WIRE_WAIT;
 }
@@ -67,15 +67,16 @@ int read_target(const struct msghdr *message, int32_t *index) {
     if (can.can_family != AF_CAN) {
         return refuse("sendto", EINVAL, "the address is not of AF_CAN");
     }
-    /* No interface has an index below 0, nor this one. */
+    /* No interface has a negative index, nor this one. */
     *index = can.can_ifindex < 0 ? INT32_MAX : can.can_ifindex;
     return 0;
 }
 
-/* The most pieces that go with a request as they are. */
+/* The most pieces that are sent with a request directly. */
 #define PIECES 64
 
-/* Has the protocol send a message; pieces that are too many for one call of the kernel with the request are joined. */
+/* Sends a message by the protocol's function. If there are too many pieces for one call of the kernel, they are joined
+ * first. */
 static ssize_t send_message(const struct socket *sock, struct msghdr *message, int flags) {
     size_t length = message->msg_iovlen <= PIECES ? 0 : room_of(message, WIRE_LARGEST + 1);
     if (message->msg_iovlen <= PIECES || length > WIRE_LARGEST) {
@@ -93,7 +94,7 @@ static ssize_t send_message(const struct socket *sock, struct msghdr *message, i
     return sock->protocol->sendmsg(sock, message, flags);
 }
 
-/* The same for a message that the program names. */
+/* The same for a struct msghdr of the program. */
 static ssize_t send_named(const struct socket *sock, const struct msghdr *named, int flags) {
     struct msghdr message;
     if (!copy_from(&message, named, sizeof message)) {

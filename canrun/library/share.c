@@ -1,9 +1,9 @@
-/* The memory that a bridge shares with the programs of its socket: quick writes get their replies there (quick.c), and
- * what was received has its notes there (notes.c).
+/* The memory that a bridge shares with the programs of its socket. Quick writes get their replies there (quick.c), and
+ * received datagrams have their notes there (notes.c).
  *
- * It is that of the socket with this name, whatever becomes of descriptors: so nothing has to be seen of close, dup,
- * fork and SCM_RIGHTS. Who makes a socket makes the memory too; another process asks the bridge for it, and each keeps
- * it for a number of sockets, as a cache does. */
+ * The memory belongs to the socket with this name, not to a descriptor. So the library need not follow close, dup, fork
+ * and SCM_RIGHTS. The process that makes a socket also makes the memory; another process asks the bridge for it. Each
+ * process keeps the memory of a number of sockets, as a cache does. */
 #define _GNU_SOURCE
 #include "library.h"
 
@@ -15,16 +15,16 @@
 #include <sys/resource.h>
 #include <sys/syscall.h>
 
-/* A socket has one of these: one of the few from the hash of its name on. */
+/* A socket has one of these entries: one of the few that follow the hash of its name. */
 #define KNOWN_BITS 8
 #define KNOWN (1u << KNOWN_BITS)
 #define FEW 16
-/* Nobody can use it now: it becomes that of another socket. */
+/* The entry is changing to another socket, so no thread can use it. */
 #define IS_CHANGING (1u << 31)
 
 static struct shared known[KNOWN];
 
-/* Other threads are not in the child of a fork. */
+/* A child of fork has no other threads, so no entry is in use. */
 static void forget_users(void) {
     for (size_t i = 0; i < KNOWN; i++) {
         if (known[i].users & IS_CHANGING) {
@@ -42,7 +42,7 @@ void share_leave(struct shared *one) {
     __atomic_fetch_sub(&one->users, 1, __ATOMIC_RELEASE);
 }
 
-/* Fibonacci hashing: each bit of a name changes the upper ones of the product. */
+/* Fibonacci hashing: each bit of a name changes the upper bits of the product. */
 static uint32_t hash_of(const char *name) {
     uint64_t hash = 0, word;
     for (size_t i = 0; i < WIRE_NAME_ROOM; i += sizeof word) {
@@ -52,7 +52,7 @@ static uint32_t hash_of(const char *name) {
     return (uint32_t)(hash >> (64 - KNOWN_BITS));
 }
 
-/* Makes it that of this socket, if no thread uses it. */
+/* Gives the entry to this socket, if no thread uses it. */
 static bool change(struct shared *one, const char *name, struct wire_memory *memory) {
     uint32_t users = 0;
     if (!__atomic_compare_exchange_n(&one->users, &users, IS_CHANGING, false, __ATOMIC_ACQUIRE, __ATOMIC_RELAXED)) {
@@ -69,7 +69,7 @@ static bool change(struct shared *one, const char *name, struct wire_memory *mem
     return true;
 }
 
-/* Gives up the memory of sockets that are closed. */
+/* Drops the memory of closed sockets. */
 static void forget_closed(void) {
     static const char nobody[WIRE_NAME_ROOM];
     for (struct shared *one = known; one < known + KNOWN; one++) {
@@ -83,8 +83,9 @@ static void forget_closed(void) {
     }
 }
 
-/* Makes one of the few that of this socket: a free one if there is one. Another socket whose place is taken asks for
- * its memory again, which takes turns of virtual time; and names, so places too, are others in each run. */
+/* Stores the memory in one of the socket's few entries, if possible in a free one. Another socket that loses its entry
+ * asks for its memory again, which takes turns of virtual time. The names differ in each run, and so do their
+ * places. */
 static bool keep(const char *name, struct wire_memory *memory) {
     static uint32_t turn;
     uint32_t hash = hash_of(name), first = __atomic_fetch_add(&turn, 1, __ATOMIC_RELAXED);
@@ -98,7 +99,7 @@ static bool keep(const char *name, struct wire_memory *memory) {
     return false;
 }
 
-/* Finds the memory of the socket with this name, which is used from now on; NULL if there is none yet. */
+/* Finds the memory of the socket with this name, and marks it as used; NULL if this process does not have it. */
 static struct shared *find(const char *name) {
     uint32_t hash = hash_of(name);
     for (uint32_t i = 0; i < FEW; i++) {
@@ -112,9 +113,10 @@ static struct shared *find(const char *name) {
     return NULL;
 }
 
-/* ---- asking for it ---- */
+/* ---- asking for the memory ---- */
 
-/* The descriptors that come by this end of a pair: of the memory, and of a session that may be lent; -1 for none. */
+/* Receives the descriptors of the memory, and of a session that may be lent, from this end of a pair; -1 if there is
+ * none. */
 static void receive_descriptors(int from, int fds[2]) {
     union {
         char room[CMSG_SPACE(2 * sizeof(int))];
@@ -147,13 +149,13 @@ static void ask_for_descriptors(int fd, int fds[2]) {
 }
 
 static struct wire_memory *map(int memory_fd) {
-    /* Past the thread sanitizer, which sees neither that the descriptor was made nor that it is closed. */
+    /* Bypasses the thread sanitizer, which does not see that the descriptor is made or closed. */
     const long access = PROT_READ | PROT_WRITE, kind = MAP_SHARED;
     void *memory = (void *)syscall(SYS_mmap, NULL, sizeof(struct wire_memory), access, kind, memory_fd, 0L);
     return memory == MAP_FAILED ? NULL : memory;
 }
 
-/* The descriptor may be another socket's by now. */
+/* The descriptor may belong to another socket by now. */
 static bool ask_for_memory(const struct socket *sock) {
     int before = errno, fds[2] = {-1, -1};
     ask_for_descriptors(sock->fd, fds);
@@ -187,9 +189,10 @@ void share_borrow(struct shared *one, int fd) {
     errno = before;
 }
 
-/* ---- making it ---- */
+/* ---- making the memory ---- */
 
-/* Gives the memory its size. It is no file of the program's, so the limit for these (ulimit -f) is not for it. */
+/* Sets the size of the memory. It is not a file of the program, so the limit of file sizes (ulimit -f) does not
+ * apply. */
 static bool set_size(int fd) {
     struct rlimit before;
     const rlim_t size = sizeof(struct wire_memory);

@@ -1,4 +1,4 @@
-/* Making CAN sockets, knowing them again, and the calls that a CAN socket refuses. */
+/* Makes CAN sockets, recognizes them, and replaces the calls that a CAN socket refuses. */
 #define _GNU_SOURCE
 #include "library.h"
 
@@ -12,7 +12,7 @@
 #include <time.h>
 #include <unistd.h>
 
-/* The protocols of CAN sockets, by their numbers of linux/can.h, as proto_tab of the kernel. */
+/* The protocols of CAN sockets, by their numbers in linux/can.h, like proto_tab of the kernel. */
 static const struct protocol *const protocols[CAN_NPROTO] = {
     [CAN_RAW] = &raw_protocol,
     [CAN_BCM] = &bcm_protocol,
@@ -56,7 +56,7 @@ bool is_can_socket(int fd) {
     return sock.protocol && sock.protocol->family == PF_CAN;
 }
 
-/* Whether there are such sockets; else errno, as can_create of the kernel. */
+/* Whether there are such sockets; otherwise sets errno, like can_create of the kernel. */
 static bool has_protocol(int type, int number) {
     if (type < 0 || type > SOCK_PACKET) {
         refuse("socket", EINVAL, "there is no such type of sockets");
@@ -72,7 +72,7 @@ static bool has_protocol(int type, int number) {
     return false;
 }
 
-/* Gives a socket a name that no other one has. Returns 0, or an errno. */
+/* Gives a socket a unique name. Returns 0, or an errno. */
 static int give_name(int fd, int protocol, struct sockaddr_un *name) {
     static unsigned number;
     struct timespec now;
@@ -84,7 +84,8 @@ static int give_name(int fd, int protocol, struct sockaddr_un *name) {
     return syscall(SYS_bind, fd, name, whole) ? errno : 0;
 }
 
-/* Reports why there is no bridge. Limits of the process or the system are what they are of any socket. */
+/* Reports the reason why there is no bridge. Limits of the process or the system give the same errno as for any
+ * socket. */
 static int refuse_bridge(int error) {
     bool is_limit = error == EMFILE || error == ENFILE || error == ENOMEM || error == EAGAIN;
     return refuse("socket", is_limit ? error : EPROTONOSUPPORT, strerror(error));

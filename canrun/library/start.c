@@ -1,5 +1,5 @@
-/* Starts the bridge of a socket, so that the program does not notice: it is no child that a wait returns, and its end
- * sends no SIGCHLD. */
+/* Starts the bridge of a socket without the program's notice: no wait returns it as a child, and its end sends no
+ * SIGCHLD. */
 #define _GNU_SOURCE
 #include "../shared/planted.h"
 #include "library.h"
@@ -20,7 +20,7 @@
 
 #define STACK 16384
 
-/* The variables of the environment that the bridge needs. */
+/* The environment variables that the bridge needs. */
 static const char *const SETTINGS[] = {
     "CANBUSD_ADDRESS", "CANBUSD_INTERFACES", "CANBUSD_RUN_WAIT", "CANBUSD_RUN_VIRTUAL", PLANTED_SETTING,
 #ifdef __SANITIZE_ADDRESS__
@@ -30,7 +30,8 @@ static const char *const SETTINGS[] = {
 #define SETTING_COUNT (sizeof SETTINGS / sizeof *SETTINGS)
 
 /* Runs a function in a copy of the process that shares its memory, on this stack, while the caller waits. Returns the
- * copy's number, or an errno below 0. It is not clone of the C library, which the thread sanitizer takes for a fork. */
+ * copy's process number, or a negative errno. It does not use the C library's clone, which the thread sanitizer would
+ * treat as a fork. */
 #ifdef __x86_64__
 static long copy_process(int (*function)(void *), void *stack, void *argument) {
     long result;
@@ -56,21 +57,21 @@ static long copy_process(int (*function)(void *), void *stack, void *argument) {
 }
 #endif
 
-/* The values of a start, in memory of its own: a thread of the program may have a small stack. */
+/* The data of a start. They are not on the stack, because a thread of the program may have a small one. */
 struct start {
     int end, memory, failed;
     pid_t bridge;
     char program[PATH_MAX];
-    char slot[40]; /* the setting that names the bridge's place in a run of virtual time */
+    char slot[40]; /* the setting with the bridge's slot in a run of virtual time */
     char *environment[SETTING_COUNT + 2];
     char stacks[2][STACK] __attribute__((aligned(16)));
 };
 
-/* A function that does not return leaves no frame, so the address sanitizer would take its stack for one for ever, also
- * once other memory is there. */
+/* A function that does not return never frees its frame. So the address sanitizer would take that memory for a stack
+ * for ever, even after the memory is used for other data. */
 #define NO_RETURN __attribute__((no_sanitize("address")))
 
-/* Has this descriptor at a number across execve. */
+/* Moves this descriptor to a number that survives execve. */
 static void put_at(long fd, long number) {
     if (fd == number) {
         syscall(SYS_fcntl, fd, F_SETFD, 0L);
@@ -79,15 +80,16 @@ static void put_at(long fd, long number) {
     }
 }
 
-/* These two run in copies of the process that share its memory; the caller waits, and so does the first for the second.
- * The first executes nothing, so its end sends no signal, as `clone` asks for none. The second is its child, and
- * nobody's here once the first has ended: execve would make SIGCHLD of its own end. */
+/* These two run in copies of the process that share its memory: the caller waits for the first, and the first for the
+ * second. The first copy executes no program, and `clone` asks for no signal, so its end sends none. The second is a
+ * child of the first, and no longer of this process once the first has ended. A direct child would send SIGCHLD at its
+ * end, since execve restores that signal. */
 NO_RETURN static int become_bridge(void *argument) {
     struct start *start = argument;
     char *words[] = {"canbusd-bridge", NULL};
     long memory = start->memory;
     if (memory == WIRE_PROGRAM) {
-        memory = syscall(SYS_fcntl, memory, F_DUPFD, WIRE_MEMORY + 1L); /* It is in the way of the other. */
+        memory = syscall(SYS_fcntl, memory, F_DUPFD, WIRE_MEMORY + 1L); /* It has the number that the other needs. */
     }
     put_at(start->end, WIRE_PROGRAM);
     put_at(memory, WIRE_MEMORY);
@@ -110,7 +112,7 @@ NO_RETURN static int leave_child(void *argument) {
     return 0;
 }
 
-/* The bridge is beside this library. */
+/* The bridge's file is in the same folder as this library. */
 static int find_bridge(char path[PATH_MAX]) {
     Dl_info library;
     if (!dladdr((void *)(size_t)find_bridge, &library) || !library.dli_fname) {
@@ -122,7 +124,7 @@ static int find_bridge(char path[PATH_MAX]) {
     return length < PATH_MAX ? 0 : ENAMETOOLONG;
 }
 
-/* The setting of this name, with the name, as the environment has it; NULL if it has none. */
+/* Returns NAME=VALUE from the environment; NULL if there is no such variable. */
 static char *setting(const char *name) {
     const size_t length = strlen(name);
     for (char **at = environ; at && *at; at++) {
@@ -133,7 +135,7 @@ static char *setting(const char *name) {
     return NULL;
 }
 
-/* The settings that there were at the start, for a program that clears its environment. */
+/* A copy of the settings, made at the start because a program may clear its environment. */
 static char *settings_before[SETTING_COUNT];
 
 __attribute__((constructor)) static void keep_settings(void) {
@@ -143,7 +145,7 @@ __attribute__((constructor)) static void keep_settings(void) {
     }
 }
 
-/* In virtual time (canrun/virtual) a bridge is a thread of the run, which its library counts. */
+/* In virtual time (canrun/virtual) a bridge is a thread of the run; the run's library counts it. */
 extern uint32_t canbusd_virtual_bear(void) __attribute__((weak));
 extern void canbusd_virtual_born(uint32_t slot, pid_t pid) __attribute__((weak));
 

@@ -1,7 +1,7 @@
-/* With --wait: SIGINT, SIGTERM and SIGHUP end each write that waits for room, whatever the flags of their handlers. The
- * kernel begins a call anew after a handler with SA_RESTART, so that the wait would go on. So while a write waits, a
- * handler here is called first: it has the bridge end the waits of this process, and then calls the program's own. A
- * program that writes again all the same waits no more, until a write has found room. */
+/* With --wait: SIGINT, SIGTERM and SIGHUP end each write that waits for room, whichever flags their handlers have.
+ * After a handler with SA_RESTART the kernel would restart the call, and the wait would go on. So while a write waits,
+ * a handler of this library is called first. It makes the bridge end the waits of this process, and then calls the
+ * program's handler. If the program writes again after that, its writes do not wait until one has found room. */
 #define _GNU_SOURCE
 #include "library.h"
 
@@ -11,7 +11,7 @@
 #include <signal.h>
 #include <stdlib.h>
 
-/* The most waits of a process that signals end; no bridge has more frames that wait. */
+/* The most waits of a process that signals can end; no bridge keeps more waiting frames. */
 #define WAITS 64
 enum state { UNUSED, BEGUN, ASKED, ENDING, ENDED };
 
@@ -60,7 +60,7 @@ static bool is_ours(const struct sigaction *action) {
     return action->sa_flags & SA_SIGINFO && action->sa_sigaction == on_signal;
 }
 
-/* Puts the handler here in front of the program's, if that has one. */
+/* Installs the library's handler before the program's, if the program has one. */
 static void replace(size_t at) {
     struct sigaction action;
     bool has_handler = !sigaction(numbers[at], NULL, &action) &&
@@ -73,7 +73,7 @@ static void replace(size_t at) {
     }
 }
 
-/* Puts the program's back, unless it has set another meanwhile. */
+/* Restores the program's handler, unless it has set another in the meantime. */
 static void put_back(size_t at) {
     struct sigaction action;
     if (!sigaction(numbers[at], NULL, &action) && is_ours(&action)) {
@@ -81,8 +81,8 @@ static void put_back(size_t at) {
     }
 }
 
-/* The first of the waits puts the handlers, and the last puts the program's back. No handler of this thread comes in
- * between, as it may write too. */
+/* The first wait installs the handlers, and the last one restores the program's. Signals are blocked meanwhile, because
+ * a handler of this thread may write too. */
 static void count_users(uint32_t change) {
     sigset_t all, before;
     sigfillset(&all);
@@ -103,7 +103,7 @@ static void count_users(uint32_t change) {
     pthread_sigmask(SIG_SETMASK, &before, NULL);
 }
 
-/* Other threads are not in the child of a fork. */
+/* A child of fork has no other threads, so nothing waits. */
 static void forget_waits(void) {
     for (size_t at = 0; users && at < NUMBERS; at++) {
         put_back(at);

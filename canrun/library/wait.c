@@ -1,6 +1,6 @@
-/* Waiting: poll and epoll of a socket that has an error of its own, as one of ISO-TP. Its bridge says so by a message
- * without data, which the kernel shows as POLLIN; a CAN socket has POLLERR. select shows both alike. In a program
- * without such sockets, and for all others, there is nothing to do. */
+/* Waiting: poll and epoll of a socket that has its own error, such as an ISO-TP socket. Its bridge reports the error by
+ * an empty message, for which the kernel reports POLLIN; a CAN socket must report POLLERR. For select both are the
+ * same. Programs without such sockets, and all other sockets, need nothing here. */
 #define _GNU_SOURCE
 #include "library.h"
 
@@ -22,8 +22,8 @@ struct noted {
     uint64_t words[KNOWN_MOST / WORD];
     bool has_any;
 };
-/* Descriptors that were such sockets when they were last used: a hint, as the kernel may have given them away; and the
- * sockets among them that have an error queue. */
+/* `known`: descriptors that were such sockets when last used. This is only a hint, since the number may belong to
+ * another file now. `queues`: those with an error queue. */
 static struct noted known, queues;
 
 static void note(struct noted *noted, int fd) {
@@ -75,7 +75,7 @@ void drop_error(int fd) {
     errno = before;
 }
 
-/* The bits of poll are those of epoll. */
+/* poll and epoll use the same bits. */
 uint32_t error_events(int fd, uint32_t events) {
     int waiting = 0, before = errno;
     syscall(SYS_ioctl, fd, FIONREAD, &waiting);
@@ -84,7 +84,7 @@ uint32_t error_events(int fd, uint32_t events) {
     return waiting > 0 ? events : events & ~(uint32_t)(POLLIN | POLLRDNORM);
 }
 
-/* Whether a socket is one to look at: it is ready to be read. */
+/* Whether a socket that is reported as ready has an error. */
 static bool shows_error(int fd, uint32_t events) {
     return is_noted(&known, fd) && events & (POLLIN | POLLRDNORM | POLLOUT) && has_error(fd);
 }
@@ -113,7 +113,7 @@ EXPORT int ppoll(struct pollfd *fds, nfds_t count, const struct timespec *timeou
     return polled(fds, count, real()->ppoll(fds, count, timeout, mask));
 }
 
-/* ---- epoll: which descriptor an event is of is known by the kernel alone, which shows it in a file ---- */
+/* ---- epoll: only the kernel knows the descriptor of an event, and lists it in a file of /proc ---- */
 
 static void mark(struct epoll_event *events, int count, int fd, uint64_t data) {
     for (int i = 0; i < count; i++) {
@@ -123,7 +123,7 @@ static void mark(struct epoll_event *events, int count, int fd, uint64_t data) {
     }
 }
 
-/* Reads a line of the file, as `tfd: 5 events: 19 data: 7fff0005 pos:0 ..`; false if it is another. */
+/* Reads a line of that file, such as `tfd: 5 events: 19 data: 7fff0005 pos:0 ..`; false if it is another line. */
 static bool read_line(const char *line, int *fd, uint64_t *data) {
     unsigned long long number;
     bool is_one = sscanf(line, "tfd: %d events: %*x data: %llx", fd, &number) == 2;
@@ -131,7 +131,7 @@ static bool read_line(const char *line, int *fd, uint64_t *data) {
     return is_one;
 }
 
-/* Marks the events of those descriptors of this epoll that have an error. */
+/* Corrects the events of this epoll's descriptors that have an error. */
 static void mark_all(int epoll, struct epoll_event *events, int count) {
     char text[4096], *line = text, *end;
     size_t have = 0;
@@ -189,7 +189,7 @@ EXPORT int epoll_pwait2(int epoll, struct epoll_event *events, int most, const s
     return epolled(epoll, events, real()->epoll_pwait2(epoll, events, most, timeout, mask));
 }
 
-/* The calls of programs that are built with _FORTIFY_SOURCE. */
+/* Programs built with _FORTIFY_SOURCE call these. */
 EXPORT int __poll_chk(struct pollfd *fds, nfds_t count, int timeout, size_t room);
 EXPORT int __ppoll_chk(struct pollfd *fds, nfds_t count, const struct timespec *timeout, const sigset_t *mask,
                        size_t room);

@@ -1,5 +1,6 @@
-/* poll of a socket that has an error queue, as one of J1939: the kernel shows POLLERR once there is an entry, also
- * if nothing else is waited for. Its bridge says so by a pipe, which is waited for beside the socket. */
+/* poll of a socket that has an error queue, such as a J1939 socket: it reports POLLERR once there is an entry,
+ * whichever events are asked for. The bridge writes to a pipe then, and this waits for the pipe as well as for the
+ * socket. */
 #define _GNU_SOURCE
 #include "library.h"
 
@@ -8,14 +9,14 @@
 #include <string.h>
 #include <sys/syscall.h>
 
-/* The most sockets of one poll that are looked at. */
+/* The most sockets of one poll for which this is done. */
 #define MOST 256
 
-/* The descriptors that are waited for: the program's, and after them a pipe for each socket with an error queue. */
+/* The polled descriptors: the program's, and after them a pipe for each socket with an error queue. */
 struct watch {
     struct pollfd all[2 * MOST];
     nfds_t count, with_pipes;
-    int of[MOST]; /* the descriptor of each pipe, by its place */
+    int of[MOST]; /* the index of the socket that each pipe belongs to */
 };
 
 /* Whether the socket has an error, or an entry in its error queue. */
@@ -59,7 +60,7 @@ static short shown_events(const struct pollfd *one) {
     return (short)(events | (is_select ? one->events & POLLPRI : 0));
 }
 
-/* Copies the events back; returns how many descriptors have some. */
+/* Copies the events back. Returns how many descriptors have events. */
 static int give_events(const struct watch *watch, struct pollfd *fds, const bool *has_error) {
     int ready = 0;
     for (nfds_t i = 0; i < watch->count; i++) {

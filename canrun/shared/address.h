@@ -8,7 +8,7 @@
 #include <sys/un.h>
 
 #define ADDRESS_DEFAULT "127.0.0.1:29536"
-/* The longest host that is read, with its last 0. */
+/* The longest host name that is read, with its terminating 0. */
 #define ADDRESS_HOST 256
 
 struct address {
@@ -17,11 +17,11 @@ struct address {
     unsigned short port;
 };
 
-/* Reads an address; false if the text is none. */
+/* Reads an address; false if the text is not an address. */
 bool address_read(const char *text, struct address *address);
 
-/* Connects to a path, or to a host that is a number or localhost: it looks no name up, so that the bridge needs no
- * library of names. Returns a descriptor, or -1 and errno: ENOENT if the host is no number. */
+/* Connects to a path, or to a host that is a number or localhost. It looks up no names, so the bridge needs no
+ * resolver. Returns a descriptor, or -1 and errno: ENOENT if the host is not a number. */
 int address_connect(const struct address *address);
 
 #endif

@@ -1,4 +1,4 @@
-/* An interface of the server as a message of netlink: see link.h. */
+/* Writes an interface of the server as a netlink message: see link.h. */
 #include "link.h"
 
 #include <linux/can.h>
@@ -6,14 +6,14 @@
 #include <linux/if_arp.h>
 #include <string.h>
 
-/* Flags that net/if.h has not, and states of RFC 2863, as linux/if.h has them. */
+/* Flags that net/if.h lacks, and states of RFC 2863, as in linux/if.h. */
 #define FLAG_LOWER_UP 0x10000
 #define FLAG_ECHO 0x40000
 #define OPERATES_DOWN 2
 #define OPERATES_UP 6
-/* Each bus carries FD frames. Whether it reports each error (--report) is not known here. */
+/* Each bus carries FD frames. It is not known here whether the bus reports each error (--report). */
 #define MODES CAN_CTRLMODE_FD
-/* As the kernel has it for a device with a queue: frames go in the order in which they came. */
+/* The kernel's default for a device with a queue: frames are sent in the order of the writes. */
 #define QUEUEING "pfifo_fast"
 
 bool link_has_carrier(const struct link_facts *facts) {
@@ -48,7 +48,7 @@ static void put_text(struct link_message *message, uint16_t type, const char *te
     put(message, type, text, strlen(text) + 1);
 }
 
-/* Ends attributes that are in another. */
+/* Ends a nested attribute. */
 static void end(struct link_message *message, struct nlattr *nest) {
     nest->nla_len = (uint16_t)((char *)message + message->head.nlmsg_len - (char *)nest);
 }
@@ -60,7 +60,7 @@ static void put_rate(struct link_message *message, uint16_t type, uint32_t rate)
     }
 }
 
-/* The one bit rate that there can be. */
+/* Lists one bit rate as the only possible rate. */
 static void put_only_rate(struct link_message *message, uint16_t type, uint32_t rate) {
     if (rate) {
         put_number(message, type, rate);
@@ -79,8 +79,8 @@ static void put_counts(struct link_message *message, const struct link_facts *fa
     }
 }
 
-/* In the order of can_fill_info of the kernel. The clock has no frequency, as that of a device which has bit rates and
- * no bit timing. */
+/* Writes the attributes in the order of the kernel's can_fill_info. The clock's frequency is 0, as for a device with
+ * fixed bit rates and no bit timing. */
 static void put_device(struct link_message *message, const struct link_facts *facts) {
     const struct can_ctrlmode modes = {.flags = MODES};
     const struct can_berr_counter counters = {facts->tec, facts->rec};
@@ -102,7 +102,8 @@ static void put_device(struct link_message *message, const struct link_facts *fa
     end(message, data);
 }
 
-/* The counts of sent and lost frames. The server counts neither bytes nor the frames that an interface has received. */
+/* Writes the counts of sent and lost frames. The server counts neither bytes nor the frames that an interface has
+ * received. */
 static void put_stats(struct link_message *message, const struct link_facts *facts) {
     const struct rtnl_link_stats64 counts = {
         .tx_packets = facts->done, .tx_dropped = facts->lost + facts->refused, .tx_errors = facts->lost};

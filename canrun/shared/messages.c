@@ -1,14 +1,14 @@
-/* Frames as texts of the server's raw mode: see messages.h. canbusd.1 has what the messages mean. */
+/* Frames as texts of the server's raw mode: see messages.h. The manual page canbusd.1 explains the messages. */
 #include "messages.h"
 
 #include <string.h>
 #include <sys/param.h>
 
 static const char DIGITS[] = "0123456789ABCDEF";
-/* The lengths that an FD frame may have past 8 (ISO 11898-1). */
+/* The lengths above 8 that an FD frame may have (ISO 11898-1). */
 static const uint8_t FD_LENGTHS[] = {12, 16, 20, 24, 32, 48, 64};
 
-/* The least length of an FD frame that has room for these bytes. */
+/* The shortest length of an FD frame that holds so many bytes. */
 static unsigned fd_length(unsigned length) {
     unsigned at = 0;
     if (length <= CAN_MAX_DLEN) {
@@ -69,7 +69,7 @@ static int digit(char one) {
                                       : -1;
 }
 
-/* Reads hexadecimal digits and the space after them; returns how many digits there were. */
+/* Reads hexadecimal digits and the space after them. Returns the number of digits. */
 static int get_hex(const char **at, uint32_t *number) {
     int count = 0;
     for (*number = 0; digit(**at) >= 0 && count < 8; count++, (*at)++) {
@@ -87,7 +87,7 @@ bool message_number(const char **at, uint64_t *number) {
     return *at != from;
 }
 
-/* SECONDS.MICROS. */
+/* Reads a timestamp, SECONDS.MICROS. */
 static bool get_moment(const char **at, uint64_t *nanoseconds) {
     uint64_t seconds, micros;
     if (!message_number(at, &seconds) || **at != '.') {
@@ -109,7 +109,7 @@ static void get_data(const char **at, struct canfd_frame *frame) {
     }
 }
 
-/* The flags of an FD frame, a digit and a space. */
+/* Reads the flags of an FD frame: a digit and a space. */
 static void get_flags(const char **at, struct canfd_frame *frame) {
     if (**at >= '0' && **at <= '3') {
         frame->flags |= (uint8_t)(**at - '0');
@@ -118,7 +118,8 @@ static void get_flags(const char **at, struct canfd_frame *frame) {
     }
 }
 
-/* From which interface a frame was sent, and its number there; error message frames have none. */
+/* Reads whether the frame came from the same interface or another, and its number there. Error message frames have no
+ * origin. */
 static void get_origin(const char *at, struct item *item) {
     static const char same[] = "same ", other[] = "other ";
     at += strspn(at, " ");
@@ -130,7 +131,7 @@ static void get_origin(const char *at, struct item *item) {
     }
 }
 
-/* The kinds of messages that hand over a frame. */
+/* The kinds of messages that contain a frame. */
 static const struct kind {
     const char *word;
     bool is_fd;
@@ -141,12 +142,13 @@ static const struct kind {
              {"fdframex ", true, 0},
              {"error ", false, CAN_ERR_FLAG}};
 
-/* Reads what follows the word; false if it is no frame: a refusal, such as `error bad id`, has no moment. */
+/* Reads the rest of a message after its first word. False if it is not a frame: a refusal, such as `error bad id`, has
+ * no timestamp. */
 static bool get_item(const struct kind *kind, const char *at, struct item *item) {
     uint32_t identifier;
     uint64_t remote_length = 0;
     *item = (struct item){.is_fd = kind->is_fd};
-    /* Linux sets it in each FD frame that it hands out. */
+    /* Linux sets this flag in each FD frame that it returns. */
     item->frame.flags = kind->is_fd ? CANFD_FDF : 0;
     if (at[-2] == 'x') {
         get_flags(&at, &item->frame);

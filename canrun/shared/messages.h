@@ -1,4 +1,4 @@
-/* Frames as texts of the server's raw mode, as bridge and library both write them, and the bridge reads them. */
+/* Frames as texts of the server's raw mode. The bridge and the library write them; the bridge also reads them. */
 #ifndef MESSAGES_H
 #define MESSAGES_H
 
@@ -6,17 +6,17 @@
 #include <stdbool.h>
 #include <stdint.h>
 
-/* In nanoseconds. */
+/* A second in nanoseconds. */
 #define SECOND 1000000000ull
 
-/* A frame, as it comes and goes: of 16 bytes or, an FD frame, of 72. */
+/* A sent or received frame. A classic frame has 16 bytes, an FD frame 72. */
 struct item {
     struct canfd_frame frame;
     bool is_fd;
     uint64_t moment; /* nanoseconds since 1970 */
     enum { ORIGIN_NONE, ORIGIN_SAME, ORIGIN_OTHER } origin;
-    uint64_t number;        /* of the frame at its sender's interface, if it has an origin */
-    uint32_t message_flags; /* of recvmsg: MSG_DONTROUTE, MSG_CONFIRM */
+    uint64_t number;        /* the frame's number at its sender's interface, if the frame has an origin */
+    uint32_t message_flags; /* the flags that recvmsg returns: MSG_DONTROUTE, MSG_CONFIRM */
 };
 
 /* The longest command for a frame. */
@@ -25,10 +25,10 @@ struct item {
 /* Writes the command that sends a frame. */
 void message_of_frame(char text[COMMAND], const struct canfd_frame *frame, bool is_fd);
 
-/* Reads the text of a message, without < and >, that hands over a frame; false if it is another. */
+/* Reads a message that contains a frame, without < and >; false if the message contains no frame. */
 bool message_to_item(const char *text, struct item *item);
 
-/* Reads decimal digits, and goes past them; false if there are none. */
+/* Reads decimal digits and moves past them; false if there are no digits. */
 bool message_number(const char **at, uint64_t *number);
 
 #endif

@@ -3,7 +3,7 @@
  *     CANBUSD_RUN_FAULT="KIND NAME IDENTIFIER MOMENT"
  *
  * NAME is the interface, IDENTIFIER 3 or 8 hexadecimal digits, MOMENT seconds with six digits after the point. KIND
- * says what becomes of the frame. The bridge loses or delays what is received, the library refuses what is written. */
+ * selects the fault. The bridge loses or delays received frames; the library refuses written frames. */
 #ifndef CANBUSD_PLANTED_H
 #define CANBUSD_PLANTED_H
 
@@ -15,25 +15,25 @@
 
 enum planted_kind {
     PLANTED_NONE,
-    PLANTED_MISSED, /* the frame of this moment is lost, as by an overrun */
-    PLANTED_LATE,   /* it comes PLANTED_DELAY later */
-    PLANTED_FULL    /* the first write of such a frame from this moment on finds no room */
+    PLANTED_MISSED, /* the frame with this timestamp is lost, as in an overrun */
+    PLANTED_LATE,   /* the frame arrives PLANTED_DELAY later */
+    PLANTED_FULL    /* the first write of such a frame at or after this timestamp finds no room */
 };
 
-/* Milliseconds. */
+/* The delay in milliseconds. */
 #define PLANTED_DELAY 10
 
 struct planted {
     enum planted_kind kind;
-    int index; /* of the interface */
+    int index; /* the interface's index */
     canid_t identifier;
     uint64_t moment; /* nanoseconds since 1970 */
 };
 
-/* Reads the setting; of the kind PLANTED_NONE if there is none. */
+/* Reads the setting; without it the kind is PLANTED_NONE. */
 struct planted planted_read(void);
 
-/* Whether a frame with this identifier, of this interface, is meant. */
+/* Whether the fault is for a frame with this identifier at this interface. */
 bool planted_is_of(const struct planted *planted, int index, canid_t identifier);
 
 #endif

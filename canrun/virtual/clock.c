@@ -10,8 +10,8 @@
 #include <threads.h>
 #include <unistd.h>
 
-/* A thread that looks at the clock this often without a wait between: then 10 microseconds pass, and after each further
- * hundred looks twice as many, up to a millisecond. So waiting by looking ends, and the same in each run. */
+/* After so many looks at the clock without a wait between them, 10 microseconds pass. After each further hundred looks
+ * twice as many pass, up to a millisecond. So a busy wait ends, in the same way in each run. */
 #define LOOKS 2000
 #define LOOKS_MORE 100
 #define FIRST_STEP 10000ull
@@ -93,7 +93,7 @@ EXPORT clock_t times(struct tms *used) {
     return run ? (clock_t)((run->now + UPTIME) / (SECOND / 100)) : (clock_t)result;
 }
 
-/* The facts of a machine, with how long it is up. */
+/* Facts of the machine, with the uptime of the run. */
 EXPORT int sysinfo(struct sysinfo *info) {
     int result = (int)answer(RAW(SYS_sysinfo, info));
     if (run && !result) {
@@ -102,7 +102,7 @@ EXPORT int sysinfo(struct sysinfo *info) {
     return result;
 }
 
-/* ---- clocks of a run are set by nobody ---- */
+/* ---- nobody sets the clocks of a run ---- */
 
 EXPORT int clock_settime(clockid_t id, const struct timespec *t) {
     return run ? (errno = EPERM, -1) : (int)answer(RAW(SYS_clock_settime, id, t));
@@ -142,7 +142,7 @@ ALSO(ntp_gettime, ntp_gettimex)
 
 /* ---- sleeps ---- */
 
-/* Sleeps until a moment; false if a signal came before. */
+/* Sleeps until a moment; false if a signal came before it. */
 static bool sleep_until(uint64_t deadline) {
     cancel_point();
     regain_turn();

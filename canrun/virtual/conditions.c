@@ -8,7 +8,7 @@
 
 /* ---- condition variables: first come, first served ---- */
 
-/* The functions of the first condition variables, which some systems keep, have the same names. */
+/* Some systems keep an older version of these functions under the same names. */
 #define CONDITION(name)                                                    \
     static __typeof__(&name) real;                                         \
     if (!real) {                                                           \
@@ -110,9 +110,9 @@ EXPORT int cnd_broadcast(cnd_t *condition) {
     return pthread_cond_broadcast((pthread_cond_t *)condition) ? thrd_error : thrd_success;
 }
 
-/* ---- semaphores, of one process or of several ---- */
+/* ---- semaphores of one process or of several ---- */
 
-/* CPython looks at the clock for each lock that it takes, also of one that is free: how often hangs on its version. */
+/* CPython reads the clock for each lock that it takes, even for a free one. How often depends on its version. */
 EXPORT int sem_trywait(sem_t *semaphore) {
     REAL(sem_trywait);
     int result = real(semaphore);
@@ -122,7 +122,7 @@ EXPORT int sem_trywait(sem_t *semaphore) {
     return result;
 }
 
-/* Its third word says whether processes share it. */
+/* The third word of a semaphore is nonzero if processes share it. */
 static uint64_t key_of_semaphore(const sem_t *semaphore) {
     return ((const int *)semaphore)[2] ? key_of_any(semaphore, OF_SEMAPHORE) : key_of(semaphore, OF_SEMAPHORE);
 }
@@ -135,7 +135,7 @@ static int semaphore_until(sem_t *semaphore, uint64_t deadline) {
         if (!sem_trywait(semaphore)) {
             return 0;
         }
-        /* With a timeout it does not begin anew. */
+        /* A call with a timeout is not restarted. */
         if (flags & IS_INTERRUPTED && (my.has_to_return || deadline != NEVER)) {
             return errno = EINTR, -1;
         }

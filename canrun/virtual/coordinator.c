@@ -1,5 +1,6 @@
-/* The coordinator of a run: it starts the program, hands out the epoll, sees who ends, and decides where no thread can:
- * when signals are due, when a thread sleeps in a call that the library does not see, and when nothing can go on. */
+/* The coordinator of a run: it starts the program, hands out the epoll, and sees the ends of processes. It decides if
+ * no thread can: when signals are due, when a thread sleeps in a call that the library does not see, and when nothing
+ * can continue. */
 #define _GNU_SOURCE
 #include "coordinator.h"
 #include "grants.h"
@@ -30,25 +31,26 @@
 #include <time.h>
 #include <unistd.h>
 
-/* Milliseconds between two looks at who has the turn, and while births or others outside are waited for. If the turn
- * went on at each of so many looks, or is of one that runs, these are twice as far apart, up to the longest; if it
- * stays with one that sleeps they are as near as at first. */
+/* Milliseconds between two looks at the owner of the turn; and while the coordinator waits for births or for threads
+ * outside. After so many looks at which the turn had moved, or its owner was running, the pause doubles, up to the
+ * longest. If the owner sleeps, the pause is the shortest again. */
 #define WATCH_MS 4
 #define LONGEST_WATCH_MS 32
 #define IDLE_LOOKS 8
 #define SOON_MS 1
 #define STATUS_STUCK 125
-/* Seconds of the run that programs have to end once PROGRAM has; of real time, if they wait for nothing that comes;
- * and of a processor, if one does not wait at all. */
+/* How many seconds the other programs have to end after PROGRAM: seconds of the run; real seconds, if all wait in vain;
+ * and seconds of a processor, if one never waits. */
 #define END_SECONDS 2
-/* Looks between two at how long a thread has run, and seconds between two at how busy the processor is. */
+/* The number of looks between two checks of a thread's running time; and the seconds between two checks of the
+ * processor's load. */
 #define RARELY 12
-/* Nanoseconds of a processor after which a thread that has the turn computes for long. */
+/* The processor time in nanoseconds after which a thread with the turn counts as busy. */
 #define LONG_RUN 1000000000
 #define PROCESSOR_SECONDS 0.25
-/* Milliseconds in which one that connects has to ask. */
+/* How many milliseconds a connecting process has to send its request. */
 #define ASK_MS 1000
-/* The length of the path of the run's memory up to its descriptor. */
+/* The length of the path of the run's memory before its descriptor's number. */
 #define PATH_SLASHES 20
 
 static struct {
@@ -57,21 +59,21 @@ static struct {
     pid_t root;
     int root_status, status;
     bool has_ended, is_over;
-    volatile sig_atomic_t number; /* of a signal that ends the run */
+    volatile sig_atomic_t number; /* the number of a signal that ends the run */
     uint64_t seen_turn;
     int looks, idle_looks;
-    double since; /* real time since which nothing has gone on */
+    double since; /* the real time since which the run has made no progress */
     uint64_t run_before;
 } coordinator = {.root_status = -1};
 
-/* The coordinator has no descriptors to ask for. */
+/* The coordinator needs no descriptors from itself. */
 bool register_process(void) {
     return false;
 }
 
 /* ---- processes of the run ---- */
 
-/* Whether a process is below this one, whose end is seen then. */
+/* Watches for the end of a process; false if it is not a descendant. */
 static bool watch_process(uint32_t pid) {
     int fd = descendant_open(pid);
     struct epoll_event event = {.events = EPOLLIN, .data.u64 = (uint64_t)pid << 32 | (uint32_t)fd};
@@ -88,7 +90,7 @@ static bool is_known(uint32_t pid) {
     return false;
 }
 
-/* A process of the run says that it is there, and gets the epoll, or has made an alarm. */
+/* Replies to a process of the run: sends the epoll, or accepts an alarm. */
 static void reply_to(int fd, uint32_t pid) {
     struct pollfd polled = {fd, POLLIN, 0};
     struct request request;
@@ -105,8 +107,8 @@ static void reply_to(int fd, uint32_t pid) {
     }
 }
 
-/* Serves a process that connects if it is of the run; of one that runs as another user only the end is watched. Returns
- * whether there was one. */
+/* Serves connecting processes of the run. For a process of another user it only watches for the end. Returns whether
+ * there was one. */
 static bool admit(void) {
     bool is_any = false;
     int fd;
@@ -158,7 +160,7 @@ static void reap(void) {
     }
 }
 
-/* A process has ended: its parent gets to know it before anybody goes on. */
+/* After the end of a process: its parent gets SIGCHLD before any other thread continues. */
 static void process_ended(uint32_t pid, int fd) {
     uint32_t parent = proc_parent(pid);
     close(fd);
@@ -179,7 +181,7 @@ static void process_ended(uint32_t pid, int fd) {
 
 /* ---- deciding ---- */
 
-/* For how many seconds nothing may go on; 0: for ever. */
+/* How many seconds the run may make no progress; 0: no limit. */
 static double most_stall(void) {
     return coordinator.has_ended ? END_SECONDS : coordinator.options->stall;
 }
@@ -192,7 +194,7 @@ static bool is_stalled(void) {
     return most_stall() > 0 && now - coordinator.since > most_stall();
 }
 
-/* Nothing goes on: the run fails, with this text, but if PROGRAM has ended it is over. */
+/* There is no progress: the run fails with this text; after the end of PROGRAM it is only over. */
 static void end_stalled(const char *text) {
     if (coordinator.has_ended) {
         coordinator.is_over = true;
@@ -235,7 +237,7 @@ static void send_alarms(void) {
     }
 }
 
-/* The moment has come for which --until asks, or past which nothing of what PROGRAM left goes on. */
+/* The moment of --until has come; after the end of PROGRAM, the moment at which the rest must have ended. */
 static void end_by_until(void) {
     if (coordinator.has_ended) {
         coordinator.is_over = true;
@@ -248,7 +250,7 @@ static void end_by_until(void) {
     settle((uint32_t)coordinator.root);
 }
 
-/* Nobody waits for a moment: what comes from outside of the run may go on with it. */
+/* No thread waits for a moment: only input from outside of the run can continue it. */
 static int wait_idle(void) {
     struct epoll_event event = {.events = EPOLLIN | EPOLLONESHOT, .data.u64 = 1};
     epoll_ctl(coordinator.own, EPOLL_CTL_MOD, run_epoll, &event);
@@ -258,7 +260,7 @@ static int wait_idle(void) {
     return 50;
 }
 
-/* Hands the turn on; how many milliseconds it is to be waited where that can't be yet. */
+/* Hands the turn on. If that is not possible yet, returns how many milliseconds to wait. */
 static int decide(void) {
     bool ignores = false;
     for (int tries = 0;; tries++) {
@@ -293,13 +295,13 @@ static int decide(void) {
     }
 }
 
-/* How long it is until the next look, in milliseconds. */
+/* The milliseconds until the next look. */
 static int watch_pause(void) {
     int pause = WATCH_MS << coordinator.idle_looks / IDLE_LOOKS;
     return pause < LONGEST_WATCH_MS ? pause : LONGEST_WATCH_MS;
 }
 
-/* Counts looks in a row at which there was nothing to do, as far as they make the next one later. */
+/* Counts looks in a row without work, as long as they delay the next look. */
 static void count_idle_looks(bool is_idle) {
     if (!is_idle) {
         coordinator.idle_looks = 0;
@@ -308,7 +310,7 @@ static void count_idle_looks(bool is_idle) {
     }
 }
 
-/* Somebody has the turn: whether it is handed on. It may run for long, but not for ever. */
+/* A thread has the turn: checks whether the turn moves. The thread may run for long, but not for ever. */
 static void watch(void) {
     uint64_t turn = run->turn;
     uint32_t owner = (uint32_t)turn & NOBODY;
@@ -341,7 +343,7 @@ static void watch(void) {
     }
 }
 
-/* ---- the processor: all of a run is on one, if a thread wakes another fastest ---- */
+/* ---- the processor: the whole run uses one, since there a thread wakes another fastest ---- */
 
 static void pin(uint32_t tid, int processor) {
     cpu_set_t one;
@@ -350,8 +352,8 @@ static void pin(uint32_t tid, int processor) {
     sched_setaffinity((pid_t)tid, sizeof one, &one);
 }
 
-/* Others may run there too. If the run waits for it most of the time it goes where this process has been put, which
- * the kernel moves. */
+/* Other programs may use the run's processor too. If the run mostly waits for that processor, it moves to the processor
+ * on which the kernel has put this process. */
 static void find_processor(void) {
     static double looked_at;
     static struct usage before;
@@ -404,8 +406,8 @@ static void handle_events(int patience) {
     reap();
 }
 
-/* PROGRAM has ended, and what it leaves is to end. Who has no handler does so, and who has one knows of the signal,
- * before anybody goes on. */
+/* PROGRAM has ended, so the rest must end. Programs without a handler end at once; the others get the signal before any
+ * thread continues. */
 static void end_rest(void) {
     static uint32_t pids[TREE_MOST];
     size_t count = tree_below((uint32_t)getpid(), pids, TREE_MOST);
@@ -452,7 +454,7 @@ static void loop(void) {
     }
 }
 
-/* The terminal where this was started: what comes of it comes from outside of the run. */
+/* The terminal from which the run was started: its input comes from outside of the run. */
 static uint64_t own_terminal(void) {
     struct stat status;
     for (int fd = 0; fd < 3; fd++) {
@@ -482,7 +484,7 @@ static bool make_run(const struct virtual_options *options) {
     coordinator_pid = getpid();
     run->turn = NOBODY;
     run->magic = RUN_MAGIC;
-    /* Of one length, which addresses in programs hang on. */
+    /* The path always has the same length, because addresses in programs depend on it. */
     int length = snprintf(path, sizeof path, "/proc/%d", getpid());
     snprintf(path + length, sizeof path - (size_t)length, "%.*sfd/%d", PATH_SLASHES - length, slashes, fd);
     setenv(RUN_SETTING, path, 1);
@@ -505,12 +507,12 @@ static bool make_descriptors(void) {
            !epoll_ctl(coordinator.own, EPOLL_CTL_ADD, run_epoll, &idle);
 }
 
-/* The signals of this process before it handled any. */
+/* Executes the program with the signal mask that this process had at first. */
 static void become_program(const char *file, char **words, const sigset_t *mask) {
     int here = sched_getcpu();
     pin(0, here < 0 ? 0 : here);
     prctl(PR_SET_PDEATHSIG, SIGKILL);
-    personality(ADDR_NO_RANDOMIZE); /* Containers may refuse it. */
+    personality(ADDR_NO_RANDOMIZE); /* Containers may forbid it. */
     sigprocmask(SIG_SETMASK, mask, NULL);
     execv(file, words);
     int error = errno;
@@ -535,8 +537,8 @@ static int status_of(int status) {
     return WIFEXITED(status) ? WEXITSTATUS(status) : 128 + WTERMSIG(status);
 }
 
-/* Makes this process the coordinator of a run that has no program yet; false if it can't be had. `before` are the
- * signals that were blocked. */
+/* Makes this process the coordinator of a run without a program yet; false if that fails. `before` gets the signals
+ * that were blocked. */
 static bool begin(const struct virtual_options *options, pid_t parent, sigset_t *before) {
     coordinator.options = options;
     prctl(PR_SET_CHILD_SUBREAPER, 1);
@@ -553,7 +555,7 @@ static bool begin(const struct virtual_options *options, pid_t parent, sigset_t 
     return true;
 }
 
-/* The slot of the first program, which is not there yet or waits. */
+/* The slot of the first program, which is not running yet or waits. */
 static struct slot *first_slot(void) {
     struct slot *slot = &run->slots[take_slot()];
     slot->parent = (uint32_t)getpid();
@@ -561,7 +563,7 @@ static struct slot *first_slot(void) {
     return slot;
 }
 
-/* Goes on to the end of the run; returns its status. */
+/* Runs until the end, and returns the status. */
 static int coordinate(void) {
     signal(SIGINT, SIG_IGN);
     signal(SIGQUIT, SIG_IGN);
@@ -614,7 +616,7 @@ int virtual_run_child(const struct virtual_options *options, pid_t child, int se
     return tell_settings(settings) ? coordinate() : STATUS_STUCK;
 }
 
-/* ---- the guard: nothing is left of a run whose coordinator is killed ---- */
+/* ---- the guard: if the coordinator is killed, the guard ends the rest of the run ---- */
 
 static volatile sig_atomic_t guarded;
 

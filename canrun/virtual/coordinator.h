@@ -7,17 +7,17 @@
 
 struct virtual_options {
     uint64_t epoch;  /* nanoseconds since 1970 at the start */
-    uint64_t until;  /* nanoseconds of the run; UINT64_MAX: no end */
-    double stall;    /* seconds that nothing may go on */
-    uint64_t seed;   /* 0: the order of who goes on is that of their births */
-    uint64_t jitter; /* nanoseconds that a wait is longer at most */
+    uint64_t until;  /* the end, in nanoseconds of the run; UINT64_MAX: no end */
+    double stall;    /* how many seconds the run may make no progress */
+    uint64_t seed;   /* 0: threads go on in the order of their births */
+    uint64_t jitter; /* by how many nanoseconds a wait is extended at most */
 };
 
-/* Runs a program, whose file is this and which has these words, with all that it starts; returns the status. */
+/* Runs the program in this file with these arguments, and all that it starts. Returns the status. */
 int virtual_run(const struct virtual_options *options, const char *file, char **words);
 
-/* Runs a child that this process has forked before, with all that it starts; returns the status. The child gets the
- * settings of the run by a pipe, whose writing end this is: NAME=VALUE, each with a NUL after it. */
+/* Runs a child that the caller has already forked, and all that it starts. Returns the status. The child gets the
+ * settings of the run on a pipe; `settings` is its writing end. Each setting is NAME=VALUE with a NUL after it. */
 int virtual_run_child(const struct virtual_options *options, pid_t child, int settings);
 
 #endif

@@ -1,4 +1,4 @@
-/* Datagrams to what is no part of the run: for it time goes on as ever, so the run ends if one is sent to it. */
+/* Datagrams to programs outside the run. Their time does not stop, so the run ends if a datagram is sent to one. */
 #define _GNU_SOURCE
 #include "calls.h"
 #include "peers.h"
@@ -27,7 +27,7 @@ static bool is_to_many(const struct sockaddr *to) {
                : IN6_IS_ADDR_MULTICAST(&six->sin6_addr);
 }
 
-/* Whether an address is one of this machine: a socket can be bound to it. */
+/* Whether this machine has an address: a socket can be bound to it. */
 static bool is_here(const struct sockaddr *to) {
     struct sockaddr_in6 six;
     struct sockaddr_in *four = (struct sockaddr_in *)&six;
@@ -71,8 +71,8 @@ static bool is_of_run(unsigned long inode) {
     return false;
 }
 
-/* Whose a port of this machine is: of the run, of others, or nobody's, and then the kernel refuses what is sent to it.
- */
+/* The owner of a port of this machine: the run, other programs, or nobody. If nobody has it, the kernel refuses
+ * datagrams to it. */
 enum owner { OF_NOBODY, OF_OTHERS, OF_RUN };
 
 static enum owner owner_of(uint32_t port) {
@@ -96,7 +96,7 @@ static enum owner owner_of(uint32_t port) {
     return owner;
 }
 
-/* Whether a datagram there would leave the run. */
+/* Whether a datagram to this address would leave the run. */
 static bool is_outside(const struct sockaddr *to) {
     uint32_t port = port_of(to);
     if (!port || is_known(port) || is_to_many(to)) {

@@ -1,5 +1,6 @@
-/* Waits for descriptors: poll, and what calls that block have in common. Each first looks what is ready, as a thread
- * that has the turn may go on at once; else it waits for its turn, with its descriptors in the epoll of the run. */
+/* Waits for descriptors: poll, and the common part of blocking calls. Each call first checks whether a descriptor is
+ * ready, because a thread that has the turn may continue at once. Otherwise it waits for its turn, with its descriptors
+ * in the epoll of the run. */
 #define _GNU_SOURCE
 #include "calls.h"
 
@@ -15,11 +16,11 @@
 #include <unistd.h>
 
 #define POLL_MOST 1024
-/* Of a wait for so many descriptors they stay in the epoll for the next. */
+/* After a wait for at most so many descriptors, they stay in the epoll for the next wait. */
 #define FEW 16
 
 #ifdef FOR_BRIDGE
-/* A bridge has no timers, no handlers and no threads that are cancelled. */
+/* A bridge has no timers, no handlers and no cancelled threads. */
 uint64_t timers_due(void) {
     return NEVER;
 }
@@ -46,10 +47,9 @@ static long control(int operation, int fd, short events) {
     return result;
 }
 
-/* Bytes that are written to a terminal come to its reader by a thread of the kernel's, and at once where that one
- * looks: so it looks once more before the clock goes on. Not of the one where the run was started, whose writer is
- * outside. */
-#define TERMINALS 136 /* the first of eight kinds of device, whose other end is 5, 2 */
+/* A kernel thread carries bytes from a terminal's writer to its reader. A reader that looks gets them at once, so it
+ * looks once more before the clock moves. This does not hold for the terminal of the run, whose writer is outside. */
+#define TERMINALS 136 /* the first of eight device numbers; the other end is device 5, 2 */
 static bool is_terminal(int fd) {
     struct stat status;
     if (RAW(SYS_fstat, fd, &status) || !S_ISCHR(status.st_mode) || status.st_rdev == run->terminal) {
@@ -58,8 +58,8 @@ static bool is_terminal(int fd) {
     return major(status.st_rdev) / 8 == TERMINALS / 8 || status.st_rdev == makedev(5, 2);
 }
 
-/* The thread for which each descriptor of this process stays in the epoll, as the number of its slot and one. A closed
- * descriptor leaves the epoll by itself; one that gets its number is put there again. */
+/* For each descriptor of this process that stays in the epoll: 1 + the slot of its thread. A closed descriptor leaves
+ * the epoll by itself; another with its number is added again. */
 #define STAYING 1024
 static uint16_t keepers[STAYING];
 static bool are_terminals[STAYING];
@@ -77,13 +77,14 @@ void descriptors_leave(void) {
     descriptors_forget();
 }
 
-/* Whether it is in the epoll for a thread of this process that does not wait for it now. */
+/* Whether the epoll has this descriptor for a thread of this process that does not wait for it now. */
 static bool is_idle(int fd) {
     const struct slot *slot = &run->slots[(keepers[fd] - 1) % SLOTS];
     return keepers[fd] && (keepers[fd] - 1U == my.index || slot->state != SLOT_WAITS || slot->kind != KIND_DESCRIPTOR);
 }
 
-/* Leaves it in the epoll for this thread and these events, also after the wait; false if that can't be. */
+/* Keeps the descriptor in the epoll for this thread and these events, even after the wait. False if that is not
+ * possible. */
 static bool watch_staying(int fd, short events) {
     bool is_in = keepers[fd] == my.index + 1 && !control(EPOLL_CTL_MOD, fd, events);
     if (!is_in) {
@@ -95,8 +96,8 @@ static bool watch_staying(int fd, short events) {
     return is_in;
 }
 
-/* Registers a descriptor for one event. Returns the one that is to be taken out after the wait: itself, another number
- * where a second thread waits for the same, or -1 if it stays, or is always ready. */
+/* Registers a descriptor for one event. Returns the descriptor to remove after the wait: this one, or a copy if another
+ * thread waits for this one. Returns -1 if it stays, or is always ready. */
 static int watch(int fd, short events, bool may_stay) {
     if (may_stay && fd < STAYING && watch_staying(fd, events)) {
         return -1;
@@ -114,7 +115,7 @@ static int watch(int fd, short events, bool may_stay) {
     return other;
 }
 
-/* The events that a wait wants of a descriptor that may be there several times. */
+/* The events that a wait needs of a descriptor, which may be in the list several times. */
 static short events_of(const struct pollfd *fds, nfds_t count, int fd) {
     short events = 0;
     for (nfds_t i = 0; i < count; i++) {
@@ -132,7 +133,8 @@ static void unwatch(int fd, int watched) {
     }
 }
 
-/* Waits until one of these may be ready, or the key is woken; the flags of wait_turn. `tries`: nobody may wake it. */
+/* Waits until one of these may be ready, or the key is woken. Returns the flags of wait_turn. `tries`: perhaps no
+ * thread of the run wakes it. */
 static uint32_t wait_with_key(const struct pollfd *fds, nfds_t count, uint64_t deadline, uint64_t key, bool tries) {
     int watched[POLL_MOST];
     uint64_t timers = timers_due();
@@ -157,7 +159,7 @@ static uint32_t wait_with_key(const struct pollfd *fds, nfds_t count, uint64_t d
 }
 
 uint32_t wait_for(const struct pollfd *fds, nfds_t count, uint64_t deadline) {
-    /* Signals that the kernel sends by itself wake nobody. */
+    /* No thread reports signals that the kernel itself sends. */
     return wait_with_key(fds, count, deadline, 0, has_signalfds());
 }
 
@@ -178,10 +180,10 @@ long look_at(struct pollfd *fds, nfds_t count) {
     return result;
 }
 
-/* Waits until one of these is ready; what poll returns. What a handler has done is not seen any more. */
+/* Waits until one of these is ready, and returns the result of poll. After a handler it does not look again. */
 static int poll_until(struct pollfd *fds, nfds_t count, uint64_t deadline) {
     uint32_t flags = 0;
-    /* A bridge mostly waits: it looks once there may be something. */
+    /* A bridge mostly waits, so it only looks when there may be something. */
     bool looks = !is_bridge || deadline <= run->now;
     for (;; looks = true) {
         long result = (flags & (IS_INTERRUPTED | HAS_EVENT)) == IS_INTERRUPTED ? -EINTR
@@ -258,7 +260,7 @@ bool await_later(int fd, short events, uint64_t *deadline) {
     struct pollfd polled = {fd, events, 0};
     uint32_t flags = wait_for(&polled, 1, *deadline);
     timers_fire();
-    /* With a timeout of the socket it does not begin anew, whatever the handler's flags are. */
+    /* With a timeout of the socket the call is not restarted, whichever flags the handler has. */
     bool ends = flags & IS_INTERRUPTED && (my.has_to_return || *deadline != NEVER);
     if (ends && !(flags & HAS_EVENT && look_at(&polled, 1) > 0)) {
         return errno = EINTR, false;
@@ -278,11 +280,11 @@ bool await_until(int fd, short events, uint64_t deadline) {
 }
 
 bool await_ready(int fd, short events, int flags) {
-    /* If it does not block, the call itself reports that. */
+    /* A call that does not block reports that itself. */
     return !run || flags & MSG_DONTWAIT || await_until(fd, events, 0) || (errno == EAGAIN && is_nonblocking(fd));
 }
 
-/* A call that receives all that it asks for, as a stream does that has MSG_WAITALL. */
+/* Whether the call receives all that it asks for: a stream with MSG_WAITALL. */
 static bool is_whole(int fd, int flags) {
     int type = 0;
     socklen_t size = sizeof type;
@@ -290,7 +292,7 @@ static bool is_whole(int fd, int flags) {
 }
 
 ssize_t receive(int fd, void *data, size_t length, int flags, struct sockaddr *from, socklen_t *room) {
-    /* The sockets of a server block, and have no timeouts. */
+    /* The sockets of a server block and have no timeouts. */
     uint64_t deadline = is_server ? NEVER : 0;
     size_t done = 0;
     my.has_talked = my.has_acted = true;
@@ -333,10 +335,10 @@ EXPORT ssize_t CALL(recv)(int fd, void *data, size_t length, int flags) {
 
 #ifndef FOR_BRIDGE
 
-/* For libcanbusd-run.so: has the turn. */
+/* For libcanbusd-run.so: takes the turn. False without virtual time. */
 EXPORT bool canbusd_virtual_turn(void);
-/* For libcanbusd-run.so: sends a text, and reads the reply into it; its length. -1 if it was not sent, and 0 if
- * there is no reply after this time, or somebody else has changed the word and woken the key. */
+/* For libcanbusd-run.so: sends a text, and reads the reply into it. Returns the reply's length, or -1 if the text was
+ * not sent. Returns 0 if no reply came in this time, or another thread has changed the word and woken the key. */
 EXPORT long canbusd_virtual_talk(int fd, char *text, size_t length, size_t room, uint32_t *word, uint64_t key,
                                  const struct timespec *t);
 

@@ -1,4 +1,4 @@
-/* Waits on a word, futex(2): who waits here is woken here, and the kernel wakes who waits unseen. */
+/* Waits on a word, futex(2). This library wakes the waits that it sees; the kernel wakes those that it does not see. */
 #define _GNU_SOURCE
 #include "calls.h"
 #include "tell.h"
@@ -7,7 +7,7 @@
 
 #define ALL_BITS 0xffffffffu
 
-/* The same salt for all: a word is waited for in one way only. */
+/* All words have the same salt, because there is only one way to wait on a word. */
 static uint64_t key_of_word(long word, int operation) {
     const volatile void *at = (const volatile void *)word;
     return operation & FUTEX_PRIVATE_FLAG ? key_of(at, 0) : key_of_any(at, 0);
@@ -30,7 +30,7 @@ static long wait_until(long word, long expected, uint64_t key, uint32_t bits, ui
         if (flags & IS_WOKEN || flags == IS_OVER) {
             return 0;
         }
-        /* With a timeout it does not begin anew. */
+        /* A call with a timeout is not restarted. */
         if (flags & IS_INTERRUPTED && (my.has_to_return || deadline != NEVER)) {
             return -EINTR;
         }
@@ -54,7 +54,7 @@ static long wait_on_word(long word, int operation, long expected, const struct t
     return wait_until(word, expected, key_of_word(word, operation), bits, deadline_of(operation, t));
 }
 
-/* A wait on a word of memory that other processes have elsewhere: who wakes it gives the same key. */
+/* Waits on a word of memory that other processes have at other addresses; the waking thread uses the same key. */
 EXPORT long canbusd_virtual_wait(uint32_t *word, uint32_t expected, uint64_t key, const struct timespec *t);
 
 long canbusd_virtual_wait(uint32_t *word, uint32_t expected, uint64_t key, const struct timespec *t) {
@@ -62,7 +62,7 @@ long canbusd_virtual_wait(uint32_t *word, uint32_t expected, uint64_t key, const
                       : RAW(SYS_futex, word, FUTEX_WAIT, expected, t, NULL, 0));
 }
 
-/* The one that has waited longest for a key, and for one of these bits; NULL: nobody. */
+/* Returns the thread that has waited longest for a key, with one of these bits; NULL if there is none. */
 static struct slot *first_of(uint64_t key, uint32_t bits) {
     struct slot *first = NULL;
     for (uint32_t i = 0; i < slots_used(); i++) {
@@ -75,7 +75,7 @@ static struct slot *first_of(uint64_t key, uint32_t bits) {
     return first;
 }
 
-/* Wakes those that wait in this library, and has others wait for another key; how many these are. */
+/* Wakes threads that wait in this library, and lets others wait for another key. Returns their number. */
 static long wake_and_move(uint64_t key, uint32_t bits, long most, uint64_t to, long most_moved, bool counts_moved) {
     long woken = 0, moved = 0;
     struct slot *slot;
@@ -91,7 +91,7 @@ static long wake_and_move(uint64_t key, uint32_t bits, long most, uint64_t to, l
 
 static long wake_word(long word, int operation, long most, uint32_t bits) {
     long woken = wake_and_move(key_of_word(word, operation), bits, most, 0, 0, false);
-    /* All waits of a server are in this library. */
+    /* A server makes all its waits in this library. */
     if (woken >= most || is_server) {
         return woken;
     }
@@ -99,7 +99,8 @@ static long wake_word(long word, int operation, long most, uint32_t bits) {
     return rest < 0 ? rest : woken + rest;
 }
 
-/* FUTEX_WAKE_OP: changes the second word, and wakes its waiters where what was in it is as asked. */
+/* FUTEX_WAKE_OP: changes the second word. Returns whether its old value passes the comparison, so that its waiters are
+ * woken. */
 static bool change_word(long word, uint32_t encoded) {
     uint32_t argument = encoded >> 12 & 0xfff, compared = encoded & 0xfff, before;
     uint32_t operand = encoded >> 31 ? 1u << (argument & 31) : argument;

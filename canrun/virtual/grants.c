@@ -10,13 +10,13 @@
 #include <unistd.h>
 
 static struct grant {
-    uint32_t pid, tid; /* 0: none; to the process */
+    uint32_t pid, tid; /* pid 0: unused; tid 0: the signal goes to the process */
     int number, fd;
 } grants[ALARMS];
 
 int descendant_open(uint32_t pid) {
     int fd = pid ? (int)syscall(SYS_pidfd_open, pid, 0) : -1;
-    /* One that got its number meanwhile is not the one that is open. */
+    /* If another process got the number meanwhile, it is not the one that is open. */
     if (fd >= 0 && !proc_is_below(pid, (uint32_t)getpid())) {
         close(fd);
         return -1;
@@ -65,7 +65,7 @@ bool alarm_signal(uint32_t place) {
     if (grant->tid) {
         syscall(SYS_rt_tgsigqueueinfo, grant->pid, grant->tid, grant->number, &info);
     } else {
-        /* The signal of setitimer has no value. */
+        /* The signal of setitimer carries no value. */
         syscall(SYS_pidfd_send_signal, grant->fd, grant->number, alarm->id == INTERVAL_TIMER ? NULL : &info, 0);
     }
     return true;

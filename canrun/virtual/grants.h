@@ -1,5 +1,6 @@
-/* The processes that the coordinator signals are below it, by descriptors that it opened itself. The memory of the
- * run may be written by one that has other rights than the coordinator. */
+/* Checks of the processes that the coordinator signals: it opened their descriptors itself, and they are its
+ * descendants. Processes with other rights than the coordinator may write the run's memory, so it does not trust the
+ * numbers there. */
 #ifndef GRANTS_H
 #define GRANTS_H
 
@@ -8,19 +9,20 @@
 #include <stdbool.h>
 #include <stdint.h>
 
-/* A descriptor of a process that is below this one, or -1. */
+/* Opens a pidfd of a process that is a descendant of this one; otherwise -1. */
 int descendant_open(uint32_t pid);
 
-/* Sends a signal to a process if it is below this one. */
+/* Sends a signal to a process if it is a descendant of this one. */
 void descendant_signal(uint32_t pid, int number);
 
-/* A process has asked that the signals of its alarm are sent, from now on; false if that is no alarm. */
+/* Notes that a process has asked for the signals of its alarm. False if the number is not an alarm, or the process no
+ * descendant. */
 bool alarm_grant(uint32_t pid, const struct request *request);
 
-/* Sends the signal of this alarm; false if its process has not asked for that, or is gone. */
+/* Sends the signal of this alarm. False if its process has not asked for the signal, or has ended. */
 bool alarm_signal(uint32_t place);
 
-/* Forgets what a process has asked for, which has ended. */
+/* Forgets the alarms of a process that has ended. */
 void alarms_forget(uint32_t pid);
 
 #endif

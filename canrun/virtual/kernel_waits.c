@@ -1,5 +1,5 @@
-/* Waits that only the kernel can end: locks of files, queues and semaphores of System V, a listener without room.
- * They are tried without a wait, and again before the clock goes on where others have gone on meanwhile. */
+/* Waits that only the kernel can end: for file locks, queues and semaphores of System V, and a listener without room.
+ * The call is tried without waiting, and again before the clock moves if other threads have run meanwhile. */
 #define _GNU_SOURCE
 #include "calls.h"
 
@@ -53,7 +53,7 @@ EXPORT int flock(int fd, int operation) {
     return (int)answer(try_until(try_flock, &it, EWOULDBLOCK, NEVER, true));
 }
 
-/* Of F_SETLKW the one that does not wait. */
+/* Uses the form of F_SETLKW that does not wait. */
 static long try_lock(void *given) {
     struct lock_of_file *it = given;
     long result = RAW(SYS_fcntl, it->fd, it->operation, it->lock);
@@ -124,7 +124,7 @@ EXPORT int msgsnd(int queue, const void *message, size_t length, int flags) {
     return (int)answer(try_until(try_send, &it, EAGAIN, NEVER, false));
 }
 
-#define OPERATIONS 500 /* of one call, at most: SEMOPM */
+#define OPERATIONS 500 /* the most operations of one call: SEMOPM */
 
 struct operations {
     int semaphores;
@@ -169,7 +169,7 @@ struct message_of_mq {
     unsigned priority;
 };
 
-/* With a moment that is over these do not wait. */
+/* With a moment in the past these do not wait. */
 static long try_mq_receive(void *given) {
     struct message_of_mq *it = given;
     return RAW(SYS_mq_timedreceive, it->queue, it->data, it->length, it->to, &no_time);

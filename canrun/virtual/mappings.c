@@ -1,4 +1,4 @@
-/* The origin of a place in memory for all processes that share it: which file, and where in it. */
+/* Identifies a place in shared memory for all processes that share it: by the file and the offset. */
 #define _GNU_SOURCE
 #include "calls.h"
 
@@ -12,13 +12,13 @@
 #define CACHED 64
 
 struct mapping {
-    uint64_t page; /* 0: none; the place in memory, in pages */
+    uint64_t page; /* 0: unused; otherwise the address in pages */
     uint64_t device, inode, offset;
     uint32_t era;
     bool is_shared;
 };
 
-/* The era ends if a mapping does. */
+/* A new era begins when a mapping ends. */
 static struct mapping cached[CACHED];
 static uint32_t era = 1;
 
@@ -36,7 +36,8 @@ static uint64_t number_in(const char **at, unsigned base) {
     }
 }
 
-/* Takes a line of maps, as `7f00-7f01 rw-s 00000000 00:01 123 /name`; whether the place is in it. */
+/* Reads a line of maps, such as `7f00-7f01 rw-s 00000000 00:01 123 /name`. Returns whether the place is in this
+ * mapping. */
 static bool is_in_line(const char *at, uint64_t place, struct mapping *found) {
     uint64_t first = number_in(&at, 16);
     uint64_t last = (at++, number_in(&at, 16));
@@ -53,7 +54,7 @@ static bool is_in_line(const char *at, uint64_t place, struct mapping *found) {
     return true;
 }
 
-/* Looks into /proc/self/maps, without memory of the C library. */
+/* Searches /proc/self/maps, without using memory of the C library. */
 static void find(uint64_t place, struct mapping *found) {
     char text[PAGE + 1];
     long length, kept = 0;
@@ -87,7 +88,7 @@ uint64_t key_of_any(const volatile void *at, uint64_t salt) {
                               : key_of(at, salt);
 }
 
-/* ---- what ends a mapping ---- */
+/* ---- calls that end a mapping ---- */
 
 EXPORT int munmap(void *at, size_t length) {
     era++;

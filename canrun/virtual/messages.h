@@ -7,25 +7,25 @@
 #include <stdbool.h>
 #include <stddef.h>
 
-/* Seconds of the real clock. */
+/* The real clock, in seconds. */
 double real_now(void);
 
-/* A line, with the moment of the run. */
+/* Prints a line with the run's time. */
 void say(const char *format, ...) __attribute__((format(printf, 1, 2)));
 
-/* The same once for each thing that it is about. */
+/* The same, but only once for each process and message. */
 void say_once(uint32_t pid, const char *format, ...) __attribute__((format(printf, 2, 3)));
 
-/* The same, and the run ends with status 125. */
+/* The same, and ends the run with status 125. */
 void fail(const char *format, ...) __attribute__((format(printf, 1, 2)));
 
-/* Says what programs have to say: see tell.h. */
+/* Prints the notices of programs: see tell.h. */
 void say_notices(void);
 
-/* Who a thread is: its name, process and thread. */
+/* Describes a thread: its name, process and thread number. */
 const char *who(uint32_t pid, uint32_t tid);
 
-/* Lists who waits for what, at most ten. */
+/* Lists the threads that wait, at most ten, and the reasons. */
 void say_waits(void);
 
 #endif

@@ -1,5 +1,5 @@
-/* syscall(2): calls by number, as the server and the standard library of Rust make them. Each goes to the function of
- * its name, if that waits or has a clock. */
+/* syscall(2): calls by number, as in the server and in Rust's standard library. A call that waits or reads a clock goes
+ * to the function with its name. */
 #define _GNU_SOURCE
 #include "calls.h"
 #include "tell.h"
@@ -31,7 +31,7 @@
 #include <sys/wait.h>
 #include <unistd.h>
 
-/* The last names are of calls that waited unseen. */
+/* The last names are for calls whose waits this library does not see. */
 #ifndef SYS_futex_waitv
 #define SYS_futex_waitv 449
 #endif
@@ -39,7 +39,7 @@
 #define SYS_FUTEX_WAIT2 455
 #define SYS_FUTEX_REQUEUE2 456
 
-/* A call that waits and is not known ends the run. */
+/* Ends the run, because an unknown call waits. */
 static long refuse(long number) {
     char test[TEST_ROOM];
     tell(true, "%.60s (thread %ld of process %ld) makes system call %ld, which virtual time does not know%s",
@@ -47,7 +47,7 @@ static long refuse(long number) {
     return errno = ENOSYS, -1;
 }
 
-/* io_uring waits unseen, so it is refused as by a kernel that has none; said once. */
+/* Refuses io_uring like a kernel without it, because its waits are not seen. Reports that once. */
 static long refuse_io_uring(void) {
     static _Atomic bool is_said;
     char test[TEST_ROOM];
@@ -61,7 +61,7 @@ static long refuse_io_uring(void) {
 
 #define P(i) ((void *)of[i])
 #define INT(i) ((int)of[i])
-/* A mask for a wait, with its size, in the last word of pselect6. */
+/* The signal mask of a wait, which pselect6 has with its size in its last argument. */
 #define MASK_OF(i) (of[i] ? *(const sigset_t **)of[i] : NULL)
 
 static long call_of_time(long number, const long of[6], bool *is_known) {
@@ -89,7 +89,7 @@ static long call_of_time(long number, const long of[6], bool *is_known) {
     }
 }
 
-/* Of timers the kernel has numbers where the C library has places. */
+/* The kernel numbers timers; the C library has pointers. */
 static long call_of_timer(long number, const long of[6], bool *is_known) {
     timer_t timer = (timer_t)(uintptr_t)(uint32_t)of[0], made;
     switch (number) {
@@ -181,7 +181,8 @@ static long call_of_process(long number, const long of[6], bool *is_known) {
     switch (number) {
     case SYS_wait4:
         if (of[2] & __WCLONE) {
-            return answer(RAW(SYS_wait4, of[0], of[1], of[2], of[3])); /* A helper of canbusd-run's, which ends now. */
+            return answer(
+                RAW(SYS_wait4, of[0], of[1], of[2], of[3])); /* A helper of canbusd-run, which is about to end. */
         }
         return wait4((pid_t)of[0], P(1), INT(2), P(3));
     case SYS_waitid: return waitid((idtype_t)of[0], (id_t)of[1], P(2), INT(3));

@@ -16,30 +16,31 @@
 #include <unistd.h>
 
 #define LIBRARY "libcanbusd-virtual.so"
-/* Only PROGRAM has this without the library, until it is executed: it is a copy of the coordinator before. */
+/* Without the library only PROGRAM has this mapping, before it is executed: until then it is a copy of the
+ * coordinator. */
 #define MEMORY "/memfd:" RUN_MEMORY
-/* The files that a program has loaded after the preloaded ones. */
+/* The files that a program loads after the preloaded ones. */
 #define C_LIBRARY "/libc.so."
 #define LOADER "/ld-linux"
-/* How long a program without the library goes on before that is said: nanoseconds of a processor, and real seconds of
- * one that sleeps. */
+/* How long a program without the library may run before a note: nanoseconds of processor time, or real seconds if it
+ * sleeps. */
 #define FOREIGN_RUN 300000000
 #define FOREIGN_SECONDS 1.0
-/* After how many looks it is seen whether a program loads the library at all. */
+/* The number of looks before a check whether a program loads the library. */
 #define FOREIGN_LOOKS 4
-/* After how many more looks a thread that has the turn is known to sleep. */
+/* After so many more looks a thread that has the turn counts as asleep. */
 #define SLEEP_LOOKS 4
-/* The parent of a process that nobody has taken a slot for. */
+/* The parent of a process for which no thread has taken a slot. */
 #define STRANGER UINT32_MAX
 
 /* ---- programs that do not load the library ---- */
 
-/* The mappings of a process: the library, the run's memory, the loader, the C library. */
+/* Whether a process has mapped the library, the run's memory, the loader, and the C library. */
 struct mapped {
     bool library, memory, loader, c_library, is_hidden;
 };
 
-/* Of one that ends the list may be cut; the stack comes after the libraries. */
+/* The list of a process that is ending may be cut; the stack comes after the libraries. */
 static struct mapped mapped_by(uint32_t pid) {
     char path[32], line[PATH_MAX + 200];
     struct mapped mapped = {false, false, false, false, false};
@@ -61,13 +62,13 @@ static struct mapped mapped_by(uint32_t pid) {
     return mapped;
 }
 
-/* Whether the loader loads nothing into a process, since its file gives it rights, or it may not open the run's memory.
- */
+/* Whether the loader does not load the library into a process, because its file gives it rights, or it may not open the
+ * run's memory. */
 static bool has_other_rights(uint32_t pid, const struct mapped *mapped) {
     return mapped->is_hidden || (!mapped->memory && !proc_is_of_user(pid, geteuid()));
 }
 
-/* Why a process is not in virtual time, NULL where it is, or has not begun. */
+/* The reason why a process is not in virtual time; NULL if it is, or has not begun. */
 static const char *obstacle_of(uint32_t pid) {
     char path[32], name[PATH_MAX];
     snprintf(path, sizeof path, "/proc/%u/exe", pid);
@@ -85,7 +86,8 @@ static const char *obstacle_of(uint32_t pid) {
         return NULL;
     }
     const char *obstacle = program_obstacle(path);
-    /* One that runs another program within it, as valgrind does, has that one's loader, which loads what is ours. */
+    /* A program that runs another inside itself, such as valgrind, has that program's loader, which loads the
+     * library. */
     bool is_host = obstacle && mapped.loader && !mapped.c_library;
     return is_host ? NULL : obstacle ? obstacle : mapped.c_library ? "has lost LD_PRELOAD, as by env -i" : NULL;
 }
@@ -95,8 +97,7 @@ static void say_foreign(uint32_t pid, const char *obstacle) {
              obstacle);
 }
 
-/* Says of a program without the library that it is one, once it has run for long, or sleeps for long: it may look at
- * the real clock then. */
+/* Reports a program without the library once it has run or slept for long: then it may read the real clock. */
 static void note_foreign(uint32_t index) {
     static struct {
         uint32_t pid;
@@ -146,7 +147,7 @@ static struct called called_by(uint32_t pid, uint32_t tid) {
     return called;
 }
 
-/* Whether a call ends by itself in real time. */
+/* Whether a call ends by itself after some real time. */
 static bool is_timed(const struct called *called) {
     const unsigned long *a = called->arguments;
     switch (called->number) {
@@ -166,12 +167,12 @@ static bool is_timed(const struct called *called) {
     case SYS_io_getevents: return a[4] != 0;
     case SYS_semtimedop:
     case SYS_epoll_pwait2: return a[3] != 0;
-    case SYS_io_uring_enter: return true; /* Its wait is not known. */
+    case SYS_io_uring_enter: return true; /* The length of its wait is not known. */
     default: return false;
     }
 }
 
-/* Whether a thread that is thought to be outside has come back meanwhile, and sleeps on the word of its slot. */
+/* Whether a thread that is marked as outside has come back, and sleeps on the word of its slot. */
 static bool waits_for_turn(uint32_t pid, uint32_t tid, const struct called *called) {
     for (uint32_t i = 0; i < slots_used() && called->number == SYS_futex; i++) {
         struct slot *slot = &run->slots[i];
@@ -185,7 +186,7 @@ static bool waits_for_turn(uint32_t pid, uint32_t tid, const struct called *call
     return false;
 }
 
-/* A tracer stops it at its calls, and waits for turns itself. */
+/* Fails for a traced thread: the tracer stops it at its calls, and itself waits for turns. */
 static bool is_traced(uint32_t pid, uint32_t tid, char state) {
     if (state == 't') {
         fail("%s is traced, as by strace or gdb, so it can't be in virtual time", who(pid, tid));
@@ -193,7 +194,7 @@ static bool is_traced(uint32_t pid, uint32_t tid, char state) {
     return state == 't';
 }
 
-/* Whether a thread sleeps until another one does something. */
+/* Whether a thread sleeps until another thread does something. */
 static bool sleeps(uint32_t pid, uint32_t tid) {
     char state = proc_state(pid, tid);
     if (state == 'T') {
@@ -222,12 +223,12 @@ static bool sleeps(uint32_t pid, uint32_t tid) {
     return state == 'S';
 }
 
-/* How often a thread has been given a processor. */
+/* How often a thread got a processor. */
 static uint64_t times_run(uint32_t pid, uint32_t tid) {
     return proc_usage(pid, tid).times;
 }
 
-/* One pass over a process's threads, or one of them; adds how often they ran. */
+/* Checks all threads of a process, or one of them; adds the number of times they ran. */
 static bool all_sleep(uint32_t pid, uint32_t tid, uint64_t *times) {
     char path[40];
     bool do_sleep = true;
@@ -294,13 +295,13 @@ bool outside_any_runs(void) {
 bool outside_sleeps(void) {
     uint64_t before, now;
     outside_strangers();
-    /* Twice, as one may have woken another that had been looked at. */
+    /* It checks twice, because a thread may wake another that was already checked. */
     return one_pass(&before) && !outside_any_runs() && one_pass(&now) && before == now;
 }
 
-/* ---- who has the turn, and sleeps ---- */
+/* ---- threads that have the turn and sleep ---- */
 
-/* One that is stopped may not have begun its turn. */
+/* A stopped thread may not have begun its turn. */
 static void take_back(uint64_t turn, bool is_stopped) {
     struct slot *slot = slot_at((uint32_t)turn & NOBODY);
     uint32_t state = slot->state;
@@ -310,7 +311,7 @@ static void take_back(uint64_t turn, bool is_stopped) {
     }
 }
 
-/* Whether it has slept in this turn for a few looks: one that waits for a disk or for memory runs soon. */
+/* Whether the thread has slept in this turn for a few looks: a thread that waits for a disk or memory soon runs. */
 static bool is_asleep_for_long(uint64_t turn, char state, uint64_t times) {
     static struct {
         uint64_t turn, times;
@@ -331,8 +332,8 @@ bool outside_watch(uint64_t turn, int looks, bool (*is_asked)(void)) {
     uint32_t pid = slot->pid, tid = slot->tid;
     char state = proc_state(pid, tid);
     if (state == 'Z' || state == 'X') {
-        /* A thread that has ended unseen; of a process its end is seen. If others of its threads are still to end
-         * with it, what it has open is not closed yet, for which some may wait. */
+        /* A thread that ended unseen frees its slot here; the end of a process is seen elsewhere. If other threads of
+         * the process are still ending, its files are not closed yet, and other programs may wait for that. */
         if ((pid != tid || state == 'Z') && !process_runs(pid) && turn_change(turn, NOBODY)) {
             free_slot(slot);
         }
@@ -364,7 +365,7 @@ void outside_share(uint64_t turn) {
     }
 }
 
-/* Whether a process has a slot that it knows of. */
+/* Whether a process has registered in a slot. */
 static bool has_begun(uint32_t pid) {
     for (uint32_t i = 0; i < slots_used(); i++) {
         if (run->slots[i].pid == pid && run->slots[i].tid && run->slots[i].state != SLOT_FREE) {
@@ -415,7 +416,7 @@ void outside_strangers(void) {
     static uint32_t pids[TREE_MOST];
     for (uint32_t i = 0; i < slots_used(); i++) {
         if (run->slots[i].state == SLOT_BORN && !run->slots[i].pid) {
-            return; /* It may be the one that has this slot. */
+            return; /* The process may be the one that has this slot. */
         }
     }
     size_t count = tree_below((uint32_t)getpid(), pids, TREE_MOST);

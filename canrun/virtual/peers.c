@@ -1,4 +1,4 @@
-/* Servers that are no part of the run. */
+/* Servers outside the run. */
 #define _GNU_SOURCE
 #include "calls.h"
 #include "peers.h"
@@ -17,7 +17,7 @@
 
 #define NAME_SERVICES "/run/systemd/"
 
-/* For what is there time goes on as ever. `host` is where it is, after `, at `, or empty. */
+/* Ends the run, because time does not stop for a program outside it. `host` is `, at ` and the address, or empty. */
 static void fail_with(const char *does, const char *what, const char *host) {
     char test[TEST_ROOM];
     tell(true,
@@ -35,7 +35,7 @@ void fail_outside(const char *does, const char *kind, const struct sockaddr *to)
     fail_with(does, what, at);
 }
 
-/* All of a run are below its coordinator. Of one that has ended it is not known. */
+/* Whether a process belongs to the run: it is a descendant of the coordinator. If it has ended, the answer is yes. */
 static bool is_of_run(uint32_t pid) {
     return proc_is_below(pid, (uint32_t)coordinator_pid) || !proc_parent(pid);
 }
@@ -50,8 +50,8 @@ uint32_t port_of(const struct sockaddr *address) {
                                             : 0;
 }
 
-/* TCP sends at once: what it holds back otherwise it sends by the real clock. Of one that listens its connections have
- * it. */
+/* Makes TCP send at once: otherwise it delays data by the real clock. Connections inherit this from the listening
+ * socket. */
 static void send_at_once(int fd) {
     int on = 1;
     RAW(SYS_setsockopt, fd, IPPROTO_TCP, TCP_NODELAY, &on, sizeof on);
@@ -71,8 +71,7 @@ EXPORT int listen(int fd, int backlog) {
     return (int)answer(result);
 }
 
-/* Fails where the other end of a connection is outside of the run; what looks up names of users and hosts may be there.
- */
+/* Ends the run if the other end of a connection is outside. Services for names of users and hosts may be outside. */
 static void check_peer(int fd, const struct sockaddr *to) {
     char text[160];
     int type = 0;
@@ -104,7 +103,7 @@ struct connection {
     socklen_t length;
 };
 
-/* For this call alone it does not block. */
+/* Makes the socket nonblocking for this call only. */
 static long try_connect(void *given) {
     struct connection *it = given;
     int flags = (int)RAW(SYS_fcntl, it->fd, F_GETFL);
@@ -114,7 +113,7 @@ static long try_connect(void *given) {
     return result;
 }
 
-/* A listener may have no room for one more. */
+/* Connects to a Unix socket, and waits while the listener has no room. */
 static long connect_unix(int fd, const struct sockaddr *to, socklen_t length) {
     struct connection it = {fd, to, length};
     if (RAW(SYS_fcntl, fd, F_GETFL) & O_NONBLOCK) {
@@ -125,7 +124,7 @@ static long connect_unix(int fd, const struct sockaddr *to, socklen_t length) {
     return result == -ETIMEDOUT ? -EAGAIN : result;
 }
 
-/* The kernel's CAN sockets have its clock; those of the run are had by canbusd-run inside of it, which sets this. */
+/* The kernel's CAN sockets use the real clock. canbusd-run inside the run provides others, and sets this variable. */
 #define HAS_INTERFACES "CANBUSD_INTERFACES"
 
 EXPORT int socket(int domain, int type, int protocol) {

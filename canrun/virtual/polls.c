@@ -22,7 +22,7 @@ static size_t bytes_of(const struct sets *sets) {
     return ((size_t)sets->count + 63) / 64 * 8;
 }
 
-/* Looks which descriptors are ready now. */
+/* Checks which descriptors are ready now. */
 static int select_now(struct sets *sets) {
     fd_set *at[3];
     timers_fire();
@@ -33,7 +33,7 @@ static int select_now(struct sets *sets) {
     return (int)answer(RAW(SYS_pselect6, sets->count, at[0], at[1], at[2], &no_time, NULL));
 }
 
-/* Takes the descriptors that are asked for; returns how many. */
+/* Reads the descriptors from the sets. Returns their number. */
 static nfds_t take_sets(struct sets *sets, struct pollfd *fds) {
     nfds_t count = 0;
     for (int i = 0; i < 3; i++) {
@@ -54,7 +54,7 @@ static nfds_t take_sets(struct sets *sets, struct pollfd *fds) {
     return count;
 }
 
-/* If it fails the sets stay as they were. */
+/* Writes the result to the sets; after a failure they stay unchanged. */
 static void give_sets(const struct sets *sets, int result) {
     for (int i = 0; i < 3 && result >= 0; i++) {
         if (sets->of[i]) {
@@ -63,7 +63,7 @@ static void give_sets(const struct sets *sets, int result) {
     }
 }
 
-/* Whether a wait has ended by a handler, and what that has done is not seen any more. */
+/* Whether a handler has ended the wait, so that select does not look again. */
 static bool is_ended(uint32_t flags) {
     return (flags & (IS_INTERRUPTED | HAS_EVENT)) == IS_INTERRUPTED;
 }
@@ -135,9 +135,9 @@ EXPORT int pselect(int count, fd_set *restrict r, fd_set *restrict w, fd_set *re
     return select_until(&sets, t ? after(length_of(t)) : NEVER, mask);
 }
 
-/* ---- epoll: the epoll of the run has that of the program in it ---- */
+/* ---- epoll: the run's epoll contains the program's epoll ---- */
 
-/* `flags`: what has come meanwhile. */
+/* Returns the ready events; `flags` are those of the last wait. */
 static long epoll_now(int fd, struct epoll_event *events, int most, uint32_t flags) {
     timers_fire();
     if (flags & LOOKS_AGAIN) {

@@ -1,4 +1,4 @@
-/* The facts of /proc: see proc.h. */
+/* Facts of /proc: see proc.h. */
 #define _GNU_SOURCE
 #include "proc.h"
 #include "raw.h"
@@ -10,13 +10,13 @@
 #include <string.h>
 #include <time.h>
 
-/* How long the sender of a signal waits for who takes it, in seconds, as that one may be long without a processor; and
- * between two looks, in nanoseconds. */
+/* How many seconds the sender of a signal waits for its receiver, which may wait long for a processor; and how many
+ * nanoseconds pass between two looks. */
 #define SETTLE_SECONDS 60
 #define SETTLE_PAUSE 200000
-/* The number of processes that there may be between one of the run and its coordinator. */
+/* The most ancestors of a process of the run below its coordinator. */
 #define DEEPEST 1000
-/* How often it is looked anew for these, if one of them ended meanwhile. */
+/* How often the ancestors are looked up again if one of them ended meanwhile. */
 #define CLIMBS 100
 
 static char *put_number(char *at, uint32_t number) {
@@ -74,7 +74,7 @@ static enum climb climb(uint32_t pid, uint32_t top) {
     for (int i = 0; i < DEEPEST && at > 1 && at != top; i++) {
         uint32_t parent = proc_parent(at);
         if (!parent && at != pid) {
-            return HAS_CHANGED; /* It has ended meanwhile, and its children have another parent now. */
+            return HAS_CHANGED; /* This ancestor has ended meanwhile, and its children have a new parent. */
         }
         at = parent;
     }
@@ -100,7 +100,7 @@ struct usage proc_usage(uint32_t pid, uint32_t tid) {
     return usage;
 }
 
-/* A number of a process's status. */
+/* Reads a number from a process's status. */
 static uint64_t number_in(const char *text, const char *name, int base) {
     const char *at = strstr(text, name);
     return at ? strtoull(at + strlen(name), NULL, base) : 0;
@@ -115,7 +115,7 @@ uint32_t proc_tracer(uint32_t pid) {
     return proc_read(pid, 0, "status", text, sizeof text) ? (uint32_t)number_in(text, "\nTracerPid:\t", 10) : 0;
 }
 
-/* The second of four numbers: real, effective, saved, of files. */
+/* The first two of four numbers are the real and the effective user. */
 bool proc_is_of_user(uint32_t pid, uint32_t user) {
     char text[4096], *at;
     if (!proc_read(pid, 0, "status", text, sizeof text) || !(at = strstr(text, "\nUid:\t"))) {
@@ -134,8 +134,8 @@ bool proc_has_signal(uint32_t pid) {
     return pending & ~mask_in(text, "\nSigBlk:\t");
 }
 
-/* Whether all threads of a process that has taken its signals sleep or have turns to come. One that is stopped takes
- * none. */
+/* Whether a process has handled its signals, and all its threads sleep or wait for turns. A stopped process handles no
+ * signals. */
 static bool is_settled(uint32_t pid) {
     bool is_there = false, is_stopped = false;
     for (uint32_t i = 0; i < slots_used(); i++) {
@@ -148,7 +148,7 @@ static bool is_settled(uint32_t pid) {
         is_there |= !has_ended;
         is_stopped |= state == 'T' || state == 't';
         if (slot->tid && (state == 'R' || (has_ended && my.slot))) {
-            return false; /* A thread that has ended is there until the coordinator has seen it. */
+            return false; /* A thread that has ended stays until the coordinator has seen its end. */
         }
     }
     return !is_there || is_stopped || !proc_has_signal(pid);
@@ -158,7 +158,7 @@ void settle(uint32_t pid) {
     struct timespec pause = {0, SETTLE_PAUSE}, begun, now;
     uint32_t before = my.slot ? my.slot->state : 0;
     if (my.slot) {
-        my.slot->state = SLOT_TAKEN; /* The turn of one that waits for this is not taken back. */
+        my.slot->state = SLOT_TAKEN; /* While this thread waits, its turn is not taken back. */
     }
     RAW(SYS_clock_gettime, CLOCK_MONOTONIC, &begun);
     now = begun;

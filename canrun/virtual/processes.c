@@ -1,4 +1,4 @@
-/* Processes: fork and its kin, waits for children, and descriptors of the run that programs may not close. */
+/* Processes: fork and similar calls, waits for children, and the run's descriptor, which programs may not close. */
 #define _GNU_SOURCE
 #include "calls.h"
 #include "tell.h"
@@ -24,7 +24,7 @@ static uint32_t bear(void) {
     return index;
 }
 
-/* Any fork of the C library calls these, also those of daemon and forkpty: before it, and in the child. */
+/* All forks of the C library call these two, before the fork and in the child; this includes daemon and forkpty. */
 static void before_fork(void) {
     my.born = run ? bear() : NOBODY;
 }
@@ -41,7 +41,7 @@ static void in_child(void) {
     my.slot->thread = pthread_self();
 }
 
-/* In the parent: what the fork returned. */
+/* In the parent: handles the result of the fork. */
 static pid_t after_fork(pid_t pid) {
     if (run && pid > 0) {
         run->slots[my.born].pid = (uint32_t)pid;
@@ -57,7 +57,7 @@ EXPORT pid_t fork(void) {
 }
 ALSO(__fork, fork)
 
-/* A copy in place of one that shares the memory: the parent goes on at once. */
+/* Makes a copy instead of a child that shares the memory; the parent continues at once. */
 EXPORT pid_t vfork(void) {
     return fork();
 }
@@ -68,7 +68,7 @@ EXPORT int forkpty(int *terminal, char *name, const struct termios *settings, co
     return after_fork(real(terminal, name, settings, size));
 }
 
-/* Forks of which the C library tells nobody. */
+/* A fork for which the C library calls no handlers. */
 EXPORT pid_t _Fork(void) {
     REAL(_Fork);
     before_fork();
@@ -99,7 +99,7 @@ static int begin_cloned(void *given) {
     return it.routine(it.argument);
 }
 
-/* One that shares the memory but while its parent waits is a copy, as by vfork. */
+/* A child that shares the memory only while its parent waits becomes a copy, as in vfork. */
 EXPORT int clone(int (*routine)(void *), void *stack, int flags, void *argument, ...) {
     va_list list;
     va_start(list, argument);
@@ -124,7 +124,7 @@ __attribute__((constructor(102))) static void note_forks(void) {
     pthread_atfork(before_fork, NULL, in_child);
 }
 
-/* Notes the child that has this slot, if it was started, and returns what its start did. */
+/* Stores the process number of a spawned child in this slot, and returns the result of the spawn. */
 static int spawned(uint32_t index, int error, pid_t child, pid_t *pid) {
     if (error) {
         free_slot(&run->slots[index]);
@@ -163,7 +163,7 @@ EXPORT int posix_spawnp(pid_t *restrict pid, const char *restrict file, const po
     return spawned(index, error, child, pid);
 }
 
-/* For canbusd-run's library, which starts a bridge: its slot, and once it is there its process. */
+/* For canbusd-run's library, which starts a bridge: takes a slot for the bridge; and then stores its process number. */
 EXPORT uint32_t canbusd_virtual_bear(void);
 uint32_t canbusd_virtual_bear(void) {
     return run ? bear() : NOBODY;
@@ -183,7 +183,7 @@ void canbusd_virtual_born(uint32_t index, pid_t pid) {
 
 /* ---- waits for children ---- */
 
-/* wait4 or waitid, with WNOHANG; what these return. */
+/* Repeats wait4 or waitid with WNOHANG, and returns the result. */
 long wait_for_child(int number, long first, int *status, int options, void *usage) {
     for (;;) {
         cancel_point();
@@ -237,7 +237,7 @@ EXPORT int waitid(idtype_t type, id_t id, siginfo_t *info, int options) {
     }
 }
 
-/* As the C library's, whose own waits for the shell in the kernel. */
+/* Like the C library's function, whose own wait for the shell is in the kernel. */
 EXPORT int system(const char *command) {
     REAL(system);
     if (!run || !command) {

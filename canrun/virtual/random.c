@@ -1,4 +1,4 @@
-/* Random bytes and addresses of a program: the same in each run, by the seed. */
+/* Random bytes and addresses of a program: they depend on the seed, and are the same in each run. */
 #define _GNU_SOURCE
 #include "random.h"
 #include "calls.h"
@@ -10,13 +10,13 @@
 #include <sys/stat.h>
 #include <sys/sysmacros.h>
 
-/* The variable that pytest sets as each part of a test begins. */
+/* The variable that pytest sets when each part of a test begins. */
 #define TEST "PYTEST_CURRENT_TEST"
 /* Descriptors below this may be /dev/random or /dev/urandom. */
 #define DEVICES 1024
-/* The devices with these numbers, as in devices.txt of Linux. */
+/* The device numbers, as in devices.txt of Linux. */
 enum { MEMORY_DEVICES = 1, RANDOM_DEVICE = 8, URANDOM_DEVICE = 9 };
-/* The most that getentropy gives. */
+/* The most bytes that getentropy returns. */
 #define MOST_ENTROPY 256
 
 static void fill(void *data, size_t length) {
@@ -29,7 +29,7 @@ static void fill(void *data, size_t length) {
     }
 }
 
-/* The kernel checks these arguments, and the bytes are of this run. */
+/* The kernel checks these arguments; then the bytes are replaced by the run's. */
 EXPORT ssize_t getrandom(void *data, size_t length, unsigned flags) {
     ssize_t result = answer(RAW(SYS_getrandom, data, length, flags));
     if (run && result > 0) {
@@ -60,7 +60,7 @@ uint32_t arc4random(void) {
     return number;
 }
 
-/* Numbers past the last multiple of `bound` are drawn again. */
+/* Numbers below `least` are drawn again, so that all results are equally likely. */
 EXPORT uint32_t arc4random_uniform(uint32_t bound);
 uint32_t arc4random_uniform(uint32_t bound) {
     uint32_t number, least = bound ? -bound % bound : 0;
@@ -125,7 +125,7 @@ EXPORT int putenv(char *text) {
     return result;
 }
 
-/* The kernel gives 16 bytes to each program, and a device may be its standard input. */
+/* The kernel gives 16 random bytes to each program. Standard input may be a random device. */
 void start_random(void) {
     void *bytes = (void *)(uintptr_t)getauxval(AT_RANDOM);
     if (bytes) {

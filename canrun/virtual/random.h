@@ -5,13 +5,13 @@
 #include <sys/types.h>
 #include <sys/uio.h>
 
-/* Once this thread has its slot. */
+/* Called once this thread has its slot. */
 void start_random(void);
 
-/* A file was opened, perhaps /dev/urandom. */
+/* Called after a file was opened, which may be /dev/urandom. */
 void random_opened(int fd, const char *path);
 
-/* So many bytes were read: if they are random, they are those of this run. */
+/* Called after a read of so many bytes. Replaces them by the run's own if they are random. */
 void random_read(int fd, const struct iovec *parts, int count, ssize_t length);
 
 #endif

@@ -18,10 +18,10 @@ static inline long raw_call(long number, long a, long b, long c, long d, long e,
 }
 
 #define RAW_6(nr, a, b, c, d, e, f, ...) raw_call(nr, (long)(a), (long)(b), (long)(c), (long)(d), (long)(e), (long)(f))
-/* RAW(number, arguments ..): what the kernel returns, which is minus an errno if it fails. */
+/* RAW(number, arguments ..): the kernel's result; a failure is a negative errno. */
 #define RAW(...) RAW_6(__VA_ARGS__, 0, 0, 0, 0, 0, 0, 0)
 
-/* The same as the C library returns it. */
+/* Converts this to the C library's result. */
 static inline long answer(long result) {
     if (result < 0 && result > -4096) {
         errno = (int)-result;

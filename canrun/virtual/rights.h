@@ -1,4 +1,4 @@
-/* A message of one byte with a descriptor, by which the coordinator hands out the epoll of the run. */
+/* A message of one byte with a descriptor: the coordinator uses it to hand out the epoll of the run. */
 #ifndef RIGHTS_H
 #define RIGHTS_H
 
@@ -14,7 +14,7 @@ struct rights {
     struct msghdr message;
 };
 
-/* Lays the message out; it has this descriptor, or with -1 only room for one. */
+/* Prepares the message with this descriptor; with -1 it only has room for a received descriptor. */
 static inline struct msghdr *rights_message(struct rights *rights, int fd) {
     *rights = (struct rights){.part = {&rights->byte, 1}};
     rights->message = (struct msghdr){.msg_iov = &rights->part,

@@ -1,14 +1,14 @@
 /* The common part of all threads of a run in virtual time: one block of memory, and one epoll.
  *
- * One thread of the run has the turn; it runs, and the clock stands still. All others sleep on a word of their slots.
- * A thread that has to wait (for a moment, a descriptor, a lock, a child) writes the wait into its slot, and hands the
- * turn to the next thread that can go on; if there is none, the clock goes to the least moment that one waits for.
- * The epoll knows the descriptors that are ready; each thread registers there those that it waits for. So nobody has
- * to find out which threads sleep, and the order is the same in each run.
+ * One thread of the run has the turn: it runs, and the clock does not move. All others sleep on a word of their slots.
+ * A thread that must wait (for a moment, a descriptor, a lock, a child) writes the wait into its slot. Then it hands
+ * the turn to the next thread that can go on. If there is none, the clock moves to the earliest moment for which a
+ * thread waits. The epoll knows the ready descriptors; each thread registers there the descriptors that it waits for.
+ * So no thread has to find out which threads sleep, and the order is the same in each run.
  *
- * Some waits go past this library: those inside of the C library, and those of programs that do not load it. They are
- * `outside`: the coordinator finds that the thread with the turn sleeps, takes the turn back, and looks at /proc before
- * the clock goes on. */
+ * This library does not see some waits: those inside the C library, and those of programs that do not load it. Their
+ * threads are `outside`: the coordinator finds that the thread with the turn sleeps, takes the turn back, and looks at
+ * /proc before the clock moves. */
 #ifndef RUN_H
 #define RUN_H
 
@@ -23,9 +23,10 @@
 #define SECOND 1000000000ull
 /* CLOCK_MONOTONIC at the start. */
 #define UPTIME (1000 * SECOND)
-/* The turn: the number of the slot that has it, or NOBODY, and then it is the coordinator's; a bit that this one
- * decides whose turn is next; and above them how often a slot was given it, so that no two turns are the same. How
- * often the coordinator had it hangs on the machine, as where one that is born begins late, and is not counted. */
+/* The turn has three parts. The low bits are the number of the slot that has it, or NOBODY: then the coordinator has
+ * it. DECIDING says that its owner chooses the next turn. The high bits count how often a slot got the turn, so that no
+ * two turns are equal. Turns of the coordinator are not counted: their number depends on the machine, for example if a
+ * new thread begins late. */
 #define NOBODY 0x7fffffu
 #define DECIDING 0x800000u
 #define TURN_BITS 24
@@ -35,13 +36,13 @@ enum state {
     SLOT_BORN,    /* a thread or process that has been made and has not begun yet */
     SLOT_READY,   /* it only waits for its turn */
     SLOT_RUNS,    /* it has the turn */
-    SLOT_WAITS,   /* for what its other fields say */
-    SLOT_OUTSIDE, /* it sleeps in a call that this library does not see, or is a program without it */
-    SLOT_TAKEN,   /* being filled */
+    SLOT_WAITS,   /* it waits; the other fields describe the wait */
+    SLOT_OUTSIDE, /* it sleeps in a call that this library does not see, or is a program without the library */
+    SLOT_TAKEN,   /* a thread is filling the slot */
 };
 
-/* The events of one that waits; none of these, or IS_OVER: its moment. LOOKS_AGAIN: a signal or a timer of its
- * process; IS_CANCELLED: pthread_cancel; TRIES_AGAIN: see `tries`. */
+/* The events of a waiting thread. None, or IS_OVER: its moment has come. LOOKS_AGAIN: a signal or a timer of its
+ * process. IS_CANCELLED: pthread_cancel. TRIES_AGAIN: see `tries`. */
 enum {
     HAS_EVENT = 1,
     IS_WOKEN = 2,
@@ -52,7 +53,7 @@ enum {
     TRIES_AGAIN = 64
 };
 
-/* The wait of a thread, for messages. */
+/* The kind of a thread's wait, for messages. */
 enum kind {
     KIND_MOMENT,
     KIND_DESCRIPTOR,
@@ -60,40 +61,40 @@ enum kind {
     KIND_CHILD,
     KIND_SIGNAL,
     KIND_INTERPRETER,
-    KIND_KERNEL /* a lock of a file, a queue, a semaphore that only the kernel knows */
+    KIND_KERNEL /* a file lock, queue or semaphore that only the kernel knows */
 };
 
-/* First what each decision looks at, of all. */
+/* The first fields are those that each decision reads, of all slots. */
 struct slot {
-    _Atomic uint32_t go; /* the word that it sleeps on: how often it was given the turn */
+    _Atomic uint32_t go; /* the word that the thread sleeps on: how often it got the turn */
     _Atomic uint32_t state;
     _Atomic uint32_t flags;
-    uint32_t rank;       /* of those that can go on in one moment, the lowest goes first */
-    uint32_t generation; /* of its wait for descriptors */
+    uint32_t rank;       /* the thread with the lowest rank goes first */
+    uint32_t generation; /* the number of its wait for descriptors */
     uint32_t kind;
-    uint32_t tries; /* before the clock goes on it looks once more, as nobody wakes it */
+    uint32_t tries; /* the thread must look once more before the clock moves, because no thread wakes it */
     _Atomic uint32_t pid;
     _Atomic uint64_t deadline; /* nanoseconds of the run, or NEVER */
-    _Atomic uint64_t key;      /* of the lock, child or thread that it waits for */
-    uint64_t ticket;           /* its place among those that can go on, 0 before it has one */
-    uint64_t number;           /* of its birth, or of its age where a test began: what is drawn for it hangs on this, */
-    uint64_t waits, reads;     /* and on how often it has waited, and read what is random, since then */
-    uint64_t since;            /* the number of its wait in the run: who waits longer is woken first */
-    uint64_t tried;            /* `progress` when it last looked */
-    uint64_t thread;           /* pthread_self */
-    uint64_t go_at;            /* where its process has `go` */
+    _Atomic uint64_t key;      /* the key of the lock, child or thread that it waits for */
+    uint64_t ticket;           /* its place among the threads that can go on; 0 before it has a place */
+    uint64_t number; /* the number of its birth, or of its age when a test began; its random numbers depend on this, */
+    uint64_t waits, reads; /* and on how often it has waited, and has read random bytes, since then */
+    uint64_t since;        /* the number of its wait in the run; the longest wait is woken first */
+    uint64_t tried;        /* the value of `progress` when it last looked */
+    uint64_t thread;       /* pthread_self */
+    uint64_t go_at;        /* the address of `go` in its process */
     _Atomic uint32_t tid;
-    uint32_t parent;             /* of a process that is born */
-    uint32_t bits;               /* of its wait on a word: FUTEX_WAIT_BITSET */
+    uint32_t parent;             /* the parent of a new process */
+    uint32_t bits;               /* the bits of a wait on a word: FUTEX_WAIT_BITSET */
     _Atomic uint32_t is_foreign; /* a program that does not load this library */
 } __attribute__((aligned(128)));
 
-/* A timer that sends a signal: alarm, setitimer, timer_create. Of the process, alarm and setitimer have this id, and
- * those of timer_create others. */
+/* A timer that sends a signal: alarm, setitimer, timer_create. INTERVAL_TIMER is the id of the process's alarm and
+ * setitimer; timers of timer_create have other ids. */
 #define INTERVAL_TIMER 1
 struct alarm {
-    _Atomic uint32_t pid; /* 0: free */
-    uint32_t tid;         /* 0: to the process */
+    _Atomic uint32_t pid; /* 0: unused */
+    uint32_t tid;         /* 0: the signal goes to the process */
     int32_t number;
     uint32_t id;
     uint64_t value;
@@ -102,24 +103,24 @@ struct alarm {
     uint32_t overrun;
 };
 
-/* The request of a process to the coordinator, which sees by the connection who asks: to send the signals of this
- * alarm, or NO_ALARM: the epoll of the run. */
+/* A request of a process to the coordinator, which sees from the connection which process asks: to send the signals of
+ * this alarm. NO_ALARM asks for the epoll of the run. */
 #define NO_ALARM ALARMS
 struct request {
     uint32_t alarm, tid;
     int32_t number;
 };
 
-/* A timer that is read: timerfd. Its descriptor is a timer of the kernel, which never runs there, and whose interval is
- * this number; so each process that has a descriptor of it finds it here. */
+/* A timer that is read: a timerfd. Its descriptor is a kernel timer that never runs, and whose interval is this number.
+ * So each process that has a descriptor of the timer finds it here. */
 #define TIMERS 1024
 struct timer {
-    _Atomic uint32_t number; /* 0: free; its place is the remainder by TIMERS */
+    _Atomic uint32_t number; /* 0: unused; its place is the number modulo TIMERS */
     uint32_t owner;          /* the process that made it */
-    uint32_t is_shared;      /* others may have it */
+    uint32_t is_shared;      /* other processes may have it */
     int32_t clock;
     uint64_t deadline, period;
-    uint64_t unread; /* how often it had come when it last came */
+    uint64_t unread; /* how many expirations were unread at the last one */
 };
 
 /* A message that a process has the coordinator print: see tell.h. */
@@ -132,36 +133,36 @@ struct notice {
     char text[NOTICE];
 };
 
-/* Why nobody has the turn. */
+/* The reason why no thread has the turn. */
 enum pause { PAUSE_NONE, PAUSE_BIRTH, PAUSE_OUTSIDE, PAUSE_ALARM, PAUSE_IDLE, PAUSE_UNTIL };
 
 struct run {
     uint64_t magic;
     uint64_t epoch; /* CLOCK_REALTIME at the start */
     uint64_t until;
-    uint64_t seed;     /* 0: the order is that of their births */
-    uint64_t test;     /* what the name of the test at hand adds to the seed */
-    uint64_t jitter;   /* nanoseconds that a timed wait is longer at most */
-    uint64_t terminal; /* the device of the one where the run was started, or 0 */
+    uint64_t seed;     /* 0: threads go on in the order of their births */
+    uint64_t test;     /* a hash of the current test's name, which is added to the seed */
+    uint64_t jitter;   /* by how many nanoseconds a timed wait is extended at most */
+    uint64_t terminal; /* the device of the terminal from which the run was started, or 0 */
     uint32_t has_ended;
-    _Atomic uint32_t has_failed; /* a line has said why the run can't go on */
+    _Atomic uint32_t has_failed; /* a printed line has the reason why the run cannot continue */
     _Atomic uint64_t now __attribute__((aligned(64)));
     _Atomic uint64_t turn;
-    _Atomic uint32_t used; /* slots that were ever used */
+    _Atomic uint32_t used; /* the number of slots that were ever used */
     _Atomic uint32_t pause;
-    _Atomic uint32_t births; /* a word to wait on for one that is born */
+    _Atomic uint32_t births; /* the deciding thread sleeps on this word until new threads have begun */
     _Atomic uint64_t waits, tickets;
-    _Atomic uint64_t ending;          /* process << 32 and thread of the one that handed the turn on as it ended */
-    _Atomic uint64_t progress;        /* how often one waited for something new, or ended */
-    _Atomic uint32_t tries;           /* threads that wait for what nobody wakes them for */
-    _Atomic uint64_t born;            /* how many have been */
-    _Atomic uint64_t moments;         /* how often the clock went on */
-    _Atomic uint64_t spun;            /* nanoseconds that went by as threads looked at the clock again and again */
+    _Atomic uint64_t ending;          /* process << 32 and thread of the one that handed the turn on when it ended */
+    _Atomic uint64_t progress;        /* how often a thread began a new wait, or ended */
+    _Atomic uint32_t tries;           /* threads in waits that no thread of the run ends */
+    _Atomic uint64_t born;            /* how many threads have been born */
+    _Atomic uint64_t moments;         /* how often the clock moved */
+    _Atomic uint64_t spun;            /* nanoseconds that passed because threads read the clock again and again */
     _Atomic uint8_t ports[PORTS / 8]; /* a bit for each TCP port that a program of the run has listened at */
-    _Atomic uint8_t datagram_ports[PORTS / 8]; /* of UDP, those that are known to be a program's of the run */
+    _Atomic uint8_t datagram_ports[PORTS / 8]; /* the same for UDP ports that a program of the run is known to have */
     struct slot slots[SLOTS];
     struct alarm alarms[ALARMS];
-    _Atomic uint32_t alarm_count; /* those that were ever used */
+    _Atomic uint32_t alarm_count; /* alarms that were ever used */
     _Atomic uint32_t timer_count; /* timers that were ever made */
     struct timer timers[TIMERS];
     _Atomic uint32_t has_signalfds;
@@ -169,7 +170,8 @@ struct run {
 };
 
 #define RUN_MEMORY "canbusd-virtual"
-/* The setting that has the path of the memory; the coordinator listens at an abstract name with its process number. */
+/* The environment variable with the path of the memory. The coordinator listens at an abstract name with its process
+ * number. */
 #define RUN_SETTING "CANBUSD_RUN_VIRTUAL"
 #define RUN_SLOT "CANBUSD_RUN_SLOT"
 /* The options that repeat the run, for reports. */

@@ -1,6 +1,6 @@
-/* Descriptors that read signals. The kernel finds a signal in one only for the process that looks: if another one
- * looks at an epoll with one of them, for the run, the kernel takes the entry from the list of what is ready. So these
- * are put there again before their own process looks. */
+/* Descriptors that read signals. The kernel only finds a signal for the process that looks. If another process looks at
+ * an epoll with a signalfd, for the run, the kernel takes the entry off its ready list. So a process adds its signalfds
+ * again before it looks. */
 #define _GNU_SOURCE
 #include "calls.h"
 
@@ -12,7 +12,7 @@
 #include <sys/signalfd.h>
 
 #define NESTED 8
-/* The bits that epoll leaves of an entry with EPOLLONESHOT that has had an event. */
+/* The bits that remain of an entry with EPOLLONESHOT after its event. */
 #define PRIVATE_EVENTS (EPOLLWAKEUP | EPOLLONESHOT | EPOLLET | EPOLLEXCLUSIVE)
 #define LISTED 65536
 
@@ -52,7 +52,7 @@ bool is_signalfd(int fd) {
 
 static void look(int epoll, int depth);
 
-/* A line of an epoll's list, as `tfd:        5 events:       19 data:   ff  pos:0 ..`. */
+/* Handles a line of an epoll's list, such as `tfd:        5 events:       19 data:   ff  pos:0 ..`. */
 static void look_at_entry(int epoll, const char *line, int depth) {
     int fd;
     unsigned events;

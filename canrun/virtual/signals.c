@@ -1,5 +1,5 @@
-/* Signals. A handler runs when its thread has the turn: one that waits gets it for the handler, and its wait ends by
- * EINTR. So handlers are wrapped, and who sends a signal waits until it has been taken. */
+/* Signals. A handler runs when its thread has the turn. A waiting thread gets the turn for the handler, and its wait
+ * ends with EINTR. So handlers are wrapped, and the sender of a signal waits until the receiver has taken it. */
 #define _GNU_SOURCE
 #include "calls.h"
 
@@ -18,7 +18,7 @@ static __thread struct {
     siginfo_t infos[DEFERRED];
 } deferred;
 
-/* What a wait says in its slot, which a handler that waits itself replaces. */
+/* The description of a wait in its slot; a handler that waits itself overwrites it. */
 struct kept {
     uint32_t state, flags, kind, tries, bits;
     uint64_t deadline, key, since;
@@ -96,7 +96,7 @@ static bool is_handler(const struct sigaction *action) {
     return action->sa_handler != SIG_DFL && action->sa_handler != SIG_IGN;
 }
 
-/* A fault is handled at once, whoever has the turn. */
+/* A fault is handled at once, whichever thread has the turn. */
 static bool is_fault(int number) {
     return number == SIGSEGV || number == SIGBUS || number == SIGILL || number == SIGFPE || number == SIGTRAP ||
            number == SIGABRT;
@@ -146,7 +146,8 @@ EXPORT __sighandler_t sysv_signal(int number, __sighandler_t to) {
 
 ALSO(__sysv_signal, sysv_signal)
 
-/* As the C library's, whose own does not see handlers of this one: SIG_HOLD blocks the signal, all else unblocks it. */
+/* Like the C library's function, which does not see this library's handlers: SIG_HOLD blocks the signal, and all other
+ * values unblock it. */
 EXPORT __sighandler_t sigset(int number, __sighandler_t to) {
     struct sigaction old;
     sigset_t one, before;
@@ -186,7 +187,7 @@ void put_mask_back(const struct masked *masked) {
     }
 }
 
-/* Waits until a handler has run that had not before. */
+/* Waits until another handler has run. */
 static int wait_for_handler(uint32_t handled) {
     regain_turn();
     while (my.handled == handled) {
@@ -222,7 +223,7 @@ int __sigpause(int mask_or_number, int is_number) {
     return sigsuspend(&mask);
 }
 
-/* The header gives this name to the other one. */
+/* The header declares __xpg_sigpause under this name. */
 EXPORT int sigpause_of_mask(int mask) __asm__("sigpause");
 int sigpause_of_mask(int mask) {
     return __sigpause(mask, 0);
@@ -245,7 +246,7 @@ static int wait_for_signal(const sigset_t *set, siginfo_t *info, uint64_t deadli
         if (flags & IS_INTERRUPTED || deadline <= run->now) {
             return errno = flags & IS_INTERRUPTED ? EINTR : EAGAIN, -1;
         }
-        my.tries = tries; /* Nobody says what the kernel sends by itself. */
+        my.tries = tries; /* No thread reports signals that the kernel itself sends. */
         flags = wait_turn(deadline, key_of_signals(my_slot()->pid), KIND_SIGNAL);
         cancel_point();
     }
@@ -274,7 +275,7 @@ EXPORT int sigwait(const sigset_t *restrict set, int *restrict number) {
     return 0;
 }
 
-/* ---- sending: until whom it is sent to has taken it ---- */
+/* ---- sending: waits until the receiver has taken the signal ---- */
 
 static void sent_to(uint32_t pid) {
     settle(pid);
@@ -342,7 +343,7 @@ EXPORT int pidfd_send_signal(int fd, int number, siginfo_t *info, unsigned flags
 int pidfd_send_signal(int fd, int number, siginfo_t *info, unsigned flags) {
     long result = RAW(SYS_pidfd_send_signal, fd, number, info, flags);
     if (run && !result && number) {
-        signal_sent(-1, number); /* Whose it is is not known: those that took nothing are looked at only. */
+        signal_sent(-1, number); /* The receiver is unknown, so all processes are checked. */
     }
     return (int)answer(result);
 }

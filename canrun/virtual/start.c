@@ -1,4 +1,4 @@
-/* A program, or a bridge, becomes part of the run. */
+/* Makes a program, or a bridge, part of the run. */
 #define _GNU_SOURCE
 #include "calls.h"
 #include "proc.h"
@@ -17,10 +17,10 @@
 #include <sys/un.h>
 #include <unistd.h>
 
-/* The least number of the run's descriptor in a program, so that it is in nobody's way. */
+/* The least number of the run's descriptor in a program, so that it does not disturb the program's numbers. */
 #define HIGH_DESCRIPTOR 900
 
-/* The descriptor that comes with the coordinator's reply, -1 if there is none. */
+/* Receives the descriptor in the coordinator's reply; -1 if there is none. */
 static int take_epoll(int fd) {
     struct rights rights;
     struct msghdr *message = rights_message(&rights, -1);
@@ -38,7 +38,8 @@ static int take_epoll(int fd) {
     return epoll;
 }
 
-/* Asks the coordinator, which sees by the connection who asks; a connection with its reply, or -1. */
+/* Sends a request to the coordinator, which sees from the connection which process asks. Returns a connection for the
+ * reply, or -1. */
 static int ask_coordinator(const struct request *request) {
     struct sockaddr_un name = {.sun_family = AF_UNIX};
     int length = snprintf(name.sun_path + 1, sizeof name.sun_path - 1, RUN_SOCKET, coordinator_pid);
@@ -69,7 +70,8 @@ bool register_process(void) {
     return epoll >= 0;
 }
 
-/* A program of another user may not take part: the coordinator sees it, and ends the run, which ends this one. */
+/* Waits for the end of the run, which also ends this program: the coordinator sees a program of another user, and ends
+ * the run. */
 static void await_end_of_run(const char *path) {
     const struct timespec second = {1, 0};
     int coordinator = atoi(path + sizeof "/proc/" - 1);
@@ -106,7 +108,7 @@ static struct run *map_run(const char *path) {
     return at == MAP_FAILED || at->magic != RUN_MAGIC ? NULL : at;
 }
 
-/* The slot of this process: it had one before execve; or its parent took one for it; or it gets one. */
+/* The slot of this process: the one that it had before execve, or the one that its parent took, or a new one. */
 static uint32_t find_slot(void) {
     uint32_t pid = (uint32_t)RAW(SYS_getpid, 0), parent = (uint32_t)RAW(SYS_getppid, 0), found = NOBODY;
     const char *given = getenv(RUN_SLOT);
@@ -124,7 +126,7 @@ static uint32_t find_slot(void) {
     }
     for (uint32_t i = 0; i < slots_used() && found != NOBODY; i++) {
         if (i != found && run->slots[i].pid == pid && run->slots[i].state != SLOT_BORN) {
-            free_slot(&run->slots[i]); /* The other threads ended with execve. */
+            free_slot(&run->slots[i]); /* The other threads ended at execve. */
         }
     }
     for (uint32_t i = 0; i < slots_used() && found == NOBODY; i++) {
@@ -150,7 +152,7 @@ static void recognize(void) {
 }
 
 #ifndef FOR_BRIDGE
-/* A tracer stops it at its calls, and waits for turns itself. */
+/* Ends the run if this process is traced: the tracer stops it at its calls, and itself waits for turns. */
 static void end_traced(void) {
     char test[TEST_ROOM];
     if (proc_tracer((uint32_t)RAW(SYS_getpid, 0))) {
@@ -159,8 +161,8 @@ static void end_traced(void) {
     }
 }
 
-/* A program that calls the kernel itself, as those of Go do also if they load libraries, waits unseen: so the run
- * ends at once. */
+/* Ends the run if this program calls the kernel itself, as Go programs do even if they load libraries: its waits are
+ * not seen. */
 static void end_bypassing(void) {
     const char *obstacle = is_server ? NULL : program_bypass(SELF);
     char test[TEST_ROOM];
@@ -203,8 +205,8 @@ __attribute__((constructor(103))) static void start(void) {
 #endif
 }
 
-/* Makes a process part of the run that its environment names, which has loaded this library before and has one thread:
- * it was forked outside of the run. Returns 0, or -1 if there is no such run. */
+/* Adds this process to the run that its environment names. It has loaded this library before and has one thread: it was
+ * forked outside of the run. Returns 0, or -1 if there is no such run. */
 EXPORT int canbusd_virtual_enter(void);
 EXPORT int canbusd_virtual_enter(void) {
     if (!run) {

@@ -1,4 +1,4 @@
-/* Threads: how they begin and end, and waits for their ends. */
+/* Threads: their beginnings and ends, and waits for their ends. */
 #define _GNU_SOURCE
 #include "locks.h"
 
@@ -6,8 +6,8 @@
 #include <stdlib.h>
 #include <threads.h>
 
-/* CPython's wait for its interpreter: it asks who has it to let it go where that has not come after 5 ms, for which the
- * coordinator sees where that one computes. */
+/* How long a CPython thread waits for the interpreter before it asks the present owner to release it: 5 ms. For this
+ * the coordinator checks whether the owner computes. */
 #define SWITCH_INTERVAL 5000000
 
 bool is_python(void) {
@@ -30,13 +30,13 @@ int wait_for_key(uint64_t key, uint64_t deadline) {
         return ETIMEDOUT;
     }
     uint32_t flags;
-    do { /* It does not end by a signal. */
+    do { /* No signal ends this wait. */
         flags = wait_turn_or_cancel(deadline, key, kind_of_wait(deadline));
     } while (!(flags & (IS_WOKEN | IS_OVER)) && run->now < deadline);
     return flags & IS_WOKEN ? 0 : ETIMEDOUT;
 }
 
-/* ---- a thread begins, and ends ---- */
+/* ---- the beginning and the end of a thread ---- */
 
 struct beginning {
     void *(*routine)(void *);
@@ -46,7 +46,7 @@ struct beginning {
 
 static pthread_key_t at_end;
 
-/* The destructors of other keys run before: it puts its own off for as long as it can. */
+/* Runs after the destructors of other keys: it delays its own call as long as possible. */
 static void thread_ends(void *count) {
     uintptr_t left = (uintptr_t)count;
     struct slot *slot = my.slot;
@@ -63,7 +63,7 @@ static void thread_ends(void *count) {
     } while (!begin_deciding());
     leave_mutexes();
     wake(key_of((void *)(uintptr_t)pthread_self(), OF_END), INT_MAX);
-    /* The first thread is there as long as the process. */
+    /* The first thread exists as long as its process. */
     run->ending = slot->tid != slot->pid ? (uint64_t)slot->pid << 32 | slot->tid : 0;
     free_slot(slot);
     uint32_t next = next_turn(false);
@@ -97,7 +97,7 @@ EXPORT int pthread_create(pthread_t *restrict thread, const pthread_attr_t *rest
         free_slot(&run->slots[slot]);
         free(it);
     } else {
-        run->slots[slot].thread = *thread; /* It waits for its turn, and may not have come to say so. */
+        run->slots[slot].thread = *thread; /* The new thread waits for its turn, and may not have stored this yet. */
     }
     return error;
 }
@@ -112,7 +112,7 @@ static bool is_alive(pthread_t thread) {
     return false;
 }
 
-/* Waits until a thread has ended; 0 or ETIMEDOUT. What is left of its end takes no time of the run. */
+/* Waits until a thread has ended. Returns 0 or ETIMEDOUT. The rest of its end takes no time of the run. */
 static int wait_for_end(pthread_t thread, uint64_t deadline) {
     regain_turn();
     while (is_alive(thread)) {
@@ -153,7 +153,7 @@ EXPORT int pthread_tryjoin_np(pthread_t thread, void **result) {
     return is_alive(thread) ? EBUSY : pthread_join(thread, result);
 }
 
-/* ---- threads of C11, which are those of POSIX ---- */
+/* ---- threads of C11, which use those of POSIX ---- */
 
 struct c_beginning {
     thrd_start_t routine;

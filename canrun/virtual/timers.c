@@ -1,5 +1,5 @@
-/* Timers that send signals, or call: alarm, setitimer, timer_create. They are in the memory of the run, and the
- * coordinator sends their signals. */
+/* Timers that send signals or call a function: alarm, setitimer, timer_create. They are in the memory of the run, and
+ * the coordinator sends their signals. */
 #define _GNU_SOURCE
 #include "calls.h"
 
@@ -42,7 +42,8 @@ static struct alarm *alarm_of(uint32_t id) {
     return NULL;
 }
 
-/* `number` is 0 if the coordinator sends no signal; NULL if there is no place, or it does not take it. */
+/* Makes an alarm; `number` is 0 if the coordinator is to send no signal. NULL if there is no free alarm, or the
+ * coordinator refuses it. */
 static struct alarm *new_alarm(uint32_t id, int number, uint32_t tid) {
     for (uint32_t i = 0; i < ALARMS; i++) {
         struct alarm *alarm = &run->alarms[i];
@@ -114,7 +115,7 @@ EXPORT useconds_t ualarm(useconds_t n, useconds_t period) {
 
 /* ---- timer_create ---- */
 
-/* A timer of SIGEV_THREAD: a thread that sleeps until it is due, and calls. */
+/* A timer of SIGEV_THREAD: a thread sleeps until it is due, and calls the function. */
 struct caller {
     struct alarm *alarm;
     uint32_t id;
@@ -156,7 +157,7 @@ static int start_caller(struct alarm *alarm, const struct sigevent *event) {
     return error;
 }
 
-/* The clock of a timer is in its number, below the place of its alarm. */
+/* A timer_t contains the index of its alarm and, in the low byte, its clock. */
 #define TIMER_OF(place, clock) ((timer_t)(uintptr_t)(((uintptr_t)(place) + 1) << 8 | ((uintptr_t)(clock)&255)))
 #define PLACE_OF(timer) (((uintptr_t)(timer) >> 8) - 1)
 #define CLOCK_OF(timer) ((clockid_t)((uintptr_t)(timer)&255))

@@ -15,14 +15,14 @@
 #include <termios.h>
 #include <unistd.h>
 
-/* The bytes that a pipe that is ready takes at once. */
+/* How many bytes a ready pipe takes at once. */
 #define PIECE 4096
-/* Parts of a message that is received or sent in pieces. */
+/* The most parts of a message that is received or sent in pieces. */
 #define PARTS 64
 
 /* ---- messages ---- */
 
-/* The rest of a message, past what is done of it. */
+/* The rest of a message after the first bytes. */
 struct rest {
     struct msghdr message;
     struct iovec parts[PARTS];
@@ -55,7 +55,7 @@ static bool is_stream(int fd) {
     return !RAW(SYS_getsockopt, fd, SOL_SOCKET, SO_TYPE, &type, &size) && type == SOCK_STREAM;
 }
 
-/* Descriptors that came with a message may be timers. */
+/* Looks for timers among the descriptors that came with a message. */
 static long received(struct msghdr *message, long result) {
     if (result < 0 || !message->msg_controllen || !run || !run->timer_count) {
         return result;
@@ -202,12 +202,13 @@ EXPORT int accept(int fd, struct sockaddr *restrict from, socklen_t *restrict ro
 
 #define TENTH (SECOND / 10)
 
-/* A terminal that is read byte by byte may have a timeout of its own, VTIME; false if it has none. */
+/* Whether a terminal in byte mode has a timeout, VTIME. */
 static bool has_timeout(int fd, struct termios *settings) {
     return !RAW(SYS_ioctl, fd, TCGETS, settings) && !(settings->c_lflag & ICANON) && settings->c_cc[VTIME];
 }
 
-/* Reads such a terminal: VTIME is the most for the first byte where VMIN is 0, else between two bytes. */
+/* Reads such a terminal. VTIME limits the wait for the first byte if VMIN is 0, otherwise the wait between two
+ * bytes. */
 static ssize_t read_terminal(int fd, char *data, size_t length, const struct termios *settings) {
     uint64_t most = settings->c_cc[VTIME] * TENTH, deadline = settings->c_cc[VMIN] ? NEVER : after(most);
     size_t done = 0, least = settings->c_cc[VMIN] ? settings->c_cc[VMIN] : 1;
@@ -261,7 +262,7 @@ EXPORT ssize_t readv(int fd, const struct iovec *parts, int count) {
     return result;
 }
 
-/* Of -1 as an offset: that of the descriptor. */
+/* With the offset -1 it reads at the descriptor's own position, and may wait. */
 EXPORT ssize_t preadv2(int fd, const struct iovec *parts, int count, off_t offset, int flags) {
     bool is_ready = offset != -1 || flags & RWF_NOWAIT || await_ready(fd, POLLIN, 0);
     return is_ready ? answer(RAW(SYS_preadv2, fd, parts, count, offset, 0, flags)) : -1;
@@ -272,7 +273,7 @@ EXPORT int eventfd_read(int fd, eventfd_t *value) {
     return read(fd, value, sizeof *value) == sizeof *value ? 0 : -1;
 }
 
-/* The forms that know how much room there is. */
+/* The checked forms, which know the size of the buffer. */
 extern void __chk_fail(void) __attribute__((noreturn));
 EXPORT ssize_t __read_chk(int fd, void *data, size_t length, size_t room);
 ssize_t __read_chk(int fd, void *data, size_t length, size_t room) {
@@ -293,7 +294,7 @@ ssize_t __recvfrom_chk(int fd, void *data, size_t length, size_t room, int flags
 
 /* ---- writing ---- */
 
-/* Writes more than a pipe takes at once: the kernel would wait for its reader. */
+/* Writes more than a pipe takes at once, in pieces: otherwise the kernel would wait for the reader. */
 static ssize_t write_pieces(int fd, const char *data, size_t length) {
     size_t done = 0;
     while (done < length) {
@@ -307,8 +308,8 @@ static ssize_t write_pieces(int fd, const char *data, size_t length) {
     return (ssize_t)done;
 }
 
-/* The mode of a file that is not to be written at once: it blocks, and has no room or is given more than a pipe takes.
- */
+/* The mode of a file that cannot be written at once: it blocks, and it has no room or gets more than a pipe takes.
+ * Otherwise 0. */
 static mode_t mode_of_blocking(int fd, size_t length) {
     struct pollfd polled = {fd, POLLOUT, 0};
     struct stat status;

@@ -1,4 +1,4 @@
-/* All processes below this one: see tree.h. */
+/* All descendants of this process: see tree.h. */
 #define _GNU_SOURCE
 #include "tree.h"
 #include "grants.h"

@@ -1,4 +1,4 @@
-/* All processes below this one, which is their subreaper. */
+/* All descendants of this process, which is their subreaper. */
 #ifndef TREE_H
 #define TREE_H
 
@@ -7,10 +7,10 @@
 
 #define TREE_MOST 4096
 
-/* Lists the processes below one; returns how many. */
+/* Lists the descendants of a process, and returns their number. */
 size_t tree_below(uint32_t pid, uint32_t *pids, size_t most);
 
-/* Kills all of them, and those that they start meanwhile, and waits for their ends. */
+/* Kills all descendants, including those that start meanwhile, and waits for their ends. */
 void tree_kill(void);
 
 #endif

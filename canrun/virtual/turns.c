@@ -16,19 +16,20 @@ __thread struct my my;
 void (*handle_deferred)(void);
 void (*hold_cancel)(bool is_held);
 
-/* How long a thread sleeps before it looks whether the coordinator is still there, in real time. */
+/* How many real seconds a thread sleeps before it checks that the coordinator still runs. */
 #define LIVE_SECONDS 1
 #define BIRTH_NANOSECONDS 20000000
-/* The number of events that are taken at once, and how often: more than slots and descriptors of each are ready
- * together. */
+/* How many events are taken at once, and how often: together more than the slots and their descriptors that can be
+ * ready. */
 #define EVENTS 32
 #define MOST_LOOKS 2000
-/* How often it is looked whether a thread has ended, first without a pause, and the nanoseconds between; a minute. */
+/* How often a thread's end is checked without a pause; the pause after that in nanoseconds; and the most checks, about
+ * a minute. */
 #define END_YIELDS 20
 #define END_PAUSE 100000
 #define END_LOOKS 600000
 
-/* ---- what is random ---- */
+/* ---- random numbers ---- */
 
 static uint64_t scrambled(uint64_t x) {
     x = (x ^ x >> 30) * 0xbf58476d1ce4e5b9ull;
@@ -48,7 +49,7 @@ void begin_test(const char *name) {
     }
     run->test = test;
     run->born = 0;
-    /* The next older one each time. */
+    /* Finds the next older thread each time. */
     for (struct slot *next;; run->born++) {
         next = NULL;
         for (uint32_t i = 0; i < slots_used(); i++) {
@@ -63,8 +64,8 @@ void begin_test(const char *name) {
         next->number = run->born + 1;
         next->waits = next->reads = 0;
     }
-    /* Threads that the test before has left, such as sessions that are about to end, do not count for those that are
-     * born now. */
+    /* Threads that the last test has left, such as sessions that are about to end, do not influence the numbers of new
+     * threads. */
     run->born = SLOTS;
 }
 
@@ -116,7 +117,7 @@ void begin_slot(uint32_t index) {
     slot->rank = is_bridge ? RANK_BRIDGE : is_server ? RANK_DRIVER : RANK_PROGRAM;
     slot->go_at = (uintptr_t)&slot->go;
     if (has_turn()) {
-        slot->state = SLOT_RUNS; /* execve: the process goes on as another program */
+        slot->state = SLOT_RUNS; /* execve: the process continues as another program */
         return;
     }
     slot->state = SLOT_READY;
@@ -135,16 +136,17 @@ struct slot *my_slot(void) {
     return my.slot;
 }
 
-/* ---- who can go on ---- */
+/* ---- which thread can go on ---- */
 
 static void collect_events(void) {
     struct epoll_event events[EVENTS];
     long count = EVENTS;
-    /* A waiting thread is told of each descriptor once. Others that a program has put there may be ready for ever. */
+    /* The epoll reports each descriptor of a waiting thread once. Others that a program has added may be ready for
+     * ever. */
     for (int i = 0; count == EVENTS && i < MOST_LOOKS; i++) {
         count = RAW(SYS_epoll_pwait, run_epoll, events, EVENTS, 0, NULL, 8);
         if (count == -EBADF && register_process()) {
-            count = EVENTS; /* A program that closes all descriptors has closed this one. */
+            count = EVENTS; /* A program that closes all descriptors has closed this one too. */
             continue;
         }
         for (long i = 0; i < count; i++) {
@@ -173,7 +175,7 @@ static bool goes_before(const struct slot *one, const struct slot *other) {
                                           : one->number < other->number;
 }
 
-/* Gives a place to each that can go on now and could not before, and finds the first. */
+/* Gives a place to each thread that can go on now and could not before. Finds the first thread. */
 static struct look look_round(void) {
     struct look look = {.best = NOBODY, .next = NEVER};
     uint64_t now = run->now, round = 0;
@@ -197,7 +199,8 @@ static struct look look_round(void) {
     return look;
 }
 
-/* Lets those look once more that nobody wakes, if another has gone on since they did; false if there is none. */
+/* Makes the threads that nobody wakes look once more, if another thread has run since their last look. False if there
+ * are none. */
 static bool try_again(void) {
     bool has_one = false;
     for (uint32_t i = 0; run->tries && i < slots_used(); i++) {
@@ -211,7 +214,7 @@ static bool try_again(void) {
     return has_one;
 }
 
-/* Sets the clock to the next moment that one waits for, if the coordinator has nothing to do before. */
+/* Moves the clock to the next moment for which a thread waits, unless the coordinator has work before that. */
 static bool go_on(uint64_t next) {
     uint64_t alarm = NEVER;
     for (uint32_t i = 0; i < run->alarm_count && i < ALARMS; i++) {
@@ -238,7 +241,7 @@ static bool has_birth(void) {
     return false;
 }
 
-/* Who is born has to have begun before anybody goes on, since the order is that of all who can. */
+/* Waits until new threads have begun: the order must include all threads that can go on. */
 static bool wait_for_births(void) {
     struct timespec patience = {0, BIRTH_NANOSECONDS};
     for (uint32_t seen = run->births; has_birth(); seen = run->births) {
@@ -254,7 +257,7 @@ uint32_t next_turn(bool ignores_outside) {
         run->pause = PAUSE_BIRTH;
         return NOBODY;
     }
-    /* A turn in which a server's thread only looked at memory has made no descriptor ready. */
+    /* If a server's thread only read memory in its turn, it has made no descriptor ready. */
     bool is_quiet = is_server && !my.has_acted;
     if (!is_quiet) {
         collect_events();
@@ -322,11 +325,11 @@ bool has_turn(void) {
 
 void check_coordinator(void) {
     if (run->has_ended || RAW(SYS_kill, coordinator_pid, 0) == -ESRCH) {
-        RAW(SYS_exit_group, 125); /* Nothing is left of a run whose coordinator is gone. */
+        RAW(SYS_exit_group, 125); /* Without its coordinator the whole run ends. */
     }
 }
 
-/* A thread that handed the turn on as it ended is gone before the next one goes on, which may get its stack. */
+/* Waits until a thread that handed on the turn at its end is gone, because the next thread may get its stack. */
 static void await_end(void) {
     struct timespec pause = {0, END_PAUSE};
     uint64_t ending = run->ending;
@@ -342,7 +345,7 @@ static void await_end(void) {
 
 void await_turn(void) {
     struct timespec second = {LIVE_SECONDS, 0};
-    /* Of a server its first thread looks, and no thread has a handler. */
+    /* In a server only the first thread checks, and no thread has a handler. */
     struct timespec *patience = is_server && my.slot->tid != my.slot->pid ? NULL : &second;
     for (;;) {
         uint32_t seen = my.slot->go;
@@ -350,18 +353,19 @@ void await_turn(void) {
             await_end();
             return;
         }
-        /* With a timeout it returns EINTR after any handler, also of SA_RESTART. */
+        /* With a timeout, futex returns EINTR after any handler, even one with SA_RESTART. */
         long result = RAW(SYS_futex, &my.slot->go, FUTEX_WAIT, seen, patience);
         if (result == -ETIMEDOUT) {
             check_coordinator();
         } else if (result == -EINTR && !has_turn()) {
-            my.slot->flags |= IS_INTERRUPTED; /* A signal of the C library's own, as that of pthread_cancel. */
+            my.slot->flags |=
+                IS_INTERRUPTED; /* A signal that the C library itself uses, such as that of pthread_cancel. */
             ring();
         }
     }
 }
 
-/* Waits for the turn, in which it can't be cancelled anywhere, and goes on. */
+/* Waits for the turn, during which it cannot be cancelled asynchronously, and continues. */
 static void await_and_run(void) {
     if (my.is_asynchronous) {
         hold_cancel(true);
@@ -375,7 +379,7 @@ static void await_and_run(void) {
     }
 }
 
-/* Hands the turn on, and waits for the next one; the slot says what for. */
+/* Hands the turn on and waits for the next one; the slot describes the wait. */
 static void give_turn(void) {
     run->progress += my.tries != TRIES_ON;
     my.is_deciding++;
@@ -438,7 +442,7 @@ void yield_turn(void) {
 
 uint64_t after(uint64_t nanoseconds) {
     uint64_t now = run->now;
-    return nanoseconds >= NEVER / 4 ? NEVER : now + nanoseconds; /* 146 years are without end. */
+    return nanoseconds >= NEVER / 4 ? NEVER : now + nanoseconds; /* 146 years count as endless. */
 }
 
 /* ---- keys ---- */
@@ -453,7 +457,7 @@ uint64_t key_of(const volatile void *at, uint64_t salt) {
     return mixed((uint64_t)(uintptr_t)at + salt, my_slot()->pid);
 }
 
-/* The same in each process that maps the file. */
+/* The key is the same in each process that maps the file. */
 uint64_t key_of_file(uint64_t device, uint64_t inode, uint64_t offset) {
     return mixed(mixed(device, inode), offset);
 }

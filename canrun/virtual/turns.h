@@ -1,4 +1,5 @@
-/* Turns: whose it is, waiting for one, and who is next. Of programs, bridges and the coordinator. */
+/* Turns: which thread has the turn, waits for a turn, and the choice of the next. Programs, bridges and the coordinator
+ * share this file. */
 #ifndef TURNS_H
 #define TURNS_H
 
@@ -10,7 +11,7 @@
 /* NULL: there is no virtual time, and all calls are the kernel's. */
 extern struct run *run;
 extern int run_epoll;
-/* The process of the coordinator. */
+/* The process number of the coordinator. */
 extern int coordinator_pid;
 
 /* The number of slots that were ever used. */
@@ -18,113 +19,116 @@ static inline uint32_t slots_used(void) {
     uint32_t used = run->used;
     return used < SLOTS ? used : SLOTS;
 }
-/* One whose number comes from the memory of the run. */
+/* The slot with this number, which comes from the memory of the run and may be wrong. */
 static inline struct slot *slot_at(uint32_t index) {
     return &run->slots[index % SLOTS];
 }
 
-/* Whether a wait is for what nobody of the run wakes its thread for, and whether it is one more of the same. */
+/* Whether a wait is for something that no thread of the run reports; TRIES_ON: it repeats such a wait. */
 enum tries { TRIES_NOT, TRIES, TRIES_ON };
 
-/* A thread's knowledge of itself. */
+/* What a thread stores about itself. */
 struct my {
     struct slot *slot;
     uint32_t index;
-    uint32_t is_deciding; /* a signal that comes now is handled after it */
-    uint32_t handled;     /* signals that a handler had */
-    bool has_to_return;   /* one that came during this wait had no SA_RESTART */
-    bool is_asynchronous; /* pthread_cancel is to end it anywhere */
-    enum tries tries;     /* whether its next wait is one that nobody wakes */
-    bool has_tried;       /* the last one ended by nothing else, and nothing was found */
-    uint32_t born;        /* the slot of a child that is about to be made */
+    uint32_t is_deciding; /* a signal that comes now is handled later */
+    uint32_t handled;     /* how many signals were handled */
+    bool has_to_return;   /* a handler during this wait had no SA_RESTART */
+    bool is_asynchronous; /* pthread_cancel may end it anywhere */
+    enum tries tries;     /* whether a thread of the run will end its next wait */
+    bool has_tried;       /* nothing else ended its last wait, and it found nothing */
+    uint32_t born;        /* the slot of a child that it is about to make */
     uint32_t looks;
     uint64_t looked_at, step;
     bool has_talked;
-    bool has_acted; /* made a call in this turn by which a descriptor may be ready */
+    bool has_acted; /* it made a call in this turn that may have made a descriptor ready */
 };
 extern __thread struct my my __attribute__((tls_model("initial-exec")));
 
-/* The rank of this program's threads, and of a server's that use sockets or only drive a bus. */
+/* The rank of threads: of programs, of bridges, and of a server's threads that use sockets or only drive a bus. */
 enum { RANK_PROGRAM, RANK_BRIDGE, RANK_SESSION, RANK_DRIVER };
 extern bool is_server, is_bridge;
 
-/* A random number for a thread: the same for each seed, test, birth and number of times. */
+/* A random number for a thread. It depends on the seed, the test, the thread's birth, `what` and `times`. */
 enum chance { CHANCE_ORDER, CHANCE_JITTER, CHANCE_BYTES, CHANCES };
 uint64_t draw(const struct slot *slot, enum chance what, uint64_t times);
 
-/* A test begins: what is random hangs on its name, and on who is there now by age, but on nothing before. */
+/* Begins a test: from now on random numbers depend on its name and on the ages of the present threads, but on nothing
+ * before. */
 void begin_test(const char *name);
 
-/* The slot of this thread, which gets one if need be. */
+/* The slot of this thread. A thread without one gets a slot. */
 struct slot *my_slot(void);
 
-/* Takes a free slot for a thread or process that is born. It has the lowest number, so it is the same in each run. */
+/* Takes a free slot for a new thread or process. It is the lowest free one, so it is the same in each run. */
 uint32_t take_slot(void);
 void free_slot(struct slot *slot);
 
-/* This thread begins with this slot, and waits for its first turn. */
+/* Begins this thread with this slot, and waits for its first turn. */
 void begin_slot(uint32_t index);
 
-/* Waits for a moment, and for what sets flags. Returns the flags. `deadline` may be NEVER. */
+/* Waits for a moment, or for an event that sets flags. Returns the flags. `deadline` may be NEVER. */
 uint32_t wait_turn(uint64_t deadline, uint64_t key, enum kind kind);
 
-/* Lets all others go on that can in this moment. */
+/* Lets all other threads go on that can at this moment. */
 void yield_turn(void);
 
-/* Waits for the turn, if it was taken from this thread. */
+/* Waits for the turn, if the turn was taken from this thread. */
 void regain_turn(void);
 bool has_turn(void);
 void await_turn(void);
 
-/* Ends this process where the coordinator is gone. */
+/* Ends this process if the coordinator is gone. */
 void check_coordinator(void);
 
-/* Lets those go on that wait for this key, the longest first. */
+/* Wakes at most so many threads that wait for this key, the longest wait first. */
 void wake(uint64_t key, int most);
 
-/* Lets all of a process's threads look again that wait for descriptors; 0: of all processes. */
+/* Makes all threads of a process that wait for descriptors look again; 0: of all processes. */
 void wake_descriptors(uint32_t pid);
 
-/* Turns, for a thread that pthread_cancel is to end anywhere, off and on that it does so now; NULL if none is. */
+/* Defers asynchronous cancellation of this thread, or allows it again. NULL if no thread of the process is cancelled
+ * asynchronously. */
 extern void (*hold_cancel)(bool is_held);
 
-/* A moment from now, and the moment at which a clock shows this. */
+/* The moment so many nanoseconds from now. */
 uint64_t after(uint64_t nanoseconds);
 
 /* The thread that has the turn, or NOBODY. */
 uint32_t turn_owner(void);
 
-/* Changes the turn from `turn`, as it was read, to that of another, or marks it by DECIDING; false if it is over. */
+/* Gives the turn to another slot, or marks it with DECIDING, if it still is `turn`; false if it has changed. */
 bool turn_change(uint64_t turn, uint32_t to);
 
-/* Begins to decide whose turn is next, for who has it; false if it was taken back. */
+/* Begins to choose the next turn, for the owner of the turn. False if the turn was taken back. */
 bool begin_deciding(void);
 
-/* Who can go on next: the number of its slot, or NOBODY and run->pause. Only for who decides. */
+/* Returns the slot that can go on next; or NOBODY, and run->pause has the reason. Only the thread that decides may call
+ * it. */
 uint32_t next_turn(bool ignores_outside);
 void hand_turn(uint32_t index);
 
 /* Wakes the thread whose turn it is now. */
 void wake_owner(uint32_t index);
 
-/* Has the coordinator look whose turn it is, if it is nobody's. */
+/* Makes the coordinator choose the next turn, if nobody has the turn. */
 void ring(void);
 
-/* Whether a process handled all signals that it was sent, or has ended; waits for it for a while. */
+/* Waits for a while until a process has handled all its signals, or has ended. */
 void settle(uint32_t pid);
 
-/* Keys of what is waited for in one process, and in any. */
+/* Keys of waits: for things of one process, and of any process. */
 uint64_t key_of(const volatile void *at, uint64_t salt);
 uint64_t key_of_file(uint64_t device, uint64_t inode, uint64_t offset);
 uint64_t key_of_number(uint64_t number);
 uint64_t key_of_children(uint32_t pid);
 uint64_t key_of_signals(uint32_t pid);
 
-/* Handles signals that came while this thread decided; NULL if no program has handlers. */
+/* Handles the signals that came while this thread decided. NULL if no program has handlers. */
 extern void (*handle_deferred)(void);
-/* Asks the coordinator for the epoll. Returns false if there is none. */
+/* Asks the coordinator for the epoll. Returns false if there is no coordinator. */
 bool register_process(void);
-/* Asks it to send the signals of an alarm of this process. */
+/* Asks the coordinator to send the signals of an alarm of this process. */
 bool register_alarm(const struct alarm *alarm);
 
 #endif

@@ -1,7 +1,7 @@
 /* CAN_BCM: the broadcast manager. */
 #include "probe.h"
 
-/* A message that is refused or not, of this many bytes in all. */
+/* A message of this length in all, which may be refused. */
 #define HEADS(name, length, ...) \
     CASE(name, a = bcm("can0"), DO(write(a, (&(struct task){{__VA_ARGS__}, {{.can_id = 0x123, .len = 1}}}), length)))
 HEADS(nothing, 0, 0)
@@ -80,7 +80,7 @@ CASE(all_rx_of_one, a = bcm(NULL), c = raw("vcan0"), b = raw("can1"),
      tell_to(a, at("can0"), &(struct task){.head = {.opcode = RX_SETUP, .flags = RX_FILTER_ID, .can_id = 0x123}}),
      PUT(c, 0x123), PUT(b, 0x123), until(a, POLLIN), from(a, 24))
 
-/* Frames that are sent. */
+/* Sent frames. */
 CASE(sends, a = bcm("can0"), b = raw("can1"), TELL(a, ONE(0x123, 1, 2, 3), .opcode = TX_SEND, .nframes = 1), take(b, 1))
 CASE(sends_fd, a = bcm("can0"), b = raw("can1"), with_fd(b), tell_fd(a, TX_SEND, FD(0x123, CANFD_BRS, 1, 2, 3)),
      take(b, 1))
@@ -149,7 +149,7 @@ CASE(cp_id_of_setup, a = bcm("can0"), b = raw("can1"),
           .count = 1, .ival1 = {0, 10000}, .nframes = 1),
      take(b, 1))
 
-/* Frames that are received: what is filtered, with this mask. */
+/* Received frames, filtered with this mask. */
 #define RECEIVES(name, flags_, frames, ...)                                                                           \
     CASE(name, a = bcm("can0"), b = raw("can1"),                                                                      \
          tell(a,                                                                                                      \

@@ -1,5 +1,5 @@
-/* CAN_J1939: names, and the addresses that they claim. a and c are sockets of J1939 on can0, b is raw on can1, where
- * other nodes are. A claim that nobody contests is good after 250 milliseconds. */
+/* CAN_J1939: names and the addresses that they claim. a and c are J1939 sockets on can0; b is a raw socket on can1, the
+ * place of other nodes. A claim becomes good after 250 milliseconds without a contest. */
 #include "j1939.h"
 
 #define LINE b = line()

@@ -1,7 +1,7 @@
-/* Which frames a CAN_RAW socket receives. */
+/* The frames that a CAN_RAW socket receives. */
 #include "probe.h"
 
-/* The socket has these filters, and one for the last frame of the set. */
+/* The socket has these filters, and a filter for the last frame of the set. */
 #define AND_LAST \
     { LAST, CAN_SFF_MASK | CAN_EFF_FLAG }
 #define PASSES(name, ...) \

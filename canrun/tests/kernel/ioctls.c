@@ -1,4 +1,4 @@
-/* ioctl and fcntl of a socket. */
+/* ioctl and fcntl on a socket. */
 #include "probe.h"
 
 #define ASKS(name, request, interface) CASE(name, a = raw("can0"), ask(a, request, interface))

@@ -113,7 +113,7 @@ CASE(several_forced_stmin, a = isotp(), set_options(a, CAN_ISOTP_FORCE_TXSTMIN),
      SETS(a, SOL_CAN_ISOTP, CAN_ISOTP_TX_STMIN, &(uint32_t){1000000}, 4), DO(bind(a, TO(ids(RX, TX)))), b = peer(),
      DO(write(a, "0123456789abcdefghijk", 21)), take(b, 1), SAYS(b, 0x30, 0, 0x7F), take(b, 3))
 
-/* What ends a message that is sent; then the next one. */
+/* Ends of a sent message; then the next message. */
 #define FAILS(name, flags, ...) \
     CASE(name, FIRST(flags), SAYS(b, __VA_ARGS__), until(a, POLLOUT), error_of(a), DO(write(a, "x", 1)), take(b, 1))
 FAILS(fails_overflow, 0, 0x32, 0, 0)
@@ -138,7 +138,7 @@ CASE(done_no_control, a = tp(RX, TX, DONE), DO(write(a, "0123456789", 10)), erro
 CASE(done_dontwait, a = tp(RX, TX, DONE), b = peer(), DO(send(a, "0123456789", 10, MSG_DONTWAIT)), take(b, 1),
      SAYS(b, 0x30, 0, 0), take(b, 1))
 
-/* What is received. */
+/* Received messages. */
 #define GETS(name, flags, ...) \
     CASE(name, a = tp(RX, TX, flags), b = peer(), SAYS(b, __VA_ARGS__), SAYS(b, 1, 0x77), message_to_77(a))
 GETS(get_1, 0, 1, 2)

@@ -1,4 +1,4 @@
-/* CAN_J1939: addresses, options, and messages of one frame. a and c are sockets of J1939, b is raw on can1. */
+/* CAN_J1939: addresses, options, and messages of one frame. a and c are J1939 sockets; b is a raw socket on can1. */
 #include "j1939.h"
 
 CASE(as_raw, OPEN(socket(PF_CAN, SOCK_RAW, CAN_J1939)))

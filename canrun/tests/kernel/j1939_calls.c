@@ -1,4 +1,4 @@
-/* The calls that the cases of CAN_J1939 make, and how they say what these return. */
+/* The calls that the cases of CAN_J1939 make, and the printing of their results. */
 #include "j1939.h"
 
 #include <linux/errqueue.h>
@@ -143,7 +143,7 @@ static void say_controls(struct msghdr *message) {
     }
 }
 
-/* The first bytes, and whether the others go on as they were sent. */
+/* Prints the first bytes, and whether the others are as sent. */
 static void say_data(const unsigned char *data, size_t length) {
     bool is_text = length > 16;
     say(":");

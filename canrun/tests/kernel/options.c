@@ -1,7 +1,7 @@
-/* Options of sockets, set and read. */
+/* Options of sockets: set and read. */
 #include "probe.h"
 
-/* Options of CAN_RAW: usual value, set to 1, to 2, with other lengths. */
+/* Options of CAN_RAW: the default, set to 1, set to 2, and with other lengths. */
 #define FLAG(name, option)                                                                                            \
     CASE(name, a = raw("can0"), get(a, SOL_CAN_RAW, option, 4), DO(set(a, SOL_CAN_RAW, option, 1)),                   \
          get(a, SOL_CAN_RAW, option, 4), DO(set(a, SOL_CAN_RAW, option, 2)), get(a, SOL_CAN_RAW, option, 4))          \
@@ -17,7 +17,7 @@ FLAG(option_0, 0)
 FLAG(option_8, 8)
 FLAG(option_99, 99)
 
-/* Levels that are others. */
+/* Other levels. */
 #define LEVEL(name, made, level, option) CASE(name, a = made, DO(set(a, level, option, 1)), get(a, level, option, 4))
 LEVEL(raw_by_base, raw("can0"), SOL_CAN_BASE, 1)
 LEVEL(raw_by_bcm, raw("can0"), SOL_CAN_BASE + CAN_BCM, 1)
@@ -29,7 +29,7 @@ LEVEL(bcm_by_raw, bcm("can0"), SOL_CAN_RAW, CAN_RAW_LOOPBACK)
 LEVEL(isotp_by_raw, isotp(), SOL_CAN_RAW, CAN_RAW_LOOPBACK)
 LEVEL(isotp_by_tcp, isotp(), 6, 1)
 
-/* Options of SOL_SOCKET: as they are, after they were set to 1, and for BCM and ISO-TP. */
+/* Options of SOL_SOCKET: the default, after they were set to 1, and for BCM and ISO-TP. */
 #define READ(option) CASE(get_##option, a = raw("can0"), get(a, SOL_SOCKET, option, 4))
 #define BOTH(option)                                                   \
     CASE(get_##option, a = raw("can0"), get(a, SOL_SOCKET, option, 4)) \
@@ -105,7 +105,7 @@ CASE(receive_timeout_odd, a = raw("can0"),
      SETS(a, SOL_SOCKET, SO_RCVTIMEO, (&(struct timeval){-1, 0}), sizeof(struct timeval)),
      SETS(a, SOL_SOCKET, SO_RCVTIMEO, &(int){1}, 4))
 
-/* What recvmsg returns besides the frame. */
+/* The control messages of recvmsg. */
 #define CONTROLS(name, option, value)                                                                  \
     CASE(name, a = raw("can1"), b = raw("can0"), DO(set(a, SOL_SOCKET, option, value)), PUT(b, 0x123), \
          until(a, POLLIN), controls(a, 200))

@@ -1,4 +1,4 @@
-/* Pointers to memory that may not be used. */
+/* Pointers to memory that is not accessible. */
 #include "probe.h"
 
 #define NOWHERE(name, ...) CASE(name, a = raw("can0"), DO(__VA_ARGS__))
@@ -47,7 +47,7 @@ NOWHERE(epoll_event, epoll_ctl(epoll_create1(0), EPOLL_CTL_ADD, a, (struct epoll
 NOWHERE(poll_list, poll((struct pollfd *)nowhere, 1, 0))
 NOWHERE(accept_address, accept(a, (struct sockaddr *)nowhere, (socklen_t *)nowhere))
 
-/* Reads: of two frames the first is not copied; what is read after that. */
+/* Reads of two frames: the first cannot be copied; a later read shows which frame is next. */
 #define INTO(name, ...)                                                                                           \
     CASE(name, a = raw("can1"), b = raw("can0"), PUT(b, 0x123), PUT(b, 0x124), until(a, POLLIN), DO(__VA_ARGS__), \
          take_to(a, 0x124))

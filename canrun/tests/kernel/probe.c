@@ -1,18 +1,18 @@
-/* Runs all cases, or those of the files that are named, as `probe raw`, or only some, as `probe raw:write_0 raw:order`,
- * and prints a line for each: its name, and what its calls returned. `probe --list` prints the names. */
+/* Runs all cases, the cases of some files (`probe raw`), or single cases (`probe raw:write_0 raw:order`). Prints a line
+ * for each case: its name, and the results of its calls. `probe --list` prints the names. */
 #include "probe.h"
 #include <stdarg.h>
 
-/* Bytes of a line, seconds of a case. */
+/* The length of a line in bytes, and the limit of a case in seconds. */
 enum { LINE = 8000, LONGEST = 20 };
 
-/* The names by which the linker has the ends of a section. */
+/* The linker's names for the start and the end of the section. */
 extern const struct probe __start_probes[], __stop_probes[];
 
-/* The line of the case, which its process shares with this one. */
+/* The line of the case; the case's process shares this memory. */
 static char *line;
-/* Sockets of this process: what it writes to the first, on each bus, comes to the second after all that cases have
- * sent. */
+/* For each bus a socket that writes and a socket that reads a barrier frame. The reader gets this frame after all
+ * frames of the cases. */
 static int writers[2], readers[2];
 #define BARRIER 0x7FE
 
@@ -45,7 +45,7 @@ static void set_barriers(void) {
     }
 }
 
-/* The longest is far below the second in which ISO-TP waits for a frame. */
+/* Even the longest is far below the second that ISO-TP waits for a frame. */
 enum { SHORTEST_QUIET = 50, LONGEST_QUIET = 200 };
 int quiet = SHORTEST_QUIET;
 
@@ -55,7 +55,7 @@ static long milliseconds(void) {
     return now.tv_sec * 1000 + now.tv_nsec / 1000000;
 }
 
-/* Returns once nothing of a case is on its way. How long that takes says how slow the machine is. */
+/* Waits until no frame of a case is on its way. The time that this takes shows how slow the machine is. */
 static void settle(void) {
     long begun = milliseconds();
     for (int i = 0; i < 2; i++) {
@@ -70,7 +70,7 @@ static void settle(void) {
     quiet = (int)(slow < SHORTEST_QUIET ? SHORTEST_QUIET : slow > LONGEST_QUIET ? LONGEST_QUIET : slow);
 }
 
-/* The case in its process, whose sockets are closed one by one, as those of a program that is done with them. */
+/* Runs the case in its process. Its sockets are closed one after the other, as by a program at its end. */
 static void alone(const struct probe *probe) {
     timer_t timer;
     struct sigevent event = {.sigev_notify = SIGEV_SIGNAL, .sigev_signo = SIGKILL};
@@ -99,7 +99,7 @@ static void run(const struct probe *probe, const char *topic) {
     fflush(stdout);
 }
 
-/* The file of a case, without its folder and ending. */
+/* The name of the case's file, without folder and extension. */
 static const char *topic_of(const struct probe *probe) {
     static char topic[32];
     const char *slash = strrchr(probe->file, '/');
@@ -108,7 +108,7 @@ static const char *topic_of(const struct probe *probe) {
     return topic;
 }
 
-/* Whether a word names this topic, or this case of it. */
+/* Whether a word names this topic, or this case of the topic. */
 static bool is_named(const char *word, const char *topic, const char *name) {
     size_t length = strlen(topic);
     return !strncmp(word, topic, length) &&

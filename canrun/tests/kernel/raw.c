@@ -1,14 +1,14 @@
-/* CAN_RAW: what is written and what is read. */
+/* CAN_RAW: writes and reads. */
 #include "probe.h"
 
-/* A frame of 3 bytes, and more room than one has; -1 that the compiler does not see. */
+/* A frame of 3 bytes in a larger buffer; and a -1 that the compiler does not see. */
 static const union {
     struct canfd_frame frame;
     char room[100];
 } wide = {{.can_id = 0x123, .len = 3, .data = {1, 2, 3}}};
 static volatile int minus_1 = -1;
 
-/* Writes of this length, first to a socket without FD frames, then to one with them. */
+/* Writes of this length: to a socket without FD frames, and to one with them. */
 #define WRITES(name, length)                                                                          \
     CASE(name, a = raw("can0"), b = raw("can1"), with_fd(b), DO(write(a, &wide, length)), with_fd(a), \
          DO(write(a, &wide, length)), take(b, (length) == 16 || (length) == 72 ? 1 : 0))
@@ -21,7 +21,7 @@ WRITES(write_71, 71)
 WRITES(write_72, 72)
 WRITES(write_73, 73)
 
-/* What is in a frame. */
+/* The contents of a frame. */
 #define CARRIES(name, ...) \
     CASE(name, a = raw("can0"), b = raw("can1"), DO(write(a, &(struct can_frame){__VA_ARGS__}, 16)), look(b))
 CARRIES(frame_plain, .can_id = 0x123, .len = 2, .data = {1, 2})
@@ -80,7 +80,7 @@ SENDS(send_dontroute, MSG_DONTROUTE)
 CASE(send_oob, a = raw("can0"), DO(send(a, FRAME(0x123, 1), 16, MSG_OOB)))
 CASE(send_errqueue, a = raw("can0"), DO(send(a, FRAME(0x123, 1), 16, MSG_ERRQUEUE)))
 
-/* Addresses of sendto, of a socket that is bound to can0. */
+/* Addresses of sendto on a socket that is bound to can0. */
 #define SENDS_TO(name, address, length)                                                                    \
     CASE(name, a = raw("can0"), b = raw("can1"), c = raw("can0"),                                          \
          DO(sendto(a, FRAME(0x123, 1), 16, 0, (const struct sockaddr *)(address), length)), PUT(c, 0x7F0), \
@@ -117,7 +117,7 @@ CASE(pieces_minus_1, a = raw("can0"), DO(writev(a, NULL, minus_1)))
 CASE(several, a = raw("can0"), b = raw("can1"), several_of(a, 3), take(b, 3))
 CASE(several_0, a = raw("can0"), several_of(a, 0))
 
-/* What a read returns. */
+/* Results of reads. */
 #define RECEIVES(name, length, flags)                                                                 \
     CASE(name, a = raw("can1"), b = raw("can0"), put(b, FRAME(0x123, 1, 2)), put(b, FRAME(0x124, 3)), \
          until(a, POLLIN), DO(recv(a, (char[100]){0}, length, flags)), take_to(a, 0x124))
@@ -160,7 +160,7 @@ CASE(from_all, a = raw(NULL), b = raw("vcan0"), PUT(b, 0x123), until(a, POLLIN),
 CASE(from_own, a = raw("can0"), set(a, SOL_CAN_RAW, CAN_RAW_RECV_OWN_MSGS, 1), PUT(a, 0x123), until(a, POLLIN),
      from(a, 24))
 
-/* Who receives what is sent. */
+/* The receivers of a sent frame. */
 CASE(other_end, a = raw("can0"), b = raw("can1"), PUT(a, 0x123), take(b, 1))
 CASE(neighbour, a = raw("can0"), b = raw("can0"), PUT(a, 0x123), take(b, 1), take(a, 0))
 CASE(own, a = raw("can0"), DO(set(a, SOL_CAN_RAW, CAN_RAW_RECV_OWN_MSGS, 1)), PUT(a, 0x123), take(a, 1))

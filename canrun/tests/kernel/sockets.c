@@ -29,7 +29,7 @@ TYPE(protocol_minus_1, SOCK_RAW, -1)
 CASE(socketpair_raw, DO(socketpair(PF_CAN, SOCK_RAW, CAN_RAW, (int[2]){0})))
 CASE(socketpair_bcm, DO(socketpair(PF_CAN, SOCK_DGRAM, CAN_BCM, (int[2]){0})))
 
-/* bind, of CAN_RAW. */
+/* bind of CAN_RAW. */
 #define BIND(name, address, length) \
     CASE(name, a = socket(PF_CAN, SOCK_RAW, CAN_RAW), DO(bind(a, address, length)), name_of(a))
 BIND(bind_7, (struct sockaddr *)at("can0"), 7)

@@ -1,5 +1,5 @@
-/* CAN_J1939: messages of several frames. a and c are sockets of J1939 on can0, at the addresses OWN and OTHER, b is raw
- * on can1: it says what the node OTHER would. */
+/* CAN_J1939: messages of several frames. a and c are J1939 sockets on can0, at the addresses OWN and OTHER. b is a raw
+ * socket on can1, and sends the frames of the node OTHER. */
 #include "j1939.h"
 
 #define SENDER a = node(OWN), b = line()
@@ -67,7 +67,7 @@ CASE(bam_own_interface, TO_ALL, c = broadcast(node(OTHER)), send_to(a, ALL, GROU
      receive_none(a))
 CASE(bam_short_data, TO_ALL, BAM(10, 2), HEARS(b, 0x18EBFF90, 1, 2), BAM_DATA(1), BAM_DATA(2), receive_none(a))
 
-/* A transfer that is not over when the last socket is closed would end in the next case. */
+/* A transfer that is still active when the last socket is closed would disturb the next case. */
 #define ENDS ABORTS(3), EXTENDED_CONTROLS(b, 0xFF, 3, 0xFF, 0xFF, 0xFF, 0, 0x23, 1), pass(20)
 #define REQUESTS(length, total, most) CONTROLS(b, 0x10, length, 0, total, most, 0, 0x23, 1)
 CASE(get_whole, SENDER, REQUESTS(10, 2, 2), take(b, 1), packets(b, 1, 2), take(b, 1), receive(a))
@@ -154,7 +154,7 @@ CASE(both_in_pieces, BOTH,
                 0)),
      receive(c))
 
-/* Room: SO_SNDBUF counts what waits. */
+/* SO_SNDBUF counts the waiting segments. */
 static void flood_segments(int fd, int number, int flags) {
     int done = 0;
     while (done < number && sendto(fd, "12345678", 8, flags, WAY("can0", 0, GROUP, OTHER)) == 8) {

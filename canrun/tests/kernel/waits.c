@@ -1,8 +1,8 @@
-/* What is received, what a socket is ready for, and signals. */
+/* Received frames, events of a socket, and signals. */
 #include "probe.h"
 #include <sys/stat.h>
 
-/* Milliseconds in which what has to come comes, and the most of what follows. */
+/* The limit in milliseconds for frames that must come, and the most frames that are read. */
 enum { PATIENCE = 5000, MOST = 40 };
 
 static bool comes(int fd, short wanted, int milliseconds) {
@@ -15,7 +15,7 @@ static void bytes(const unsigned char *first, size_t length) {
     }
 }
 
-/* As candump has it; of an FD frame its flags, a point, and its bytes. */
+/* Prints a frame like candump. An FD frame is printed as its flags, a dot, and its bytes. */
 static void show_frame(const struct canfd_frame *frame, ssize_t length) {
     const struct can_frame *classic = (const struct can_frame *)frame;
     say(frame->can_id & (CAN_EFF_FLAG | CAN_ERR_FLAG) ? "%08X" : "%03X",
@@ -30,7 +30,8 @@ static void show_frame(const struct canfd_frame *frame, ssize_t length) {
     bytes(frame->data, frame->len > 64 ? 64 : frame->len);
 }
 
-/* A frame with what recvmsg says of it: d: MSG_DONTROUTE, c: MSG_CONFIRM. Returns its identifier. */
+/* Reads a frame and prints it with its flags: d for MSG_DONTROUTE, c for MSG_CONFIRM. Returns the frame's
+ * identifier. */
 static canid_t take_one(int fd) {
     struct canfd_frame frame = {0};
     struct msghdr header = {.msg_iov = &(struct iovec){&frame, sizeof frame}, .msg_iovlen = 1};
@@ -58,7 +59,7 @@ void take(int fd, int expected) {
     }
 }
 
-/* Calls until it returns this, or nothing comes. */
+/* Repeats the call until it returns `last`, or nothing comes. */
 static void each_to(int fd, canid_t (*one)(int), canid_t last) {
     for (int number = 0; number < MOST; number++) {
         if (!comes(fd, POLLIN, PATIENCE)) {
@@ -92,7 +93,7 @@ void look(int fd) {
     bytes(got, used);
 }
 
-/* Returns the byte of a message of one. */
+/* Returns the byte of a message with one byte. */
 static canid_t message_one(int fd) {
     static unsigned char room[9000];
     errno = 0;

@@ -1,4 +1,4 @@
-/* Messages of NETLINK_ROUTE: questions, their answers, and how these are read. */
+/* Messages of NETLINK_ROUTE: questions, answers, and reads of the answers. */
 #include "links.h"
 
 #define GET(flags) get_link(flags)
@@ -92,7 +92,7 @@ CASE(dump_of_bridges, a = route(0),
            }),
            "can2"))
 
-/* Two messages at once. */
+/* Sends two messages in one datagram. */
 static void two(int fd, struct asked *one, struct asked *other) {
     struct iovec parts[] = {{one, NLMSG_ALIGN(one->head.nlmsg_len)}, {other, other->head.nlmsg_len}};
     say(" %d", (int)writev(fd, parts, 2) == (int)(parts[0].iov_len + parts[1].iov_len));

@@ -1,4 +1,4 @@
-/* A socket on all interfaces: from which one a frame comes, and on which one it is sent. */
+/* A socket on all interfaces: the interface that a frame comes from, and the interface that a frame is sent on. */
 #include "check.h"
 
 /* The interface of the other bus. */
@@ -16,7 +16,7 @@ int main(void) {
     length = sizeof from;
     CHECK(recvfrom(any, &frame, sizeof frame, 0, (struct sockaddr *)&from, &length) == 16 && number_of(&frame) == 1);
     CHECK(from.can_ifindex == to.can_ifindex);
-    /* By loopback at can0, and as a frame of the bus at can1. */
+    /* The frame comes by loopback at can0, and from the bus at can1. */
     send_numbered(can0, 0x123, 2);
     bool has_can0 = false, has_can1 = false;
     for (int i = 0; i < 2; i++) {
@@ -33,7 +33,7 @@ int main(void) {
     CHECK(sendto(any, &frame, sizeof frame, 0, (struct sockaddr *)&to, sizeof to) == 16);
     get(car0, 0x124, 3);
     CHECK(!comes(can0, QUIET));
-    /* A socket that is bound to one interface can send on another, and does not receive there. */
+    /* A socket that is bound to one interface can send on another, but does not receive there. */
     frame = frame_of(0x125, 4);
     CHECK(sendto(can0, &frame, sizeof frame, 0, (struct sockaddr *)&to, sizeof to) == 16);
     get(car0, 0x125, 4);

@@ -1,11 +1,12 @@
-/* A socket bound to all interfaces has the frames in their order, from the first on: a gateway's answer comes after its
- * cause, and each moment is not before the last. Two buses, each with another interface that is listened to. */
+/* A socket on all interfaces receives the frames in their order, from the first on: a gateway's answer comes after its
+ * cause, and no timestamp is before the last. There are two buses, and on each a second interface on which the program
+ * listens. */
 #include "check.h"
 #include <pthread.h>
 
 #define FRAMES 300
 
-/* Sends each frame that it gets by can1 on by car0. */
+/* Sends each frame received at can1 on to car0. */
 static void *gateway(void *ready) {
     int in = bound("can1"), out = bound("car0");
     CHECK(write(*(int *)ready, "x", 1) == 1);
@@ -51,7 +52,7 @@ int main(void) {
     for (unsigned i = 0; i < FRAMES; i++) {
         send_patiently(writer, 0x100, i);
     }
-    /* A frame comes by each interface of its bus: can0 and can1, car0 and car1. */
+    /* A frame comes once from each interface of its bus: can0 and can1, or car0 and car1. */
     for (; count < 4 * FRAMES; count++) {
         struct can_frame frame = take(all, &moment);
         CHECK(moment >= last);

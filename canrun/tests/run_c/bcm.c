@@ -1,5 +1,5 @@
-/* The broadcast manager, by Documentation/networking/can.rst and linux/can/bcm.h: frames sent again and again, content
- * filters, timeouts, the throttle, replies to remote frames, and each errno. */
+/* The broadcast manager, as in Documentation/networking/can.rst and linux/can/bcm.h: cyclic frames, content filters,
+ * timeouts, the throttle, replies to remote frames, and each errno. */
 #include "check.h"
 
 struct message {
@@ -57,7 +57,7 @@ static void faults(void) {
     FAILS(setsockopt(loose, SOL_CAN_BASE + CAN_BCM, 1, &(int){1}, sizeof(int)), EOPNOTSUPP);
     CHECK(connect(loose, (struct sockaddr *)&(struct sockaddr_can){.can_family = AF_CAN},
                   sizeof(struct sockaddr_can)) == 0);
-    FAILS(write(loose, &one, size_of(1)), ENODEV); /* On all interfaces nothing can be sent. */
+    FAILS(write(loose, &one, size_of(1)), ENODEV); /* A socket on all interfaces cannot send. */
     CHECK(close(loose) == 0);
     FAILS(write(manager, &one, 10), EINVAL);
     FAILS(write(manager, &one, size_of(1) - 1), EINVAL);
@@ -83,8 +83,8 @@ static void cyclic(void) {
         get(raw, 0x101, 1);
         get(raw, 0x102, 2);
     }
-    CHECK(now() - start >= 9 * 20 - 5); /* The first goes at once, then one each 20 ms. */
-    /* Other contents: the timer goes on. */
+    CHECK(now() - start >= 9 * 20 - 5); /* The first frame is sent at once, then one every 20 ms. */
+    /* The contents change, and the timer continues. */
     struct message changed = {.head = {.opcode = TX_SETUP, .can_id = 77, .nframes = 2},
                               .frames = {frame_of(0x101, 3), frame_of(0x102, 4)}};
     CHECK(give(changed) == (ssize_t)size_of(2));
@@ -104,7 +104,7 @@ static void cyclic(void) {
     FAILS(give((struct message){.head = {.opcode = TX_READ, .can_id = 77}}), EINVAL);
 }
 
-/* Three at once, 10 ms apart; then no more, and the program hears of it. */
+/* Three frames, 10 ms apart; then they stop, and the program gets a message. */
 static void counted(void) {
     struct message task = {.head = {.opcode = TX_SETUP,
                                     .flags = SETTIMER | STARTTIMER | TX_COUNTEVT | TX_CP_CAN_ID,
@@ -130,8 +130,8 @@ static void filtered(void) {
     CHECK(give((struct message){.head = {.opcode = RX_SETUP, .can_id = 0x201, .nframes = 1}, .frames = {mask}}) > 0);
     send_numbered(raw, 0x200, 1);
     send_numbered(raw, 0x200, 1);
-    send_numbered(raw, 0x201, 0x101); /* The first is new. */
-    send_numbered(raw, 0x201, 0x201); /* It differs where the mask has no bits. */
+    send_numbered(raw, 0x201, 0x101); /* The first frame is new. */
+    send_numbered(raw, 0x201, 0x201); /* The frame differs only in bits outside the mask. */
     send_numbered(raw, 0x201, 0x202);
     send_numbered(raw, 0x202, 9);
     struct message message;
@@ -159,11 +159,11 @@ static void limits(void) {
     send_numbered(raw, 0x210, 1);
     expect(RX_CHANGED, 0x210, 1);
     expect(RX_TIMEOUT, 0x210, 0);
-    send_numbered(raw, 0x210, 1); /* It has not changed, but comes back. */
+    send_numbered(raw, 0x210, 1); /* The frame has not changed, but comes after a timeout. */
     expect(RX_CHANGED, 0x210, 1);
     CHECK(give((struct message){.head = {.opcode = RX_DELETE, .can_id = 0x210}}) > 0);
     while (comes(manager, 0)) {
-        expect(RX_TIMEOUT, 0x210, 0); /* On a slow machine it was absent once more. */
+        expect(RX_TIMEOUT, 0x210, 0); /* On a slow machine there was a second timeout. */
     }
     /* At most one message in two seconds. */
     double start = now();
@@ -186,7 +186,7 @@ static void remote(void) {
     get(raw, 0x220, 42);
 }
 
-/* A socket on all interfaces names one by sendto, and recvfrom says where a frame came from. */
+/* A socket on all interfaces names the interface in sendto, and recvfrom returns the interface of a frame. */
 static void all_interfaces(void) {
     int all = opened(NULL);
     struct sockaddr_can to = address_of("can0"), from;

@@ -1,5 +1,5 @@
-/* A node whose frames are destroyed 32 times, as examples/bus_off_attack.script has it: the error message frames of
- * linux/can/error.h, ENETDOWN, and after an automatic restart all is well. */
+/* A node whose frames are destroyed 32 times, as in examples/bus_off_attack.script: the error message frames of
+ * linux/can/error.h, ENETDOWN, and normal service after an automatic restart. */
 #include "check.h"
 
 static void error_comes(int fd, canid_t class, unsigned char controller) {

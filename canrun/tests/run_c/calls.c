@@ -1,4 +1,4 @@
-/* Each way to read and write a frame, and what flags and short buffers do. */
+/* Each way to read and write a frame, with flags and short buffers. */
 #include "check.h"
 
 static int can0, can1;
@@ -95,7 +95,7 @@ static void nonblocking(void) {
     FAILS(write(other, &frame, sizeof frame), EBADF);
 }
 
-/* Identifiers, lengths and data arrive as they are. */
+/* Identifiers, lengths and data arrive unchanged. */
 static void contents(void) {
     static const canid_t ids[] = {0, 0x7FF, CAN_EFF_FLAG, CAN_EFF_FLAG | 0x7FF, CAN_EFF_FLAG | CAN_EFF_MASK};
     for (size_t i = 0; i < sizeof ids / sizeof *ids; i++) {

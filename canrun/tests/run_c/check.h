@@ -1,5 +1,5 @@
-/* What the C programs of test_run_c.py share: they are programs with CAN sockets as any other, and know nothing of
- * canbusd. A check that fails ends the program with status 1, and says where. */
+/* The common part of the C programs of test_run_c.py. They are ordinary programs with CAN sockets, and know nothing of
+ * canbusd. A failed check prints its place and ends the program with status 1. */
 #ifndef CHECK_H
 #define CHECK_H
 
@@ -36,7 +36,7 @@
         }                                                                                                \
     } while (0)
 
-/* The call fails, with this errno. */
+/* Checks that the call fails with this errno. */
 #define FAILS(call, error)                                                                                         \
     do {                                                                                                           \
         errno = 0;                                                                                                 \
@@ -48,9 +48,9 @@
         }                                                                                                          \
     } while (0)
 
-/* Milliseconds in which what has to come comes, on any machine. */
+/* How many milliseconds a frame may take, on any machine. */
 #define PATIENCE 20000
-/* Milliseconds in which nothing comes that should not. */
+/* How many milliseconds to wait for unwanted frames. */
 #define QUIET 100
 
 static inline struct sockaddr_can address_of(const char *name) {
@@ -88,7 +88,7 @@ static inline void send_numbered(int fd, canid_t id, unsigned number) {
     CHECK(write(fd, &frame, sizeof frame) == sizeof frame);
 }
 
-/* The same, again and again while the transmit queue is full. */
+/* The same, repeated while the transmit queue is full. */
 static inline void send_patiently(int fd, canid_t id, unsigned number) {
     struct can_frame frame = frame_of(id, number);
     while (write(fd, &frame, sizeof frame) != sizeof frame) {
@@ -109,7 +109,7 @@ static inline struct can_frame got(int fd) {
     return frame;
 }
 
-/* The next frame is this one. */
+/* Checks that the next frame is this one. */
 static inline void get(int fd, canid_t id, unsigned number) {
     struct can_frame frame = got(fd);
     if (frame.can_id != id || frame.can_dlc != 4 || number_of(&frame) != number) {

@@ -1,6 +1,6 @@
-/* A thread that SIGTERM does not reach holds a lock while it waits for room that never comes, as a machine of QEMU does
- * with --wait: its write fails after a second, those after it at once, and the handler of another thread has the
- * program end. Built with -pthread. */
+/* A thread that blocks SIGTERM holds a lock while it waits for room that never comes, like QEMU's CPU threads with
+ * --wait. Its first write fails after a second, and the later ones at once. The signal handler of another thread ends
+ * the program. Built with -pthread. */
 #include "check.h"
 #include <pthread.h>
 

@@ -1,4 +1,4 @@
-/* Interfaces as devices: getifaddrs, and sockets bound to a device, which CAN sockets do not mind. */
+/* Interfaces as devices: getifaddrs, and CAN sockets that are bound to a device, which they ignore. */
 #include "check.h"
 #include <ifaddrs.h>
 

@@ -1,11 +1,11 @@
-/* What the kernel does at the edges of its calls: types, flags, addresses and pointers that are none, and what its
- * broadcast manager shows. */
+/* The kernel's behaviour in unusual calls: invalid types, flags, addresses and pointers, and messages of the broadcast
+ * manager. */
 #include "check.h"
 #include <linux/can/isotp.h>
 #include <linux/sockios.h>
 #include <sys/mman.h>
 
-/* Memory that nobody may use; and the address 0, so that the compiler does not see it. */
+/* Memory that is not accessible; and the address 0, hidden from the compiler. */
 static char *nowhere, *volatile null;
 
 static void types(void) {
@@ -91,7 +91,7 @@ static void pointers_of_reads(int fd, int writer) {
     FAILS(recv(fd, null, sizeof frame, 0), EFAULT);
     FAILS(recvmsg(fd, (struct msghdr *)nowhere, 0), EFAULT);
     FAILS(readv(fd, (struct iovec *)nowhere, 1), EFAULT);
-    /* What could not be copied is lost. */
+    /* Data that could not be copied are lost. */
     get(fd, 0x123, 2);
     FAILS(recvfrom(fd, &frame, sizeof frame, 0, (struct sockaddr *)nowhere, &length), EFAULT);
     FAILS(getsockname(fd, (struct sockaddr *)nowhere, &length), EFAULT);
@@ -111,7 +111,7 @@ static void pointers(void) {
     CHECK(close(fd) == 0 && close(writer) == 0);
 }
 
-/* What is looked at first, where several arguments are wrong, or there is nothing to do. */
+/* Which argument is checked first if several are wrong, or there is nothing to do. */
 static void order_of_arguments(void) {
     int fd = bound("can1"), writer = bound("can0"), one = 1;
     struct can_frame frame;
@@ -134,13 +134,13 @@ static void order_of_arguments(void) {
     FAILS(setsockopt(fd, SOL_SOCKET, SO_PEEK_OFF, &one, sizeof one), EOPNOTSUPP);
     FAILS(ioctl(fd, SIOCATMARK, &one), ENOTTY);
     one = 1;
-    CHECK(setsockopt(fd, SOL_CAN_RAW, 7, &one, sizeof one) == 0); /* CAN_RAW_XL_FRAMES: FD frames too. */
+    CHECK(setsockopt(fd, SOL_CAN_RAW, 7, &one, sizeof one) == 0); /* CAN_RAW_XL_FRAMES also turns FD frames on. */
     one = 0;
     CHECK(getsockopt(fd, SOL_CAN_RAW, CAN_RAW_FD_FRAMES, &one, &length) == 0 && one == 1);
     CHECK(close(fd) == 0 && close(writer) == 0);
 }
 
-/* A filter for 11 bits looks at no others (can_rcv_list_find of net/can/af_can.c). */
+/* A filter for 11-bit identifiers ignores the other bits (can_rcv_list_find of net/can/af_can.c). */
 static void filters(void) {
     int fd = bound("can1"), writer = bound("can0");
     struct can_filter filter = {0x12345123, 0xDFFFFFFF};
@@ -157,7 +157,7 @@ static void filters(void) {
     CHECK(close(fd) == 0 && close(writer) == 0);
 }
 
-/* Error message frames that are written pass. */
+/* Written error message frames are accepted. */
 static void errors(void) {
     int fd = bound("can0"), reader = bound("can1");
     struct can_frame frame = {.can_id = CAN_ERR_FLAG | CAN_ERR_BUSERROR, .can_dlc = CAN_ERR_DLC};
@@ -167,7 +167,7 @@ static void errors(void) {
     CHECK(close(fd) == 0 && close(reader) == 0);
 }
 
-struct head { /* As struct bcm_msg_head, which ends in its frames. */
+struct head { /* Like struct bcm_msg_head, but without the frames at its end. */
     uint32_t opcode, flags, count;
     struct bcm_timeval ival1, ival2;
     canid_t can_id;
@@ -209,13 +209,13 @@ static void times(void) {
     CHECK(write(fd, &(struct head){.opcode = RX_READ, .can_id = 0x123}, sizeof sent.head) == sizeof sent.head);
     CHECK(comes(fd, PATIENCE) && read(fd, &shown, sizeof shown) == ONE);
     CHECK(shown.head.opcode == RX_STATUS && shown.head.count == 0);
-    /* RX_FILTER_ID needs no frame, whatever nframes says. */
+    /* RX_FILTER_ID needs no frame, whichever value nframes has. */
     sent.head = (struct head){RX_SETUP, RX_FILTER_ID, 0, {0, 0}, {0, 0}, 0x124, 1};
     CHECK(write(fd, &sent, sizeof sent.head) == sizeof sent.head);
     CHECK(close(fd) == 0);
 }
 
-/* What is compared are 8 bytes, however short a frame is. */
+/* The manager compares 8 bytes, even of shorter frames. */
 static void lengths(void) {
     int fd = manager(), writer = bound("can1");
     struct manager got, sent = {{RX_SETUP, 0, 0, {0, 0}, {0, 0}, 0x321, 1}, {{.can_id = 0x321}}};
@@ -233,7 +233,7 @@ static void lengths(void) {
     CHECK(close(fd) == 0 && close(writer) == 0);
 }
 
-/* Each remote frame has a reply. */
+/* Each remote frame is answered. */
 static void replies(void) {
     int fd = manager(), writer = bound("can1");
     struct manager sent = {{RX_SETUP, RX_RTR_FRAME, 0, {0, 0}, {0, 0}, 0x222 | CAN_RTR_FLAG, 1},

@@ -1,4 +1,4 @@
-/* poll, select and epoll, level and edge triggered, see a frame where there is one, and none where there is none. */
+/* poll, select and epoll, level-triggered and edge-triggered, report a frame exactly when there is one. */
 #include "check.h"
 #include <sys/epoll.h>
 #include <sys/select.h>
@@ -34,7 +34,7 @@ int main(void) {
     }
     CHECK(waited(level, 0) == 0 && selected(reader, 0) == 0 && !comes(reader, 0));
     send_numbered(writer, 0x123, 3);
-    CHECK(waited(edge, PATIENCE) == 1 && waited(edge, QUIET) == 0); /* Edge: once. */
+    CHECK(waited(edge, PATIENCE) == 1 && waited(edge, QUIET) == 0); /* Edge-triggered: only once. */
     get(reader, 0x123, 3);
     return 0;
 }

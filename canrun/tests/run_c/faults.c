@@ -1,4 +1,4 @@
-/* Each errno, as net/can/af_can.c and raw.c of the kernel have it. */
+/* Each errno of net/can/af_can.c and raw.c of the kernel. */
 #include "check.h"
 #include <linux/sockios.h>
 
@@ -55,7 +55,7 @@ static void writes(int fd) {
     FAILS(sendto(fd, &frame, sizeof frame, 0, (struct sockaddr *)&odd, sizeof odd), EINVAL);
     FAILS(sendto(fd, &frame, sizeof frame, 0, (struct sockaddr *)&other, 7), EINVAL);
     int reader = bound("can0");
-    CHECK(sendto(fd, &frame, sizeof frame, 0, (struct sockaddr *)&other, sizeof other) == 16); /* Needs no bind. */
+    CHECK(sendto(fd, &frame, sizeof frame, 0, (struct sockaddr *)&other, sizeof other) == 16); /* This needs no bind. */
     get(reader, 0x123, 1);
     struct sockaddr_can address = address_of("can0");
     CHECK(bind(fd, (struct sockaddr *)&address, sizeof address) == 0);
@@ -72,7 +72,7 @@ static void writes(int fd) {
     get(reader, 0x123, 2);
 }
 
-/* A bind that is refused leaves the one before it; one to another interface moves the socket. */
+/* A refused bind leaves the earlier one in place. A bind to another interface moves the socket. */
 static void binds(void) {
     struct sockaddr_can address = address_of("can1"), own;
     socklen_t length = sizeof own;

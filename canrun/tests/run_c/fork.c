@@ -1,5 +1,5 @@
-/* A socket is one after fork, dup, exec and SCM_RIGHTS; its last copy ends it. Called with a number it is the program
- * that inherits that descriptor. */
+/* A socket survives fork, dup, exec and SCM_RIGHTS, and ends with its last copy. With a number as argument this program
+ * is the one that inherits that descriptor. */
 #include "check.h"
 
 static void send_descriptor(int through, int fd) {
@@ -46,7 +46,7 @@ int main(int count, char **words) {
         _exit(0);
     }
     succeeds(child);
-    send_numbered(writer, 0x123, 2); /* Its copies are closed, ours are not. */
+    send_numbered(writer, 0x123, 2); /* Its copies are closed, ours is not. */
     get(reader, 0x123, 2);
     int copy = dup(writer), third = dup2(copy, 77);
     CHECK(copy >= 0 && third == 77 && close(writer) == 0 && close(copy) == 0);

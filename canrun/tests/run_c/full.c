@@ -1,5 +1,5 @@
-/* A transmit queue of 10 with a frame a second: the 12th write at the latest finds it full. With the word `wait` none
- * does. */
+/* A transmit queue of 10 frames on a bus that sends one frame a second: at the latest the 12th write finds the queue
+ * full. With the word `wait` no write does. */
 #include "check.h"
 
 int main(int count, char **words) {

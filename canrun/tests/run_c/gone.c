@@ -1,5 +1,5 @@
-/* The server ends while a read waits, as a device that is unregistered: ENODEV, and ENXIO for writes. The word on
- * standard output is when it should end. */
+/* The server ends while a read waits, as if a device is unregistered: ENODEV, and ENXIO for writes. The program prints
+ * a word when the server should end. */
 #include "check.h"
 
 int main(void) {
@@ -9,11 +9,11 @@ int main(void) {
     CHECK(comes(reader, PATIENCE));
     printf("ready\n");
     fflush(stdout);
-    get(reader, 0x123, 1); /* What has arrived can still be read. */
+    get(reader, 0x123, 1); /* Frames that have arrived can still be read. */
     struct can_frame other;
     CHECK(comes(reader, PATIENCE));
     FAILS(read(reader, &other, sizeof other), ENODEV);
-    FAILS(recv(reader, &other, sizeof other, MSG_DONTWAIT), EAGAIN); /* Once. */
+    FAILS(recv(reader, &other, sizeof other, MSG_DONTWAIT), EAGAIN); /* The error comes only once. */
     CHECK(!comes(reader, QUIET));
     frame = frame_of(0x123, 2);
     CHECK(comes(writer, PATIENCE));

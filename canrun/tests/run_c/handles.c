@@ -1,5 +1,5 @@
-/* What goes past the usual calls: functions by a handle of the C library, and a question by netlink as libsocketcan
- * puts it, which waits for another reply than an error. */
+/* Unusual calls: functions found through a handle of the C library, and a netlink request in libsocketcan's form, which
+ * expects a reply that is not an error. */
 #include "check.h"
 #include <dlfcn.h>
 #include <linux/rtnetlink.h>
@@ -54,7 +54,7 @@ static void netlink(void) {
 
 int main(void) {
     handle("libc.so.6");
-    handle(NULL); /* The next library after the program: that is canbusd-run's. */
+    handle(NULL); /* The next library after the program is canbusd-run's. */
     netlink();
     return 0;
 }

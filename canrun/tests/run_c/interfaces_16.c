@@ -1,4 +1,4 @@
-/* Sixteen interfaces: if_nameindex has all, and a socket on all of them receives from each. */
+/* Sixteen interfaces: if_nameindex lists all of them, and a socket on all interfaces receives from each. */
 #include "check.h"
 
 int main(void) {

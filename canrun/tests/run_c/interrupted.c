@@ -1,5 +1,4 @@
-/* Receives a thousand frames, in order, while a signal interrupts the waits, whose handler has SA_RESTART or has not.
- */
+/* Receives a thousand frames in order while signals interrupt the waits; the handler has SA_RESTART or not. */
 #include "check.h"
 
 #include <sys/time.h>
@@ -11,7 +10,7 @@ static void count(int number) {
     signals++;
 }
 
-/* A message with its address, for which the kernel has no plain read. */
+/* Receives a message with its address, for which the kernel has no simple read. */
 static bool receive(int fd, unsigned expected) {
     struct can_frame frame;
     struct sockaddr_can from;

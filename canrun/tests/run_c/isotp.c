@@ -1,4 +1,4 @@
-/* CAN_ISOTP: the frames of ISO 15765-2, both ways, and each errno, with a raw socket at the other end that plays a
+/* CAN_ISOTP: the frames of ISO 15765-2 in both directions, and each errno. A raw socket at the other end plays the
  * peer. */
 #include "isotp.h"
 
@@ -48,8 +48,8 @@ static void single_frames(void) {
     SEES("\7abcdefg");
     SAYS("\2xy");
     SAYS("\2xy\0\0\0\0\0");
-    SAYS("\0xy"); /* No length. */
-    SAYS("\7xy"); /* More than there is. */
+    SAYS("\0xy"); /* A length of 0. */
+    SAYS("\7xy"); /* A length above that of the frame. */
     SAYS("\1z");
     reads(fd, "xy", 2);
     reads(fd, "xy", 2);
@@ -59,7 +59,7 @@ static void single_frames(void) {
     CHECK(close(fd) == 0);
 }
 
-/* 20 bytes: a first frame, flow control with blocks of one and 5 ms between them, two consecutive frames. */
+/* 20 bytes: a first frame, flow control with blocks of one frame and pauses of 5 ms, two consecutive frames. */
 static void several_frames(void) {
     int fd = made();
     CHECK(bind_isotp(fd, RX, TX) == 0);
@@ -83,7 +83,7 @@ static void several_frames(void) {
     SAYS("\x22"
          "defghij");
     reads(fd, "0123456789abcdefghij", 20);
-    /* A wrong number, and frames that cease. */
+    /* A wrong sequence number, and frames that stop. */
     SAYS("\x10\x14"
          "012345");
     SEES("\x30\0\0");
@@ -139,7 +139,7 @@ static void extended(void) {
     CHECK(write(fd, "abcdefghijk", 11) == 11);
     SEES("\xE0\x10\x0B"
          "abcde");
-    SAYS("\xE1\x30\0\0"); /* To another. */
+    SAYS("\xE1\x30\0\0"); /* For another address. */
     CHECK(!comes(peer, QUIET));
     SAYS("\xE0\x30\0\0");
     SEES("\xE0\x21"
@@ -149,7 +149,7 @@ static void extended(void) {
     CHECK(close(fd) == 0);
 }
 
-/* Two sockets, and 8,000 bytes: a length of 32 bits. The message goes out whole though its socket is closed. */
+/* Two sockets, and 8,000 bytes: a length of 32 bits. The whole message is sent although its socket is closed. */
 static void long_messages(bool is_fd) {
     static char data[8000];
     int sender = made(), receiver = made();

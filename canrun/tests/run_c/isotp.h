@@ -1,4 +1,4 @@
-/* What the programs of CAN_ISOTP share: a raw socket at the other end that plays a peer. */
+/* The common part of the programs of CAN_ISOTP: a raw socket at the other end that plays the peer. */
 #ifndef ISOTP_TEST_H
 #define ISOTP_TEST_H
 
@@ -27,7 +27,7 @@ static inline void set_options(int fd, struct can_isotp_options options) {
     CHECK(setsockopt(fd, SOL_CAN_ISOTP, CAN_ISOTP_OPTS, &options, sizeof options) == 0);
 }
 
-/* The next frame on the bus has these bytes. */
+/* Checks that the next frame on the bus has these bytes. */
 static inline void sees(const char *bytes, size_t length) {
     struct canfd_frame frame = {0};
     CHECK(comes(peer, PATIENCE) && read(peer, &frame, sizeof frame) > 0);

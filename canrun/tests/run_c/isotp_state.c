@@ -1,5 +1,5 @@
-/* CAN_ISOTP: what state a socket is in while a message is sent, and after it has failed: poll, SO_ERROR, the next
- * write, close, signals. */
+/* CAN_ISOTP: the state of a socket while a message is sent, and after a failure: poll, SO_ERROR, the next write, close,
+ * signals. */
 #include "isotp.h"
 #include <sys/epoll.h>
 #include <sys/select.h>
@@ -17,7 +17,7 @@ static int error_of(int fd) {
     return error;
 }
 
-/* What epoll reports of a socket, whose number the program does not have there. */
+/* The events that epoll reports for a socket; the program does not register its number there. */
 static uint32_t epolled(int fd, uint32_t events) {
     struct epoll_event event = {.events = events, .data = {.u64 = 1ull << 40}};
     int epoll = epoll_create1(0);
@@ -27,7 +27,7 @@ static uint32_t epolled(int fd, uint32_t events) {
     return count ? event.events : 0;
 }
 
-/* A socket with an error, and without or with a message that came later. */
+/* Checks a socket with an error, without a later message or with one. */
 static void has_error(int fd, short more) {
     fd_set readable, writable;
     FD_ZERO(&readable);
@@ -50,7 +50,7 @@ static void becomes_writable(int fd) {
     CHECK(poll(&one, 1, PATIENCE) == 1 && one.revents & POLLOUT);
 }
 
-/* Before bind nothing goes, and nothing comes. */
+/* Before bind nothing is sent or received. */
 static void unbound(void) {
     int fd = made();
     FAILS(write(fd, "x", 1), EADDRNOTAVAIL);
@@ -62,7 +62,7 @@ static void unbound(void) {
     CHECK(close(fd) == 0);
 }
 
-/* While a message waits for flow control it is not ready to be written, and a write that may not wait says so. */
+/* While a message waits for flow control the socket is not writable, and a nonblocking write fails. */
 static void busy(void) {
     int fd = made();
     struct sockaddr_can own;
@@ -86,7 +86,7 @@ static void busy(void) {
     CHECK(close(fd) == 0);
 }
 
-/* A fault of a message that is sent is the error of the socket: what takes it first gets it, and nobody else. */
+/* An error of a sent message becomes the socket's error. The first call takes the error, and no other call gets it. */
 static void fault(const char *control, size_t length, int error) {
     int fd = made();
     CHECK(bind_isotp(fd, RX, TX) == 0);
@@ -116,7 +116,7 @@ static void fault(const char *control, size_t length, int error) {
 }
 #define FAULT(bytes, error) fault(bytes, sizeof(bytes) - 1, error)
 
-/* The same of a message that is received; data that came before it stay. */
+/* The same for a received message. Earlier data stay readable. */
 static void received_fault(void) {
     int fd = made();
     CHECK(bind_isotp(fd, RX, TX) == 0);
@@ -143,7 +143,7 @@ static void on_signal(int number) {
     (void)number;
 }
 
-/* A signal whose handler has no SA_RESTART ends a write that waits. */
+/* A signal whose handler has no SA_RESTART ends a waiting write. */
 static void signals(void) {
     int fd = made();
     struct sigaction action = {.sa_handler = on_signal};
@@ -166,12 +166,12 @@ static void signals(void) {
     FAILS(write(fd, "0123456789", 10), EINTR);
     SEES("\x10\x0A"
          "012345");
-    SAYS("\x30\0\0"); /* It was given up. */
+    SAYS("\x30\0\0"); /* The message was given up. */
     CHECK(!comes(peer, QUIET));
     CHECK(close(fd) == 0);
 }
 
-/* close waits for the end of the message, so that a new socket sees nothing of it. */
+/* close waits for the end of the message, so a new socket sees none of its frames. */
 static void closing(void) {
     int fd = made();
     CHECK(bind_isotp(fd, RX, TX) == 0);
@@ -184,7 +184,7 @@ static void closing(void) {
         SAYS("\x30\0\0");
         _exit(0);
     }
-    close(fd); /* The child has a copy: nobody waits. */
+    close(fd); /* The child has a copy, so this close does not wait. */
     SEES("\x21"
          "6789");
     int status;
@@ -203,7 +203,7 @@ static void closing_last(void) {
         clock_gettime(CLOCK_MONOTONIC, &before);
         CHECK(close(fd) == 0);
         clock_gettime(CLOCK_MONOTONIC, &after);
-        /* Nobody sends flow control: the message ends a second after its first frame. */
+        /* No flow control comes: the message ends a second after its first frame. */
         CHECK(after.tv_sec - before.tv_sec + (after.tv_nsec - before.tv_nsec) / 1e9 > 0.3);
         _exit(0);
     }

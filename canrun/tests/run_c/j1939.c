@@ -1,5 +1,5 @@
-/* CAN_J1939: long messages between two interfaces, many at once, threads, processes, and an error queue that is waited
- * for as j1939cat does. The words are the length of a message, and how often each wait is tried. */
+/* CAN_J1939: long messages between two interfaces, many at once, threads, processes, and a wait for the error queue as
+ * in j1939cat. The arguments are the length of a message, and how often each wait is tried. */
 #include "check.h"
 #include <linux/can/j1939.h>
 #include <linux/errqueue.h>
@@ -30,7 +30,7 @@ static struct sockaddr_can to(uint8_t address) {
     return can;
 }
 
-/* Message k of a sender: its length and bytes hang on both. */
+/* Makes message k of a sender: its length and bytes depend on both numbers. */
 static size_t make(unsigned char *data, unsigned sender, unsigned k) {
     size_t length = 2 + (sender * 37 + k * 13) % 200;
     for (size_t i = 0; i < length; i++) {
@@ -46,7 +46,7 @@ static void send_message(int fd, unsigned sender, unsigned k) {
     CHECK(sendto(fd, data, length, 0, (struct sockaddr *)&ecu, sizeof ecu) == (ssize_t)length);
 }
 
-/* A message is one that was sent, and the next of its sender. */
+/* Receives a message, and checks that it is the next message of its sender. */
 static void get_message(int fd, unsigned *next) {
     unsigned char data[256], wanted[256];
     ssize_t length = recv(fd, data, sizeof data, 0);
@@ -109,7 +109,7 @@ static void from_processes(void) {
     CHECK(close(ecu) == 0 && close(fd) == 0);
 }
 
-/* ---- a long message, as j1939cat sends one ---- */
+/* ---- a long message, sent as by j1939cat ---- */
 
 static void turn_notices_on(int fd) {
     int on = 1, stamps = SOF_TIMESTAMPING_SOFTWARE | SOF_TIMESTAMPING_TX_ACK | SOF_TIMESTAMPING_TX_SCHED;
@@ -117,7 +117,7 @@ static void turn_notices_on(int fd) {
     CHECK(setsockopt(fd, SOL_SOCKET, SO_TIMESTAMPING, &stamps, sizeof stamps) == 0);
 }
 
-/* Takes an entry of the error queue; what it is about, or 0. */
+/* Takes an entry of the error queue. Returns the number of its message, or 0. */
 static unsigned take_notice(int fd) {
     char control[300];
     struct msghdr message = {.msg_control = control, .msg_controllen = sizeof control};
@@ -139,7 +139,7 @@ static unsigned take_notice(int fd) {
     return entry.ee_info + 1;
 }
 
-/* Waits for the end of the message that is being sent. */
+/* Waits until the message has been sent. */
 static void await_end(int fd) {
     for (unsigned info = 0; info != SCM_TSTAMP_ACK + 1;) {
         struct pollfd polled = {fd, POLLERR, 0};
@@ -197,7 +197,7 @@ static void wait_once(unsigned k) {
     CHECK(close(fd) == 0 && close(ecu) == 0);
 }
 
-/* epoll reports an entry where it waits for messages. */
+/* epoll that waits for messages also reports an entry of the error queue. */
 static void epolled(void) {
     int fd = node("can0", TESTER), epoll = epoll_create1(0);
     struct epoll_event event = {.events = EPOLLIN, .data.fd = fd};

@@ -1,4 +1,4 @@
-/* Each option of linux/can/raw.h: its default, its lengths, what getsockopt returns; and those of SOL_SOCKET. */
+/* Each option of linux/can/raw.h: its default, its lengths, and the result of getsockopt; and options of SOL_SOCKET. */
 #include "check.h"
 
 static int value_of(int fd, int level, int option) {
@@ -61,7 +61,7 @@ static void others(int fd) {
     FAILS(getsockopt(fd, SOL_CAN_BASE + CAN_BCM, 1, &mask, &(socklen_t){4}), EINVAL);
     CHECK(value_of(fd, SOL_SOCKET, SO_DOMAIN) == AF_CAN);
     CHECK(value_of(fd, SOL_SOCKET, SO_TYPE) == SOCK_RAW);
-    CHECK(value_of(fd, SOL_SOCKET, SO_PROTOCOL) == 0); /* The kernel's CAN sockets do not say it. */
+    CHECK(value_of(fd, SOL_SOCKET, SO_PROTOCOL) == 0); /* The kernel's CAN sockets report 0. */
     CHECK(value_of(fd, SOL_SOCKET, SO_ERROR) == 0);
     CHECK(setsockopt(fd, SOL_SOCKET, SO_RCVBUF, &(int){8192}, sizeof(int)) == 0);
     CHECK(value_of(fd, SOL_SOCKET, SO_RCVBUF) == 16384); /* socket(7): the kernel doubles it. */

@@ -1,8 +1,8 @@
-/* Own frames: who receives them, MSG_CONFIRM, and MSG_DONTROUTE of all that the interface has sent
+/* Own frames: their receivers, MSG_CONFIRM, and MSG_DONTROUTE for all frames that the interface has sent
  * (Documentation/networking/can.rst). */
 #include "check.h"
 
-/* Frames of one test of equal ones, in two sockets' turns. */
+/* How many equal frames two sockets send in turns. */
 #define TURNS 40
 
 static int flags_of_next(int fd, unsigned number) {
@@ -14,13 +14,13 @@ static int flags_of_next(int fd, unsigned number) {
     return message.msg_flags;
 }
 
-/* Equal frames of two sockets of one interface, and of one of another: each is whose it is. */
+/* Equal frames of two sockets of one interface, and of a socket of another: each frame is attributed to its sender. */
 static void take_turns(int self, int beside, int other) {
     int senders[TURNS];
     for (int i = 0; i < TURNS; i++) {
         senders[i] = i % 3 == 0 ? self : i % 3 == 1 ? beside : other;
         send_patiently(senders[i], 0x7, 7);
-        /* So that they go out in this order, though they are of several interfaces. */
+        /* Waits for each frame, so that they are sent in this order although their interfaces differ. */
         int own = senders[i] == self ? MSG_CONFIRM | MSG_DONTROUTE : senders[i] == beside ? MSG_DONTROUTE : 0;
         CHECK(flags_of_next(self, 7) == own);
         CHECK(senders[i] == beside || flags_of_next(beside, 7) == (own & MSG_DONTROUTE));
@@ -28,7 +28,7 @@ static void take_turns(int self, int beside, int other) {
     }
 }
 
-/* The same without waiting for each: the order is that of the interface, which is one. */
+/* The same without waiting for each frame: there is one interface, which keeps the order. */
 static void take_turns_at_once(int self, int beside) {
     for (int i = 0; i < TURNS; i++) {
         send_patiently(i % 5 < 2 ? self : beside, 0x7, 7);
@@ -50,7 +50,7 @@ int main(void) {
         CHECK(flags_of_next(self, 100 + i) == 0);
         CHECK(flags_of_next(other, i) == 0);
     }
-    CHECK(!comes(other, QUIET)); /* Its own don't come. */
+    CHECK(!comes(other, QUIET)); /* It does not receive its own frames. */
     take_turns(self, beside, other);
     take_turns_at_once(self, beside);
     set(self, CAN_RAW_LOOPBACK, 0);

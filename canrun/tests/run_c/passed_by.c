@@ -1,5 +1,5 @@
-/* Reads that go past the library's receiving calls get the frame and nothing else, whatever room they have: splice,
- * preadv2, stdio, direct system calls and io_uring. */
+/* Reads that bypass the library's receiving calls get the frame and nothing else, whatever the size of their buffer:
+ * splice, preadv2, stdio, direct system calls and io_uring. */
 #include "check.h"
 #include <linux/io_uring.h>
 #include <sys/mman.h>
@@ -16,7 +16,7 @@ static struct canfd_frame fd_frame(unsigned number) {
     return frame;
 }
 
-/* A classic frame, and an FD frame; what is read of each is it, in as much room. */
+/* Checks that a read with this function and buffer size returns a whole classic frame and a whole FD frame. */
 static void is_whole(ssize_t (*get)(char *room, size_t length), size_t room) {
     char data[300];
     static unsigned number;
@@ -52,7 +52,7 @@ static ssize_t by_system_call(char *room, size_t length) {
     return syscall(SYS_read, reader, room, length);
 }
 
-/* Not even by the C library. */
+/* Not even through the C library. */
 static ssize_t by_instruction(char *room, size_t length) {
 #ifdef __x86_64__
     ssize_t result;
@@ -75,7 +75,7 @@ static ssize_t by_stdio(char *room, size_t length) {
     return (ssize_t)fread(room, 1, length, file);
 }
 
-/* The least of io_uring: one request at a time. */
+/* The minimum of io_uring: one request at a time. */
 static struct {
     int fd;
     unsigned *tail, *mask, *array, *head_of_ends, *mask_of_ends;
@@ -115,7 +115,7 @@ static ssize_t by_uring(char *room, size_t length) {
     return result;
 }
 
-/* The note of a frame is its own, also where the ones before it went past the library. */
+/* A frame gets its own note, even if the frames before it bypassed the library. */
 static void notes_are_right(void) {
     struct sockaddr_can from;
     char data[72];
@@ -124,7 +124,7 @@ static void notes_are_right(void) {
         struct can_frame frame;
         socklen_t length = sizeof from;
         int own = i % 3 == 0;
-        /* Of equal frames the bridge may still be handing over the last, which is waited for once one was passed by. */
+        /* The bridge may still be sending the last of several equal frames; after a bypassed one this waits for it. */
         send_numbered(own ? reader : writer, 0x200, i < 7 ? i : i / 7);
         CHECK(comes(reader, PATIENCE));
         if (i % 2) {
@@ -139,7 +139,7 @@ static void notes_are_right(void) {
     }
 }
 
-/* Streams that are no sockets are as they were. */
+/* Streams that are not sockets are unchanged. */
 static void other_streams(void) {
     char *text = NULL;
     size_t size;

@@ -1,6 +1,5 @@
-/* Frames of many sockets, processes and threads at once, each written more often than a socket has to be before its
- * writes are quick: copies of descriptors, and numbers that are given to other sockets, change nothing. Built with
- * -pthread. */
+/* Frames of many sockets, processes and threads at once. Each socket is written often enough for quick writes. Copies
+ * of descriptors, and reused descriptor numbers, change nothing. Built with -pthread. */
 #include "check.h"
 #include <pthread.h>
 
@@ -10,7 +9,7 @@
 static int writers[SOCKETS], reader;
 static unsigned seen[SOCKETS];
 
-/* Every socket has an identifier of its own, and its frames are numbered. */
+/* Each socket has its own identifier, and numbers its frames. */
 static void write_all(const int *fds, unsigned from) {
     for (unsigned i = from; i < from + EACH; i++) {
         for (unsigned s = 0; s < SOCKETS; s++) {
@@ -68,7 +67,7 @@ int main(void) {
     }
     read_all();
     CHECK(waitpid(child, &status, 0) == child && status == 0);
-    /* Each number is now that of the next socket. */
+    /* Each number now belongs to the next socket. */
     for (int s = 0; s < SOCKETS; s++) {
         copies[s] = dup(writers[s]);
     }
@@ -78,7 +77,7 @@ int main(void) {
     write_all(writers, 2 * EACH);
     read_all();
     write_by_threads();
-    /* Refusals are exact, too. */
+    /* Refusals have the right errno, too. */
     FAILS(write(copies[0], &frame, 15), EINVAL);
     FAILS(write(copies[0], nowhere, sizeof frame), EFAULT);
     frame.can_dlc = 9;

@@ -1,5 +1,5 @@
-/* Facts that few programs ask for: what ioctl and getsockopt say of a socket, and options of CAN_ISOTP that are cut,
- * refused or kept in each frame. */
+/* Facts that few programs use: results of ioctl and getsockopt, and options of CAN_ISOTP that are cut, refused or
+ * stored in each frame. */
 #include "isotp.h"
 #include <linux/sockios.h>
 
@@ -41,7 +41,7 @@ static void lengths(void) {
     CHECK(close(fd) == 0);
 }
 
-/* All frames of a transfer have the flags of its link, also those of flow control. */
+/* All frames of a transfer have the flags of its link, including flow control frames. */
 static void bit_rate_switch(void) {
     int fd = made();
     struct can_isotp_ll_options link = {CANFD_MTU, 64, CANFD_BRS};

@@ -1,9 +1,9 @@
-/* Threads with the least stack that there may be; and after clearenv sockets and names are as before. */
+/* Threads with the smallest possible stack. After clearenv sockets and names work as before. */
 #include "check.h"
 #include <limits.h>
 #include <pthread.h>
 
-/* Sanitizers need more than the least. */
+/* Sanitizers need more than the minimum. */
 #ifdef __SANITIZE_ADDRESS__
 #define STACK 262144
 #else

@@ -1,9 +1,10 @@
-/* Time stamps: each way to ask for them gives one moment, that of the bus. Prints it for a look at the server's log. */
+/* Timestamps: each way to ask for them returns the same timestamp, that of the bus. The program prints it, so that the
+ * test can compare it with the server's log. */
 #include "check.h"
 #include <linux/net_tstamp.h>
 #include <linux/sockios.h>
 
-/* The moment in nanoseconds by a control message of this type, or by none 0. */
+/* The timestamp in nanoseconds in a control message of this type; 0 without one. */
 static int64_t stamp_of(int fd, int type) {
     char control[256];
     struct can_frame frame;
@@ -53,7 +54,7 @@ int main(void) {
         CHECK(stamp_of(plain, -1) == 0);
         printf("%lld.%06lld\n", (long long)(moment / 1000000000), (long long)(moment / 1000 % 1000000));
     }
-    /* Without room for the control message the frame comes, and MSG_CTRUNC says so. */
+    /* Without room for the control message the frame comes with MSG_CTRUNC. */
     char little[4];
     struct can_frame frame;
     struct iovec part = {&frame, sizeof frame};

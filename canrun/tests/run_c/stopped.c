@@ -1,12 +1,12 @@
-/* A write that waits for room which never comes, on a bus that sends a frame a minute and queues one, ends at this
- * signal, whether its handler has SA_RESTART or not, and in whichever thread it runs; at another signal with SA_RESTART
- * the wait goes on. The arguments are the signal, and how often to try. Built with -pthread. */
+/* A write waits for room that never comes: the bus sends one frame a minute and queues one. This signal ends the write,
+ * whether its handler has SA_RESTART or not, and in whichever thread the handler runs. After another signal with
+ * SA_RESTART the wait continues. The arguments are the signal, and how often to try. Built with -pthread. */
 #include "check.h"
 #include <pthread.h>
 #include <sys/mman.h>
 
 static volatile sig_atomic_t is_ended, ticks;
-/* The memory that the processes share: the thread that writes. */
+/* Memory that the processes share: the thread that writes. */
 static volatile pid_t *writer;
 static int number;
 
@@ -26,7 +26,7 @@ static void *write_in_vain(void *error) {
     *writer = gettid();
     FAILS(write(fd, &frame, sizeof frame), *(int *)error);
     CHECK(is_ended);
-    /* A program that does not look at its flag waits no more. */
+    /* If a program ignores its flag, its next writes do not wait. */
     for (int i = 0; i < 20; i++) {
         FAILS(write(fd, &frame, sizeof frame), ENOBUFS);
     }
@@ -36,11 +36,11 @@ static void *write_in_vain(void *error) {
 static int child(bool has_thread, int flags) {
     struct itimerval often = {.it_value = {0, 1000}, .it_interval = {0, 1000}};
     struct sigaction end = {.sa_handler = on_end, .sa_flags = flags}, after;
-    /* One without SA_RESTART is EINTR to the thread that it comes in. */
+    /* A handler without SA_RESTART gives EINTR to its own thread. */
     int error = flags ? ENOBUFS : EINTR;
     struct sigaction tick = {.sa_handler = on_tick, .sa_flags = SA_RESTART};
     CHECK(sigaction(number, &end, NULL) == 0 && sigaction(SIGALRM, &tick, NULL) == 0);
-    /* Of two signals at once the kernel asks the first whether the call is to begin anew. */
+    /* Of two signals at once the first one decides whether the kernel restarts the call. */
     CHECK(!flags || setitimer(ITIMER_REAL, &often, NULL) == 0);
     if (has_thread) {
         pthread_t thread;
@@ -54,7 +54,7 @@ static int child(bool has_thread, int flags) {
     return 0;
 }
 
-/* Whether this thread is in read(2), where the write waits. */
+/* Whether this thread is in read(2), in which the write waits. */
 static bool is_in_read(pid_t thread) {
     char path[64], text[16] = "";
     snprintf(path, sizeof path, "/proc/%d/syscall", thread);

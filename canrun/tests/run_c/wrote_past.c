@@ -1,4 +1,4 @@
-/* Writes by other calls than those of sockets: each sends exactly the frame, or is refused as the kernel does it. One
+/* Writes by other calls than those of sockets. Each sends exactly the frame, or is refused as by the kernel. A write
  * that no library sees is refused by the socket's error, after a line on standard error. */
 #include "check.h"
 #include <fcntl.h>
@@ -63,7 +63,7 @@ static ssize_t by_stream(int fd, const void *data, size_t length) {
     return result ? -1 : (ssize_t)length;
 }
 
-/* Not even by the C library. */
+/* Not even through the C library. */
 static ssize_t by_instruction(int fd, const void *data, size_t length) {
     ssize_t result;
 #ifdef __x86_64__
@@ -108,7 +108,7 @@ static void others_are_refused(void) {
     CHECK(!comes(reader, QUIET) && close(unbound) == 0);
 }
 
-/* The kernel of a Unix socket takes any bytes, so the refusal comes a moment later. */
+/* The kernel's Unix socket accepts any bytes, so the refusal comes a moment later. */
 static void unseen(void) {
     struct can_frame frame = frame_of(0x123, 7);
     char data[72];
@@ -127,7 +127,7 @@ static void unseen(void) {
     get(reader, 0x123, 8);
 }
 
-/* The same of the other protocols. */
+/* The same for the other protocols. */
 static void other_protocols(void) {
     struct sockaddr_can address = address_of("can0");
     int manager = socket(PF_CAN, SOCK_DGRAM, CAN_BCM), isotp = socket(PF_CAN, SOCK_DGRAM, CAN_ISOTP);

@@ -1,5 +1,5 @@
-/* bcm NAME send | watch: a cyclic job of the broadcast manager for two seconds; a filter with a timeout and a throttle,
- * whose messages it prints until three seconds have passed without one. */
+/* bcm NAME send | watch: `send` runs a cyclic task of the broadcast manager for two seconds. `watch` sets a filter with
+ * a timeout and a throttle, and prints its messages until three seconds pass without one. */
 #include "node.h"
 
 #include <linux/can/bcm.h>

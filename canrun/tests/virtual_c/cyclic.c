@@ -1,6 +1,6 @@
-/* cyclic NAME ID MICROSECONDS COUNT [DATA]: sends frames at exact moments, from the next whole second on. They have
- * these data, in hexadecimal digits, or their number in two bytes. With SENDS_ONLY its socket has an empty filter; with
- * READS it reads all that comes meanwhile. */
+/* cyclic NAME ID MICROSECONDS COUNT [DATA]: sends frames at exact moments, beginning at the next whole second. They
+ * have these data, in hexadecimal digits, or their number in two bytes. With SENDS_ONLY its socket has an empty filter.
+ * With READS it reads all frames that come meanwhile. */
 #include "node.h"
 
 #include <poll.h>

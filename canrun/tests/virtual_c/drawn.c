@@ -1,5 +1,5 @@
-/* Prints what is random: by each call, from the devices, what the kernel hands in, addresses, and in what order four
- * threads leave a barrier. */
+/* Prints random data: from each call, from the devices, from the kernel at the start, addresses, and the order in which
+ * four threads leave a barrier. */
 #define _GNU_SOURCE
 #include <dlfcn.h>
 #include <fcntl.h>

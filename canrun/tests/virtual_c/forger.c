@@ -1,7 +1,7 @@
-/* A program of a run that gives up its rights, and then writes into the memory of the run:
+/* A program of a run that gives up its rights, and then writes into the run's memory:
  *
- * forger alarm PID    alarms that are due, by which PID would be killed
- * forger used         that there are more slots than there is room for */
+ *   forger alarm PID    alarms that are due, and that would kill PID
+ *   forger used         more slots than there is room for */
 #define _GNU_SOURCE
 #include "../../virtual/run.h"
 

@@ -1,6 +1,5 @@
-/* full NAME SECONDS: sends each 10 ms for so long, and reads nothing; then reads until no frame has come for a second.
- * Prints the numbers that the frames of the other node have: the first and the last of each part without
- * a gap. */
+/* full NAME SECONDS: sends a frame every 10 ms for so long, without reading. Then reads until no frame has come for a
+ * second. Prints the numbers of the other node's frames: the first and the last of each part without a gap. */
 #include "node.h"
 
 #include <poll.h>

@@ -1,9 +1,8 @@
-/* A node that speaks J1939, at an address of an interface:
+/* A J1939 node at an address of an interface:
  *
- *     j1939 INTERFACE ADDRESS receive N        writes the lengths of N messages
- *     j1939 INTERFACE ADDRESS send TO LENGTH   sends a message, and writes when which error of its socket has come, if
- * any j1939 INTERFACE ADDRESS claim            claims the address, and writes when it can be used
- */
+ *     j1939 INTERFACE ADDRESS receive N        prints the lengths of N messages
+ *     j1939 INTERFACE ADDRESS send TO LENGTH   sends a message, and prints the time and the error of its socket, if any
+ *     j1939 INTERFACE ADDRESS claim            claims the address, and prints when the address can be used */
 #include "node.h"
 
 #include <linux/can/j1939.h>

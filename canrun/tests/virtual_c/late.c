@@ -1,5 +1,5 @@
-/* late MS COUNT: starts itself so many times, one after the other, as a program that takes this many milliseconds of a
- * processor before it is part of the run. */
+/* late MS COUNT: starts itself so many times, one after the other, as a program that needs so many milliseconds of
+ * processor time before it joins the run. */
 #include <spawn.h>
 #include <stdio.h>
 #include <stdlib.h>
@@ -15,7 +15,7 @@ static long used(void) {
            (usage.ru_utime.tv_usec + usage.ru_stime.tv_usec) / 1000;
 }
 
-/* Goes before the constructors of all libraries. */
+/* Runs before the constructors of all libraries. */
 static void begin_late(int count, char **words, char **settings) {
     (void)settings;
     while (count == 2 && used() < atoi(words[1])) {

@@ -1,12 +1,12 @@
-/* lent WORD: programs that only send. Their socket has an empty filter, but with `plain`.
+/* lent WORD: programs that only send. Their socket has an empty filter, except with `plain`.
  *
- * plain, filter   40 frames at once, three times: prints what each write returned
- * own             after 20 frames the socket has its own, and prints whether each says so
- * turns COUNT     so many frames, one each 1 ms
- * many            100 sockets, one after the other, with some frames each
- * fork            two processes write by one socket
- * closed          all other descriptors are closed between two writes
- * gone            waits in a read until the server has ended, and prints the error */
+ *   plain, filter   sends 40 frames at once, three times; prints the result of each write
+ *   own             receives its own frames after 20 frames; prints whether each is marked as its own
+ *   turns COUNT     sends so many frames, one every 1 ms
+ *   many            opens 100 sockets, one after the other, and sends some frames with each
+ *   fork            writes to one socket from two processes
+ *   closed          closes all other descriptors between two writes
+ *   gone            waits in a read until the server has ended; prints the error */
 #include "node.h"
 
 #include <sys/wait.h>

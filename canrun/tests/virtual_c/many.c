@@ -1,5 +1,5 @@
-/* many NAME COUNT: so many sockets, each of which sends a frame in turn, which the others receive with its moment;
- * three times. */
+/* many NAME COUNT: so many sockets. Each in turn sends a frame, and the others receive it with its timestamp; three
+ * times. */
 #include "node.h"
 
 #define MOST 64

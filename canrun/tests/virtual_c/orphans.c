@@ -1,4 +1,4 @@
-/* orphans COUNT: so many processes whose parent, which nobody waits for, ends as they begin. */
+/* orphans COUNT: starts so many processes. Their parents end at once, and no process waits for these. */
 #define _GNU_SOURCE
 #include <signal.h>
 #include <stdio.h>

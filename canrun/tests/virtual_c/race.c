@@ -1,5 +1,6 @@
-/* race: two threads of a node take an identifier for a request each 10 ms, and one forgets the lock. The identifiers
- * are unique as long as no thread waits between the look and the step; it prints the first that was given out twice. */
+/* race: two threads of a node take an identifier for a request every 10 ms, and one of them forgets the lock. The
+ * identifiers are unique if no thread waits between reading and incrementing the number. Prints the first identifier
+ * that was given out twice. */
 #define _GNU_SOURCE
 #include <pthread.h>
 #include <stdio.h>
@@ -12,7 +13,7 @@ static int next, seen[4 * ROUNDS];
 
 static int take(void) {
     int mine = next;
-    usleep(20); /* as of a log file, or a send */
+    usleep(20); /* like writing a log file, or a send */
     next = mine + 1;
     return mine;
 }

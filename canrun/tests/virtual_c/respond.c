@@ -1,4 +1,4 @@
-/* respond NAME ID RESPONSE COUNT: 2 ms after each frame with this identifier it sends one with the other. */
+/* respond NAME ID RESPONSE COUNT: sends a frame with the second identifier 2 ms after each frame with the first. */
 #include "node.h"
 
 int main(int count, char **words) {

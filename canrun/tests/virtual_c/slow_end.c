@@ -1,5 +1,5 @@
-/* slow_end: ends a second after its start, by its first thread. Another one gets a processor only where nobody else
- * wants it, so that it ends late, and what the program has open stays open until then. */
+/* slow_end: its first thread ends the program a second after the start. Another thread gets a processor only if no
+ * other program wants it. So it ends late, and the program's files stay open until then. */
 #define _GNU_SOURCE
 #include <pthread.h>
 #include <sched.h>

@@ -1,5 +1,5 @@
 /* unseen nanosleep | futex | io_uring_enter | spin | sndtimeo | io_uring: waits that the library does not see, or that
- * have an end of their own. The first three are made as a program of Go makes its calls, without the C library. */
+ * have their own timeout. The first three are made like the calls of a Go program, without the C library. */
 #define _GNU_SOURCE
 #include <errno.h>
 #include <linux/futex.h>
@@ -12,7 +12,7 @@
 #include <time.h>
 #include <unistd.h>
 
-/* A system call that does not go by the C library. */
+/* A system call that does not use the C library. */
 static long call(long number, long a, long b, long c, long d) {
     long result;
     register long r10 __asm__("r10") = d;
@@ -24,7 +24,7 @@ static long call(long number, long a, long b, long c, long d) {
     return result;
 }
 
-/* Looks at the clock, and sleeps on a word for a second, as the scheduler of Go does. */
+/* Reads the clock, and sleeps on a word for a second, like the scheduler of Go. */
 static int sleep_on_word(void) {
     static int word;
     struct timespec now, second = {1, 0};
@@ -32,14 +32,14 @@ static int sleep_on_word(void) {
     return call(SYS_futex, (long)&word, FUTEX_WAIT | FUTEX_PRIVATE_FLAG, 0, (long)&second) == -ETIMEDOUT ? 0 : 1;
 }
 
-/* Waits for what a ring without any request completes. */
+/* Waits for a completion in a ring without requests. */
 static int wait_for_ring(void) {
     struct io_uring_params parameters = {0};
     long fd = call(SYS_io_uring_setup, 8, (long)&parameters, 0, 0);
     return fd < 0 ? 77 : (int)call(SYS_io_uring_enter, fd, 0, 1, IORING_ENTER_GETEVENTS);
 }
 
-/* A send into a full socket whose SO_SNDTIMEO is 20 ms; prints how long it took. */
+/* Sends into a full socket whose SO_SNDTIMEO is 20 ms, and prints how long the call took. */
 static int send_late(void) {
     static char data[65536];
     struct timespec before, now;

@@ -1,4 +1,4 @@
-/* Each kind of wait once. It prints how long it was by the clock, in milliseconds, and what it returned. */
+/* Makes each kind of wait once. Prints how long it took by the clock, in milliseconds, and its result. */
 #include "node.h"
 
 #include <poll.h>

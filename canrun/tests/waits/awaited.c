@@ -1,4 +1,4 @@
-/* Waits for signals, and how they are sent. */
+/* Waits for signals, and ways to send them. */
 #include "waits.h"
 
 #include <pthread.h>
@@ -103,7 +103,7 @@ static void awaited_sigchld(void) {
     end(sigwaitinfo(&one, NULL));
 }
 
-/* What the kernel sends by itself: of a descriptor that can be read. */
+/* A signal that the kernel itself sends: a descriptor can be read. */
 static void awaited_sigio(void) {
     sigset_t one = only(SIGIO);
     int ends[2];

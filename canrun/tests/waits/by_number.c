@@ -181,7 +181,7 @@ static void *wait_for_bits(void *bits) {
     return bits;
 }
 
-/* The second one is woken, by its bit, and not who waits longer. */
+/* The bits wake the second thread, although the other has waited longer. */
 static void by_number_futex_bits(void) {
     pthread_t threads[2];
     for (intptr_t i = 0; i < 2; i++) {
@@ -226,7 +226,7 @@ static void by_number_futex_wake_op(void) {
     note("%u", other);
 }
 
-/* Words at one place of two pages, of two processes. */
+/* Words at the same place of two pages, in two processes. */
 static void by_number_futex_shared(void) {
     char *pages = mmap(NULL, 8192, PROT_READ | PROT_WRITE, MAP_SHARED | MAP_ANONYMOUS, -1, 0);
     uint32_t *first = (uint32_t *)pages, *second = (uint32_t *)(pages + 4096);

@@ -1,4 +1,4 @@
-/* pthread_cancel: waits that it ends, and those that it does not. */
+/* pthread_cancel: waits that it ends, and waits that it does not end. */
 #include "waits.h"
 
 #include <fcntl.h>
@@ -27,7 +27,7 @@ static void clean(void *of) {
     cleaned = cleaned * 10 + (int)(intptr_t)of;
 }
 
-/* Cancels a thread that makes this wait; says whether it ended so, and which handlers it had. */
+/* Cancels a thread in this wait. Notes whether the thread ended by that, and which handlers ran. */
 static void cancel(void *(*wait)(void *)) {
     pthread_t thread;
     void *result = NULL;
@@ -42,7 +42,7 @@ static void cancel(void *(*wait)(void *)) {
     note("%d", cleaned);
 }
 
-/* The wait of a case, in a thread with two handlers; what it does after it is seen. */
+/* The wait of a case, in a thread with two handlers. A note shows whether the code after the wait runs. */
 #define CANCELS(name, wait)                     \
     static void *name##_thread(void *nothing) { \
         pthread_cleanup_push(clean, (void *)1); \
@@ -171,7 +171,7 @@ CANCELS(cancels_mq_receive, wait_for_message())
 CANCELS(cancels_msgrcv, wait_for_queue())
 CANCELS(cancels_lock, wait_for_lock())
 
-/* Those that it does not end: the wait is as long as it would be, and then the next point is. */
+/* Waits that it does not end: the wait has its full length, and the thread ends at its next cancellation point. */
 static void *hold_mutex(void *nothing) {
     pthread_mutex_lock(&mutex);
     usleep(6 * SOON * 1000);
@@ -206,7 +206,7 @@ CANCELS(cancels_mutex, wait_for_mutex())
 CANCELS(cancels_disabled, sleep_disabled(false))
 CANCELS(cancels_enabled_later, sleep_disabled(true))
 
-/* One that is cancelled before it waits, by a call that would not wait. */
+/* A thread that is cancelled before a call that would not wait. */
 CANCELS(cancels_before, sleep_disabled(false); pthread_setcancelstate(PTHREAD_CANCEL_ENABLE, NULL);
         CHECK(write(ends[1], "x", 1)); CHECK(read(ends[0], &byte, 1) == 1))
 

@@ -1,4 +1,4 @@
-/* Pipes, terminals, and locks of files. */
+/* Pipes, terminals and file locks. */
 #include "waits.h"
 
 #include <fcntl.h>
@@ -221,7 +221,7 @@ static void files_terminal_line(void) {
     end(poll(&polled, 1, 2 * SOON));
 }
 
-/* No byte within a tenth of a second. */
+/* No byte comes within a tenth of a second. */
 static void files_terminal_timeout(void) {
     int other, fd = terminal(0, 1, &other);
     begin();
@@ -235,7 +235,7 @@ static void files_terminal_timeout_byte(void) {
     end(read(fd, data, 10));
 }
 
-/* A tenth of a second after the last byte. */
+/* The read ends a tenth of a second after the last byte. */
 static void files_terminal_between(void) {
     int other, fd = terminal(5, 1, &other);
     begin();

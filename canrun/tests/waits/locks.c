@@ -1,4 +1,4 @@
-/* Mutexes, spin locks, and locks of readers and writers. */
+/* Mutexes, spin locks and read-write locks. */
 #include "waits.h"
 
 #include <pthread.h>
@@ -204,7 +204,7 @@ static void *hold_spin(void *nothing) {
     return nothing;
 }
 
-/* How long it is is not said: who looks again and again is given time in steps. */
+/* Its length is not printed: for a thread that looks again and again, time passes in steps. */
 static void locks_spin(void) {
     pthread_t thread;
     pthread_spin_init(&spin, 0);

@@ -1,5 +1,5 @@
-/* waits [NAME ..]: makes these waits, or all, at once, and prints of each `NAME MILLISECONDS MICROSECONDS RESULT`: how
- * long it had to be, how long it was by its own clock, and what came. */
+/* waits [NAME ..]: makes these waits, or all, at once. Prints `NAME MILLISECONDS MICROSECONDS RESULT` for each: the
+ * expected length, the length by its own clock, and the result. */
 #include "waits.h"
 
 #include <pthread.h>

@@ -1,4 +1,4 @@
-/* Processes: how they are made, and waits for their ends. */
+/* Processes: ways to make them, and waits for their ends. */
 #include "waits.h"
 
 #include <fcntl.h>
@@ -46,7 +46,7 @@ static void processes_vfork(void) {
     ends_with_child(pid);
 }
 
-/* Without the C library's knowledge. */
+/* A fork without the C library's knowledge. */
 static void processes_raw_fork(void) {
     begin();
     pid_t pid = _Fork();
@@ -113,7 +113,7 @@ static void processes_forkpty(void) {
     note("%.5s", line);
 }
 
-/* The parent ends, and the child goes on in a session of its own. */
+/* The parent ends, and the child continues in its own session. */
 static void processes_daemon(void) {
     int ends[2], status;
     char byte;

@@ -111,7 +111,7 @@ static void queues_semop_zero(void) {
     semctl(set, 0, IPC_RMID);
 }
 
-/* SEM_UNDO: the end of a process gives back. */
+/* SEM_UNDO: the end of a process undoes its operations. */
 static void queues_semop_undo(void) {
     set = semget(IPC_PRIVATE, 1, 0600);
     semop(set, &(struct sembuf){0, 1, 0}, 1);

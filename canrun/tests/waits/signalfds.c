@@ -1,4 +1,4 @@
-/* Descriptors that read signals, alone and below epolls. */
+/* Descriptors that read signals, directly and through epolls. */
 #include "waits.h"
 
 #include <poll.h>
@@ -19,7 +19,7 @@ static void come_in(int ms) {
     setitimer(ITIMER_REAL, &(struct itimerval){{0, 0}, {0, ms * 1000}}, NULL);
 }
 
-/* One more process, which looks at what is ready for the run. */
+/* Starts another process, which checks for the run which descriptors are ready. */
 static void other_process(void) {
     if (fork() == 0) {
         for (int i = 0; i < 20; i++) {
@@ -85,7 +85,7 @@ static void signalfds_nested(void) {
     wait_with(EPOLLIN, true);
 }
 
-/* Signals of another process, twice. */
+/* Another process sends signals, twice. */
 static void signalfds_from_parent(void) {
     int status;
     begin();
@@ -107,7 +107,7 @@ static void signalfds_from_parent(void) {
     end(WEXITSTATUS(status));
 }
 
-/* One that came while nobody waited. */
+/* The signal came before the wait. */
 static void signalfds_came_before(void) {
     int fd = reader_of(SIGALRM), epoll = epoll_of(fd, EPOLLIN);
     struct epoll_event event;

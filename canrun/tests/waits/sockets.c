@@ -1,4 +1,4 @@
-/* Sockets: what arrives, what has room, timeouts. */
+/* Sockets: arriving data, room for data, timeouts. */
 #include "waits.h"
 
 #include <arpa/inet.h>
@@ -11,7 +11,7 @@
 #include <sys/un.h>
 #include <sys/wait.h>
 
-/* A timeout of a socket, which the kernel keeps in its ticks: 40 ms are some of each length. */
+/* A timeout of a socket, which the kernel stores in ticks: 40 ms are a whole number of ticks of each usual length. */
 #define TIMEOUT 40
 
 static char data[400000];
@@ -290,7 +290,7 @@ static void sockets_udp(void) {
     waitpid(pid, &status, 0);
 }
 
-/* The client has no name before it sends. */
+/* The client has no address before it sends. */
 static void sockets_udp_connected(void) {
     struct sockaddr_in address, other;
     socklen_t length = sizeof other;

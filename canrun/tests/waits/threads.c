@@ -1,4 +1,4 @@
-/* Ends of threads, barriers, and what is done once. */
+/* Ends of threads, barriers, and pthread_once. */
 #include "waits.h"
 
 #include <pthread.h>

@@ -1,4 +1,4 @@
-/* Timers that are read, and their descriptors: copies, children, other programs, numbers that are used anew. */
+/* Timers that are read, and their descriptors: copies, children, other programs, reused numbers. */
 #include "waits.h"
 
 #include <fcntl.h>
@@ -59,7 +59,7 @@ static void timerfds_epoll(void) {
     note("%ld", times);
 }
 
-/* Only one event until it is read, however often it has come. */
+/* There is only one event until the timer is read, however often it has expired. */
 static void timerfds_epoll_unread(void) {
     struct epoll_event event = {.events = EPOLLIN | EPOLLET};
     begin();
@@ -171,7 +171,7 @@ static void timerfds_child_sets(void) {
     end(times_of(fd));
 }
 
-/* Another program waits for it: dd reads the eight bytes. */
+/* Another program waits for the timer: dd reads the eight bytes. */
 static void timerfds_exec(void) {
     begin();
     int fd = timer_in(SOON, 0), status;
@@ -211,7 +211,7 @@ static void timerfds_message(void) {
     end(WEXITSTATUS(status));
 }
 
-/* Its number is another file's once it is due: that one has nothing of it. */
+/* Another file has the descriptor's number when the timer is due; no data are written to that file. */
 static void reuse(void (*replace)(int fd, int file)) {
     char path[] = "/tmp/waits.XXXXXX";
     struct stat status;

@@ -1,4 +1,4 @@
-/* Timers that send signals or call, and clocks. */
+/* Timers that send signals or call functions, and clocks. */
 #include "waits.h"
 
 #include <pthread.h>
@@ -152,7 +152,7 @@ static void timers_wrong(void) {
     end(timer_settime(timer, 0, &(struct itimerspec){{0, 0}, {0, 1000000000}}, NULL));
 }
 
-/* Each clock goes on by as much as a sleep. */
+/* Each clock advances by the length of a sleep. */
 static void timers_clocks(void) {
     static const clockid_t ids[] = {CLOCK_REALTIME, CLOCK_MONOTONIC, CLOCK_MONOTONIC_RAW, CLOCK_BOOTTIME, CLOCK_TAI};
     struct timespec first[5], last;

@@ -1,4 +1,4 @@
-/* Kinds of wait: tables of small cases. Each is a process of its own, which says how long it waited and what came. */
+/* Kinds of waits, as tables of small cases. Each runs in a separate process, and prints its length and its result. */
 #ifndef WAITS_H
 #define WAITS_H
 
@@ -16,14 +16,14 @@
 #include <time.h>
 #include <unistd.h>
 
-/* What is waited for comes after so many milliseconds; a wait for nothing is as long, and one that ends by something
- * else would be LONG. */
+/* The awaited event comes after SOON milliseconds. A wait without an event is as long, and a wait that must end early
+ * has the timeout LONG. */
 #define SOON 30
 #define LONG 4000
 
 struct wait {
     const char *name;
-    int ms; /* how long it is */
+    int ms; /* the expected length */
     void (*call)(void);
 };
 
@@ -31,27 +31,27 @@ struct wait {
 extern const struct wait sleeps[], polls[], signals[], awaited[], signalfds[], cancels[], locks[], conditions[],
     threads[], timers[], timerfds[], files[], queues[], sockets[], processes[], by_number[];
 
-/* The wait begins, and ends with what its call returned and its errno. */
+/* `begin` starts the measurement; `end` stops it and notes the result of the call, and its errno. */
 void begin(void);
 void end(long result);
-/* The same of a call that returns its error. */
+/* The same for a call that returns its error. */
 void ends_with(int error);
 
-/* Says more of what came. */
+/* Adds to the printed result. */
 void note(const char *format, ...) __attribute__((format(printf, 1, 2)));
 
-/* A length, and the moment at which it is over by this clock. */
+/* A length of time, and the moment after that time by this clock. */
 struct timespec in_ms(int ms);
 struct timespec after_ms(clockid_t id, int ms);
 
-/* A thread of its own calls this after so many milliseconds. */
+/* Calls this in another thread after so many milliseconds. */
 void later(int ms, void (*call)(void *), void *of);
 
-/* SIGALRM comes after so many milliseconds, and has a handler with these flags, which counts. */
+/* Sends SIGALRM after so many milliseconds. The handler has these flags, and counts. */
 void alarm_in(int ms, int flags);
 extern volatile sig_atomic_t alarms;
 
-/* Both ends of a pipe; calls for `later`. */
+/* Makes a pipe; and calls for `later`. */
 void make_pipe(int ends[2]);
 void write_byte(void *fd);
 void close_it(void *fd);
