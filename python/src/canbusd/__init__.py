@@ -29,7 +29,7 @@ import sys
 from typing import TYPE_CHECKING, Any
 
 if sys.version_info < (3, 9):
-    # Else the first module says that a type is not subscriptable.
+    # Without this import the first module reports that a type is not subscriptable.
     raise ImportError("canbusd needs Python 3.9 or later, and this is %d.%d" % sys.version_info[:2])
 
 if TYPE_CHECKING:
@@ -49,7 +49,7 @@ if TYPE_CHECKING:
     from canbusd.steps import step
     from canbusd.virtual import is_virtual
 
-#: The one of the program, of the wheel and of the folder canbusd-0.2.0.dist-info beside this package.
+#: The version of the program, of the wheel and of the folder canbusd-0.2.0.dist-info next to this package.
 __version__ = "0.2.0"
 
 __all__ = [
@@ -103,7 +103,7 @@ _HOMES = {
     "virtual": ["is_virtual"],
 }
 
-#: Modules that a test has names of by `from canbusd import uds`.
+#: The modules that a test can import by `from canbusd import uds`.
 _MODULES = ["e2e", "shapes", "uds"]
 
 
