@@ -106,7 +106,7 @@ class Placement:
         return self.runs - 1
 
     def lines_of(self, bus: BusKey) -> list[str]:
-        """Returns the lines for a bus. The first bus in a call is the first of all buses."""
+        """Returns the lines for a bus. The bus of the first call is the first of all buses."""
         self.first = self.first or bus
         return [*(self.lines.get(FIRST, ()) if bus == self.first else ()), *self.lines.get(bus, ())]
 

@@ -302,8 +302,8 @@ class Received:
         return any(seen.counters.state == state for seen in self.states[name][self._expected.get(name, 0) + 1 :])
 
     def states_since(self, name: str) -> list[str]:
-        """Returns the states of an interface from the last expected state on, the last ones if there are many. Returns none
-        if no state followed."""
+        """Returns the states of an interface from the last expected state on, but only the last ones if there are many.
+        Returns none if no state followed."""
         was = [seen.counters.state for seen in self.states[name][self._expected.get(name, 0) :]]
         shown = [".."] * (len(was) > MOST_SHOWN) + was[-MOST_SHOWN:]
         return shown if len(was) > 1 else []

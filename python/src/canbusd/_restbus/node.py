@@ -102,7 +102,7 @@ class Node(NamesWhatThereIs):
             close_at_exit(lambda: self._leave(wake_up) if was_off else self.wake(), kind)
 
     def _return(self, up: Callable[[str], None]) -> None:
-        """Puts the node on the bus again, after `up` has brought its interface up."""
+        """Brings the node's interface up with `up`, and resumes the messages of its rest buses."""
         with self._run._sleepers.lock:
             self._run._sleepers.remove(self.name)
             up(self.name)
