@@ -273,8 +273,9 @@ class CanbusdBus(InjectsFaults, NamesWhatThereIs, BusABC):
     ) -> None:
         """Puts a message into the transmit queue of the interface.
 
-        If this returns, the server has accepted it; it goes out once it wins arbitration. As on a bench it may be a Frame, or
-        an identifier with its data, ``send(0x123, b"\\x01")``, which has 29 bits above 7FF.
+        When this returns, the server has accepted the message, which is sent as soon as it wins arbitration. As on a
+        bench the message may be a Frame, or an identifier with its data, ``send(0x123, b"\\x01")``. An identifier above
+        7FF has 29 bits.
 
         :param timeout: seconds in which a full transmit queue may make room; none: a full one is an error at once
         :raises ~can.exceptions.CanOperationError: if the server refuses it; the ``error_code`` of ``no buffers`` is

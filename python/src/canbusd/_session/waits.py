@@ -16,7 +16,7 @@ def seconds_until(deadline: float) -> float:
     """Returns the seconds to wait until a time of `time.monotonic`, at most an hour; 0 from that time on.
 
     System calls round their timeout up. So the result is a little less than a whole number of microseconds, and
-    fractions of a microsecond are dropped.
+    rounding errors in the difference of two times are ignored.
     """
     left = min(deadline - time.monotonic(), LONGEST_WAIT)
     return max(0.0, math.ceil(left * 1e6 - 0.01) * 1e-6 - 5e-10)
