@@ -40,7 +40,7 @@ def split_command(text):
 
 
 class Run:
-    """One finished run of a program."""
+    """A finished run of a program."""
 
     def __init__(self, status, cpu, rss):
         self.status, self.cpu, self.rss = status, cpu, rss
@@ -79,7 +79,7 @@ def read(path):
 
 
 def masked_reporting(text):
-    """REPORTING without the bits of interfaces that the bus does not have, which --report may set or not."""
+    """Returns REPORTING without the bits of missing interfaces, which --report may set or not."""
     first, bus, rest = text.split(b"\n", 2)
     words = bus.split(b" ")
     words[3] = b"%04X" % (int(words[3], 16) & (1 << int(words[1])) - 1)
@@ -133,12 +133,12 @@ class Workload:
             self.keep_record()
 
     def keep_record(self):
-        """The other program's record: its events are counted, `audit` reads it."""
+        """Keeps the other program's record, so that its events can be counted and `audit` can read it."""
         self.events = events_of(read(self.path("other.rec")))
         os.replace(self.path("other.rec"), self.path(f"{self.name}.rec"))
 
     def measure(self, runs):
-        """{mode: {who: Run with the least cost and the greatest peak}}"""
+        """Returns {mode: {who: Run with the least cost and the greatest peak}}."""
         answers = {}
         if "record" not in self.words.modes:
             self.call("record", "other")
@@ -156,7 +156,7 @@ class Workload:
         return answers
 
     def instructions(self, mode, who):
-        """Callgrind's count of instructions, or None."""
+        """Returns callgrind's count of instructions, or None."""
         command = self.programs[who]
         if mode == "audit":
             args, stdin = ["audit", f"{self.name}.rec"], "/dev/null"
@@ -182,7 +182,7 @@ class Workload:
 
 
 def empty_cost(programs, folder, words):
-    """CPU seconds and peak of a bench run with an empty input."""
+    """Returns the CPU seconds and the peak memory of a bench run with an empty input."""
     answers = {}
     for who, command in programs.items():
         some = [
@@ -201,7 +201,7 @@ def growth(small, large, empty):
 
 
 def figures_of(name, n, folder, programs, empty, words):
-    """The rows of one workload."""
+    """Returns the rows of one workload."""
     part = max(1, n // 4)
     n = 4 * part
     quarter = Workload(name, part, folder, programs, words)
@@ -249,7 +249,7 @@ def instruction_rows(name, n, folder, programs, words):
             large, small = counts[0][mode, who], counts[1][mode, who]
             row[who] = large
             row[f"{who}_growth"] = large / small if large and small else None
-            # what an event more costs: start and end of the program fall out
+            # the additional cost of an event: start and end of the program cancel out
             row[f"{who}_each"] = (large - small) / (sizes[0].events - sizes[1].events) if large and small else None
         rows.append(row)
     for one in sizes:

@@ -23,7 +23,7 @@ import time
 
 ROOT = os.path.dirname(os.path.dirname(os.path.abspath(__file__)))
 COMMANDS = {"page": ["report"], "story": ["report", "--text", "--last", "0"], "replay": ["replay"]}
-# The number of frames that an interface has in its queue.
+# The number of frames in the queue of an interface.
 QUEUE = 100
 # The error message frames that each socket of `faults` asks for.
 ERRORS = ("1FFFFFFF", "140", "88", "0")
@@ -39,7 +39,7 @@ def moment(micros):
 
 
 class Run:
-    """The record of a run whose frames are all done, by interfaces with a socket each."""
+    """The record of a run in which each frame is sent successfully, by interfaces with one socket each."""
 
     def __init__(self, ifaces):
         self.entries = [f"open {number} 65535 = socket {number}" for number in range(ifaces)]
@@ -73,7 +73,7 @@ def calm(attempts, frames, rng):
 
 
 def contend(attempts, rng):
-    """Rounds of four full queues. Identifiers say who sends, so none is there twice."""
+    """Makes rounds of four full queues. Identifiers name the sender, so no two are equal."""
     run = Run(4)
     for _ in range(attempts // (4 * QUEUE)):
         queues = [
@@ -88,7 +88,8 @@ def contend(attempts, rng):
 
 
 def faults(attempts, rng, program, folder):
-    """By a bench, in whose queues are 100 frames of each interface; a tenth of the attempts have faults, some in a row."""
+    """Makes a run with a bench whose queues hold 100 frames of each interface. A tenth of the attempts have faults,
+    some in a row."""
     lines, bus = [], ",".join(f"can{number}" for number in range(4))
     for number in range(4):
         lines += [
@@ -129,10 +130,10 @@ KINDS = {
 
 
 def record_of(kind, attempts, program, folder):
-    """The path of the record of such a run, which is made where there is none."""
+    """Returns the path of the record of such a run; makes the record if it is missing."""
     path = os.path.join(folder, f"{kind}-{attempts}.rec")
     if not os.path.exists(path):
-        # By another process: what is measured would seem to need the memory that this one has.
+        # Another process makes it, because the measured command would otherwise seem to need this process's memory.
         maker = multiprocessing.Process(target=make_record, args=(path, kind, attempts, program, folder))
         maker.start()
         maker.join()
@@ -149,7 +150,7 @@ def make_record(path, kind, attempts, program, folder):
 
 
 def measured(words, folder, **variables):
-    """Seconds of a processor and of the clock, MB, and a hash of what was written."""
+    """Returns seconds of processor and clock, megabytes, and a hash of the output."""
     variables = {**os.environ, **variables, "PYTHONPYCACHEPREFIX": os.path.join(folder, "bytecode")}
     variables.pop("PYTHONDONTWRITEBYTECODE", None)
     begin = time.monotonic()

@@ -35,7 +35,7 @@ WORDS = [
     "--write",
     "16384",
 ]
-#: The words of each server; of `end` those that have the most entries.
+#: The words of each server; the servers of `end` have the largest limit on entries.
 KINDS = {
     "end": ["--limit", "16777216", "--out", "."],
     "live": ["--record", "live", "--out", "."],
@@ -46,7 +46,7 @@ KINDS = {
 
 
 class Server:
-    """A server in a folder of its own, which is gone in the end."""
+    """A server in its own folder, which is deleted at the end."""
 
     def __init__(self, program, place, words):
         self.folder = tempfile.TemporaryDirectory(prefix="canbusd-long-", dir=place)
@@ -57,19 +57,19 @@ class Server:
         assert self.child.stdout.readline().startswith("listening "), "the server does not listen"
 
     def load(self, *words):
-        """The figures of serve_load; each frame came once, and in order."""
+        """Returns the figures of serve_load; each frame came once, and in order."""
         where = ["--unix", os.path.join(self.folder.name, "socket"), "--pid", str(self.child.pid)]
         line = [LOAD, *where, "--names", "can0,can1", "--seconds", "3600", *words]
         words = subprocess.run(line, stdout=subprocess.PIPE, text=True, check=True).stdout.split()
         return dict(zip(words[::2], words[1::2]))
 
     def memory(self):
-        """How many megabytes are resident."""
+        """Returns the resident megabytes."""
         with open(f"/proc/{self.child.pid}/status", encoding="ascii") as status:
             return int(re.search(r"^VmRSS:\s+(\d+) kB", status.read(), re.M)[1]) / 1000
 
     def end(self):
-        """How many entries there were, how many seconds the end took, and how many bytes it has written."""
+        """Returns the number of entries, the seconds that the end took, and the number of bytes written."""
         begin = time.monotonic()
         written = self.child.communicate(timeout=3600)[0]
         took = time.monotonic() - begin
@@ -87,7 +87,8 @@ class Server:
 
 
 def measured(options, words):
-    """Entries a second, seconds of the end, megabytes, bytes an entry; then median and 99th percentile of the time from send to receive."""
+    """Returns entries a second, seconds of the end, megabytes and bytes for an entry; then the median and the 99th
+    percentile of the time from send to receive."""
     sessions = ["--sessions", str(1 + options.receivers), "--senders", "1"]
     with Server(options.program, options.folder, words) as server:
         found = server.load(*sessions, "--window", str(options.window), "--frames", str(options.frames))

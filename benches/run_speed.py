@@ -20,7 +20,7 @@ RUNS = 5
 
 
 class Setting:
-    """A server in a folder of its own, and programs on it."""
+    """A server in its own folder, and programs on it."""
 
     def __init__(self, program, run, listen):
         self.folder = tempfile.mkdtemp(prefix="canbusd-speed-")
@@ -37,12 +37,12 @@ class Setting:
         return [self.run, "--address", self.address, "--", *words]
 
     def latency(self, count):
-        """The median and the 99th percentile, in microseconds."""
+        """Returns the median and the 99th percentile, in microseconds."""
         words = self.words(os.path.join(self.folder, "run_latency"), "can0", "can1", str(count))
         return tuple(map(float, subprocess.run(words, stdout=subprocess.PIPE, text=True, check=True).stdout.split()))
 
     def rate(self, count):
-        """Frames a second from cangen to candump; AssertionError where one is lost."""
+        """Returns the frames a second from cangen to candump; raises AssertionError if a frame is lost."""
         path = os.path.join(self.folder, "dump")
         with open(path, "w+", encoding="utf-8") as dump:
             receiver = subprocess.Popen(self.words("candump", "-L", "-n", str(count), "can1"), stdout=dump)
@@ -63,7 +63,7 @@ class Setting:
 
 
 def measure(options, listen):
-    """For each canbusd-run the latencies, each with its 99th percentile, and the rates."""
+    """Returns for each canbusd-run the latencies, each with its 99th percentile, and the rates."""
     results = [([], [], []) for _ in options.run]
     for _ in range(RUNS):
         for run, (latencies, worst, rates) in zip(options.run, results):

@@ -49,7 +49,7 @@ def connect(server):
 
 
 def read_until(one, wanted):
-    """What comes, until it is as long as what is wanted, or nothing comes."""
+    """Reads until the input is as long as the expected text, or nothing more comes."""
     got = b""
     try:
         while len(got) < len(wanted):
@@ -63,7 +63,7 @@ def read_until(one, wanted):
 
 
 def without_moments(text):
-    """Each moment of a frame, which has to be near the clock, becomes T."""
+    """Replaces the time of each frame, which must be near the clock, with T."""
     words = text.split(b" ")
     for i, word in enumerate(words):
         if word.count(b".") == 1 and len(word) >= 8:
@@ -74,7 +74,7 @@ def without_moments(text):
 
 RAW = "< open can0 >< rawmode >"
 RAW_OK = "< ok >< ok >"
-TEXTS = [  # what is sent on one connection, what has to come after `< hi >`
+TEXTS = [  # the messages on one connection, and the expected answer after `< hi >`
     ("x< echo >< < echo >", "< echo >< echo >"),
     ("<echo>\t<\r\necho\t >", "< echo >< echo >"),
     ("< rawmode >< echo >", "< error wrong state >< echo >"),
@@ -117,7 +117,7 @@ TEXTS = [  # what is sent on one connection, what has to come after `< hi >`
     (RAW + "< recvown 1 >< send 123 2 1 ff >", RAW_OK + "< ok >< frame 123 TTTTTTTTTTTTTTTTT 01FF >"),
     (RAW + "< send 123 0 >< close >< echo >", RAW_OK + "< closed 0 0 >"),
 ]
-PAIRS = [  # name of the second; what it sends; what the first sends; what the second gets
+PAIRS = [  # the name of the second; the messages of the second; the messages of the first; the answer to the second
     ("can1", "", "< send 123 4 11 22 33 44 >", "< frame 123 TTTTTTTTTTTTTTTTT 11223344 >"),
     ("can1", "< filter 1 123 7FF >", "< send 00000123 0 >", "< frame 00000123 TTTTTTTTTTTTTTTTT  >"),
     ("can1", "< filter 1 123 C00007FF >", "< send 00000123 0 >< send 123 0 >", "< frame 123 TTTTTTTTTTTTTTTTT  >"),
@@ -169,7 +169,7 @@ def test_pair(name, first_words, words, wanted, folder):
     oks = "< ok >" * (2 + words.count("loopback"))
     on = f"{sent} {sent} 0 0 0" if name == "can0" else "0 0 0 0 0"
     first_oks = "< ok >" * (2 + bool(first_words))
-    talks = [  # which connection, what it sends, what it gets
+    talks = [  # the connection, its messages, and the answer
         (1, f"< open {name} >< rawmode >{first_words}", f"< hi >{first_oks}"),
         (0, f"{RAW}{words}< stats >", f"< hi >{oks}< stats 0 0 0 {sent} 0 {sent} 0 0 >"),
         (1, "< stats >< close >", f"{wanted}< stats {came} 0 {came} {on} >< closed 0 0 >"),
@@ -296,7 +296,7 @@ def test_good(folder):
 
 
 def silent(path):
-    """A server that takes connections and says nothing."""
+    """A server that accepts connections and sends nothing."""
     with socket.socket(socket.AF_UNIX) as one:
         one.bind(path)
         one.listen(8)
@@ -308,7 +308,7 @@ def silent(path):
 
 def test_wrong(folder):
     wrong = f"{HERE}/serve_wrong --port {{port}} --txqueue 1024 --rxqueue 65536 --wrong"
-    # 10,000 frames to 3 sessions each: one of 1,000 is 30 times a post, 10 times a send
+    # 10,000 frames to 3 sessions each: one in 1,000 is 30 posts or 10 sends
     for kind, every, words, key, count in (
         ("drop", 1000, "", "lost", "30"),
         ("drop", 25001, "", "lost", "1"),

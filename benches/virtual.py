@@ -31,15 +31,15 @@ TEN = SERVER + (
 )
 START = '. "$CASES/server.sh"; start can0,can1; inside "$NODES/cyclic" can0 100 10000 1; stop'
 STARTS = 20
-#: Seconds until all queues are full.
+#: The seconds until all queues are full.
 FIRST = 10
-#: Its name, its source and a flag.
+#: The name of the program, its source and a flag.
 NODES = (
     *(("cyclic", "cyclic", "-g0"), ("respond", "respond", "-g0")),
     *(("sender", "cyclic", "-DSENDS_ONLY"), ("reader", "cyclic", "-DREADS")),
 )
 SENDERS, READERS = TEN.replace("cyclic", "sender"), TEN.replace("cyclic", "reader")
-#: Two nodes at 10 ms in C, which are programs of the test, and in Python, one of which answers the other.
+#: Two nodes at 10 ms that answer each other: in C, as programs of the test, and in Python.
 TESTS = """
 import os, threading, time
 import can, pytest
@@ -73,7 +73,7 @@ PYTEST = 'mkdir "$OUT"; cd "$OUT"; "$PYTHON" -m pytest -q -p canbusd.pytest_plug
 
 
 def run(name, script, seconds, folder):
-    """Runs a script of so many seconds: the time of a processor, and the turns."""
+    """Runs a script for this many seconds; returns the processor time and the number of turns."""
     env = {**os.environ, "RUN": RUN, "CASES": CASES, "NODES": folder, "FRAMES": str(seconds * 100)}
     env.setdefault("CANBUSD", os.path.join(ROOT, "dist", "canbusd"))
     env.update(PYTHON=sys.executable, PYTHONPATH=os.path.join(ROOT, "python", "src"), CANBUSD_RUN=RUN)
@@ -88,8 +88,8 @@ def run(name, script, seconds, folder):
 
 
 def measure(name, script, seconds, frames, whole, folder):
-    """Prints what so many seconds of a script cost after its first ones, in which queues become full, and what the
-    `whole` does. A second has so many frames; where it has none the whole is run."""
+    """Prints the cost of this many seconds of a script after its first ones, in which queues fill, and the output of
+    `whole`. A second has this many frames; without frames the whole run is measured."""
     first, turns = run(name, script, FIRST if frames else whole, folder)
     if not frames:
         print(f"{name}: {first:.1f} s of a processor for {whole} s of bus time", flush=True)

@@ -28,7 +28,7 @@ pytestmark = needs_gcc
 
 ATTACK = f"can0,can1@{ROOT}/examples/bus_off_attack.script"
 SIXTEEN = ",".join(f"node{number}" for number in range(16))
-#: Those that need nothing else than can0 and can1 on one bus.
+#: The programs that only need can0 and can1 on one bus.
 PLAIN = (
     "calls",
     "faults",
@@ -56,7 +56,7 @@ PLAIN = (
 
 @pytest.fixture(params=["", pytest.param("sanitized", marks=pytest.mark.sanitized)], ids=["plain", "sanitized"])
 def build(request, tmp_path):
-    """Compiles a program, and runs it by canbusd-run: both as they are, and both with sanitizers."""
+    """Compiles a program, and runs it by canbusd-run: both unchanged, and both with sanitizers."""
     return Build(request, str(tmp_path))
 
 
@@ -98,7 +98,7 @@ def test_program_at_unix_path(build, name):
 
 
 def test_stamps(build):
-    """the moments are those of the log"""
+    """the timestamps are those of the log"""
     with serving(*FAST, "can0,can1") as server:
         stamps = build.passes(server, "stamps").split()
         server.end()
@@ -108,21 +108,21 @@ def test_stamps(build):
 
 
 def test_any(build):
-    """two buses"""
+    """a socket on all interfaces receives from two buses"""
     with serving(*FAST, "can0,can1", "car0") as server:
         build.passes(server, "any")
         server.end()
 
 
 def test_any_order(build):
-    """frames of two buses in their order, from the first on"""
+    """a socket receives frames of two buses in their order, from the first on"""
     with serving(*FAST, "can0,can1", "car0,car1") as server:
         assert build.passes(server, "any_order") == "600 and 600\n"
         server.end()
 
 
 def test_small_stack(build):
-    """threads with the least stack, and a program that clears its environment"""
+    """threads with the smallest stack work, and a program that clears its environment works"""
     with serving(*FAST, "can0,can1") as server:
         build.passes(server, "small_stack")
         server.end()
@@ -130,7 +130,7 @@ def test_small_stack(build):
 
 @pytest.mark.parametrize("compiler", ["gcc", "clang"])
 def test_thread_sanitizer(tmp_path, compiler):
-    """a program with the thread sanitizer goes on after it has made sockets"""
+    """a program with the thread sanitizer continues after it has made sockets"""
     path = str(tmp_path / "threads")
     words = ["-g", "-O1", "-pthread", "-fsanitize=thread", "-o", path, f"{ROOT}/canrun/tests/run_c/threads.c"]
     if not shutil.which(compiler) or subprocess.run([compiler, *words], capture_output=True, check=False).returncode:
@@ -141,14 +141,14 @@ def test_thread_sanitizer(tmp_path, compiler):
 
 
 def test_interfaces_16(build):
-    """all of a bus of 16"""
+    """a socket works on each interface of a bus of 16"""
     with serving(*FAST, SIXTEEN) as server:
         build.passes(server, "interfaces_16")
         server.end()
 
 
 def test_full(build):
-    """ENOBUFS, and with --wait each write waits for room"""
+    """a full queue returns ENOBUFS, and with --wait each write waits for room"""
     with serving("--pace", "1000", "can0,can1") as server:
         build.passes(server, "full")
         server.end()
@@ -158,7 +158,7 @@ def test_full(build):
 
 
 def test_waiting_signal():
-    """a signal ends a write that waits for room: EINTR without SA_RESTART; a program that is killed has not sent it"""
+    """a signal ends a write that waits for room: EINTR without SA_RESTART; a killed program has not sent the frame"""
     with serving("--pace", "60000", "--txqueue", "1", "can0,can1") as server, tempfile.TemporaryDirectory() as folder:
         assert passes(server, compiled("waiting", folder), options=["--wait"]) == "2 accepted\n"
         server.end()
@@ -167,10 +167,10 @@ def test_waiting_signal():
 @pytest.mark.parametrize("number", [signal.SIGINT, signal.SIGTERM, signal.SIGHUP])
 @pytest.mark.parametrize("lots", [1, pytest.param(20, marks=pytest.mark.slow)])
 def test_stopped(number, lots, tmp_path):
-    """with --wait a signal that ends programs ends a write that waits, also where its handler has SA_RESTART"""
+    """with --wait a signal that ends programs ends a waiting write, even if its handler has SA_RESTART"""
     path = compiled("stopped", str(tmp_path))
     for _ in range(lots):
-        # Its bus sends a frame a minute, before which all tries of a lot are over.
+        # The bus sends one frame a minute, and all tries of a lot end earlier.
         with serving("--pace", "60000", "--txqueue", "1", "can0,can1") as server:
             passes(server, path, str(int(number)), "50", options=["--wait"])
             server.end()
@@ -178,22 +178,22 @@ def test_stopped(number, lots, tmp_path):
 
 @pytest.mark.parametrize("room", ["1", "10"])
 def test_deaf_thread(build, room):
-    """with --wait a thread that no signal reaches waits for a second, so that the program ends by its handler; with a
-    queue of 10 it is a quick write that finds no room"""
+    """with --wait a thread that no signal reaches waits for a second, so that the handler ends the program; with a
+    queue of 10 a quick write finds no room"""
     with serving("--pace", "60000", "--txqueue", room, "can0,can1") as server:
         build.passes(server, "deaf", options=["--wait"])
         server.end()
 
 
 def test_busoff(build):
-    """error message frames, ENETDOWN, and the restart"""
+    """the program gets error message frames, ENETDOWN, and the restart"""
     with serving("--pace", "1", "--auto-restart", "300", ATTACK) as server:
         assert build.passes(server, "busoff") in ("down\n", "up\n")
         server.end()
 
 
 def test_gone(build, tmp_path):
-    """the server ends while a program has sockets: ENODEV and ENXIO"""
+    """sockets return ENODEV and ENXIO if the server ends while a program has them"""
     path = compiled("gone", str(tmp_path))
     with serving(*FAST, "can0,can1") as server, started(server, path) as child:
         assert child.stdout.readline() == "ready\n", child.stderr.read()
@@ -203,7 +203,7 @@ def test_gone(build, tmp_path):
 
 
 def test_overflow(build):
-    """what a slow reader loses is counted"""
+    """the frames that a slow reader loses are counted"""
     with serving(*FAST, "can0,can1") as server:
         assert re.fullmatch(r"\d+ received, \d+ lost\n", build.passes(server, "overflow"))
         server.end()

@@ -35,7 +35,7 @@ NOWHERE = "127.0.0.1:9"
 
 
 def alone(*words, **how):
-    """canbusd-run with these words, without a server of the tests."""
+    """Runs canbusd-run with these words, without a server of the tests."""
     how = {"capture_output": True, "text": True, "timeout": 60, "check": False, **how}
     env = {name: value for name, value in os.environ.items() if not name.startswith("CANBUSD_")}
     return subprocess.run([command(), *words], **{"env": env, **how})
@@ -67,7 +67,7 @@ def test_help():
     ],
 )
 def test_wrong_words(words, line):
-    """status 125, and one line"""
+    """wrong words end it with status 125 and one line"""
     ended = alone(*words)
     assert (ended.returncode, ended.stdout, ended.stderr) == (125, "", f"canbusd-run: {line}\n")
 
@@ -75,7 +75,7 @@ def test_wrong_words(words, line):
 @pytest.mark.quiet
 @pytest.mark.parametrize("how", ["option", "variable", "default"])
 def test_no_server(how, tmp_path, fixed_ports):
-    """status 125 at once, and one line with the address and what to do"""
+    """a missing server ends it at once with status 125, and one line has the address and the remedy"""
     address = f"{tmp_path}/none.socket"
     words = {"option": ["--address", address], "variable": [], "default": []}[how]
     env = {**os.environ, "CANBUSD_ADDRESS": address if how == "variable" else ""}
@@ -97,7 +97,7 @@ def test_no_server(how, tmp_path, fixed_ports):
 
 
 def test_other_server():
-    """what listens there may be no canbusd"""
+    """the line says so if the listening program is not canbusd"""
     with socket.create_server(("127.0.0.1", 0)) as other:
         address = f"127.0.0.1:{other.getsockname()[1]}"
         with subprocess.Popen([command(), "--address", address, "true"], stderr=subprocess.PIPE, text=True) as child:
@@ -110,7 +110,7 @@ def test_other_server():
 
 @pytest.mark.parametrize("answer", [b"< error unknown command >", b"< interfaces can0", b"< interfaces >", b""])
 def test_older_server(answer):
-    """a server that can't say which interfaces it has is reported as older"""
+    """a server that can't list its interfaces is reported as older"""
     with socket.create_server(("127.0.0.1", 0)) as older:
         address = f"127.0.0.1:{older.getsockname()[1]}"
         with subprocess.Popen([command(), "--address", address, "true"], stderr=subprocess.PIPE, text=True) as child:
@@ -127,7 +127,7 @@ def test_older_server(answer):
 
 
 def test_full_server():
-    """a server that has no room is there: the line says so, and what helps"""
+    """a full server does exist: the line says so, and names a remedy"""
     with serving("can0,can1") as server:
         clients = [plain(server, "can0") for _ in range(64)]
         ended = run(server, "true")
@@ -141,8 +141,8 @@ def test_full_server():
         server.end()
 
 
-#: Sends a frame for each of these words, and shows of each frame that it receives whether it is this socket's own, and
-#: whether it is one of the host.
+#: Sends a frame for each of these words, and prints for each received frame whether this socket sent it, and whether
+#: the host sent it.
 OWN_FRAMES = """
 import socket, struct, sys
 with socket.socket(socket.PF_CAN, socket.SOCK_RAW, socket.CAN_RAW) as can:
@@ -157,9 +157,9 @@ with socket.socket(socket.PF_CAN, socket.SOCK_RAW, socket.CAN_RAW) as can:
 
 
 def test_numbers_of_a_long_run():
-    """of a run with billions of frames a socket knows its own, and takes no other for one of them"""
+    """after billions of frames a socket recognises its own frames, and no others"""
     numbers = [5, 6, 2**24 + 4, 2**24 + 6, 2**32 - 2]
-    # Each is followed by one that another socket has sent, which has a place that was one's own.
+    # After each comes a frame of another socket, in a place that one of its own frames had.
     others = [4, 2**24 + 5, 2**24 + 5, 2**24 + 5, 2**24 + 6]
     with socket.create_server(("127.0.0.1", 0)) as server:
         address = f"127.0.0.1:{server.getsockname()[1]}"
@@ -171,7 +171,7 @@ def test_numbers_of_a_long_run():
         server.close()
 
 
-#: Has two frames sent, the second by a timer, and shows of each that it receives its number.
+#: Sends two frames, the second by a timer, and prints the number of each received frame.
 TIMED_FRAMES = """
 import socket, struct
 with socket.socket(socket.PF_CAN, socket.SOCK_DGRAM, socket.CAN_BCM) as can:
@@ -188,7 +188,7 @@ with socket.socket(socket.PF_CAN, socket.SOCK_DGRAM, socket.CAN_BCM) as can:
 
 
 def test_frames_that_come_with_a_verdict():
-    """what comes with the verdict on a frame that a timer has sent is handed over, though nothing comes after it"""
+    """messages that come with the verdict on a timer's frame are handed over, though nothing comes after them"""
     with socket.create_server(("127.0.0.1", 0)) as server:
         address = f"127.0.0.1:{server.getsockname()[1]}"
         numbers = [(1, 2), (3, 4)]
@@ -199,7 +199,8 @@ def test_frames_that_come_with_a_verdict():
 
 
 def answer_sessions(server, numbers):
-    """Greets each session, and answers a frame with its number, and with the frame and another one of its interface."""
+    """Greets each session, and answers a frame with its number, and with the frame and another frame of its
+    interface."""
     with contextlib.suppress(OSError):
         while True:
             connection, _ = server.accept()
@@ -230,7 +231,7 @@ def answer_session(connection, numbers):
 
 
 def test_interfaces():
-    """the names that the server has, for all that is run"""
+    """the program finds the names of the server's interfaces, whatever program it is"""
     buses = [",".join(f"{bus}-interface{number:02}" for number in range(16)) for bus in "abcdefghijklmnop"]
     names = [name for bus in buses for name in bus.split(",")]
     text = "import socket; print(*(n for i, n in socket.if_nameindex() if i >= 1 << 20)); " + (
@@ -244,7 +245,7 @@ def test_interfaces():
 
 
 def test_some_interfaces():
-    """a program finds those that are named; the server has to have each"""
+    """a program finds only the named interfaces; the server must have each of them"""
     text = "import socket; print(*(n for i, n in socket.if_nameindex() if i >= 1 << 20))"
     with serving("can0,can1,can2", "far0") as server:
         shown = passes(server, "/usr/bin/python3", "-c", text, options=["--interfaces", "far0,can1"])
@@ -279,7 +280,8 @@ def test_wait(tmp_path):
 
 @pytest.mark.parametrize("address", ["127.0.0.1:0", "./run.socket", "[::1]:0"])
 def test_addresses(address):
-    """by option and by variable; a host's name; a path that is relative, from another folder too"""
+    """an address comes from an option or a variable; it may be a host name or a relative path, also from another
+    folder"""
     if address.startswith("[") and not os.path.exists("/proc/net/if_inet6"):
         pytest.skip("no IPv6")
     with serving("can0,can1", address=address) as server:
@@ -303,7 +305,7 @@ SEND = "import socket, struct; s = socket.socket(29, 3, 1); s.bind(('can0',)); s
 
 
 def test_status_and_pid():
-    """the status, the signal and the number of the process are the program's"""
+    """the status, the signal and the process number are the program's"""
     with serving("can0,can1") as server:
         assert run(server, "sh", "-c", "exit 7").returncode == 7
         assert run(server, "sh", "-c", "kill -KILL $$").returncode == -signal.SIGKILL
@@ -320,9 +322,9 @@ def test_status_and_pid():
 
 
 def pressed(terminal):
-    """What a terminal shows from Ctrl-C to the end of its program.
+    """Returns the terminal's output from Ctrl-C to the end of its program.
 
-    Python sees one that comes just before it waits only once it is woken, whatever it waits for: so it is pressed again.
+    Python notices a Ctrl-C that comes just before a wait only when it is woken, so Ctrl-C is pressed again.
     """
     shown = b""
     for _ in range(WAIT):
@@ -331,7 +333,7 @@ def pressed(terminal):
             while select.select([terminal], [], [], 1)[0]:
                 shown += os.read(terminal, 1000)
         except OSError:
-            # The end of its last process, which the system reports as EIO.
+            # The last process has ended, which the system reports as EIO.
             return shown
     raise AssertionError(f"it goes on: {shown!r}")
 
@@ -377,7 +379,7 @@ def test_kill():
 
 
 def test_pipes():
-    """a bridge holds no pipe: who reads to its end sees it once the program has ended"""
+    """a bridge holds no pipe: a reader sees the end of its input when the program has ended"""
     with serving("can0,can1") as server:
         script = 'python3 -c "$1" & read -r _; kill -STOP $!; echo done'
         with started(server, "bash", "-c", f"({script})", "sh", WAITING_READER, stdin=subprocess.PIPE) as child:
@@ -395,7 +397,7 @@ def test_pipes():
 
 
 def test_no_child():
-    """the program sees no child, no SIGCHLD, and one descriptor for a socket; its other files are untouched"""
+    """the program sees no child, no SIGCHLD, and one descriptor for each socket; its other files are untouched"""
     text = """
 import os, signal, socket
 seen = []
@@ -428,7 +430,7 @@ with open("/dev/null", "wb", 0) as null:
 
 @needs("candump", "cansend")
 def test_nested():
-    """canbusd-run in canbusd-run, a shell, and other preloads"""
+    """canbusd-run works within canbusd-run, in a shell, and with other preloads"""
     with serving(*FAST, "can0,can1") as server:
         assert passes(server, command(), "sh", "-c", 'echo "$LD_PRELOAD"').count("libcanbusd-run.so") == 1
         with listening(server, "stdbuf", "-oL", "candump", "-L", "-n", "2", "can1") as dump:
@@ -437,7 +439,7 @@ def test_nested():
         server.end()
 
 
-#: Two binds that the server refuses.
+#: Makes two binds that the server refuses.
 TWICE = """
 import errno, socket
 with socket.socket(29, 3, 1) as s:
@@ -462,7 +464,7 @@ def test_debug():
             ended.returncode == 1
             and "canbusd-run: bind: No space left on device: the server says: record full\n" in ended.stderr
         ), ended
-        # A full record is told apart from bus off, and a line says so in any case, once.
+        # A full record differs from bus off, and a line reports it once in any case.
         again = run(server, "/usr/bin/python3", "-c", TWICE)
         assert again.stderr == "canbusd-run: bind: No space left on device: the server says: record full\n", again
         client.close()
@@ -481,7 +483,7 @@ def test_debug():
         server.end()
 
 
-#: A program that starts another by posix_spawn, and then becomes one that PATH has.
+#: Starts another program by posix_spawn, and then becomes a program from PATH.
 STARTS = [
     "/usr/bin/python3",
     "-c",
@@ -491,7 +493,7 @@ STARTS = [
 
 @needs_gcc
 def test_obstacles(tmp_path):
-    """a note says why the sockets of a program are the kernel's: linked statically, setuid, 32 bits, Go"""
+    """a note gives the reason why a program's sockets are the kernel's: static linking, setuid, 32 bits, Go"""
     source = tmp_path / "nothing.c"
     source.write_text("int main(void) { return 0; }\n", encoding="utf-8")
     built = {}
@@ -508,12 +510,12 @@ def test_obstacles(tmp_path):
         note = plain.replace("\n", "; with canbusd-run --static they are the server's\n")
         static = run(server, built["static"])
         assert (static.returncode, static.stderr) == (0, note.format(built["static"], "is linked statically"))
-        # A shell, or Python, starts it: the same line.
+        # A shell or Python starts the program, and the line is the same.
         for words in (["sh", "-c", built["static"]], ["bash", "-c", f"exec {built['static']}"], STARTS):
             started = run(server, *(word.format(built["static"]) for word in words))
             assert started.stderr == static.stderr, words
         assert run(server, "sh", "-c", built["dynamic"]).stderr == ""
-        # Programs that are linked statically, but have no such sockets, or run others that have the library.
+        # Programs that are linked statically, but have no such sockets, or run programs with the library.
         assert run(server, "/usr/bin/python3", "-c", "import ctypes.util; ctypes.util.find_library('c')").stderr == ""
         loader = os.path.realpath("/lib64/ld-linux-x86-64.so.2")
         if os.path.exists(loader):
@@ -534,7 +536,7 @@ def test_obstacles(tmp_path):
 
 
 def test_space_in_path(tmp_path):
-    """the loader can't take a library from there: status 125 and a line"""
+    """the loader can't take a library from a path with a space: status 125 and a line"""
     folder = tmp_path / "my programs"
     folder.mkdir()
     for name in ("canbusd-run", "canbusd-bridge", "libcanbusd-run.so", "libcanbusd-virtual.so"):
@@ -547,7 +549,7 @@ def test_space_in_path(tmp_path):
 
 @pytest.mark.root
 def test_unprivileged(tmp_path):
-    """nobody, who can get no new rights, can use it"""
+    """the user nobody, who can get no new rights, can use it"""
     reader = os.path.dirname(command())
     shutil.copytree(reader, tmp_path / "run", ignore=shutil.ignore_patterns("sanitized"))
     for path in [tmp_path, *tmp_path.parents]:
@@ -569,7 +571,8 @@ def test_unprivileged(tmp_path):
 
 
 def test_64_sockets():
-    """as many as the server has room for; one more is EUSERS (87), which a line explains, and again fine once one is closed"""
+    """a program has as many sockets as the server has room for. One more is EUSERS (87), which a line explains, and
+    succeeds after another is closed"""
     text = """
 import errno, socket
 def one():
@@ -605,7 +608,8 @@ else:
 
 
 def test_limit_of_descriptors():
-    """a socket that finds no descriptor is EMFILE, whichever of those that it takes is missing, and leaves none"""
+    """a socket without a free descriptor returns EMFILE, whichever of its descriptors is missing, and leaves none
+    open"""
     text = """
 import errno, os, resource, socket
 before = len(os.listdir("/proc/self/fd"))
@@ -632,7 +636,7 @@ print(*seen)
 
 
 def test_limit_of_files():
-    """a program that may write no file has sockets all the same, and its limit stays"""
+    """a program that may write no file has sockets nevertheless, and its limit stays"""
     text = f"import resource; resource.setrlimit(resource.RLIMIT_FSIZE, (0, 1 << 30)); {SEND}"
     text += "; assert resource.getrlimit(resource.RLIMIT_FSIZE) == (0, 1 << 30)"
     with serving("can0,can1") as server:
@@ -642,7 +646,7 @@ def test_limit_of_files():
 
 @pytest.mark.skipif(os.geteuid() != 0, reason="another user has to be this one's")
 def test_limit_of_processes():
-    """a socket for which no process can be started is EAGAIN, as the process itself would be"""
+    """a socket whose process can't be started returns EAGAIN, like the start of a process"""
     text = """
 import os, resource, socket
 os.setgid(65534); os.setuid(65534)
@@ -660,7 +664,7 @@ except BlockingIOError as fault:
 @pytest.mark.parametrize("address", ["127.0.0.1:0", "[::1]:0", "./run.socket"])
 @pytest.mark.parametrize("words, length", [((), 10), (("--txqueue", "77"), 77), (("--txqueue=1024",), 1024)])
 def test_length_of_queue(address, words, length):
-    """SIOCGIFTXQLEN is that of the server"""
+    """SIOCGIFTXQLEN returns the server's queue length"""
     text = """
 import fcntl, socket, struct
 with socket.socket() as any:
@@ -672,7 +676,7 @@ with socket.socket() as any:
         server.end()
 
 
-#: In a bridge that is linked with this, connect returns once the server has closed, where it closes soon.
+#: In a bridge with this library, connect returns after the server has closed, if it closes soon.
 LATE_CONNECT = """
 #include <poll.h>
 #include <sys/socket.h>
@@ -687,7 +691,7 @@ int __wrap_connect(int fd, const struct sockaddr *address, socklen_t length) {
 
 @needs_gcc
 def test_server_closes_before_a_write(tmp_path):
-    """what it said before counts: EUSERS of a full server, also where the bridge has not written yet"""
+    """the server's last messages count: a full server is EUSERS, even if the bridge has not written yet"""
     text = """
 import errno, socket
 with socket.socket(29, 3, 1) as s:
@@ -724,20 +728,20 @@ with socket.socket(29, 3, 1) as s:
 
 
 def stop(server):
-    """Stops a server, and returns once it has."""
+    """Stops a server, and returns after it has stopped."""
     os.killpg(server.child.pid, signal.SIGSTOP)
     assert come_true(lambda: all(state == "T" for _, state, _ in threads_of(pid for pid, _ in server.processes())))
 
 
 def call_of(pid):
-    """The number of the call of the kernel in which a process waits, or `running`."""
+    """Returns the number of the system call in which a process waits, or `running`."""
     with open(f"/proc/{pid}/syscall", encoding="utf-8") as file:
         return file.read().split()[0]
 
 
-#: So many writes of a process to a socket that those after them are quick.
+#: After this many writes to a socket, a process's later writes are quick writes.
 QUICK = 8
-#: A program that has written as many frames as its word says, and waits for a line before it goes on.
+#: Writes as many frames as its argument says, and then waits for a line before it continues.
 WRITER = """
 import errno, socket, struct, sys, threading, time
 s = socket.socket(29, 3, 1)
@@ -752,8 +756,8 @@ sys.stdin.readline()
 
 @pytest.mark.parametrize("before", [0, QUICK])
 def test_server_stops(before):
-    """a server that is stopped for longer than a write waits: the writes fail, however many at once, and all goes on when
-    it continues; by pipes, and as quick writes"""
+    """with a stopped server, waiting writes fail after their time limit, however many there are, and all work again
+    when it continues; this holds by pipes and for quick writes"""
     text = (
         WRITER
         + """
@@ -792,7 +796,7 @@ print("sent", flush=True)
 
 @pytest.mark.parametrize("before", [0, QUICK])
 def test_bridge_is_killed(before):
-    """a write whose bridge is killed meanwhile ends: ENXIO"""
+    """a write whose bridge is killed meanwhile returns ENXIO"""
     text = (
         WRITER
         + """
@@ -810,7 +814,7 @@ except OSError as fault:
         stop(server)
         child.stdin.write("\n")
         child.stdin.flush()
-        # In a write it waits for the server in recv, which is recvfrom, and not in ppoll.
+        # In a write the bridge waits for the server in recv, which is recvfrom, and not in ppoll.
         assert come_true(lambda: call_of(bridge) == "45")
         os.kill(bridge, signal.SIGKILL)
         assert line_of(child.stdout) == "ENXIO\n"
@@ -818,7 +822,7 @@ except OSError as fault:
 
 
 def test_no_descriptors():
-    """at the limit of descriptors frames are written and read, and what the bridge is asked for is refused (EMFILE)"""
+    """at the limit of descriptors a program writes and reads frames, and requests to the bridge are refused (EMFILE)"""
     text = """
 import errno, os, resource, socket, struct
 s, t = socket.socket(29, 3, 1), socket.socket(29, 3, 1)
@@ -853,7 +857,7 @@ assert s.getsockopt(socket.SOL_CAN_RAW, socket.CAN_RAW_LOOPBACK) == 1
 
 @needs_gcc
 def test_stored_files():
-    """those of dist/ are what the sources give, byte for byte, where sources and compiler are the same"""
+    """the files in dist/ are identical to the results of the sources, if sources and compiler are the same"""
     if not os.access(os.path.join(ROOT, "canrun"), os.W_OK):
         pytest.skip("the sources' folder can't be written")
     compared = subprocess.run(
@@ -875,7 +879,7 @@ def test_stored_files():
     ],
 )
 def test_completions_of_bash(words, wanted):
-    """options, then programs"""
+    """completion offers options first, then programs"""
     script = """
 source "$1/tools/completions/canbusd-run.bash"
 shift
@@ -887,7 +891,7 @@ _canbusd_run canbusd-run "${@: -1}" "${COMP_WORDS[COMP_CWORD - 1]}" && printf '%
 
 
 def test_bridge_alone():
-    """the bridge says what it is"""
+    """a bridge that is started by hand prints its purpose"""
     bridge = os.path.join(os.path.dirname(command()), "canbusd-bridge")
     ended = subprocess.run([bridge], capture_output=True, text=True, check=False, stdin=subprocess.DEVNULL)
     assert ended.returncode == 125 and "canbusd-run" in ended.stderr

@@ -1,4 +1,4 @@
-"""The examples of programs by canbusd-run: one that is driven to bus off, a car, and a virtual ECU."""
+"""The examples of programs by canbusd-run: a program that is driven to bus off, a car, and a virtual ECU."""
 
 import os
 import shutil
@@ -14,7 +14,7 @@ pytest.importorskip("can", reason="no python-can: apt-get install python3-can")
 
 
 def run_example(folder, *options, patience=240):
-    """Runs the tests of an example, as the guide says; what pytest writes."""
+    """Runs the tests of an example, as the guide does; returns the output of pytest."""
     words = [sys.executable, "-m", "pytest", "-q", "-p", "no:cacheprovider", "-p", "canbusd.pytest_plugin", *options]
     env = {**os.environ, "CANBUSD": program(), "CANBUSD_RUN": command()}
     done = subprocess.run(
@@ -34,14 +34,14 @@ def test_heartbeat():
 @pytest.mark.quiet
 @pytest.mark.parametrize("options", [(), ("--canbusd-virtual",)])
 def test_car(options):
-    """12 tests of each cluster, in real and in virtual time"""
+    """12 tests of each cluster pass, in real and in virtual time"""
     pytest.importorskip("canmatrix", reason="no canmatrix: apt-get install python3-canmatrix")
     assert "24 passed" in run_example("examples/car", *options)
 
 
 @pytest.mark.slow
 def test_virtual_ecu():
-    """a guest of QEMU with its own driver"""
+    """a guest of QEMU works with its own driver"""
     if not shutil.which("qemu-system-x86_64") or "CANBUSD_KERNEL" not in os.environ:
         pytest.skip("no qemu-system-x86_64, or CANBUSD_KERNEL names no kernel (examples/virtual_ecu/guest)")
     assert "5 passed" in run_example("examples/virtual_ecu", patience=900)

@@ -1,4 +1,5 @@
-"""canbusd-run: J1939, by the tools of can-utils and by CPython's own tests. The cases of a kernel are in kernel/j1939.c and others."""
+"""canbusd-run: J1939, with the tools of can-utils and CPython's own tests. The cases with a kernel's answers are in
+kernel/j1939.c and other files."""
 
 import importlib.util
 import re
@@ -34,7 +35,7 @@ def lines_of(child):
 
 @needs("testj1939")
 def test_testj1939(server):  # noqa: F811
-    """one frame and several, at two ends of a bus; to a socket of the same interface"""
+    """one frame and several frames arrive, at two ends of a bus, and at a socket of the same interface"""
     for sender in "can1", "can0":
         with listening(server, "testj1939", "-r", "-w20", "can0:0x90") as receiver:
             passes(server, "testj1939", "-s20", f"{sender}:0x80", f"{sender}:0x90,0x12300")
@@ -48,7 +49,7 @@ def test_testj1939(server):  # noqa: F811
 
 @needs("testj1939")
 def test_testj1939_echo(server):  # noqa: F811
-    """a message and its reply"""
+    """a message gets its reply"""
     with listening(server, "testj1939", "-e", "-w20", "can0:0x90"):
         text = passes(server, "testj1939", "-s30", "-r", "-w2", "can1:0x80", "can1:0x90,0x12300")
     assert text.startswith("90 12300: 01 23 45 67 89 ab cd ef\n") and len(text.splitlines()) == 4, text
@@ -56,7 +57,8 @@ def test_testj1939_echo(server):  # noqa: F811
 
 @needs("j1939cat")
 def test_j1939cat(server, tmp_path):  # noqa: F811
-    """a file of a kilobyte comes whole; the sender ends, in Debian 12 as with its kernel, whose reply it has no room for"""
+    """a file of a kilobyte arrives complete. The sender ends, in Debian 12 as with its kernel, which has no room for
+    the reply"""
     data = bytes(number * 7 % 256 for number in range(1000))
     (tmp_path / "sent").write_bytes(data)
     with open(tmp_path / "received", "wb") as file:
@@ -69,7 +71,7 @@ def test_j1939cat(server, tmp_path):  # noqa: F811
 
 @needs("j1939spy", "testj1939", "cansend")
 def test_j1939spy(server):  # noqa: F811
-    """messages to all and to others"""
+    """messages to all and to others are shown"""
     with listening(server, "stdbuf", "-oL", "j1939spy", "-P", "can0") as spy:
         passes(server, "testj1939", "-s30", "-B", "can1:0x80", "can1:,0x0FE12")
         passes(server, "cansend", "can1", "18EA90FE#00EE00")
@@ -82,7 +84,7 @@ def test_j1939spy(server):  # noqa: F811
 
 @needs("j1939sr")
 def test_j1939sr(server):  # noqa: F811
-    """a line"""
+    """a line arrives"""
     with listening(server, "stdbuf", "-oL", "j1939sr", "can0:91", stdin=-1) as receiver:
         passes(server, "j1939sr", "can1:80", "can1:91,12300", input="1122334455\n")
         assert receiver.stdout.readline() == "1122334455\n"
@@ -90,7 +92,7 @@ def test_j1939sr(server):  # noqa: F811
 
 @needs("j1939acd", "candump", "cansend")
 def test_j1939acd(server, tmp_path):  # noqa: F811
-    """the daemon claims an address, replies to who asks, gives it up to a lower name, and takes another"""
+    """the daemon claims an address, answers requests, gives the address up to a lower name, and takes another"""
     words = ("j1939acd", "-r", "100,80-120", "-c", str(tmp_path / "cache"), "1122334455667788", "can0")
     with listening(server, "stdbuf", "-oL", "candump", "-L", "can1") as dump:
 
@@ -114,14 +116,14 @@ def test_j1939acd(server, tmp_path):  # noqa: F811
     not importlib.util.find_spec("test.test_socket"), reason="no tests of CPython, as of libpython3.11-testsuite"
 )
 def test_cpython(server):  # noqa: F811
-    """its three tests of J1939"""
+    """its three tests of J1939 pass"""
     ended = run(server, PYTHON, "-m", "unittest", "-v", "test.test_socket.J1939Test")
     assert ended.returncode == 0 and "Ran 3 tests" in ended.stderr and "skipped" not in ended.stderr, ended
 
 
 @needs_gcc
 def test_long_message(tmp_path):
-    """100,000 bytes, each of them right, as the error queue reports their progress"""
+    """a message of 100,000 bytes arrives unchanged, and the error queue reports its progress"""
     path = compiled("j1939", str(tmp_path))
     with serving(*FAST, "can0,can1") as server:
         passes(server, path, "100000", "1", patience=200)
@@ -132,7 +134,7 @@ def test_long_message(tmp_path):
 @pytest.mark.slow
 @needs_gcc
 def test_waits(tmp_path):
-    """1,000 messages by sockets of their own, whose ends are waited for"""
+    """1,000 messages from separate sockets arrive, and their ends are awaited"""
     path = compiled("j1939", str(tmp_path))
     with serving(*FAST, "can0,can1") as server:
         passes(server, path, "9", "1000", patience=280)
@@ -141,7 +143,7 @@ def test_waits(tmp_path):
 
 @needs_gcc
 def test_bus_off(tmp_path):
-    """a transfer of which packets are lost did not get through: both ends give it up, and nothing is reported as sent"""
+    """a transfer with lost packets fails: both ends give it up, and nothing is reported as sent"""
     script = tmp_path / "off.script"
     script.write_text("next 32 from can1 skip 3 global bit\n", encoding="utf-8")
     with serving("--pace", "1", f"can0,can1@{script}") as server:
@@ -169,7 +171,7 @@ with socket.socket(socket.PF_CAN, socket.SOCK_DGRAM, socket.CAN_J1939) as ecu, \
 
 @needs_gcc
 def test_virtual(tmp_path, nodes):  # noqa: F811
-    """in virtual time an address is good after 250 ms, and a transfer to nobody is given up after 1.25 s"""
+    """in virtual time an address is valid after 250 ms, and a transfer to nobody is given up after 1.25 s"""
     left = case("j1939", tmp_path / "run", nodes)
     claimed = re.fullmatch(rb"claimed after (0\.\d+) s\n", left["claimed"])
     assert claimed and 0.25 <= float(claimed.group(1)) < 0.252, left["claimed"]
@@ -179,14 +181,15 @@ def test_virtual(tmp_path, nodes):  # noqa: F811
         *(f"{length} bytes: Success" for length in (8, 30, 5000)),
         "30 bytes: No route to host",
     ]
-    # After its request was on the bus, which takes 131 bits and 29 stuffed ones at most, of 2 microseconds.
+    # The time counts from the end of the request on the bus, which has 131 bits and at most 29 stuff bits, of 2
+    # microseconds each.
     given_up = float(sent[3].split(" after ")[1].split()[0])
     assert 1.25 + 131 * 2e-6 <= given_up <= 1.25 + 160 * 2e-6, sent
 
 
 @needs_gcc
 def test_virtual_answers(tmp_path, nodes):  # noqa: F811
-    """each case has the kernel's answer in virtual time too, though frames take their time"""
+    """each case has the kernel's answer in virtual time too, though frames take time"""
     kernel = answers(file_of("answers.txt"))
     left = case("answers", tmp_path / "run", nodes, PROBE=probe(str(tmp_path)))
     got = answers(left["answers"].decode())

@@ -1,6 +1,6 @@
-"""canbusd-run beside a real kernel: the programs of run_c/ pass there too, and each case of kernel/ has the answer that the kernel
-gave, as answers.txt has it, but for what differences.txt says, each with the line of LIMITS in canbusd-run.1.
-"""
+"""canbusd-run compared with a real kernel. The programs of run_c/ pass on the kernel too, and each case of kernel/ has
+the kernel's answer, as in answers.txt. The exceptions are in differences.txt, each with its line of LIMITS in
+canbusd-run.1."""
 
 import concurrent.futures
 import os
@@ -14,7 +14,7 @@ from running import FAST, FLAGS, compiled, environment, needs_gcc, passes
 from serving import ROOT, serving
 
 KERNEL = os.path.join(ROOT, "canrun", "tests", "kernel")
-#: The kernel has the checks of these.
+#: The kernel has the checks of these programs.
 SAME = (
     "calls",
     "faults",
@@ -34,12 +34,12 @@ SAME = (
     "passed_by",
     "wrote_past",
 )
-#: Servers among which the cases are divided; most of their time is waits.
+#: The number of servers that share the cases; most of the time is waiting.
 LOTS = 12
 
 
 def answers(text):
-    """The cases of some lines, each with its answer."""
+    """Returns the cases in some lines, each with its answer."""
     return dict(re.findall(r"^(\w+:\w+):(.*)$", text, re.M))
 
 
@@ -49,18 +49,18 @@ def file_of(name, folder=KERNEL):
 
 
 def differences(folder=KERNEL):
-    """What is expected to differ: the lines of LIMITS, and the cases."""
+    """Returns the expected differences: the lines of LIMITS, and the cases."""
     text = re.sub(r"^#.*\n", "", file_of("differences.txt", folder), flags=re.M)
     return re.findall(r"^(?!\w+:\w+:)(.+)$", text, re.M), answers(text)
 
 
 def plain(page):
-    """The words of a manual page, without its form."""
+    """Returns the words of a manual page, without markup."""
     return " ".join(re.sub(r"\\f.|\\(?=-)|^\.\S+", "", page, flags=re.M).split())
 
 
 def probe(folder, *more, flags=()):
-    """Compiles the program of the cases, also with those of more folders."""
+    """Compiles the program of the cases, also with the cases of further folders."""
     path = os.path.join(folder, "probe")
     sources = [
         os.path.join(of, name) for of in (KERNEL, *more) for name in sorted(os.listdir(of)) if name.endswith(".c")
@@ -70,7 +70,7 @@ def probe(folder, *more, flags=()):
 
 
 def answered(program, cases, options=(*FAST, "can0,can1", "vcan0"), settings=(), run_options=(), **how):
-    """What canbusd-run answers to these cases, with a server of their own."""
+    """Returns the answers of canbusd-run to these cases, with a separate server."""
     with serving(*options) as server:
         how = {"env": environment(server, **dict(settings)), "options": run_options, **how}
         written = passes(server, program, *cases, patience=300, **how)
@@ -79,7 +79,7 @@ def answered(program, cases, options=(*FAST, "can0,can1", "vcan0"), settings=(),
 
 
 def unlike(program, cases, folder, **how):
-    """The cases whose answers are not those of the kernel, nor those of differences.txt."""
+    """Returns the cases whose answers differ from the kernel's and from those in differences.txt."""
     kernel = answers(file_of("answers.txt", folder))
     assert cases == list(kernel), "answers.txt is of other cases: canrun/tests/kernel/answers renews it"
     with concurrent.futures.ThreadPoolExecutor(LOTS) as pool:
@@ -94,7 +94,7 @@ def unlike(program, cases, folder, **how):
 
 
 def boots(*words):
-    """What a command writes that boots a kernel."""
+    """Returns the output of a command that boots a kernel."""
     if not all(shutil.which(tool) for tool in ("gcc", "qemu-system-x86_64", "busybox", "cpio")):
         pytest.skip("no gcc, or none of `apt-get install qemu-system-x86 busybox-static cpio`")
     booted = subprocess.run(words, capture_output=True, text=True, timeout=1200, check=False)
@@ -105,7 +105,7 @@ def boots(*words):
 
 @needs_gcc
 def test_answers(tmp_path):
-    """canbusd-run answers each case as the kernel did, or as differences.txt says"""
+    """canbusd-run answers each case like the kernel, or as differences.txt says"""
     program = probe(str(tmp_path))
     cases = subprocess.run([program, "--list"], stdout=subprocess.PIPE, text=True, check=True).stdout.split()
     wrong = unlike(program, cases, KERNEL)
@@ -113,7 +113,7 @@ def test_answers(tmp_path):
 
 
 def check_differences(folder):
-    """Fails unless what differs is in LIMITS, and does differ."""
+    """Fails unless each difference is in LIMITS, and does occur."""
     limits = plain(file_of("../../../canbusd-run.1").split(".SH LIMITS")[1].split(".SH ENVIRONMENT")[0])
     lines, cases = differences(folder)
     kernel = answers(file_of("answers.txt", folder))
@@ -122,13 +122,13 @@ def check_differences(folder):
 
 
 def test_differences():
-    """what differs is in LIMITS, and does differ"""
+    """each difference is in LIMITS, and does occur"""
     check_differences(KERNEL)
 
 
 @pytest.mark.slow
 def test_recorded():
-    """answers.txt has what the kernel answers"""
+    """answers.txt has the answers of the kernel"""
     booted = boots(os.path.join(KERNEL, "answers"))
     assert answers(booted) == answers(file_of("answers.txt"))
 

@@ -1,6 +1,5 @@
-"""canbusd-run: interfaces by netlink. Each case of links/ has the answer that a kernel with a card gave; programs as users have
-them find interfaces, change them, and recover them from bus off; and what that costs a server.
-"""
+"""canbusd-run: interfaces by netlink. Each case of links/ has the answer of a kernel with a CAN card. Common programs
+find interfaces, change them, and recover them from bus off. Further tests check the cost for a server."""
 
 import contextlib
 import os
@@ -28,9 +27,9 @@ from serving import ROOT, come_true, plain, serving
 from test_run_kernel import KERNEL, boots, check_differences, probe, unlike
 
 LINKS = os.path.join(ROOT, "canrun", "tests", "links")
-#: The server of the cases; the cards are can2 and can3.
+#: The server of the cases; can2 and can3 are the interfaces of the cards.
 CARDS = ("--bitrate", "500000", "can0,can1", "vcan0", "can2,can3")
-#: A frame of can0 is destroyed until its sender is bus off.
+#: Faults destroy a frame of can0 until its sender is bus off.
 ATTACK = f"can0,can1@{ROOT}/examples/bus_off_attack.script"
 
 needs_ip = pytest.mark.skipif(not os.path.exists("/usr/sbin/ip"), reason="no ip: apt-get install iproute2")
@@ -41,26 +40,26 @@ IP = "/usr/sbin/ip"
 
 
 def keepers(server):
-    """The numbers of the keepers of a server."""
+    """Returns the process numbers of a server's keepers."""
     return processes_of(environment(server)["CANBUSD_ADDRESS"], "canbusd-links")
 
 
 def ended(server):
-    """Ends a server, whose keepers end with it."""
+    """Ends a server; its keepers end with it."""
     server.end()
     assert come_true(lambda: not keepers(server)), "a keeper is left"
 
 
 @contextlib.contextmanager
 def bus(*words):
-    """A server whose keepers end with it."""
+    """A server; its keepers end with it."""
     with serving(*words) as server:
         yield server
         ended(server)
 
 
 def state_of(server, name="can0"):
-    """State and counters as `ip` writes them."""
+    """Returns the state and the counters in the format of `ip`."""
     shown = passes(server, IP, "-details", "link", "show", name)
     return re.search(r"state (\S+) \(berr-counter tx (\d+) rx (\d+)\)", shown).groups()
 
@@ -70,7 +69,7 @@ def comes_to(server, state, name="can0"):
 
 
 def cases_of(program):
-    """The cases of links/."""
+    """Returns the cases of links/."""
     listed = subprocess.run([program, "--list"], stdout=subprocess.PIPE, text=True, check=True).stdout.split()
     cases = [case for case in listed if os.path.exists(os.path.join(LINKS, f"{case.split(':')[0]}.c"))]
     assert len(cases) >= 120
@@ -81,7 +80,7 @@ def cases_of(program):
 @needs_ip
 @needs_libsocketcan
 def test_answers(tmp_path):
-    """canbusd-run answers each case as the kernel did, or as differences.txt says"""
+    """canbusd-run answers each case like the kernel, or as differences.txt says"""
     program = probe(str(tmp_path), LINKS, flags=["-lsocketcan"])
     wrong = unlike(program, cases_of(program), LINKS, options=CARDS)
     assert not wrong, "\n".join(wrong)
@@ -92,7 +91,7 @@ def test_answers(tmp_path):
 @needs_ip
 @needs_libsocketcan
 def test_answers_sanitized(tmp_path):
-    """so it does with sanitizers, which report nothing"""
+    """the answers are the same with sanitizers, which report nothing"""
     folder = str(tmp_path)
     program = probe(folder, LINKS, flags=[*SANITIZERS, "-lsocketcan"])
     reports = f"log_path={folder}/report:verify_asan_link_order=0:detect_stack_use_after_return=0"
@@ -104,13 +103,13 @@ def test_answers_sanitized(tmp_path):
 
 
 def test_differences():
-    """what differs is in LIMITS, and does differ"""
+    """each difference is in LIMITS, and does occur"""
     check_differences(LINKS)
 
 
 @pytest.mark.slow
 def test_recorded():
-    """answers.txt has what the kernel answers"""
+    """answers.txt has the answers of the kernel"""
     booted = boots(os.path.join(KERNEL, "answers"), "links")
     with open(os.path.join(LINKS, "answers.txt"), encoding="utf-8") as file:
         recorded = file.read()
@@ -164,7 +163,7 @@ def test_restart_ms(tmp_path):
 
 @needs_ip
 def test_bit_rates_of_each_bus():
-    """`ip` shows those of the interface's bus, and takes no others for it"""
+    """`ip` shows the bit rates of the interface's bus, and accepts no others"""
     rates = ("--bitrate", "500000", "--bitrate", "body0=125000", "--dbitrate", "can0=2000000")
     with bus(*rates, "can0,can1", "body0") as server:
         for name, nominal, fast in (("can0", 500000, 2000000), ("can1", 500000, 2000000), ("body0", 125000, 125000)):
@@ -178,7 +177,7 @@ def test_bit_rates_of_each_bus():
 @needs_gcc
 @needs_ip
 def test_monitor(tmp_path):
-    """`ip monitor link` writes that the carrier goes, and comes"""
+    """`ip monitor link` reports that the carrier goes and comes"""
     writer = compiled("send_one", str(tmp_path))
     with bus(*FAST, ATTACK) as server, started(server, IP, "monitor", "link") as monitor:
         assert come_true(lambda: keepers(server))
@@ -202,12 +201,12 @@ def test_monitor(tmp_path):
 @needs_gcc
 @needs_ip
 def test_down_and_up(tmp_path):
-    """an interface that is set down takes no part: it sends nothing, acknowledges nothing, and loses what waits"""
+    """an interface that is set down sends nothing, acknowledges nothing, and loses its waiting frames"""
     writer = compiled("send_one", str(tmp_path))
-    # With a pace: a frame that nobody acknowledges is tried again and again, and has the record be full in seconds.
+    # The bus has a pace, because otherwise repeats of an unacknowledged frame fill the record in seconds.
     with bus("--ack", "peers", "can0,can1") as server, contextlib.closing(plain(server, "can1")) as other:
         passes(server, IP, "link", "set", "can1", "down")
-        # Nobody acknowledges the frame of can0, which waits.
+        # No node acknowledges the frame of can0, which waits.
         passes(server, writer, "can0")
         comes_to(server, "ERROR-PASSIVE")
         shown = passes(server, IP, "-details", "link", "show", "can1")
@@ -218,18 +217,18 @@ def test_down_and_up(tmp_path):
         assert refused.returncode != 0 and "Network is down" in refused.stderr
         refused = run(server, IP, "link", "set", "can1", "type", "can", "restart")
         assert (refused.returncode, refused.stderr) == (2, "Error: the interface is down.\n")
-        # Once it is up it receives the frame.
+        # After the interface is up, it receives the frame.
         passes(server, IP, "link", "set", "can1", "up")
         assert other.frame()[0] == "123"
         shown = passes(server, IP, "-details", "-statistics", "link", "show", "can1")
         assert "<NOARP,UP,LOWER_UP,ECHO>" in shown and "state ERROR-ACTIVE (berr-counter tx 0 rx 0)" in shown
-        # To be set up is no restart of can_restart.
+        # Setting the interface up is not a restart by can_restart.
         assert re.search(r"bus-off\n\s+0 +0 +0 +0 +0 +0 ", shown), shown
 
 
 @needs_ip
 def test_down_by_others():
-    """what a client of the server takes down is down, and is set up by netlink"""
+    """an interface that a client of the server takes down is down, and netlink sets it up"""
     with bus(*FAST, "can0,can1") as server, contextlib.closing(plain(server, "can0")) as client:
         assert state_of(server)[0] == "ERROR-ACTIVE"
         assert client.answer("< down >") == "< ok >"
@@ -243,7 +242,7 @@ def test_down_by_others():
 
 @needs_ip
 def test_dump_of_many():
-    """a list of 256 interfaces starts nothing, has no session, and takes a moment"""
+    """a list of 256 interfaces starts no process, uses no session, and takes a moment"""
     names = [[f"b{number}x{one}" for one in range(16)] for number in range(16)]
     with bus(*FAST, *(",".join(names_of_bus) for names_of_bus in names)) as server:
         shown = passes(server, IP, "-details", "-o", "link", "show")
@@ -257,7 +256,7 @@ def test_dump_of_many():
 
 @needs_ip
 def test_sessions():
-    """questions take one session of the server in all, and a thousand leave room for 63"""
+    """all requests share one session of the server, and a thousand leave room for 63"""
     with bus(*FAST, "can0,can1") as server:
         script = "for i in $(seq 100); do ip link show can0; done | grep -c link/can"
         assert passes(server, "sh", "-c", script, env=environment(server, PATH="/usr/sbin:/usr/bin:/bin")) == "100\n"
@@ -266,7 +265,7 @@ def test_sessions():
 
 @needs_ip
 def test_full():
-    """where the server has no session left the interface is found all the same, and standard error says why"""
+    """the interface is found even if the server has no free session, and standard error gives the reason"""
     with bus(*FAST, "can0,can1") as server:
         clients = [plain(server, "can0") for _ in range(63)]
         script = f"echo ready; read line; {IP} -details link show can0"
@@ -283,7 +282,7 @@ def test_full():
 @pytest.mark.skipif(os.geteuid() != 0, reason="not root, so there is no other user")
 @needs_ip
 def test_other_user():
-    """another user's program is not served by this one's keeper, but has its own"""
+    """another user's program is not served by this user's keeper, but has its own"""
     with bus(*FAST, "can0,can1") as server:
         passes(server, IP, "link", "set", "can0", "type", "can", "restart-ms", "100")
         words = ["setpriv", "--reuid=65534", "--regid=65534", "--clear-groups", command(), "--", IP]
@@ -349,7 +348,7 @@ QT = "/usr/lib/qt5/bin/canbusutil"
     not os.path.exists(QT), reason="no canbusutil: apt-get install libqt5serialbus5-bin libqt5serialbus5-plugins"
 )
 def test_qt():
-    """Qt's list of devices has the interfaces of the server"""
+    """Qt's device list has the interfaces of the server"""
     with bus(*FAST, "can0,can1", "vcan0") as server:
         written = passes(server, QT, "-d", "socketcan", env=environment(server, QT_QPA_PLATFORM="offscreen"))
         assert [line for line in written.split() if "can" in line] == ["can0", "can1", "vcan0"]
@@ -361,7 +360,7 @@ def test_qt():
 @needs_gcc
 @needs_ip
 def test_virtual(tmp_path):
-    """in virtual time restart-ms is as long as it says: a minute takes a moment"""
+    """in virtual time restart-ms takes exactly its time: a minute passes in a moment"""
     writer = compiled("send_one", str(tmp_path))
     script = f"""
 export PATH=/usr/sbin:$PATH CANBUSD_ADDRESS={tmp_path}/bus

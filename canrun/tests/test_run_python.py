@@ -1,4 +1,4 @@
-"""canbusd-run: python-can's interface `socketcan`, in programs that know nothing of canbusd."""
+"""canbusd-run: python-can's interface `socketcan`, in programs without any knowledge of canbusd."""
 
 import textwrap
 
@@ -28,12 +28,12 @@ def all_of(receiver, count):
 
 
 def python(server, text, *words, **how):
-    """Runs a program of Python by canbusd-run; what it wrote."""
+    """Runs a Python program by canbusd-run; returns its output."""
     return passes(server, PYTHON, "-c", START + textwrap.dedent(text), *words, **how)
 
 
 def test_send_and_receive(server):
-    """identifiers, lengths, remote frames, and that frames of others are received ones"""
+    """identifiers, lengths and remote frames arrive, and frames of others count as received"""
     python(
         server,
         """
@@ -52,7 +52,7 @@ def test_send_and_receive(server):
 
 
 def test_filters(server):
-    """as they are given and changed"""
+    """filters apply when they are given and when they change"""
     python(
         server,
         """
@@ -72,7 +72,7 @@ def test_filters(server):
 
 
 def test_fd(server):
-    """FD frames of all lengths"""
+    """FD frames of all lengths arrive"""
     python(
         server,
         """
@@ -88,7 +88,7 @@ def test_fd(server):
 
 
 def test_own_messages(server):
-    """receive_own_messages, and which are own ones"""
+    """receive_own_messages works, and own messages are marked"""
     python(
         server,
         """
@@ -102,7 +102,7 @@ def test_own_messages(server):
 
 
 def test_any(server):
-    """an empty channel is all interfaces"""
+    """an empty channel receives from all interfaces"""
     python(
         server,
         """
@@ -116,7 +116,7 @@ def test_any(server):
 
 
 def test_notifier(server):
-    """a Notifier, and a ThreadSafeBus"""
+    """a Notifier works, and a ThreadSafeBus"""
     python(
         server,
         """
@@ -132,7 +132,7 @@ def test_notifier(server):
 
 
 def test_asyncio(server):
-    """an AsyncBufferedReader"""
+    """an AsyncBufferedReader works"""
     python(
         server,
         """
@@ -153,7 +153,8 @@ def test_asyncio(server):
 
 
 def test_periodic(server):
-    """cyclic sending by the broadcast manager: some times a period, modified, stopped, started again, and of several frames"""
+    """the broadcast manager sends cyclic frames: with several periods, modified, stopped, restarted, and several frames
+    in turn"""
     python(
         server,
         """
@@ -186,7 +187,7 @@ def test_periodic(server):
 
 
 def test_errors():
-    """error message frames, bus off, and the exception of a send"""
+    """a program gets error message frames, bus off, and the exception of a send"""
     with serving("--pace", "0", f"can0,can1@{ROOT}/examples/bus_off_attack.script") as server:
         python(
             server,
@@ -208,7 +209,7 @@ def test_errors():
 
 
 def test_no_interface(server):
-    """the name of no interface is an error at once"""
+    """an unknown interface name is an error at once"""
     python(
         server,
         """
@@ -246,7 +247,7 @@ def test_logger_and_player(server, tmp_path):
 
 
 def test_plain_sockets(server):
-    """Python's own socket module"""
+    """Python's own socket module works"""
     python(
         server,
         """
@@ -280,7 +281,7 @@ def test_plain_sockets(server):
 
 
 def test_multiprocessing(server):
-    """a bus in a child process, by fork"""
+    """a forked child process has a bus"""
     python(
         server,
         """
@@ -301,7 +302,7 @@ def test_multiprocessing(server):
 
 
 def test_isotp(server):
-    """Python's own sockets of ISO-TP"""
+    """Python's own sockets of ISO-TP work"""
     python(
         server,
         """
@@ -319,7 +320,8 @@ def test_isotp(server):
 
 
 def test_handle_of_libc(server):
-    """the functions of a handle of the C library, as scapy's native sockets of ISO-TP have one, are canbusd-run's too"""
+    """functions that a program takes from a handle of the C library, as scapy's native ISO-TP sockets do, are
+    canbusd-run's too"""
     text = """
 import ctypes, socket, struct
 libc = ctypes.CDLL("libc.so.6", use_errno=True)

@@ -1,6 +1,6 @@
-"""canbusd-run --static: programs that take no library. The cases of kernel/ and links/ in a program that is linked statically
-have the kernel's answers, but for what differs there and in static.txt; programs of Go and musl; signals and forks.
-"""
+"""canbusd-run --static: programs that load no library. A statically linked program gets the kernel's answers to the
+cases of kernel/ and links/. The exceptions are the kernel's differences and static.txt. Further tests run programs of
+Go and musl, signals and forks."""
 
 import concurrent.futures
 import os
@@ -19,12 +19,12 @@ from test_run_kernel import plain as words_of
 from test_run_links import CARDS, LINKS, needs_ip, needs_libsocketcan
 
 STATIC = ("--static",)
-#: Words in the names of cases whose sockets are not there.
+#: Words in the names of cases whose sockets do not exist here.
 OF_J1939 = ("j1939", "claims:", "notices:", "transport:")
 
 
 def supports(kernel=os.uname().release):
-    """Whether this kernel has what --static needs."""
+    """Returns whether this kernel supports --static."""
     return tuple(map(int, re.findall(r"\d+", kernel)[:2])) >= (5, 19)
 
 
@@ -37,9 +37,8 @@ def known_differences():
 
 
 def unlike(cases, folder, answer):
-    """The cases of a folder that have another answer than the kernel's or the known difference. Cases of static.txt have a
-    server each, since what they leave undone would disturb others.
-    """
+    """Returns the cases of a folder whose answer is neither the kernel's nor a known difference. Each case of
+    static.txt has a separate server, because its leftovers would disturb others."""
     alone = known_differences()[1]
     wanted = {**answers(file_of("answers.txt", folder)), **differences(folder)[1], **alone}
     others = [case for case in cases if case not in alone]
@@ -53,7 +52,7 @@ def unlike(cases, folder, answer):
 @needs_libsocketcan
 @pytest.mark.parametrize("folder", [KERNEL, LINKS], ids=["kernel", "links"])
 def test_answers(tmp_path, folder):
-    """a static program has the kernel's answers, but for what static.txt says"""
+    """a static program gets the kernel's answers, except for those in static.txt"""
     program = probe(str(tmp_path), LINKS, flags=["-static", "-lsocketcan"])
     listed = subprocess.run([program, "--list"], stdout=subprocess.PIPE, text=True, check=True).stdout.split()
     known = answers(file_of("answers.txt", folder))
@@ -64,7 +63,7 @@ def test_answers(tmp_path, folder):
 
 
 def test_differences():
-    """what differs is in LIMITS, and does differ"""
+    """each difference is in LIMITS, and does occur"""
     limits = words_of(file_of("../../../canbusd-run.1").split(".SH LIMITS")[1].split(".SH ENVIRONMENT")[0])
     lines, cases = known_differences()
     kernel = {**answers(file_of("answers.txt")), **answers(file_of("answers.txt", LINKS))}
@@ -72,13 +71,13 @@ def test_differences():
     assert not [case for case, answer in cases.items() if kernel.get(case, answer) == answer]
 
 
-#: Programs of test_run_c.py that need nothing else than can0 and can1 on one bus, and do not look at how the library works.
+#: The programs of test_run_c.py that only need can0 and can1 on one bus, and do not check the library's inner working.
 SAME = ("calls", "options", "filters", "own", "fd", "epoll", "threads", "bcm", "rows", "isotp")
 
 
 @pytest.mark.parametrize("name", SAME)
 def test_programs(tmp_path, name):
-    """programs that are linked statically find what those with the library find"""
+    """statically linked programs get the same results as programs with the library"""
     program = compiled(name, str(tmp_path), "-static")
     with serving(*FAST, "can0,can1", "vcan0") as server:
         passes(server, program, options=STATIC, patience=200)
@@ -96,7 +95,7 @@ def test_signals(tmp_path, kind):
 
 @pytest.mark.skipif(not shutil.which("go"), reason="no go: apt-get install golang-go")
 def test_go(tmp_path):
-    """a program of Go finds its interface by net.InterfaceByName, and answers a thousand frames"""
+    """a Go program finds its interface by net.InterfaceByName, and answers a thousand frames"""
     node = str(tmp_path / "node")
     subprocess.run(["go", "build", "-o", node, os.path.join(ROOT, "examples", "go", "node.go")], check=True)
     with serving(*FAST, "can0,can1") as server:
@@ -126,7 +125,7 @@ def test_musl(tmp_path):
 
 
 def test_process(tmp_path):
-    """the program keeps its process number and its status, and nothing is left of the supervisor"""
+    """the program keeps its process number and its status, and the supervisor leaves nothing"""
     program = compiled("send_one", str(tmp_path), "-static")
     with serving(*FAST, "can0,can1") as server:
         shown = run(server, "sh", "-c", f"echo $$; exec {program} none", options=STATIC)
@@ -138,12 +137,12 @@ def test_process(tmp_path):
 
 
 def supervisors(server):
-    """The supervisors of programs that have this server's address."""
+    """Returns the supervisors of programs that have this server's address."""
     return processes_of(environment(server)["CANBUSD_ADDRESS"], "canbusd-static")
 
 
 def test_refused(tmp_path):
-    """what --static can't do is refused, and a program that needs it is told of it"""
+    """requests that --static can't handle are refused, and a line names the program that needs them"""
     program = compiled("send_one", str(tmp_path), "-static")
     with serving(*FAST, "can0,can1") as server:
         note = run(server, program, "can0").stderr

@@ -1,4 +1,4 @@
-"""canbusd COMMAND .., which `python3 -m canbusd COMMAND ..` is too."""
+"""The command `canbusd COMMAND ..`, which is also `python3 -m canbusd COMMAND ..`."""
 
 import argparse
 import difflib
@@ -29,12 +29,12 @@ canbusd-run runs programs with CAN sockets, such as candump; candump2bench turns
 
 
 def module_of(name: str) -> Any:
-    """The module of a command, which is imported only if it is called: reports need no python-can."""
+    """Returns the module of a command. Only this module is imported: reports need no python-can."""
     return importlib.import_module(f"canbusd.commands.{name}")
 
 
 def parser_of(name: str) -> argparse.ArgumentParser:
-    """The parser of a command."""
+    """Returns the parser of a command."""
     module = module_of(name)
     parser = argparse.ArgumentParser(
         prog=f"canbusd {name}",
@@ -47,12 +47,12 @@ def parser_of(name: str) -> argparse.ArgumentParser:
 
 
 def help_text() -> str:
-    """The commands, a line each, and how to go on."""
+    """Returns the list of commands, one on each line, and the way to get more help."""
     return TEXT.format(commands="\n".join(f"  {name:<9}{text}" for name, text in COMMANDS.items()))
 
 
 def version_text() -> str:
-    """The version, and the commit that an installed package was made from."""
+    """Returns the version, and the commit from which an installed package was made."""
     try:
         commit = (Path(__file__).parent / "COMMIT").read_text(encoding="utf-8").strip()
     except OSError:
@@ -61,7 +61,7 @@ def version_text() -> str:
 
 
 def main_parser() -> argparse.ArgumentParser:
-    """The parser of the first word."""
+    """Returns the parser of the first word."""
     parser = argparse.ArgumentParser(
         prog="canbusd",
         usage="canbusd COMMAND ..",
@@ -77,7 +77,7 @@ def main_parser() -> argparse.ArgumentParser:
 
 
 def command_named(words: Sequence[str]) -> str:
-    """The command that these words name, by the first of them."""
+    """Returns the command that the first of these words names."""
     parser = main_parser()
     found, unknown = parser.parse_known_args(words[:1])
     if unknown:
@@ -92,7 +92,7 @@ def command_named(words: Sequence[str]) -> str:
 
 
 def carry_out(words: Sequence[str]) -> Optional[int]:
-    """Carries out the command that these words name; the status."""
+    """Carries out the command that these words name, and returns its status."""
     name = command_named(words)
     if name in PROGRAM:
         run_program("canbusd", words)
@@ -110,14 +110,14 @@ def main(given: Optional[list[str]] = None) -> NoReturn:
     """Carries out a command."""
     arguments = sys.argv[1:] if given is None else given
     if arguments[:1] == ["help"]:
-        # `help COMMAND` is `COMMAND --help`.
+        # `help COMMAND` is the same as `COMMAND --help`.
         arguments = [*arguments[1:2], "--help"]
     first = "".join(arguments[:1])
     run_command(lambda: carry_out(arguments), f"canbusd {first}" if first in COMMANDS else "canbusd")
 
 
 def canbusd_run() -> NoReturn:
-    """The command canbusd-run of the wheel: becomes the program of this name."""
+    """Runs the command canbusd-run of the wheel: this process becomes the program with this name."""
     run_command(lambda: run_program("canbusd-run", sys.argv[1:]), "canbusd-run")
 
 

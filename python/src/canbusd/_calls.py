@@ -1,4 +1,4 @@
-"""Faults of calls whose arguments do not fit, and of names that are not there: they list which there are."""
+"""Error texts for calls with wrong arguments and for unknown names: the texts list the valid names."""
 
 import difflib
 import functools
@@ -7,7 +7,7 @@ from typing import TYPE_CHECKING, Any, ClassVar, Optional, TypeVar, cast
 
 F = TypeVar("F", bound=Callable[..., Any])
 
-#: Arguments by other names, as other calls and libraries have them.
+#: The names that other calls and libraries use for these arguments.
 OTHER_NAMES = {
     "bit_rate": "bitrate",
     "cycle": "period",
@@ -29,8 +29,8 @@ OTHER_NAMES = {
 
 
 def close_at_exit(close: Callable[[], object], kind: Optional[type[BaseException]]) -> None:
-    """Ends something at the end of a `with` block, which an exception of this kind has left, if any. That is the fault that
-    counts, and not one of the end."""
+    """Closes an object at the end of a `with` block. If an exception ended the block, that exception is raised, and a
+    fault of the closing is not."""
     try:
         close()
     except Exception:
@@ -39,20 +39,21 @@ def close_at_exit(close: Callable[[], object], kind: Optional[type[BaseException
 
 
 def meant(word: str, known: Iterable[str]) -> str:
-    """Returns the name that this word may mean, as a question; the empty text if it may mean none."""
+    """Returns the name that this word may mean, as a question; the empty text if the word resembles no name."""
     names = list(known)
     near = [OTHER_NAMES[word]] if OTHER_NAMES.get(word) in names else difflib.get_close_matches(word, names, n=1)
     return f" ({near[0]}?)" if near else ""
 
 
 def no_such(kind: str, word: str, known: Iterable[str]) -> str:
-    """Says that there is none of this kind with this name, and which there are: `no option pace (pace_ms?); there are ..`."""
+    """Returns the text that no such name exists, with the names that do: `no option pace (pace_ms?); there are ..`."""
     names = list(known)
     return f"no {kind} {word}{meant(word, names)}; there are {', '.join(names) or 'none'}"
 
 
 def explained(cure: str = "") -> Callable[[F], F]:
-    """Has a call of this method or function whose arguments do not fit say which it takes, and what to do."""
+    """Makes a method or function explain a call with wrong arguments: the error lists the valid arguments and the
+    remedy."""
 
     def decorated(function: F) -> F:
         @functools.wraps(function)
@@ -72,15 +73,16 @@ def explained(cure: str = "") -> Callable[[F], F]:
 
 
 def misfit(function: Callable[..., Any], args: tuple[Any, ...], kwargs: Mapping[str, Any]) -> str:
-    """Says why these are no arguments of a method or a function; the empty text if they are."""
-    # It takes its time, and is for mistakes only.
+    """Returns the reason why a method or function does not accept these arguments; the empty text if it accepts
+    them."""
+    # This check is slow, so it runs only after a mistake.
     import inspect
 
     signature = inspect.signature(function)
     parameters = [one.replace(annotation=one.empty) for one in signature.parameters.values()]
     owner, _, own = function.__qualname__.rpartition(".")
     if owner:
-        # The first is the object.
+        # The first argument is the object.
         del parameters[0]
     name = owner if own == "__init__" else own
     names = [one.name for one in parameters if one.kind in (one.POSITIONAL_OR_KEYWORD, one.KEYWORD_ONLY)]
@@ -97,17 +99,17 @@ def misfit(function: Callable[..., Any], args: tuple[Any, ...], kwargs: Mapping[
 
 
 class NamesWhatThereIs:
-    """Has an attribute that is not there named with what may be meant."""
+    """Makes the error for a missing attribute suggest the name that may be meant."""
 
     __slots__ = ()
-    #: The names to write for those of other classes; `*` is any.
+    #: Names of attributes of other classes, and the names to write here; `*` is any attribute.
     _INSTEAD: ClassVar[Mapping[str, str]] = {}
 
     if not TYPE_CHECKING:
 
         def __getattr__(self, name):
             if hasattr(type(self), name):
-                # A property failed inside.
+                # The exception comes from inside a property.
                 return object.__getattribute__(self, name)
             public = [one for one in dir(type(self)) if not one.startswith("_")]
             instead = self._INSTEAD.get(name) or meant(name, public) or self._INSTEAD.get("*", "")

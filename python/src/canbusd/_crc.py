@@ -1,4 +1,4 @@
-"""The CRCs of AUTOSAR's SWS_CRCLibrary that its profiles use, by tables."""
+"""The CRCs of AUTOSAR's SWS_CRCLibrary that its profiles use, computed with tables."""
 
 from collections.abc import Sequence
 
@@ -6,7 +6,7 @@ from canbusd.frames import data_bytes
 
 
 def _table(polynomial: int, bits: int) -> list[int]:
-    """The CRC of each byte."""
+    """Returns the CRC of each byte."""
     table, highest, mask = [], 1 << bits - 1, (1 << bits) - 1
     for byte in range(256):
         crc = byte << bits - 8
@@ -20,24 +20,24 @@ J1850, _H2F, _CCITT = _table(0x1D, 8), _table(0x2F, 8), _table(0x1021, 16)
 
 
 def crc8_of(table: Sequence[int], data: bytes, crc: int) -> int:
-    """Returns the CRC that goes on from this one, by a table."""
+    """Continues a CRC over these bytes with a table, and returns the new CRC."""
     for byte in data:
         crc = table[crc ^ byte]
     return crc
 
 
 def crc8(data: bytes) -> int:
-    """Returns the CRC-8 of SAE J1850: polynomial 1D, begun with FF, and inverted at the end."""
+    """Returns the CRC-8 of SAE J1850: polynomial 1D, initial value FF, inverted at the end."""
     return crc8_of(J1850, data_bytes(data), 0xFF) ^ 0xFF
 
 
 def crc8_h2f(data: bytes) -> int:
-    """Returns the CRC-8 with the polynomial 2F, begun with FF, and inverted at the end."""
+    """Returns the CRC-8 with polynomial 2F and initial value FF, inverted at the end."""
     return crc8_of(_H2F, data_bytes(data), 0xFF) ^ 0xFF
 
 
 def crc16(data: bytes) -> int:
-    """Returns the CRC-16 CCITT-FALSE: polynomial 1021, begun with FFFF."""
+    """Returns the CRC-16 CCITT-FALSE: polynomial 1021, initial value FFFF."""
     crc = 0xFFFF
     for byte in data_bytes(data):
         crc = (crc << 8 & 0xFFFF) ^ _CCITT[crc >> 8 ^ byte]

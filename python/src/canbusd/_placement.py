@@ -1,7 +1,8 @@
-"""The placement of a sweep that this process carries out: what it adds to the runs of a test, and where their records go.
+"""The placement of a sweep that this process carries out: the faults for the runs of a test, and the path of their
+records.
 
-A sweep carries out a test again and again, each time in a process of its own, with a fault at another attempt. Elsewhere there
-is no placement, and nothing here does anything.
+A sweep runs a test again and again, each time in a new process, with a fault at another attempt. Outside a sweep there
+is no placement, and this module does nothing.
 """
 
 import os
@@ -26,28 +27,28 @@ BusKey = tuple[int, str]
 Keep = Callable[[BusKey, Sequence[str], int, Path, "Optional[Rates]"], None]
 
 
-#: Seconds by which a frame is late.
+#: The delay of a late frame, in seconds.
 DELAY = 0.010
 
 
 class AtSockets(NamedTuple):
     """A fault at the sockets of an interface."""
 
-    #: `missed`: they lose the frame of this moment, as by an overrun. `late`: they have it DELAY later. `full`: the first
-    #: send of such a frame from this moment on finds the transmit queue full.
+    #: `missed`: the sockets lose the frame of this time, as in an overrun. `late`: the sockets receive the frame DELAY
+    #: later. `full`: the first send of such a frame from this time on finds the transmit queue full.
     kind: str
     interface: str
-    #: In 3 digits or 8, and in seconds with six digits after the point, as messages have them.
+    #: The identifier in 3 or 8 digits, and the time in seconds with six decimals, both as in messages.
     identifier: str
     moment: str
 
     def is_received(self, message: str) -> bool:
-        """Whether a message hands over this frame."""
+        """Returns whether a message hands over this frame."""
         is_it = f" {self.identifier} {self.moment} " in message and not message.startswith("< error ")
         return is_it and self.kind != "full"
 
     def is_sent(self, message: str) -> bool:
-        """Whether a message sends this frame now."""
+        """Returns whether a message sends this frame now."""
         is_it = message.split(" ", 2)[:2] == ["send", self.identifier]
         return is_it and self.kind == "full" and time.time() >= float(self.moment)
 
@@ -55,20 +56,21 @@ class AtSockets(NamedTuple):
 class Outage(NamedTuple):
     """Interfaces of a server that are down for some time."""
 
-    #: `down`: this one is. `noack`: all others of its bus are, so that nobody acknowledges its frames.
+    #: `down`: this interface is down. `noack`: all other interfaces of its bus are, so that no node acknowledges its
+    #: frames.
     kind: str
     interface: str
     moment: float
     seconds: float
 
     def among(self, buses: Sequence[Sequence[str]]) -> list[str]:
-        """Returns which interfaces of a server with these buses are down."""
+        """Returns the interfaces that are down, of a server with these buses."""
         own = next((names for names in buses if self.interface in names), ())
         return [name for name in own if (name == self.interface) == (self.kind == "down")]
 
 
 class Reset(NamedTuple):
-    """A program of a test that is killed at a moment, and starts anew."""
+    """A program of a test that is killed at a given time, and starts anew."""
 
     program: int
     moment: float
@@ -80,21 +82,21 @@ FIRST: BusKey = (0, "")
 
 @dataclass
 class Placement:
-    """The faults that this process adds to the runs of its test, and how they are seen when they end."""
+    """The faults that this process adds to the runs of its test, and a function that takes their records."""
 
-    #: Lines of a script for a bus, which go before its own.
+    #: The script lines for a bus, which come before the test's own lines.
     lines: Mapping[BusKey, Sequence[str]] = field(default_factory=dict)
-    #: Called with each record that a run leaves: its bus, the names of its interfaces, how many of its first sockets are the
-    #: package's own, its path, and its bit rates if it has any.
+    #: A function that gets each record of a run: its bus, the names of its interfaces, the number of its first sockets
+    #: that are the package's own, its path, and its bit rates if it has any.
     keep: "Keep" = lambda *_: None
     at_sockets: Sequence[AtSockets] = ()
     resets: Sequence[Reset] = ()
     outages: Sequence[Outage] = ()
     #: The number of programs that the test has started.
     programs: int = 0
-    #: Why a fault could not be carried out.
+    #: The reason why a fault could not be carried out.
     failure: str = ""
-    #: The number of servers that and benches the test has started, and the first bus of the first of them.
+    #: The number of servers and benches that the test has started, and the first bus of the first of them.
     runs: int = 0
     first: Optional[BusKey] = None
 
@@ -104,7 +106,7 @@ class Placement:
         return self.runs - 1
 
     def lines_of(self, bus: BusKey) -> list[str]:
-        """Returns the lines for a bus. The first one that is asked for is the first of all."""
+        """Returns the lines for a bus. The bus of the first call is the first of all buses."""
         self.first = self.first or bus
         return [*(self.lines.get(FIRST, ()) if bus == self.first else ()), *self.lines.get(bus, ())]
 
@@ -113,7 +115,7 @@ _current: Optional[Placement] = None
 
 
 def carry_out(placement: Placement) -> None:
-    """Has this process carry out a placement."""
+    """Makes this process carry out a placement."""
     global _current
     _current = placement
     for one in placement.at_sockets:
@@ -121,7 +123,7 @@ def carry_out(placement: Placement) -> None:
 
 
 def is_there() -> bool:
-    """Whether this process carries out a placement."""
+    """Returns whether this process carries out a placement."""
     return _current is not None
 
 
@@ -141,7 +143,7 @@ def script_of(bus: BusKey, script: Optional[Script]) -> Optional[Script]:
 
 
 def rules_of(bus: BusKey) -> Sequence[str]:
-    """Returns the rules of the placement for a bus, which are none of the test's."""
+    """Returns the rules that the placement adds to a bus."""
     return [line for line in (_current.lines_of(bus) if _current else ()) if not line[:1].isdigit()]
 
 
@@ -151,14 +153,15 @@ def at_sockets_of(interface: str) -> Optional[AtSockets]:
 
 
 def acknowledged_by(usual: "Ack") -> "Ack":
-    """Returns who acknowledges frames: the other nodes of the bus only, if the placement takes these off the bus."""
+    """Returns the nodes that acknowledge frames: only the other nodes of the bus, if the placement takes these off the
+    bus."""
     is_noack = _current is not None and any(one.kind == "noack" for one in _current.outages)
     return "peers" if is_noack else usual
 
 
 def note_server(buses: Sequence[Sequence[str]], take_down: Callable[[Sequence[str], float, float], None]) -> None:
-    """Notes that the test has started a server with these buses. It is called with interfaces that are down from a moment on
-    for so many seconds."""
+    """Notes that the test has started a server with these buses. `take_down` gets interfaces, the time when they go
+    down, and the number of seconds that they stay down."""
     for outage in _current.outages if _current else ():
         names = outage.among(buses)
         if names:
@@ -166,13 +169,13 @@ def note_server(buses: Sequence[Sequence[str]], take_down: Callable[[Sequence[st
 
 
 def note_failure(reason: Exception) -> None:
-    """Notes that a fault of the placement could not be carried out: its run says nothing of the test."""
+    """Notes that a fault of the placement could not be carried out: its run proves nothing about the test."""
     if _current is not None:
         _current.failure = str(reason)
 
 
 def note_program(restart: Callable[[], None]) -> None:
-    """Notes that the test has started a program, which is called so to be killed and to start anew."""
+    """Notes that the test has started a program; `restart` kills the program and starts it anew."""
     if _current is None:
         return
     number = _current.programs
@@ -188,18 +191,18 @@ def _restart_at(moment: float, restart: Callable[[], None]) -> None:
 
 
 def sleep_until(moment: float) -> None:
-    """Waits until this moment of the clock."""
+    """Waits until the clock reaches this time."""
     time.sleep(max(0.0, moment - time.time()))
 
 
 def keep(bus: BusKey, names: Sequence[str], own: int, record: Path, rates: "Optional[Rates]") -> None:
-    """Hands a record that is whole to the sweep, if there is one."""
+    """Hands a complete record to the sweep, if there is one."""
     if _current and record.exists():
         _current.keep(bus, names, own, record, rates)
 
 
 def copy_to(folder: Path) -> "Keep":
-    """Returns a function that copies each record into this folder, with what else is known of its bus beside it."""
+    """Returns a function that copies each record into this folder, together with the other facts about its bus."""
 
     def copy(bus: BusKey, names: Sequence[str], own: int, record: Path, rates: "Optional[Rates]") -> None:
         target = folder / f"{bus[0]}-{bus[1]}.rec"

@@ -1,4 +1,4 @@
-"""The profile of end-to-end protection of a message: one that a test gives, or that of its attributes in a database."""
+"""The end-to-end protection profile of a message: a test gives the profile, or attributes in the database do."""
 
 import re
 from typing import TYPE_CHECKING, Any, Optional
@@ -10,8 +10,8 @@ if TYPE_CHECKING:
 
 
 def profile_of(profile: object, message: "Optional[MessageFormat]") -> Profile:
-    """Returns a profile for a message, if that is known; without one that of the message's attributes. ValueError for what is
-    none, or does not fit."""
+    """Returns the known profile for a message; without an argument, the profile of the message's attributes. Raises
+    ValueError for a wrong or unsuitable profile."""
     if profile is None:
         found = None if message is None else profile_in(message)
         if found is None:
@@ -29,8 +29,8 @@ def profile_of(profile: object, message: "Optional[MessageFormat]") -> Profile:
 def profile_in(message: "MessageFormat") -> Optional[Profile]:
     """Returns the profile that a DBC file gives a message by its attributes; None if it has no E2EProfile.
 
-    E2EProfile is its number, as `5`, `P05` or `Profile5`. E2EDataId, E2EDataIdMode, E2EOffset (in bits), E2EMaxDelta, and of
-    profiles 2 and 22 E2EDataIds, 16 numbers with commas, are its arguments. ValueError if one is wrong.
+    E2EProfile is its number, as `5`, `P05` or `Profile5`. E2EDataId, E2EDataIdMode, E2EOffset (in bits), E2EMaxDelta,
+    and of profiles 2 and 22 E2EDataIds, 16 numbers with commas, are its arguments. ValueError if an attribute is wrong.
     """
     given = {name: text for name, text in message.attributes.items() if name.startswith("E2E") and text}
     number = re.search("[1-9][0-9]*$", given.get("E2EProfile", ""))

@@ -1,4 +1,4 @@
-"""Says what is missing if there is no python-can, or one that is too old.
+"""Raises an error with a remedy if python-can is missing or too old.
 
 A module that needs python-can imports this one first.
 """
@@ -11,7 +11,8 @@ CURE = "`apt-get install python3-can` for Debian's /usr/bin/python3, else `pip i
 
 
 class NoPythonCan(ImportError):
-    """There is no python-can, or it is too old; the text says which was found, and how to get it."""
+    """python-can is missing or too old; the text has the version that was found, and the command that installs
+    python-can."""
 
 
 try:
@@ -23,6 +24,6 @@ except ModuleNotFoundError as fault:
 
 FOUND = str(getattr(can, "__version__", "unknown"))
 _numbers = re.match(r"(\d+)\.(\d+)", FOUND)
-# Debian 13 has one that calls itself 0.0.0; it is 4.5.
+# Debian 13 has a python-can that reports version 0.0.0; it is version 4.5.
 if _numbers and (0, 0) < (int(_numbers[1]), int(_numbers[2])) < LEAST:
     raise NoPythonCan(f"{WANTED}, and found {FOUND}: {CURE}")

@@ -1,6 +1,6 @@
-"""Reports of a test run that testers have: what pytest-html and allure-pytest get of a test.
+"""Adds the steps and buses of a test to the reports of pytest-html and allure-pytest.
 
-Both are written by their documentation.
+The code follows the documentation of both.
 """
 
 import os
@@ -12,7 +12,7 @@ from canbusd import steps
 
 
 def attach_to_allure(text: str, pages: Sequence[str]) -> None:
-    """Adds what is known of a bus, and its page, to the report of allure-pytest, if there is one."""
+    """Adds the facts about a bus, and its page, to the report of allure-pytest, if there is one."""
     allure = steps.with_allure()
     if allure is None:
         return
@@ -22,9 +22,9 @@ def attach_to_allure(text: str, pages: Sequence[str]) -> None:
 
 
 def add_to_html(config: Any, report: Any, text: str, pages: Sequence[str]) -> None:
-    """Adds steps, what is known of the buses, and links to their pages to the report of pytest-html, if there is one.
+    """Adds steps, the facts about the buses, and links to their pages to the report of pytest-html, if there is one.
 
-    It is added to what pytest reports of the end of a test, for which these are known.
+    pytest's report on the end of a test carries these additions.
     """
     html: Any = sys.modules.get("pytest_html")
     path = config.getoption("htmlpath", None)
@@ -37,6 +37,6 @@ def add_to_html(config: Any, report: Any, text: str, pages: Sequence[str]) -> No
         extras.append(html.extras.text(text, name="canbusd"))
     folder = os.path.dirname(os.path.abspath(path))
     extras += [html.extras.url(os.path.relpath(page, folder), name="page") for page in pages]
-    # Version 4 calls it extras.
+    # Version 4 of pytest-html renames the attribute to extras.
     name = "extra" if str(getattr(html, "__version__", "4")).startswith(("1.", "2.", "3.")) else "extras"
     setattr(report, name, [*getattr(report, name, []), *extras])

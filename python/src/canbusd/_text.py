@@ -1,4 +1,4 @@
-"""The name of an interface, lines of a file as a fault shows them, and numbers in words."""
+"""The name of an interface, lines of a file for error texts, and numbers in words."""
 
 import re
 
@@ -6,15 +6,15 @@ NAME = re.compile("[A-Za-z0-9_.-]{1,15}")
 
 
 def shown(line: str) -> str:
-    """The beginning of a line, without what a terminal would take for commands."""
+    """Returns the beginning of a line, without control characters for terminals."""
     return "".join(char if " " <= char <= "~" else "?" for char in line[:60]) + (" .." if len(line) > 60 else "")
 
 
 def times(count: int, one: str, many: str = "") -> str:
-    """`1 frame`, `2 frames`."""
+    """Returns a count in words: `1 frame`, `2 frames`."""
     return f"{count:,} {one if count == 1 else many or one + 's'}"
 
 
 def seconds_words(seconds: float) -> str:
-    """A number of seconds: `1 second`, `0.5 seconds`."""
+    """Returns a number of seconds in words: `1 second`, `0.5 seconds`."""
     return f"{seconds:g} second{'' if seconds == 1 else 's'}"

@@ -1,4 +1,4 @@
-"""Files that are written whole or not at all: after a fault, and until the end, what was there before is still there."""
+"""Files that are written completely or not at all: until the end, and after a fault, the old content remains."""
 
 import contextlib
 import errno
@@ -11,20 +11,20 @@ from collections.abc import Iterator
 from typing import BinaryIO, Optional, Union
 
 Path = Union[str, "os.PathLike[str]"]
-#: Where the system has the open files of this process.
+#: The folder in which the system lists the open files of this process.
 OWN_FILES = "/proc/self/fd"
-#: The errors of file systems in which each file has a name from the start, as NFS and FAT.
+#: The errors of file systems on which each file has a name from the start, such as NFS and FAT.
 NAMES_ONLY = (errno.EOPNOTSUPP, errno.EISDIR)
 
 
 @contextlib.contextmanager
 def replaced(path: Path) -> Iterator[BinaryIO]:
-    """Yields a file for the new content of this path, which takes the place of the old content after the block.
+    """Yields a file for the new content of this path, which replaces the old content after the block.
 
-    If the block raises an exception, or the process is killed, the old file stays as it was, and no other is left. A file
-    keeps its permissions and, if possible, its owner; one that may not be written is refused. A fifo or a device gets the
-    content after the block. A link to a file is refused: a file in its place would end it, and what it leads to may be the
-    choice of somebody else.
+    If the block raises an exception, or the process is killed, the old file stays unchanged, and no other file is left.
+    A file keeps its permissions and, if possible, its owner; a file without write permission is refused. A fifo or a
+    device gets the content after the block. A link to a file is refused: a new file would replace the link, and
+    somebody else may have chosen its target.
     """
     with named(path):
         old = checked(path)
@@ -34,7 +34,8 @@ def replaced(path: Path) -> Iterator[BinaryIO]:
 
 @contextlib.contextmanager
 def named(path: Path, is_its: bool = False) -> Iterator[None]:
-    """Gives an OSError the name of this file if it has none, and also in place of another if it `is_its` fault."""
+    """Adds the name of this file to an OSError without one; if it `is_its` fault, the name also replaces another
+    one."""
     try:
         yield
     except OSError as fault:
@@ -44,7 +45,8 @@ def named(path: Path, is_its: bool = False) -> Iterator[None]:
 
 
 def checked(path: Path) -> Optional[os.stat_result]:
-    """Returns the status of what is at this path, or None; OSError if it is a link to a file, or may not be written."""
+    """Returns the status of the file at this path, or None; raises OSError for a link to a file, or without write
+    permission."""
     try:
         old = os.stat(path)
     except FileNotFoundError:
@@ -58,7 +60,7 @@ def checked(path: Path) -> Optional[os.stat_result]:
 
 @contextlib.contextmanager
 def renamed(path: Path, old: Optional[os.stat_result]) -> Iterator[BinaryIO]:
-    """Yields a file in the folder of this path, which gets its name after the block."""
+    """Yields a file in the folder of this path; the file gets this name after the block."""
     name = f".canbusd-{secrets.token_hex(8)}"
     with contextlib.ExitStack() as stack:
         with named(path, is_its=True):
@@ -81,8 +83,9 @@ def renamed(path: Path, old: Optional[os.stat_result]) -> Iterator[BinaryIO]:
 
 
 def drafted(folder: int, name: str) -> tuple[int, bool]:
-    """Opens a new file in a folder, with this name only if there are none without; whether it has it."""
-    # Without that folder a file without a name can't get one later.
+    """Opens a new file in a folder, with this name only if nameless files are impossible; returns whether it has the
+    name."""
+    # Without that folder a nameless file can't get a name later.
     if os.path.exists(OWN_FILES):
         try:
             return os.open(".", os.O_TMPFILE | os.O_WRONLY, 0o666, dir_fd=folder), False
@@ -93,14 +96,14 @@ def drafted(folder: int, name: str) -> tuple[int, bool]:
 
 
 def remove(folder: int, name: str) -> None:
-    """Removes a file from a folder if it is there."""
+    """Removes a file from a folder if it exists."""
     with contextlib.suppress(FileNotFoundError):
         os.unlink(name, dir_fd=folder)
 
 
 @contextlib.contextmanager
 def copied(path: Path) -> Iterator[BinaryIO]:
-    """Yields a file that is copied to this path after the block."""
+    """Yields a file whose content is copied to this path after the block."""
     with tempfile.TemporaryFile() as draft:
         with open(draft.fileno(), "wb", closefd=False) as file:
             yield file

@@ -58,7 +58,7 @@ if TYPE_CHECKING:
 Self = TypeVar("Self", bound="CanbusdBus")
 
 LOG = logging.getLogger("can.canbusd")
-# The log that python-can itself writes of each bus.
+# python-can itself writes to this log for each bus.
 BUS_LOG = logging.getLogger("can.bus")
 BUS_STATES = {
     "active": BusState.ACTIVE,
@@ -67,14 +67,15 @@ BUS_STATES = {
     "off": BusState.ERROR,
     "down": BusState.ERROR,
 }
-# Arguments that python-can and its tools hand to all interfaces.
+# python-can and its tools pass these arguments to all interfaces.
 OF_PYTHON_CAN = {"single_handle", "timing", "ignore_config", "config_context", "poll_interval"}
-# Seconds in which a server has to answer that may not be there.
+# Seconds for the answer of a server that may not exist.
 DETECTION = 1.0
 
 
 def interfaces(address: Optional[str] = None, timeout: float = 5.0) -> list[str]:
-    """Returns the names of all interfaces of the server at this address, by default that of buses, in its order."""
+    """Returns the names of all interfaces of the server at this address, in the server's order; the default address is
+    that of buses."""
     found = server_address(address)
     try:
         connection = Connection(found, timeout)
@@ -91,28 +92,27 @@ def interfaces(address: Optional[str] = None, timeout: float = 5.0) -> list[str]
 
 
 def as_message(given: Any) -> Any:
-    """Returns a message of python-can for a Frame, also in a list; anything else as it is."""
+    """Returns a python-can message for a Frame, also for Frames in a list; anything else unchanged."""
     if isinstance(given, (list, tuple)):
         return [as_message(one) for one in given]
     return given.message() if isinstance(given, Frame) else given
 
 
 class Periodic:
-    """A bus as a periodic task has it: if the transmit queue is full, or the interface off, the task goes on, as one of
-    the system's own CAN sockets does. That is logged once; python-can would log each send, with a traceback.
-    """
+    """A bus as a periodic task uses it: if the transmit queue is full, or the interface off, the task continues, as
+    with the system's own CAN sockets. This class logs that once; python-can would log each send with a traceback."""
 
     def __init__(self, bus: "CanbusdBus") -> None:
         self._bus, self._is_refused = bus, False
 
     def send(self, msg: Message, timeout: Optional[float] = None) -> None:
-        """Sends a message, if it is not refused."""
+        """Sends a message, unless the server refuses it."""
         try:
             self._bus.send(msg, timeout)
             self._is_refused = False
         except CanOperationError as fault:
             if self._bus._is_shutdown:
-                # The task was stopped, after it had looked whether it was.
+                # The task was stopped after its last check.
                 return
             if fault.error_code not in ERROR_CODES.values():
                 raise
@@ -149,7 +149,7 @@ class CanbusdBus(InjectsFaults, NamesWhatThereIs, BusABC):
     }
 
     def __new__(cls, *args: Any, local: Optional["LocalBus"] = None, **kwargs: Any) -> Any:
-        """A bus of a server; with `local` one of a bus inside this process, which is a `LocalCanbusdBus`."""
+        """Returns a bus of a server; with `local`, a `LocalCanbusdBus` on a bus inside this process."""
         if local is None:
             return super().__new__(cls)
         from canbusd.local_can import LocalCanbusdBus
@@ -174,7 +174,7 @@ class CanbusdBus(InjectsFaults, NamesWhatThereIs, BusABC):
         dbitrate: Union[int, str, None] = None,
         **kwargs: Any,
     ) -> None:
-        # python-can 4.3 warns of a bus that is not shut down, also if it never came to be.
+        # python-can 4.3 warns of a bus without a shutdown, even if its constructor failed.
         self._is_shutdown = True
         self.channel = interface_name(channel)
         if "host" in kwargs or "port" in kwargs:
@@ -194,7 +194,7 @@ class CanbusdBus(InjectsFaults, NamesWhatThereIs, BusABC):
             error_frames=mask_or_truth("error_frames", error_frames),
             join_filters=self._join,
         )
-        #: How many of its frames `send_many` lets wait in the transmit queue; at most as many as have room there.
+        #: The most frames that `send_many` lets wait in the transmit queue, if that has as much room.
         self.window = 10
         self.channel_info = f"canbusd: channel '{self.channel}' of the server at {self.address}"
         self._prepare()
@@ -206,7 +206,7 @@ class CanbusdBus(InjectsFaults, NamesWhatThereIs, BusABC):
 
     @contextlib.contextmanager
     def _closed_on_a_fault(self) -> Iterator[None]:
-        """Closes the connection where what is done with it first fails."""
+        """Closes the connection if its first use fails."""
         try:
             yield
         except CanOperationError as fault:
@@ -217,8 +217,8 @@ class CanbusdBus(InjectsFaults, NamesWhatThereIs, BusABC):
             raise
 
     def _prepare(self) -> None:
-        """The facts about the bus before it is connected."""
-        # From version 4.3 on.
+        """Sets the facts about the bus before it is connected."""
+        # python-can has this attribute since version 4.3.
         protocols = getattr(can, "CanProtocol", None)
         if protocols is not None:
             self._can_protocol = protocols.CAN_FD if self._fd else protocols.CAN_20
@@ -229,10 +229,10 @@ class CanbusdBus(InjectsFaults, NamesWhatThereIs, BusABC):
         self._lock_send_periodic = threading.Lock()
 
     def _compare(self, rates: Mapping[str, int]) -> None:
-        """Logs which of these bit rates are not the server's; it is not asked if there are none."""
+        """Logs the bit rates that differ from the server's; asks the server only if bit rates are given."""
         load = load_of(self._session.answer("load")) if rates else None
         if load is None:
-            # An older server does not say.
+            # An older server does not report bit rates.
             return
         for name, rate in rates.items():
             own = getattr(load, name)
@@ -241,7 +241,7 @@ class CanbusdBus(InjectsFaults, NamesWhatThereIs, BusABC):
                 LOG.warning("%s: %s %s is left out: %s", self.channel, name, rate, said)
 
     def __enter__(self: Self) -> Self:
-        # The method of python-can 4.1 has no type.
+        # This method has no type in python-can 4.1.
         return self
 
     @overload
@@ -273,8 +273,9 @@ class CanbusdBus(InjectsFaults, NamesWhatThereIs, BusABC):
     ) -> None:
         """Puts a message into the transmit queue of the interface.
 
-        If this returns, the server has accepted it; it goes out once it wins arbitration. As on a bench it may be a Frame, or
-        an identifier with its data, ``send(0x123, b"\\x01")``, which has 29 bits above 7FF.
+        When this returns, the server has accepted the message, which is sent as soon as it wins arbitration. As on a
+        bench the message may be a Frame, or an identifier with its data, ``send(0x123, b"\\x01")``. An identifier above
+        7FF has 29 bits.
 
         :param timeout: seconds in which a full transmit queue may make room; none: a full one is an error at once
         :raises ~can.exceptions.CanOperationError: if the server refuses it; the ``error_code`` of ``no buffers`` is
@@ -286,19 +287,19 @@ class CanbusdBus(InjectsFaults, NamesWhatThereIs, BusABC):
             given = b"" if data is None else data_bytes(data)
             msg = frame_to_send(msg, given, is_extended_id=is_extended_id, is_fd=is_fd)
         elif data is not None:
-            # Of a message it is the second argument.
+            # For a message, `timeout` is the second argument.
             if isinstance(data, bool) or not isinstance(data, (int, float)):
                 raise ValueError(f"timeout is a number of seconds, and data is of an identifier: {data!r}")
             timeout = data
         self._session.send(self._command(msg), timeout)
 
     def send_many(self, msgs: Iterable[Message], timeout: Optional[float] = None) -> None:
-        """Sends messages in their order, as many in one write as the transmit queue has room for.
+        """Sends messages in order, in writes of as many as fit into the transmit queue.
 
-        All messages are taken before the first is sent; call :meth:`send` for each where they come at a pace of their own.
-        If this returns, the server has accepted all of them. At most :attr:`window` of them wait in the transmit
-        queue at once. If it is full all the same, since others send by the same interface or it has less room, what it
-        refused is sent again, after what it accepted of the same write.
+        All messages are taken before the first is sent; call :meth:`send` for each if they become available over time.
+        When this returns, the server has accepted all of them. At most :attr:`window` of them wait in the transmit
+        queue at once. The queue may still be full, because others send by the same interface or it has less room.
+        Refused messages are then sent again, after the accepted messages of the same write.
 
         :param timeout: seconds for all messages; none: as long as some are accepted within the timeout of the bus
         :raises: what :meth:`send` raises; the text says how many messages were accepted
@@ -308,7 +309,8 @@ class CanbusdBus(InjectsFaults, NamesWhatThereIs, BusABC):
         self._session.send_many([self._command(msg) for msg in msgs], self.window, timeout)
 
     def set_filters(self, filters: Optional[Filters] = None) -> None:
-        """Receives what matches one of these filters, by the rules of linux/can.h; without any, everything.
+        """Receives messages that match one of these filters, by the rules of linux/can.h; all messages if there is no
+        filter.
 
         If a filter has ``extended``, only frames of 29 bits match it, or only those of 11 bits; remote frames match
         as data frames do. Bit 29 of ``can_id`` inverts a filter. Error message frames are not filtered.
@@ -317,9 +319,9 @@ class CanbusdBus(InjectsFaults, NamesWhatThereIs, BusABC):
 
     @property
     def state(self) -> BusState:
-        """The state of the interface: ACTIVE up to error warning, PASSIVE, or ERROR where it is bus off or down.
+        """The state of the interface: ACTIVE up to error warning, PASSIVE, or ERROR if it is bus off or down.
 
-        Setting ACTIVE brings it back from both; no other state can be set.
+        Setting ACTIVE brings the interface back from both; no other state can be set.
         """
         return BUS_STATES[self.error_counters().state]
 
@@ -332,19 +334,20 @@ class CanbusdBus(InjectsFaults, NamesWhatThereIs, BusABC):
         self._session.restart(is_needed=False)
 
     def restart(self) -> None:
-        """Brings the interface back from bus off, or up; CanOperationError if it is neither bus off nor down."""
+        """Brings the interface back from bus off, or up; raises CanOperationError if it is neither bus off nor down."""
         self._session.restart()
 
     def down(self) -> None:
         """Takes the interface off the bus, as `ip link set can0 down` does; the frames in its transmit queue are lost.
 
-        It sends, accepts and acknowledges nothing until `up`, and a send is refused as `interface down`. The sockets of the
-        interface stay open. It may be down already.
+        The interface sends, accepts and acknowledges nothing until `up`, and a send is refused as `interface down`. Its
+        sockets stay open. The interface may already be down.
         """
         self._session.down()
 
     def up(self) -> None:
-        """Brings the interface up, or back from bus off; both error counts are 0 then. It may be up already."""
+        """Brings the interface up, or back from bus off. Both error counts are then 0. The interface may already be
+        up."""
         self._session.up()
 
     def error_counters(self) -> ErrorCounters:
@@ -356,38 +359,39 @@ class CanbusdBus(InjectsFaults, NamesWhatThereIs, BusABC):
         return self._session.stats()
 
     def load(self) -> Load:
-        """Returns how busy the bus was, and its bit rates; without them `Load(0, 0, 0, 0)`."""
+        """Returns the bus load and the bit rates; `Load(0, 0, 0, 0)` without bit rates."""
         return self._session.load()
 
     def fileno(self) -> int:
-        """Returns a file descriptor that is readable where `recv` has something to return or to raise.
+        """Returns a file descriptor that is readable if `recv` would return a message or raise an error at once.
 
-        It is none that may be read: a frame that was read from the server already counts too.
+        Programs must not read from it: it is also readable for a frame that was already read from the server.
         """
         return self._session.fileno()
 
     def flush_tx_buffer(self) -> None:
-        """Not offered: frames in the transmit queue of an interface can't be taken back."""
+        """Not supported: nobody can take frames back from the transmit queue of an interface."""
         raise NotImplementedError("frames in the transmit queue of an interface can't be taken back")
 
     def shutdown(self) -> None:
-        """Ends the session; who waits in another thread gets a CanOperationError. It may be called again."""
+        """Ends the session; a waiting call in another thread raises CanOperationError. This may be called again."""
         super().shutdown()
         self._is_shutdown = True
         self._session.close()
 
     @staticmethod
     def _detect_available_configs() -> "list[AutoDetectedConfig]":
-        """The interfaces of the server that a bus without an address uses, for `can.detect_available_configs`."""
+        """Returns the interfaces of the default server, for `can.detect_available_configs`."""
         try:
             return [{"interface": "canbusd", "channel": name} for name in interfaces(timeout=DETECTION)]
         except (CanInitializationError, ValueError):
             return []
 
     def recv(self, timeout: Optional[float] = None) -> Optional[Message]:
-        """Returns the next message; None if none comes within these seconds.
+        """Returns the next message; None if no message comes within these seconds.
 
-        python-can's own asks again for what is left by `time.time`, whose numbers are a quarter of a microsecond apart.
+        The method of python-can computes the remaining time from `time.time`, whose numbers are a quarter of a
+        microsecond apart.
         """
         message, _ = self._recv_internal(timeout)
         if message is not None:
@@ -404,7 +408,8 @@ class CanbusdBus(InjectsFaults, NamesWhatThereIs, BusABC):
                 timeout = max(0.0, deadline - time.monotonic())
 
     def send_periodic(self, msgs: Any, *args: Any, **kwargs: Any) -> CyclicSendTaskABC:
-        """Sends a message again and again, as python-can has it; it may be a Frame, also in `modify_data` of the task."""
+        """Sends a message periodically, as python-can defines it; the message may be a Frame, also in `modify_data` of
+        the task."""
         task: Any = super().send_periodic(as_message(msgs), *args, **kwargs)
         modify = getattr(task, "modify_data", None)
         if modify is not None:
@@ -412,7 +417,7 @@ class CanbusdBus(InjectsFaults, NamesWhatThereIs, BusABC):
         return cast(CyclicSendTaskABC, task)
 
     def _send_periodic_internal(self, *args: Any, **kwargs: Any) -> CyclicSendTaskABC:
-        # Its thread sends under this lock, so not before it has the bus on which it goes on.
+        # The task's thread sends under this lock, so only after the task has the bus for its sends.
         with self._lock_send_periodic:
             task = super()._send_periodic_internal(*args, **kwargs)
             cast(Any, task).bus = Periodic(self)
@@ -421,7 +426,7 @@ class CanbusdBus(InjectsFaults, NamesWhatThereIs, BusABC):
     def _apply_filters(self, filters: Any) -> None:
         message = filter_message(filters)
         self._pairs = [filter_words(one) for one in filters or ()]
-        # More than fit into one message are applied here.
+        # Filters that do not fit into one message are applied only here.
         self._filters_here = message is None
         answer = self._session.answer(message or str(filter_message(None)))
         if answer:
@@ -439,7 +444,7 @@ class CanbusdBus(InjectsFaults, NamesWhatThereIs, BusABC):
         return message
 
     def _message(self, text: str) -> Message:
-        """The message in this text; if own ones are received, one that was sent here is marked."""
+        """Returns the message in this text; a message that this bus sent itself is marked, if it receives those."""
         if not self._receives_own:
             return frame_of_message(self._make, *text.split()[1:])
         text, number = without_origin(text)
@@ -448,11 +453,11 @@ class CanbusdBus(InjectsFaults, NamesWhatThereIs, BusABC):
         return message
 
     def _is_own(self, number: int) -> bool:
-        """Whether a frame that this interface has sent, with this number there, is one's own."""
+        """Returns whether the frame with this number at the interface is one of this bus's frames."""
         return self._session.is_own(number)
 
     def _passes(self, message: Message) -> bool:
-        """Whether a message passes the filters, if the server did not apply them to it."""
+        """Returns whether a message passes the filters, if the server did not apply them."""
         if not self._filters_here:
             if not self._unfiltered:
                 return True
@@ -462,7 +467,7 @@ class CanbusdBus(InjectsFaults, NamesWhatThereIs, BusABC):
         return passes_filters(identifier_word(message), self._pairs, self._join)
 
     def _command(self, msg: Union[Message, Frame]) -> str:
-        """The command that sends this message; ValueError if none does."""
+        """Returns the command that sends this message; raises ValueError if there is none."""
         if not isinstance(msg, (Message, Frame)):
             raise ValueError(f"msg is a can.Message, such as can.Message(arbitration_id=0x123, data=[1]), not {msg!r}")
         if msg.is_fd and not self._fd:

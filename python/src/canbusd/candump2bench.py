@@ -25,18 +25,18 @@ is 1 then.
 MOST_INTERFACES = 16
 # The most bytes that `canbusd bench` reads.
 MOST_BYTES = 16777216
-# The most lines left out that are named, one a line.
+# The most omitted lines that are reported, one on each line.
 MOST_NAMED = 100
-# A line that candump writes to a screen has the number of bytes in brackets.
+# In the lines that candump writes to a screen, the number of bytes is in brackets.
 SCREEN_LINE = re.compile(r".*\S +[0-9A-Fa-f]{3,8} +\[[0-9]{1,2}\].*")
 
 
 class NotTaken(Exception):
-    """Why a line of the log can't be taken."""
+    """The reason why a line of the log is left out."""
 
 
 class BenchInput:
-    """The input that is made: sessions are numbered from 1, as their interfaces turn up."""
+    """The generated input: sessions are numbered from 1, in the order of their interfaces' first frames."""
 
     def __init__(self, listeners: Sequence[str]) -> None:
         self.sessions: dict[str, int] = {}
@@ -61,20 +61,20 @@ class BenchInput:
         self._add(f"at {line[1]}", f"feed {sender} < {command} >", "attempt", *drains)
 
     def _session(self, name: str) -> int:
-        """The number of the session on the interface of this name."""
+        """Returns the number of the session on the interface with this name."""
         if name not in self.sessions:
             if not NAME.fullmatch(name):
                 raise NotTaken("an interface has 1 to 15 letters, digits, `_`, `-` and `.` for a name")
             if len(self.sessions) == MOST_INTERFACES:
                 raise NotTaken(f"more than {MOST_INTERFACES} interfaces")
             number = self.sessions[name] = len(self.sessions) + 1
-            # One that only sends keeps nothing of what it could receive.
+            # A session that only sends needs no receive queue.
             quiet = "" if name in self._names_of_listeners else "< filter 0 >"
             self._add(f"session {number}", f"feed {number} < open {name} >< rawmode >{quiet}")
         return self.sessions[name]
 
     def _ask_for_fd(self, *numbers: int) -> None:
-        """Sets the option for FD frames of these sessions, if it isn't set yet."""
+        """Sets the option for FD frames in these sessions, unless it is set already."""
         for number in numbers:
             if number not in self._with_fd:
                 self._with_fd.add(number)
@@ -86,7 +86,7 @@ class BenchInput:
 
 
 def parser() -> argparse.ArgumentParser:
-    """The parser of its words."""
+    """Returns the parser of the command's words."""
     made = argparse.ArgumentParser(
         prog="candump2bench",
         description="Makes an input of `canbusd bench` from a log of candump, or from an ASC or BLF file.",
@@ -117,7 +117,7 @@ def parser() -> argparse.ArgumentParser:
 
 
 def convert() -> int:
-    """Reads the log and writes the input; the status."""
+    """Reads the log and writes the input; returns the status."""
     words = parser().parse_args()
     try:
         bench = BenchInput(words.listen)
@@ -133,9 +133,9 @@ def convert() -> int:
 
 
 def take_lines(bench: BenchInput, log: Iterable[bytes], place: str) -> int:
-    """Adds the lines of a log, and names those that can't be taken; returns how many these are.
+    """Adds the lines of a log, and reports the lines that are left out; returns their number.
 
-    Lines that differ in their moments only are named once, with their number, as the frames of a bus off that failed.
+    Lines that differ only in their timestamps, as for repeated bus off frames, are reported once, with their number.
     """
     left_out = 0
     named: dict[tuple[str, str], str] = {}
@@ -165,7 +165,7 @@ def take_lines(bench: BenchInput, log: Iterable[bytes], place: str) -> int:
 
 
 def write(bench: BenchInput, left_out: int) -> int:
-    """Writes the input; the status."""
+    """Writes the input; returns the status."""
     first = f"# canbusd bench {','.join(bench.sessions)} < THIS FILE"
     if bench.bytes + len(first) + 1 > MOST_BYTES:
         print(
@@ -181,5 +181,5 @@ def write(bench: BenchInput, left_out: int) -> int:
 
 
 def main() -> None:
-    """The command."""
+    """Runs the command."""
     run_command(convert, "candump2bench")

@@ -3,8 +3,9 @@
     rest.protect("EngineData", e2e.Profile1(data_id=0x123))
     server.expect_protected("BrakeData", e2e.Profile5(data_id=0x1234), count=20)
 
-A profile says where counter and checksum are in a message, and how the checksum is made (AUTOSAR PRS_E2EProtocol, and
-SWS_CRCLibrary). A Protection counts what is sent, and may make faults; a Checker judges what is received.
+A profile defines the places of counter and checksum in a message, and the computation of the checksum (AUTOSAR
+PRS_E2EProtocol, and SWS_CRCLibrary). A Protection counts sent frames, and may make faults; a Checker checks received
+frames.
 """
 
 from collections.abc import Callable, Sequence
@@ -19,7 +20,7 @@ from canbusd.frames import data_bytes
 if TYPE_CHECKING:
     from canbusd._database.formats import MessageFormat, SignalFormat
 
-#: The result of a check, in the words of AUTOSAR; the results that are good.
+#: The results of a check, in the words of AUTOSAR, and the results that are good.
 Status = Literal["initial", "ok", "some lost", "repeated", "wrong sequence", "wrong crc"]
 GOOD = ("initial", "ok", "some lost")
 #: The faults that a Protection makes.
@@ -32,16 +33,16 @@ MODES: tuple[Mode, ...] = get_args(Mode)
 class Profile:
     """The common part of profiles: the places of a counter and a checksum, and the bytes that they protect."""
 
-    #: The number of values that the counter has, and the first one that is sent.
+    #: The number of values of the counter, and the first value that is sent.
     modulo: int
     first: ClassVar[int] = 0
-    #: The number of bytes that a message has at least.
+    #: The fewest bytes of a message.
     least: int
-    #: By how much the counter may go on from one frame to the next: frames between them were lost.
+    #: The largest accepted step of the counter from one frame to the next; a step above 1 means lost frames.
     max_delta: int
 
     def of(self, message: "MessageFormat") -> "Profile":
-        """Returns it for this message of a database; ValueError if that has no room for it."""
+        """Returns the profile for this message of a database; raises ValueError if the message has no room for it."""
         if message.size < self.least:
             raise ValueError(f"{self} needs {times(self.least, 'byte')}, and {message.name} has {message.size}")
         return self
@@ -55,7 +56,7 @@ class Profile:
         return bytes(content)
 
     def is_right(self, data: bytes) -> bool:
-        """Whether the checksum of a message is right."""
+        """Returns whether the checksum of a message is right."""
         content = bytearray(data_bytes(data))
         return len(content) >= self.least and content == self._with_crc(content)
 
@@ -79,12 +80,12 @@ class Profile:
         raise NotImplementedError
 
     def _crc(self, content: bytearray) -> int:
-        """The checksum of a message that has its counter."""
+        """Returns the checksum of a message that has its counter."""
         raise NotImplementedError
 
 
 def _nibble(content: bytearray, place: int, value: int) -> None:
-    """Sets four bits, from this bit on."""
+    """Sets four bits, starting at this bit."""
     shift = place % 8
     content[place // 8] = content[place // 8] & ~(15 << shift) & 0xFF | value << shift
 
@@ -109,8 +110,8 @@ def _check_delta(max_delta: object, modulo: int) -> None:
 class Profile1(Profile):
     """Profile 1: a CRC-8 with the polynomial of SAE J1850, and a counter from 0 to 14. Places are in bits.
 
-    The `mode` says how the CRC has the data ID: `both` bytes (1A), the low byte and the high one in turn, `alternating` (1B),
-    only the `low` one, or `nibble` (1C), if four bits of the high byte are in the message.
+    The `mode` selects the bytes of the data ID in the CRC: `both` bytes (1A), `alternating` low and high byte (1B),
+    only the `low` byte, or `nibble` (1C), with four bits of the high byte in the message.
     """
 
     data_id: int
@@ -158,20 +159,21 @@ class Profile1(Profile):
             "nibble": [low, 0],
         }[self.mode]
         place = self.crc_offset // 8
-        # Begun with 0, and not inverted, which CRC-8 of SAE J1850 is.
+        # The initial value is 0 and there is no inversion, unlike the CRC-8 of SAE J1850.
         return crc8_of(J1850, bytes(first) + content[:place] + content[place + 1 :], 0)
 
 
 @dataclass(frozen=True)
 class Profile11(Profile1):
-    """Profile 11: as profile 1, with the modes `both` (11A) and `nibble` (11C)."""
+    """Profile 11: like profile 1, with the modes `both` (11A) and `nibble` (11C)."""
 
     modes: ClassVar[Sequence[str]] = ("both", "nibble")
 
 
 @dataclass(frozen=True)
 class Profile2(Profile):
-    """Profile 2: a CRC-8 with the polynomial 2F, and a counter from 0 to 15, which chooses one of 16 data IDs of a byte."""
+    """Profile 2: a CRC-8 with the polynomial 2F, and a counter from 0 to 15 that selects one of 16 data IDs of one
+    byte."""
 
     data_ids: Sequence[int]
     offset: int = 0
@@ -207,12 +209,12 @@ class Profile2(Profile):
 
 @dataclass(frozen=True)
 class Profile22(Profile2):
-    """Profile 22: as profile 2."""
+    """Profile 22: like profile 2."""
 
 
 @dataclass(frozen=True)
 class Profile5(Profile):
-    """Profile 5: a CRC-16, its low byte first, and then a counter from 0 to 255. The offset is in bits."""
+    """Profile 5: a CRC-16, low byte first, and then a counter from 0 to 255. The offset is in bits."""
 
     data_id: int
     offset: int = 0
@@ -246,8 +248,8 @@ class Profile5(Profile):
 class Signals(Profile):
     """A counter and a checksum that are signals of a message in a database: ``Signals("Alive", crc="Checksum")``.
 
-    The counter goes from 0 through as many values as `modulo` says, else through all that its signal has. The checksum has whole
-    bytes; it is what `function` returns for all others, the CRC-8 of SAE J1850 unless another is given.
+    The counter starts at 0 and has `modulo` values, else all values of its signal. The checksum has whole bytes.
+    `function` computes it from all other bytes; the default is the CRC-8 of SAE J1850.
     """
 
     def __init__(
@@ -291,7 +293,7 @@ class Signals(Profile):
         return self._counter
 
     def _bytes(self) -> list[int]:
-        """The places of the checksum's bytes."""
+        """Returns the places of the checksum's bytes."""
         return sorted({bit // 8 for bit in self._checksum.bits}) if self._checksum else []
 
     def _check(self, content: bytearray) -> None:
@@ -320,7 +322,7 @@ def _place(content: bytearray, signal: "SignalFormat", number: int) -> None:
 
 
 class Protection(NamesWhatThereIs):
-    """The protection of a message that is sent, which counts its frames; `RestBus.protect` returns it."""
+    """The protection of a sent message, which counts its frames; `RestBus.protect` returns it."""
 
     _INSTEAD = {"fault": "inject('wrong crc', count=3)"}
 
@@ -331,8 +333,8 @@ class Protection(NamesWhatThereIs):
         self._faults: list[Fault] = []
 
     def inject(self, fault: Fault, count: int = 1) -> None:
-        """Has the next `count` frames go out with a `wrong crc`, with the counter before, `repeated`, or with one left out, as
-        where `some lost` are."""
+        """Adds a fault to the next `count` frames: a `wrong crc`, the counter `repeated`, or a counter left out, as if
+        `some lost`."""
         if fault not in FAULTS:
             raise ValueError(f"fault is one of {', '.join(FAULTS)}, not {fault!r}{meant(str(fault), FAULTS)}")
         if isinstance(count, bool) or not isinstance(count, int) or count < 1:
@@ -353,7 +355,7 @@ class Protection(NamesWhatThereIs):
 
 
 class Checker:
-    """The check of a message that is received, one frame after the other."""
+    """The check of a received message, one frame after the other."""
 
     def __init__(self, profile: Profile) -> None:
         #: The profile.
@@ -361,8 +363,8 @@ class Checker:
         self._last: Optional[int] = None
 
     def check(self, data: bytes) -> Status:
-        """Returns what the next frame is: `initial` is the first one, and `some lost` says that the counter went on by more
-        than 1, but not by more than the profile's `max_delta`."""
+        """Returns the result for the next frame: `initial` for the first frame, and `some lost` if the counter advanced
+        by more than 1, but not by more than the profile's `max_delta`."""
         if not self.profile.is_right(data):
             return "wrong crc"
         counter, last = self.profile.counter(data), self._last

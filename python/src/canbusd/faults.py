@@ -3,9 +3,9 @@
     faults = Faults().next(32, sender="ecu").destroyed().always(id=0x7DF).local("crc", ["tester"])
     faults = Faults().destroyed(range(32)).last_bit(40).local("crc", ["can1"], 41)
 
-The first are rules, which say who sends and what; `canbusd.rules` has what they mean. The others are lines by the numbers
-of attempts, which are counted from 0, and only if a frame was tried. A line goes before the rules, and a rule before
-those after it. Any other attempt is good.
+The first example has rules, which select the sender and the frame; `canbusd.rules` defines their meaning. The second
+has lines for numbered attempts. Numbers start at 0 and count only attempts with a frame. A line takes precedence over
+the rules, and a rule over later rules. Any other attempt is good.
 """
 
 import os
@@ -19,20 +19,20 @@ from canbusd.frames import EXTENDED
 from canbusd._words import GOOD, LASTBIT, MOST_RULES
 from canbusd.rules import MOST, NUMBER, VERDICT, Rule, is_rule, parse_rule
 
-# A text of this form is a rule with a fault rather than the path of a file that is not there.
+# A text of this form is a malformed rule rather than the path of a missing file.
 LIKE_RULE = re.compile(r"\A\S+ (?:[0-9]|.*(?:good|lastbit|last_bit|destroyed|global|local)\b)")
-# A text that can't be a path.
+# Matches a text that can't be a path.
 IS_TEXT = re.compile(r"\A\Z|\n|\A(?:[0-9]+|next|always) ")
 
-# The most that an identifier of 11 bits is, and one of 29.
+# The largest identifier with 11 bits, and with 29.
 SHORT, LONG = 0x7FF, 0x1FFFFFFF
 
 #: The help for a call without a rule.
 BY_NUMBER = "attempts are their numbers, from 0; a rule comes first: Faults().next(1).last_bit()"
-#: How a rule is ended that has no fault yet.
+#: The remedy for a rule that has no fault yet.
 SAYS_WHICH = ".destroyed(), .last_bit(), .local(..) or .good() says which"
 
-#: Which fault destroys a frame, and which a node may see by itself.
+#: The faults that destroy a frame, and the faults that a single node may see.
 Destroying = Literal["bit", "form"]
 Seen = Literal["stuff", "crc", "form"]
 
@@ -41,21 +41,21 @@ Names = Union[str, Sequence[str]]
 
 
 def global_fault(kind: str) -> str:
-    """The verdict of a frame that is destroyed."""
+    """Returns the verdict that destroys a frame."""
     if kind not in ("bit", "form"):
         raise ValueError(f"kind of a destroyed frame is bit or form, not {kind!r}")
     return f"global {kind}"
 
 
 def local_fault(kind: str, names: Names) -> str:
-    """The verdict that only these interfaces see."""
+    """Returns the verdict that only these interfaces see."""
     if kind not in ("stuff", "crc", "form"):
         raise ValueError(f"kind of a local fault is stuff, crc or form, not {kind!r}")
     return f"local {kind} {','.join(listed(names, 'names of a local fault'))}"
 
 
 def listed(names: Names, what: str) -> list[str]:
-    """The names of interfaces, at least one; a fault says what they are."""
+    """Returns the names of interfaces, at least one; an error names the argument."""
     found = names.split(",") if isinstance(names, str) else list(names) if isinstance(names, Iterable) else []
     if not found or not all(isinstance(name, str) and NAME.fullmatch(name) for name in found):
         raise ValueError(f"{what} are names of interfaces, not {names!r}")
@@ -63,21 +63,22 @@ def listed(names: Names, what: str) -> list[str]:
 
 
 def whole_number(value: object, what: str, least: int = 0) -> int:
-    """A number of a rule; a fault says which."""
+    """Returns a number of a rule; an error names the argument."""
     if isinstance(value, bool) or not isinstance(value, int) or not least <= value <= MOST:
         raise ValueError(f"{what} is a number from {least} to {MOST}, not {value!r}")
     return value
 
 
 def some_bits(value: object, what: str, most: int) -> int:
-    """An identifier or a mask of a rule; a fault says which."""
+    """Returns an identifier or a mask of a rule; an error names the argument."""
     if isinstance(value, bool) or not isinstance(value, int) or not 0 <= value <= most:
         raise ValueError(f"{what} is a number from 0 to 0x{most:X}, not {value!r}")
     return value
 
 
 def identifier_words(id: Optional[int], mask: Optional[int], extended: Optional[bool]) -> Optional[tuple[int, int]]:
-    """The identifier word and the mask of a rule, which takes frames of 11 bits or those of 29, and not both."""
+    """Returns the identifier word and the mask of a rule, which matches frames with 11 bits or with 29, but not
+    both."""
     if id is None:
         if mask is not None or extended is not None:
             raise ValueError("mask and extended belong to an id, and none is given")
@@ -89,24 +90,24 @@ def identifier_words(id: Optional[int], mask: Optional[int], extended: Optional[
 
 
 class Chosen:
-    """The attempts that a rule takes; each method says what happens in them, and returns the faults with the rule."""
+    """The attempts that a rule takes; each method sets their fault, and returns the Faults with the rule."""
 
     def __init__(self, head: Rule, add: Callable[[Rule], "Faults"]) -> None:
         self._head, self._add = head, add
 
     @explained()
     def good(self) -> "Faults":
-        """No fault: the rule shields its attempts from the rules after it."""
+        """No fault: the rule protects its attempts from later rules."""
         return self._given(GOOD)
 
     @explained()
     def destroyed(self, kind: Destroying = "bit") -> "Faults":
-        """All nodes see a fault, and the frame is destroyed: a `bit` or a `form` error."""
+        """All nodes see a fault, a `bit` or a `form` error, and the frame is destroyed."""
         return self._given(global_fault(kind))
 
     @explained()
     def last_bit(self) -> "Faults":
-        """The sender sees a fault in the last bit: the others accept the frame, and it is sent again."""
+        """The sender sees a fault in the last bit: the other nodes accept the frame, and the sender sends it again."""
         return self._given(LASTBIT)
 
     @explained()
@@ -128,7 +129,7 @@ class Chosen:
 
 
 class Faults(NamesWhatThereIs):
-    """Rules and lines of a fault script; each method adds to them, and returns the faults themselves."""
+    """Rules and lines of a fault script; each method adds to them, and returns the Faults object."""
 
     _INSTEAD = {
         **dict.fromkeys(
@@ -153,12 +154,12 @@ class Faults(NamesWhatThereIs):
         extended: Optional[bool] = None,
         skip: int = 0,
     ) -> Chosen:
-        """A rule for the next `count` attempts of these; what is called on it says their fault.
+        """Begins a rule for the next `count` matching attempts; the next method call sets their fault.
 
-        `sender` names one or more interfaces: who sends. `id` is the frame's identifier, of 29 bits from 0x800 on or with
-        `extended=True`, and with a `mask` those whose bits of the mask are the same. Data, remote and FD frames are taken
-        alike. The first `skip` attempts of these are left to the rules after it. A retransmission is an attempt like any
-        other.
+        `sender` names one or more sending interfaces. `id` is the frame's identifier, with 29 bits from 0x800 on or
+        with `extended=True`. With a `mask` it matches identifiers with the same bits in the mask. Data, remote and FD
+        frames match alike. The rule leaves the first `skip` matching attempts to later rules. A retransmission is an
+        attempt like any other.
         """
         return self._chosen(whole_number(count, "count", 1), sender, id, mask, extended, skip)
 
@@ -172,7 +173,7 @@ class Faults(NamesWhatThereIs):
         extended: Optional[bool] = None,
         skip: int = 0,
     ) -> Chosen:
-        """A rule for all attempts of these, as `next` has them."""
+        """Begins a rule for all matching attempts; the arguments are those of `next`."""
         return self._chosen(None, sender, id, mask, extended, skip)
 
     def _chosen(
@@ -196,17 +197,17 @@ class Faults(NamesWhatThereIs):
 
     @explained(BY_NUMBER)
     def good(self, attempts: Attempts) -> "Faults":
-        """No fault, also if a rule would give one."""
+        """No fault, even if a rule would cause one."""
         return self._add(GOOD, attempts)
 
     @explained(BY_NUMBER)
     def destroyed(self, attempts: Attempts, kind: Destroying = "bit") -> "Faults":
-        """All nodes see a fault, and the frame is destroyed: a `bit` or a `form` error."""
+        """All nodes see a fault, a `bit` or a `form` error, and the frame is destroyed."""
         return self._add(global_fault(kind), attempts)
 
     @explained(BY_NUMBER)
     def last_bit(self, attempts: Attempts) -> "Faults":
-        """The sender sees a fault in the last bit: the others accept the frame, and it is sent again."""
+        """The sender sees a fault in the last bit: the other nodes accept the frame, and the sender sends it again."""
         return self._add(LASTBIT, attempts)
 
     @explained(BY_NUMBER)
@@ -231,13 +232,13 @@ class Faults(NamesWhatThereIs):
     def of(self, attempt: int) -> str:
         """Returns the verdict of the line of this attempt, such as `local crc can1`; `good` without one.
 
-        What rules give depends on the run.
+        The verdicts of rules depend on the run.
         """
         return self._verdicts.get(whole_number(attempt, "attempt"), GOOD)
 
     @property
     def rules(self) -> list[str]:
-        """The rules in their order, each as a line of the script: `next 32 from ecu global bit`."""
+        """The rules in order, each as a line of the script: `next 32 from ecu global bit`."""
         return [str(rule) for rule in self._rules]
 
     def __str__(self) -> str:
@@ -257,7 +258,7 @@ class Faults(NamesWhatThereIs):
 
 
 def attempts_text(numbers: list[int]) -> str:
-    """The argument that names these attempts, which rise."""
+    """Returns the argument that names these attempts, in ascending order."""
     first, last = numbers[0], numbers[-1]
     if len(numbers) > 2 and last - first == len(numbers) - 1:
         return f"range({first}, {last + 1})"
@@ -265,7 +266,7 @@ def attempts_text(numbers: list[int]) -> str:
 
 
 def call_of(verdict: str, attempts: str = "") -> str:
-    """The call that adds a fault, with the argument that names its attempts if it has one."""
+    """Returns the call that adds a fault, with the argument that names its attempts if there is one."""
     kind, *words = verdict.split()
     given = [attempts] if attempts else []
     if kind == "global":
@@ -276,7 +277,7 @@ def call_of(verdict: str, attempts: str = "") -> str:
 
 
 def head_call(rule: Rule) -> str:
-    """The call that begins a rule: `next(32, sender='ecu')`."""
+    """Returns the call that begins a rule: `next(32, sender='ecu')`."""
     senders = list(rule.senders)
     given = [] if rule.count is None else [str(rule.count)]
     given += [f"sender={senders[0]!r}" if len(senders) == 1 else f"sender={senders!r}"] if senders else []
@@ -286,22 +287,22 @@ def head_call(rule: Rule) -> str:
 
 
 def identifier_arguments(word: int, mask: int) -> list[str]:
-    """The arguments that name the identifier of a rule, without what goes without saying."""
+    """Returns the arguments that describe the identifier of a rule, without defaults."""
     identifier, bits, extended = word & ~EXTENDED, mask & ~EXTENDED, bool(word & EXTENDED)
     arguments = [f"id={identifier:#x}"]
     arguments += [] if bits == (LONG if extended else SHORT) else [f"mask={bits:#x}"]
     return arguments + (["extended=True"] if extended and identifier <= SHORT else [])
 
 
-#: A fault script: its path, its text, or Faults.
+#: A fault script: its path, its text, or a Faults object.
 Script = Union[str, "os.PathLike[str]", Faults]
 
 
 def script_bytes(script: Optional[Script]) -> bytes:
-    """Returns a fault script byte for byte, as the program is to have it.
+    """Returns a fault script byte for byte, as the program will receive it.
 
-    A `str` is the text if it is empty, has a line feed, or begins with a number and a space, as `0 lastbit` does, or as a
-    rule does, such as `next 1 lastbit`; else it is a path.
+    A `str` is the text of a script if it is empty, contains a newline, or begins like a line such as `0 lastbit` or a
+    rule such as `next 1 lastbit`. Any other `str` is a path.
     """
     if script is None:
         return b""
@@ -318,7 +319,7 @@ def script_bytes(script: Optional[Script]) -> bytes:
             return file.read()
     except FileNotFoundError as fault:
         if isinstance(script, str) and LIKE_RULE.search(script):
-            # It says what is wrong with that.
+            # This raises an error that explains the fault.
             parse_rule(script)
         hint = (
             f"{fault.strerror}; a text begins with the number of an attempt, as '0 lastbit' does, or with a rule, as "
@@ -328,17 +329,17 @@ def script_bytes(script: Optional[Script]) -> bytes:
 
 
 def lines_of(text: str) -> list[str]:
-    """The lines of a script that say something; they end at their LF only."""
+    """Returns the non-empty lines of a script without comments; only LF ends a line."""
     return [line for line in text.split("\n") if line and not line.startswith("#")]
 
 
 def rules_in(script: str) -> list[Rule]:
-    """Returns the rules of a script, in their order; ValueError if one is none."""
+    """Returns the rules of a script in order; raises ValueError for a malformed rule."""
     return [parse_rule(line) for line in lines_of(script) if is_rule(line)]
 
 
 def rules_of(faults: Script) -> list[Rule]:
-    """Returns the rules of these faults; ValueError if there are others, which nobody can give a bus that runs."""
+    """Returns the rules of these faults; raises ValueError for other lines, which a running bus does not accept."""
     lines = lines_of(script_bytes(faults).decode())
     other = next((line for line in lines if line[:1].isdigit()), None)
     if other is not None:

@@ -14,9 +14,9 @@ if TYPE_CHECKING:
 EXTENDED, REMOTE, ERROR = 0x80000000, 0x40000000, 0x20000000
 # The same bit in the identifier word of a filter.
 INVERTED = 0x20000000
-# The meaning of each class of error message frames (linux/can/error.h) that a bus of canbusd makes.
+# The meanings of the classes of error message frames (linux/can/error.h) that a bus of canbusd makes.
 CLASSES = [(0x040, "bus off"), (0x100, "restarted"), (0x080, "bus error"), (0x020, "no acknowledgement")]
-# The states in byte 1, with class 004.
+# The states in byte 1, for class 004.
 STATE_BITS = [(0x40, "error active"), (0x0C, "error warning"), (0x30, "error passive")]
 # The kinds of bus errors in byte 2, and their places in byte 3.
 FAULTS = [(0x01, "bit error"), (0x02, "form error"), (0x04, "stuff error")]
@@ -28,18 +28,18 @@ PLACES = {
     0x1A: "end of frame",
     0x1B: "ACK delimiter",
 }
-# The flags of an FD frame, as linux/can.h has them.
+# The flags of an FD frame, as in linux/can.h.
 BRS, ESI = 0x1, 0x2
-# The number of bytes that an FD frame may have.
+# The possible numbers of bytes in an FD frame.
 FD_LENGTHS = (*range(9), 12, 16, 20, 24, 32, 48, 64)
-# A regular expression of an error message frame, as a record spells it.
+# Matches an error message frame in the spelling of a record.
 ERROR_FRAME = "[23][0-9A-F]{7}#[0-9A-F]{16}"
 
-# cansend's spelling: an FD frame has a second # and a digit of flags.
+# cansend's spelling: an FD frame has a second # and a digit for its flags.
 SPELLING = re.compile("([0-9A-Fa-f]+)#(?:#([0-9A-Fa-f]))?([0-9A-Fa-fRr.]*)")
-# A session's message with a frame or an error message frame: its first word, and all of it; an FD frame with flags has
-# these after the first word; if asked for with whether the same interface has sent it, and its number there. In
-# replies no moment follows `error`.
+# Match a session's message with a frame or an error message frame: its first word, and the whole message. An FD frame
+# with flags has these after the first word. On request the message says whether the same interface sent the frame, and
+# the frame's number there. In replies no time follows `error`.
 HANDED_OVER = ("frame", "fdframe", "remote", "error")
 MESSAGE = re.compile(
     "(frame|fdframe|fdframex [0-3]|remote|error) ([0-9A-F]+) ([0-9]+[.][0-9]{6})(?: +([0-9A-F]*))?"
@@ -51,11 +51,12 @@ Made = TypeVar("Made")
 
 
 class BadFrame(ValueError):
-    """Why a text or its fields are no frame."""
+    """The reason why a text or its fields are not a frame."""
 
 
 def data_bytes(data: object) -> bytes:
-    """Returns the bytes of a frame; BadFrame for a text or a number, of which Python makes others."""
+    """Returns the bytes of a frame; raises BadFrame for a text or a number, which Python would convert to other
+    bytes."""
     if isinstance(data, str) and re.fullmatch("(?:[0-9A-Fa-f]{2} ?)+", data):
         raise BadFrame(f"data is bytes, such as bytes.fromhex({data!r}), not {data!r}")
     if isinstance(data, (str, int)) or not isinstance(data, Iterable):
@@ -68,10 +69,10 @@ def data_bytes(data: object) -> bytes:
 
 @dataclass(frozen=True)
 class Frame(NamesWhatThereIs):
-    """A frame that is sent or was received, with the names that python-can's `Message` has.
+    """A frame to send or a received frame, with the attribute names of python-can's `Message`.
 
-    `str()` of it is candump's spelling, `123#1122`, which `Frame.parse` reads. Unlike a `Message` it has an 11-bit
-    identifier unless `extended` says otherwise. Two frames are equal whatever their timestamps are, and whoever sent them.
+    `str()` returns candump's spelling, `123#1122`, which `Frame.parse` reads. Unlike a `Message`, a frame has an 11-bit
+    identifier unless `extended` says otherwise. Comparison ignores the timestamp and the sender.
     """
 
     arbitration_id: int
@@ -80,14 +81,14 @@ class Frame(NamesWhatThereIs):
     is_remote_frame: bool = False
     is_error_frame: bool = False
     is_fd: bool = False
-    #: The number of bytes; of a remote frame the number that it asks for.
+    #: The number of bytes; for a remote frame the requested number.
     dlc: int = 0
     timestamp: float = field(default=0.0, compare=False)
-    #: False if the session that received it has sent it.
+    #: False if the receiving session has sent the frame itself.
     is_rx: bool = field(default=True, compare=False)
-    #: Of an FD frame: whether it goes on at the bit rate for data.
+    #: For an FD frame: whether its data use the data bit rate.
     bitrate_switch: bool = False
-    #: Of an FD frame: whether its sender says that it is error passive.
+    #: For an FD frame: whether its sender reports that it is error passive.
     error_state_indicator: bool = False
 
     _INSTEAD = {
@@ -105,10 +106,10 @@ class Frame(NamesWhatThereIs):
 
     @classmethod
     def parse(cls, text: str, timestamp: float = 0.0) -> "Frame":
-        """Returns the frame that cansend's spelling names: `123#11.22`, `00000123#R4`, `123##11122`.
+        """Returns the frame in cansend's spelling: `123#11.22`, `00000123#R4`, `123##11122`.
 
-        Of the digit of an FD frame's flags 1 is the bit rate switch and 2 the error state indicator; what else it says
-        (candump adds 4, by which Linux marks FD frames) is left out.
+        In the flags digit of an FD frame, 1 is the bit rate switch and 2 the error state indicator. Other bits are
+        ignored (candump adds 4, with which Linux marks FD frames).
         """
         try:
             return cls._parsed(text, timestamp)
@@ -157,7 +158,7 @@ class Frame(NamesWhatThereIs):
         return meaning(str(self))
 
     def message(self, channel: Optional[str] = None) -> "Message":
-        """Returns the message of python-can, such as a bus sends."""
+        """Returns a python-can message for this frame."""
         from can.message import Message
 
         return Message(channel=channel, **vars(self))
@@ -172,12 +173,12 @@ def frame_to_send(id: object, data: bytes = b"", *, is_extended_id: Optional[boo
 
 
 def log_line(name: str, frame: Frame) -> str:
-    """Returns the line of a log, as `candump -L` writes it: `(0000000001.000000) can0 123#1122`."""
+    """Returns the line of a log, in the format of `candump -L`: `(0000000001.000000) can0 123#1122`."""
     return f"({frame.timestamp:017.6f}) {name} {frame}"
 
 
 def described_line(name: str, frame: Frame) -> str:
-    """Returns the line of a log, in which an error message frame is followed by what it says in words."""
+    """Returns the line of a log, with the meaning of an error message frame after it."""
     return f"{log_line(name, frame)}  {frame.meaning}".rstrip()
 
 
@@ -230,17 +231,17 @@ class MessageLike(Protocol):
 
 
 def flags_of(number: int) -> dict[str, bool]:
-    """Returns the flags of an FD frame that a number says, by their names."""
+    """Returns the flags of an FD frame in a number, by their names."""
     return {"bitrate_switch": bool(number & BRS), "error_state_indicator": bool(number & ESI)}
 
 
 def flag_number(message: MessageLike) -> int:
-    """Returns the number of the flags of a frame."""
+    """Returns the flags of a frame as a number."""
     return BRS * message.bitrate_switch + ESI * message.error_state_indicator
 
 
 def frame_like(message: MessageLike) -> Frame:
-    """Returns the frame that a message of python-can is."""
+    """Returns the frame for a python-can message."""
     if isinstance(message, Frame):
         return message
     return Frame(
@@ -259,7 +260,7 @@ def frame_like(message: MessageLike) -> Frame:
 
 
 def check_frame(message: MessageLike) -> None:
-    """Raises BadFrame where no frame has these fields."""
+    """Raises BadFrame if no frame can have these fields."""
     most = 0x1FFFFFFF if message.is_extended_id or message.is_error_frame else 0x7FF
     if not isinstance(message.arbitration_id, int):
         raise BadFrame(f"arbitration_id is a number, such as 0x123, not {message.arbitration_id!r}")
@@ -280,7 +281,7 @@ def check_frame(message: MessageLike) -> None:
 
 
 def command_of(message: MessageLike) -> str:
-    """Returns the message by which a session sends a frame or a message of python-can, without `<` and `>`."""
+    """Returns the message by which a session sends a frame or a python-can message, without `<` and `>`."""
     check_frame(message)
     if message.is_error_frame:
         raise BadFrame("an error message frame, which nobody sends")
@@ -294,7 +295,7 @@ def command_of(message: MessageLike) -> str:
 
 
 def frame_of_message(make: Callable[..., Made], kind: str, *words: str) -> Made:
-    """Returns what `make` makes of the words of a message that hands over a frame."""
+    """Returns the result of `make` for the words of a message that hands over a frame."""
     if kind == "fdframex":
         flags, *words_of_frame = words
         return made(make, "fdframe", *words_of_frame, flags=int(flags))
@@ -302,7 +303,7 @@ def frame_of_message(make: Callable[..., Made], kind: str, *words: str) -> Made:
 
 
 def made(make: Callable[..., Made], kind: str, digits: str, moment: str, payload: str = "", *, flags: int = 0) -> Made:
-    """The same of the words of one with these flags."""
+    """Returns the result of `make` for a message with these flags."""
     is_remote, is_error = kind == "remote", kind == "error"
     data = b"" if is_remote else bytes.fromhex(payload)
     return make(
@@ -319,30 +320,30 @@ def made(make: Callable[..., Made], kind: str, digits: str, moment: str, payload
 
 
 def without_origin(message: str) -> tuple[str, Optional[int]]:
-    """Returns a message that hands over a frame without ` same 17` or ` other 17`; the number if the same interface has
+    """Returns a message that hands over a frame without ` same 17` or ` other 17`, and the number if the same interface
     sent the frame, else None."""
     message, _, number = message.partition(" same ")
     return message.partition(" other ")[0], int(number) if number else None
 
 
 def frame_of(message: str) -> Optional[Frame]:
-    """Returns the frame that a session's message, without `<` and `>`, hands over; None for an answer."""
+    """Returns the frame in a session's message, which is given without `<` and `>`; None for an answer."""
     words = MESSAGE.fullmatch(message.strip())
     return frame_of_message(Frame, *words[1].split(" "), *words.groups(default="")[1:]) if words else None
 
 
 def is_fd(text: str) -> bool:
-    """Whether this is the text of an FD frame."""
+    """Returns whether this is the text of an FD frame."""
     return "##" in text
 
 
 def is_error(text: str) -> bool:
-    """Whether this is the text of an error message frame."""
+    """Returns whether this is the text of an error message frame."""
     return text[0] in "23" and text.find("#") == 8
 
 
 def meaning(text: str) -> str:
-    """Returns what an error message frame says, in words; the empty text for another frame."""
+    """Returns the meaning of an error message frame in words; the empty text for another frame."""
     if not is_error(text):
         return ""
     number, data = int(text[:8], 16), bytes.fromhex(text[9:]).ljust(8, b"\0")
@@ -357,7 +358,7 @@ def meaning(text: str) -> str:
 
 
 def fault_words(data: bytes) -> list[str]:
-    """The kind and the place of a bus error."""
+    """Returns the kind and the place of a bus error."""
     words = [name for bit, name in FAULTS if data[2] & bit]
     if data[2] & SENDING:
         words.append("while sending")
@@ -367,14 +368,15 @@ def fault_words(data: bytes) -> list[str]:
 
 
 def identifier_word(frame: MessageLike) -> int:
-    """Returns the word of a frame that filters are about: its identifier, and whether it has 29 bits and is remote."""
+    """Returns the word of a frame that filters check: the identifier, and whether the frame has 29 bits and is
+    remote."""
     return frame.arbitration_id | EXTENDED * frame.is_extended_id | REMOTE * frame.is_remote_frame
 
 
 def passes_filters(word: int, filters: Sequence[tuple[int, int]], join: bool) -> bool:
-    """Whether a frame with this identifier word passes filters, as pairs of identifier word and mask (linux/can/raw.h).
+    """Returns whether an identifier word passes these filters, pairs of identifier word and mask (linux/can/raw.h).
 
-    It has to match one of them, with `join` all. Without any, nothing passes.
+    The word must match one filter, or all with `join`. Without filters nothing passes.
     """
     matches = [((word ^ identifier) & mask == 0) != bool(identifier & INVERTED) for identifier, mask in filters]
     return bool(matches) and (all(matches) if join else any(matches))

@@ -1,4 +1,4 @@
-"""Ends of ISO-TP on interfaces of a server: by can-isotp where it is installed, by a socket of canbusd-run, or in Python.
+"""Ends of ISO-TP on interfaces of a server: by can-isotp if it is installed, by a socket of canbusd-run, or in Python.
 
     with server.isotp("ecu", tx=0x7E8, rx=0x7E0) as ecu, server.isotp("tester", tx=0x7E0, rx=0x7E8) as tester:
         tester.send(b"\\x22\\xf1\\x90")
@@ -35,15 +35,15 @@ HOW_TO_GET = "`pip install can-isotp`, or canbusd-run beside the program"
 LIBRARIES = ("can-isotp", "canbusd-run", "canbusd")
 #: The program that canbusd-run runs.
 SOCKET_PROGRAM = os.path.join(os.path.dirname(__file__), "_process", "isotp_socket.py")
-#: Seconds in which the process of a socket has to start, and to end.
+#: The time limit in seconds for the start and the end of a socket's process.
 START, END = 20.0, 5.0
 
 
 def open_isotp(
     opened: "Callable[..., CanbusdBus]", address: str, channel: str, options: Options, library: Optional[str] = None
 ) -> IsoTp:
-    """Returns an end on an interface; `opened` opens a bus of python-can there. `library` is one of them, else the first
-    that is there, of those that have what the options ask for."""
+    """Returns an end on an interface; `opened` opens a bus of python-can there. `library` names the implementation; the
+    default is the first available one that supports the options."""
     if library not in (None, *LIBRARIES):
         raise ValueError(f"library is {', '.join(map(repr, LIBRARIES[:-1]))} or {LIBRARIES[-1]!r}, not {library!r}")
     if options.functional is not None and library not in (None, "canbusd"):
@@ -67,13 +67,13 @@ def open_isotp(
 
 
 def check_physical(functional: bool) -> None:
-    """ValueError for a request to all, by an end that has no identifier of them."""
+    """Raises ValueError for a request to all nodes, if the end has no identifier for such requests."""
     if functional:
         raise ValueError("functional=True needs the identifier of requests to all: isotp(.., functional=0x7DF)")
 
 
 class CanIsoTp(IsoTp):
-    """An end that is a stack of can-isotp, from version 2 on, in threads of its own."""
+    """An end that is a can-isotp stack, version 2 or later, with its own threads."""
 
     library = "can-isotp"
 
@@ -125,10 +125,11 @@ class CanIsoTp(IsoTp):
 
 
 class SocketIsoTp(IsoTp):
-    """An end that is a CAN_ISOTP socket, in a process that canbusd-run starts; this one and that one share a pair of sockets.
+    """An end that is a CAN_ISOTP socket in a process that canbusd-run starts; both processes share a pair of sockets.
 
-    A packet that goes there is a message to send. One that comes from there is a letter and more: `r` and a message that
-    was received, `s` and the error of what was sent, 0 if it went out, and `e` and the error of what was not received.
+    A packet to that process is a message to send. A packet from there begins with a letter: `r` comes before a received
+    message. `s` comes before the errno of a sent message, 0 for success. `e` comes before the errno of a message that
+    was not received.
     """
 
     library = "canbusd-run"
@@ -146,7 +147,7 @@ class SocketIsoTp(IsoTp):
                 stderr=subprocess.PIPE,
             )
         self._sending, self._news = threading.Lock(), threading.Condition()
-        # The packets that no call has taken, and whether a thread reads more.
+        # The packets that no call has taken, and whether a thread is reading.
         self._received: list[bytes] = []
         self._is_read = False
         try:
@@ -173,7 +174,7 @@ class SocketIsoTp(IsoTp):
         return None if answer is None else self._taken(answer)
 
     def _taken(self, packet: bytes) -> bytes:
-        """Returns the bytes of a packet, and raises the error that one of them is."""
+        """Returns the bytes of a packet; raises the error in a packet that carries one."""
         if packet[:1] == b"r":
             return packet[1:]
         number = int(packet[1:])
@@ -184,7 +185,7 @@ class SocketIsoTp(IsoTp):
         return b""
 
     def close(self) -> None:
-        # The process ends with its side of the pair.
+        # The process ends when its socket of the pair is closed.
         self._own.close()
         try:
             self._child.wait(END)
@@ -195,9 +196,9 @@ class SocketIsoTp(IsoTp):
         self._child.stderr.close()
 
     def _next(self, letters: str, timeout: Optional[float]) -> Optional[bytes]:
-        """The next packet with one of these letters; None if none comes in this time.
+        """Returns the next packet with one of these letters; None if no packet comes within this time.
 
-        Of the threads that wait one reads, and keeps what is for others.
+        One of the waiting threads reads, and keeps packets for the others.
         """
         deadline = None if timeout is None else time.monotonic() + timeout
         with self._news:
@@ -215,7 +216,7 @@ class SocketIsoTp(IsoTp):
                     self._read(left)
 
     def _read(self, left: Optional[float]) -> None:
-        """Reads a packet, if one comes in this time; meanwhile others may look at what there is."""
+        """Reads a packet, if one comes within this time; meanwhile other threads may check the kept packets."""
         self._is_read = True
         self._news.release()
         try:
@@ -232,14 +233,15 @@ class SocketIsoTp(IsoTp):
             self._received.append(packet)
 
     def _said(self) -> str:
-        """The standard error of the process, once it has ended."""
+        """Returns the standard error of the process, after it has ended."""
         assert self._child.stderr is not None
         return self._child.stderr.read().decode(errors="replace").strip().split("\n")[-1] or "without a word"
 
 
 def outage_of(address: str, channel: str) -> str:
-    """Why an interface takes no part now, as far as the server says so: `bus off`, `down`, or nothing if it takes part."""
-    # Of python-can, if there is python-can: no answer is none.
+    """Returns the reason why an interface takes no part, if the server reports one: `bus off`, `down`, or the empty
+    text."""
+    # This also suppresses the errors of python-can, if it is installed: without an answer there is no reason.
     with contextlib.suppress(Exception):
         session = ObservingSession(address, channel, has_frames=False)
         session.close()

@@ -16,8 +16,8 @@ from canbusd.local import LocalBus, LocalSocket, Refused
 
 
 class LocalCanbusdBus(BusABC):
-    """A raw socket on an interface of a LocalBus. Attempts are made as frames are sent if the bus is made so
-    (``attempts="sent"``), else by ``local.attempt()`` and ``local.run()``.
+    """A raw socket on an interface of a LocalBus. With ``attempts="sent"`` the bus makes attempts when frames are sent,
+    else ``local.attempt()`` and ``local.run()`` make them.
 
     :param channel: the name of the interface
     :param local: the bus
@@ -26,7 +26,7 @@ class LocalCanbusdBus(BusABC):
     """
 
     def __init__(self, channel: str, can_filters: Optional[Filters] = None, *, local: LocalBus, **kwargs: Any) -> None:
-        # python-can 4.3 warns of a bus that is not shut down, also if it never came to be.
+        # python-can 4.3 warns of a bus without a shutdown, even if its constructor failed.
         self._is_shutdown = True
         self.channel, self.local = channel, local
         self.channel_info = f"canbusd: channel '{channel}' of a bus in this process"
@@ -38,7 +38,7 @@ class LocalCanbusdBus(BusABC):
         self._is_shutdown = False
 
     def send(self, msg: Message, timeout: Optional[float] = None) -> None:
-        """Puts a message into the transmit queue of the interface; a full one is an error at once."""
+        """Puts a message into the transmit queue of the interface; a full queue is an error at once."""
         try:
             self._socket.send(frame_like(msg))
         except Refused as fault:
@@ -53,7 +53,7 @@ class LocalCanbusdBus(BusABC):
 
     @property
     def state(self) -> BusState:
-        """The state of the interface: ACTIVE up to error warning, PASSIVE, or ERROR where it is bus off or down."""
+        """The state of the interface: ACTIVE up to error warning, PASSIVE, or ERROR if it is bus off or down."""
         return BUS_STATES[self.error_counters().state]
 
     @state.setter
@@ -80,11 +80,11 @@ class LocalCanbusdBus(BusABC):
         return self._socket.stats()
 
     def load(self) -> Load:
-        """Returns how busy the bus was, and its bit rates."""
+        """Returns the bus load, and the bit rates of the bus."""
         return self.local.load()
 
     def shutdown(self) -> None:
-        """Closes the socket; the bus stays."""
+        """Closes the socket; the bus continues."""
         if not self._is_shutdown:
             self._socket.close()
         super().shutdown()

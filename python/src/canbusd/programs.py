@@ -1,4 +1,4 @@
-"""Programs with CAN sockets on the buses of a server: their words, and those that stay while a test goes on."""
+"""Programs with CAN sockets on the buses of a server: their command lines, and programs that run during a test."""
 
 import errno
 import os
@@ -19,16 +19,17 @@ from canbusd._session.arguments import check_within
 from canbusd._session.connection import LONGEST_POLL, POLL
 from canbusd._text import seconds_words
 
-#: The words of a program, or one text that is split as a shell splits it.
+#: The words of a program, or a text that is split like in a shell.
 Words = Union[str, Sequence[Union[str, "os.PathLike[str]"]]]
-#: Characters that only a shell carries out.
+#: Characters that only a shell interprets.
 OPERATORS = frozenset("();<>|&")
-#: How many of the last lines of its output a failure shows.
+#: The number of output lines, the last ones, that a failure shows.
 LAST_LINES = 10
 
 
 def words_of(words: Words) -> list[str]:
-    """Returns the words of a program; a str is split as a shell splits it, and ValueError says what only a shell does."""
+    """Returns the words of a program; splits a str like a shell, and raises ValueError for text that only a shell
+    interprets."""
     if isinstance(words, str):
         found = split(words)
     elif isinstance(words, Sequence) and all(isinstance(word, (str, os.PathLike)) for word in words):
@@ -41,13 +42,14 @@ def words_of(words: Words) -> list[str]:
 
 
 def check_no_shell(arguments: dict[str, Any]) -> None:
-    """Raises ValueError if a shell is asked for: it would be the program, and its CAN sockets the server's."""
+    """Raises ValueError if a shell is requested: the shell would be the program, and its CAN sockets would be the
+    server's."""
     if arguments.get("shell"):
         raise ValueError("shell=True: a shell is a program, too: ['sh', '-c', 'cangen can0 | ..']")
 
 
 def split(text: str) -> list[str]:
-    """Returns the words of a text, as a shell splits them."""
+    """Returns the words of a text, split like in a shell."""
     try:
         lexer = shlex.shlex(text, posix=True, punctuation_chars=True)
         lexer.whitespace_split, lexer.commenters = True, ""
@@ -63,9 +65,9 @@ def split(text: str) -> list[str]:
 def check_program(
     name: str, env: Optional[Mapping[str, str]] = None, cwd: Union[str, "os.PathLike[str]", None] = None
 ) -> None:
-    """Raises what subprocess does where a program can't be started: FileNotFoundError, or PermissionError.
+    """Raises the error of subprocess if a program can't be started: FileNotFoundError, or PermissionError.
 
-    canbusd-run starts it, whose status 127 might be the program's own.
+    canbusd-run starts the program, and its status 127 might also come from the program.
     """
     folder = cwd or ""
     places = [""] if "/" in name else os.get_exec_path(env)
@@ -78,10 +80,9 @@ def check_program(
 
 
 class Program(NamesWhatThereIs):
-    """A program that stays while the test goes on, which :meth:`canbusd.Server.start` starts; the server ends it.
+    """A program that runs during the test; :meth:`canbusd.Server.start` starts it, and the server ends it.
 
-    Its standard output and standard error are in `output`, as far as it has written them: a program that buffers what it
-    writes may do so late.
+    `output` has the standard output and standard error written so far; a program may buffer its output and write late.
     """
 
     _INSTEAD = {
@@ -95,7 +96,7 @@ class Program(NamesWhatThereIs):
     ) -> None:
         self._words, self._path, self._output = list(words), output, Output(output)
         self._may_end, self._is_stopped, self._is_off = may_end, False, False
-        # Not in the terminal's foreground: Ctrl-C is the test's.
+        # The program is not in the terminal's foreground group, so that Ctrl-C only reaches the test.
         how: dict[str, Any] = {"stdin": subprocess.DEVNULL, "start_new_session": True, **kwargs}
         self._command, self._how = [*command, *words], how
         output.write_bytes(b"")
@@ -103,7 +104,7 @@ class Program(NamesWhatThereIs):
         placement.note_program(self._restart)
 
     def _start(self) -> None:
-        """Starts it; its output follows what is there."""
+        """Starts the program; its output is appended to the earlier output."""
         self._guard = Guard()
         child: "Optional[subprocess.Popen[bytes]]" = None
         try:
@@ -118,7 +119,7 @@ class Program(NamesWhatThereIs):
         self._child = child
 
     def _restart(self) -> None:
-        """Kills it, as a reset does, and starts it anew; not one that has ended."""
+        """Kills the program, like a reset, and starts it anew; does nothing if the program has ended."""
         if self.status is None:
             self._kill()
             self._child.wait()
@@ -126,7 +127,7 @@ class Program(NamesWhatThereIs):
             self._start()
 
     def _power_off(self) -> None:
-        """Kills it, if it runs, as a node that loses its power; that is no fault of it."""
+        """Kills the running program, like a node that loses its power; this is no fault of the program."""
         if self.status is None:
             self._is_off = True
             self._kill()
@@ -134,19 +135,19 @@ class Program(NamesWhatThereIs):
             self._guard.release()
 
     def _power_on(self) -> None:
-        """Starts it anew, if `_power_off` has killed it."""
+        """Starts the program anew, if `_power_off` has killed it."""
         if self._is_off:
             self._is_off = False
             self._start()
 
     @property
     def pid(self) -> int:
-        """Its process."""
+        """The process identifier of the program."""
         return self._child.pid
 
     @property
     def status(self) -> Optional[int]:
-        """Its status, below 0 if a signal ended it; None while it runs."""
+        """The status of the program, negative if a signal ended it; None while it runs."""
         status = self._child.poll()
         if status is not None:
             self._guard.release()
@@ -154,14 +155,16 @@ class Program(NamesWhatThereIs):
 
     @property
     def output(self) -> str:
-        """Its output so far."""
+        """The output of the program so far."""
         return self._path.read_text(encoding="utf-8", errors="replace")
 
     @explained()
     def expect(self, text: str, *, within: float = 10.0) -> str:
-        """Waits until its output has this text, and returns the output; AssertionError after these seconds, or at its end.
+        """Waits until the program's output has this text, and returns the output. AssertionError after these seconds,
+        or if the program ends.
 
-        Of an output of more than a megabyte it returns the last one up to the text, after a line that says how much is before.
+        If there is more than a megabyte of output, the result is the last megabyte up to the text, after a line with
+        the number of bytes before.
         """
         __tracebackhide__ = True
         if not isinstance(text, str):
@@ -170,7 +173,7 @@ class Program(NamesWhatThereIs):
         deadline, pause = time.monotonic() + within, POLL
         with Search(self._path, text) as search:
             while True:
-                # Before its output: what it wrote at its end counts.
+                # The status is read before the output, so that the last output counts.
                 has_ended = self.status is not None
                 is_read = search.goes_on(deadline)
                 if search.is_found:
@@ -184,7 +187,8 @@ class Program(NamesWhatThereIs):
 
     @explained()
     def wait(self, timeout: float) -> int:
-        """Waits until it ends by itself, as it may then, and returns its status; TimeoutError after these seconds."""
+        """Waits until the program ends by itself, which is then allowed, and returns its status; TimeoutError after
+        these seconds."""
         __tracebackhide__ = True
         try:
             status = self._child.wait(timeout)
@@ -195,9 +199,11 @@ class Program(NamesWhatThereIs):
         return status
 
     def stop(self, timeout: float = 5.0) -> int:
-        """Ends it by SIGTERM, after these seconds with all processes of its group by SIGKILL; returns its status.
+        """Ends the program with SIGTERM, and after these seconds its whole process group with SIGKILL; returns its
+        status.
 
-        One that has ended before stays as it is: the test fails at its end, unless `may_end` or `wait` expected it.
+        If the program has already ended, nothing changes: the test fails at its end, unless `may_end` or `wait`
+        expected this.
         """
         if self.status is None:
             self._is_stopped = True
@@ -217,13 +223,13 @@ class Program(NamesWhatThereIs):
             pass
 
     def fault(self) -> Optional[str]:
-        """Returns what is wrong where it has ended by itself and was not to; else None."""
+        """Returns a text if the program has ended by itself against expectation; else None."""
         if self.status is None or self._may_end or self._is_stopped or self._is_off:
             return None
         return f"{self._name()} ended before the test did; pass may_end=True if it may\n{self.shown()}"
 
     def shown(self) -> str:
-        """Returns its words, its status and the end of its output, for a failure."""
+        """Returns the program's words, its status and the end of its output, for a failure."""
         state = "runs" if self.status is None else f"{'stopped, ' if self._is_stopped else ''}status {self.status}"
         lines = self._output.last_lines(LAST_LINES) or ["and no output"]
         return "\n".join([f"{self._name()}: {state}, {lines[0]}", *lines[1:]])
@@ -233,7 +239,7 @@ class Program(NamesWhatThereIs):
 
 
 class RunsPrograms:
-    """The part of a server for programs with CAN sockets: its mixin."""
+    """The mixin of a server for programs with CAN sockets."""
 
     address: str
     _folder: Path
@@ -241,18 +247,19 @@ class RunsPrograms:
     _programs: list[Program]
 
     def _check_runs(self, what: str) -> None:
-        """ServerError if the server has ended, with what is not possible then."""
+        """Raises ServerError if the server has ended; the text names the impossible action."""
         raise NotImplementedError
 
     def run(
         self, words: Words, wait: bool = False, static: bool = False, **kwargs: Any
     ) -> "subprocess.CompletedProcess[Any]":
-        """Runs a program whose CAN sockets are those of this server to its end: ``"cansend can0 123#"``, or a list of words.
+        """Runs a program whose CAN sockets are those of this server to its end: ``"cansend can0 123#"``, or a list of
+        words.
 
-        With ``wait`` its writes wait where the transmit queue is full; with ``static`` it may be a program that is linked
-        statically, or of Go. The other arguments are those of subprocess.run, but for ``shell``: a str is split into words
-        as a shell does, and what only a shell does is a ValueError. So it raises FileNotFoundError if there is no such
-        program; with ``check`` a status other than 0 is an error, too.
+        With ``wait`` its writes wait while the transmit queue is full; with ``static`` the program may be statically
+        linked, or written in Go. The other arguments are those of subprocess.run except ``shell``: a str is split into
+        words like in a shell, and text that only a shell interprets raises ValueError. FileNotFoundError if there is no
+        such program; with ``check`` a status other than 0 is an error too.
         """
         check_no_shell(kwargs)
         found = words_of(words)
@@ -263,11 +270,11 @@ class RunsPrograms:
     def start(
         self, words: Words, wait: bool = False, may_end: bool = False, static: bool = False, **kwargs: Any
     ) -> Program:
-        """Starts such a program, one that stays, as ``"candump can0"``; the end of the server ends it.
+        """Starts a program that keeps running, such as ``"candump can0"``; the end of the server ends the program.
 
-        If it has ended by itself before, :meth:`stop` is a ServerError, and so a failure of the test, unless it
-        ``may_end``. The other arguments are those of subprocess.Popen, as FileNotFoundError is if there is no such
-        program; its output is :attr:`Program.output`.
+        If the program ends by itself before that, :meth:`stop` raises ServerError and the test fails, unless
+        ``may_end`` is true. The other arguments are those of subprocess.Popen, which raises FileNotFoundError if there
+        is no such program. The program's output is :attr:`Program.output`.
         """
         check_no_shell(kwargs)
         taken = next((name for name in ("stdout", "stderr", "capture_output") if name in kwargs), None)
@@ -282,9 +289,10 @@ class RunsPrograms:
         return program
 
     def environment(self) -> dict[str, str]:
-        """Returns the environment of this process with what makes a program's CAN sockets those of this server.
+        """Returns the environment of this process, with variables that connect a program's CAN sockets to this server.
 
-        For programs that others start: ``subprocess.Popen(["candump", "can0"], env=server.environment())``.
+        This is for programs that other code starts: ``subprocess.Popen(["candump", "can0"],
+        env=server.environment())``.
         """
         words = [*self._run_words(), "env", "-0"]
         pairs = os.fsdecode(subprocess.run(words, stdout=subprocess.PIPE, check=True).stdout).split("\0")
@@ -295,7 +303,7 @@ class RunsPrograms:
         return [find_program("canbusd-run"), "--address", self.address, *options, "--"]
 
     def _end_programs(self) -> list[str]:
-        """Ends what :meth:`start` has started; what is wrong with those that had ended before."""
+        """Ends the programs that :meth:`start` has started; returns the faults of those that had ended before."""
         for program in self._programs:
             program.stop()
         return [fault for program in self._programs for fault in [program.fault()] if fault is not None]

@@ -38,11 +38,11 @@ if TYPE_CHECKING:
     from canbusd.server import Server
     from canbusd.local import LocalBus
 
-#: The buses of the fixture `canbusd` where no marker names others.
+#: The buses of the fixture `canbusd` if no marker names others.
 BUSES = ("can0,can1",)
 FAILED = pytest.StashKey[bool]()
 CALLED = pytest.StashKey[bool]()
-#: Whether a fixture has taken the marker of the test.
+#: Whether a fixture has used the marker of the test.
 USED = pytest.StashKey[bool]()
 FOR_FIXTURES = "the test takes neither the fixture canbusd nor canbusd_bench"
 PROGRAM = pytest.StashKey[bool]()
@@ -51,7 +51,7 @@ TEXT, PAGES = pytest.StashKey[str](), pytest.StashKey[Sequence[str]]()
 
 
 def pytest_addoption(parser: pytest.Parser) -> None:
-    """Adds `--canbusd-keep`, `--canbusd-virtual` and its options, and `canbusd_program`."""
+    """Adds `--canbusd-keep`, `--canbusd-virtual` and its options, and the ini option `canbusd_program`."""
     parser.addini("canbusd_program", "path of the program canbusd, from the ini file; $CANBUSD goes before it")
     parser.getgroup("canbusd").addoption(
         "--canbusd-keep",
@@ -80,7 +80,7 @@ def add_virtual_options(group: Any) -> None:
 
 @pytest.hookimpl(tryfirst=True)  # type: ignore[misc]
 def pytest_cmdline_main(config: pytest.Config) -> None:
-    """Starts pytest anew in virtual time or for a sweep, if that is asked for."""
+    """Starts pytest anew in virtual time or for a sweep, if an option asks for it."""
     seed, jitter = config.getoption("--canbusd-seed"), config.getoption("--canbusd-jitter")
     if sweep_options.is_swept(config):
         sweep_options.begin(config)
@@ -99,7 +99,7 @@ def pytest_cmdline_main(config: pytest.Config) -> None:
 
 
 def pytest_configure(config: pytest.Config) -> None:
-    """Describes the marker, and takes the program from the ini file."""
+    """Describes the marker, and reads the program from the ini file."""
     config.addinivalue_line(
         "markers",
         "canbusd(*buses, **options): the buses of the fixtures canbusd and canbusd_bench, and their options, as of "
@@ -116,14 +116,14 @@ def pytest_configure(config: pytest.Config) -> None:
     if "CANBUSD" not in os.environ:
         os.environ["CANBUSD"] = path
         config.stash[PROGRAM] = True
-    # Also where the process of pytest-xdist that started this one has set it.
+    # This also holds if the pytest-xdist process that started this one has set the variable.
     if os.environ["CANBUSD"] == path:
         SET_BY["CANBUSD"] = "canbusd_program in the ini file"
 
 
 @pytest.hookimpl(tryfirst=True)  # type: ignore[misc]
 def pytest_runtestloop(session: pytest.Session) -> Optional[bool]:
-    """Carries out a sweep, if that is asked for, in place of the tests."""
+    """Runs a sweep in place of the tests, if an option asks for it."""
     config = session.config
     if not sweep_options.is_swept(config) or config.option.collectonly or session.testsfailed:
         return None
@@ -140,7 +140,8 @@ def pytest_unconfigure(config: pytest.Config) -> None:
 
 @pytest.hookimpl(hookwrapper=True)  # type: ignore[misc]
 def pytest_runtest_protocol(item: pytest.Item) -> Generator[None, Any, None]:
-    """Keeps that the test was interrupted, as by Ctrl-C: it has no report, and its fixtures end with the session."""
+    """Notes that the test was interrupted, as by Ctrl-C: the test has no report, and its fixtures end with the
+    session."""
     outcome = yield
     if outcome.excinfo is not None:
         item.stash[FAILED] = True
@@ -148,7 +149,8 @@ def pytest_runtest_protocol(item: pytest.Item) -> Generator[None, Any, None]:
 
 @pytest.hookimpl(hookwrapper=True, tryfirst=True)  # type: ignore[misc]
 def pytest_runtest_makereport(item: pytest.Item) -> Generator[None, Any, None]:
-    """Keeps whether the test failed, for the end of its fixtures. One that had to fail, by a mark xfail, did not."""
+    """Notes whether the test failed, for the end of its fixtures. A test with an expected failure, marked xfail, did
+    not fail."""
     outcome = yield
     report = outcome.get_result()
     if report.when == "teardown":
@@ -163,8 +165,8 @@ def pytest_runtest_makereport(item: pytest.Item) -> Generator[None, Any, None]:
 
 @pytest.hookimpl(tryfirst=True)  # type: ignore[misc]
 def pytest_runtest_setup(item: pytest.Item) -> None:
-    """A test for virtual time needs that, whatever its fixtures are. What a server that several tests share has received
-    before a test is nothing that this one expects."""
+    """Checks that a test for virtual time runs in virtual time, whatever its fixtures are. Frames that a shared server
+    received before the test are not for this test's expectations."""
     marker = item.get_closest_marker("canbusd")
     if marker is not None and marker.kwargs.get("virtual") and not is_virtual():
         pytest.fail("this test is for virtual time: python3 -m pytest --canbusd-virtual", pytrace=False)
@@ -172,7 +174,7 @@ def pytest_runtest_setup(item: pytest.Item) -> None:
     if is_virtual():
         begin_test(item.nodeid)
     for run in list(RUNNING):
-        # One that has crashed is a fault of those that use it.
+        # A server that has crashed is a fault of the tests that use it.
         with contextlib.suppress(Exception):
             if isinstance(run, Expectations) and os.getpid() == run._process:
                 run.expect_from_now()
@@ -180,14 +182,14 @@ def pytest_runtest_setup(item: pytest.Item) -> None:
 
 @pytest.hookimpl(trylast=True)  # type: ignore[misc]
 def pytest_runtest_call(item: pytest.Item) -> None:
-    """Keeps that the test was called: one that is skipped uses no fixture."""
+    """Notes that the test was called: a skipped test uses no fixture."""
     item.stash[CALLED] = True
 
 
 @pytest.hookimpl(trylast=True)  # type: ignore[misc]
 def pytest_runtest_teardown(item: pytest.Item) -> None:
-    """Adds the steps to the test's properties, and warns of a marker of the test itself that was for no fixture; one of its module
-    or class may be for others."""
+    """Adds the steps to the test's properties, and warns of a marker of the test itself that no fixture used; a marker
+    of its module or class may be for other tests."""
     if steps.current.done:
         item.user_properties.append(("canbusd_steps", "\n".join(steps.current.lines())))
     marker = next((mark for mark in item.own_markers if mark.name == "canbusd"), None)
@@ -198,13 +200,13 @@ def pytest_runtest_teardown(item: pytest.Item) -> None:
 
 
 def marker_words(marker: pytest.Mark) -> str:
-    """A marker as it is written in a test."""
+    """Returns a marker in the spelling of a test's source."""
     words = [*map(repr, marker.args), *(f"{name}={value!r}" for name, value in marker.kwargs.items())]
     return f"@pytest.mark.canbusd({', '.join(words)})"
 
 
 def new_folder(place: Path, name: str) -> Path:
-    """Makes a folder, whose name gets a number; as pytest does, but without a link to the last."""
+    """Makes a folder whose name gets a number, like pytest's folders, but without a link to the last folder."""
     for number in itertools.count():
         with contextlib.suppress(FileExistsError):
             folder = place / f"{name}{number}"
@@ -214,15 +216,16 @@ def new_folder(place: Path, name: str) -> Path:
 
 
 class UnusedRule(pytest.PytestWarning):
-    """A rule of faults, such as `next 1 id 7FE lastbit`, gave no verdict in a test: what it was for never happened."""
+    """A fault rule, such as `next 1 id 7FE lastbit`, gave no verdict in a test: its intended fault never happened."""
 
 
 class UnusedMarker(pytest.PytestWarning):
-    """A marker `canbusd` of a test that uses neither the fixture `canbusd` nor `canbusd_bench`: it does nothing."""
+    """A test has a marker `canbusd`, but uses neither the fixture `canbusd` nor `canbusd_bench`: the marker has no
+    effect."""
 
 
 class StartsServer(Protocol):
-    """The fixture `canbusd_server`: it starts a server with these buses and the options of Server."""
+    """The type of the fixture `canbusd_server`, which starts a server with these buses and the options of Server."""
 
     def __call__(self, *buses: str, **options: Any) -> "Server":
         """Starts a server."""
@@ -237,7 +240,7 @@ class Runs:
         name = re.sub(r"\W+", "-", self._item.name)[:40]
         self._folder = new_folder(factory.getbasetemp(), f"canbusd-{name}")
         self._runs: list[Union["Server", Bench]] = []
-        #: By the path of each record, once it is whole, its run and the names of its interfaces.
+        #: By the path of each complete record: its run and the names of its interfaces.
         self._records: dict[Path, tuple[Union["Server", Bench], list[str]]] = {}
 
     def server(self, *buses: str, **options: Any) -> "Server":
@@ -260,7 +263,7 @@ class Runs:
 
     @contextlib.contextmanager
     def _below(self) -> Iterator[None]:
-        """Runs that are started have their folders here, where pytest clears them away if it is killed."""
+        """Returns the parent folder for the runs' folders; pytest removes them there if it is killed."""
         before = FOLDERS.set(self._folder)
         try:
             yield
@@ -279,7 +282,8 @@ class Runs:
             self._records[out / f"{names[0]}.rec"] = run, names
 
     def audit(self, text: bytes, name: str) -> None:
-        """Audits the record of a bus inside the process, which is left in the folder if it is wrong; a fault fails the test."""
+        """Audits the record of a bus inside the process; a wrong record stays in the folder, and the fault fails the
+        test."""
         path = self._folder / f"{name}.rec"
         path.write_bytes(text)
         said = audited(path)
@@ -288,11 +292,12 @@ class Runs:
         path.unlink()
 
     def end(self) -> None:
-        """Ends the runs and audits their records; a fault of one of them fails the test. Warns of rules that gave nothing."""
+        """Ends the runs and audits their records; a fault of a run fails the test. Warns of rules that gave no
+        verdict."""
         faults = [*self._stop(), *self._audit()]
         unused = [] if faults else [*self._unused()]
         failed = bool(faults) or self._item.stash.get(FAILED, False)
-        # In a sweep only if the page of the run is wanted.
+        # In a sweep this happens only if the page of the run is wanted.
         if (failed or self._keep == "all") and not (placement.is_there() and self._keep == "none"):
             self._report()
         if self._keep == "none" or (self._keep == "failed" and not failed):
@@ -305,10 +310,10 @@ class Runs:
             self._item.warn(UnusedRule(f"rule not used up: {rule}"))
 
     def _stop(self) -> Iterator[str]:
-        """Ends what still runs; yields what went wrong."""
+        """Ends the runs that still run; yields their faults."""
         for run in self._runs:
             if self._was_killed(run):
-                # The test knows of it, and that there is only what was written while it ran.
+                # The test knows of this fault, and that the files have only the data written while the server ran.
                 for program in programs_of(run):
                     program.stop()
                 continue
@@ -321,11 +326,11 @@ class Runs:
 
     @staticmethod
     def _was_killed(run: Union["Server", Bench]) -> bool:
-        """Whether the test itself has killed the server."""
+        """Returns whether the test itself has killed the server."""
         return not isinstance(run, Bench) and run._result is not None and run._result.status < 0
 
     def _audit(self) -> Iterator[str]:
-        """Audits the records; yields what is wrong. Those of a server that was killed may end anywhere."""
+        """Audits the records; yields their faults. Records of a killed server may end anywhere."""
         for path, (run, _) in self._records.items():
             left = left_by(path, record_when(run))
             if left.exists():
@@ -336,7 +341,7 @@ class Runs:
                 yield f"no record at {path}"
 
     def _unused(self) -> Iterator[Rule]:
-        """Yields the rules that gave no verdict, as far as there is a record that says so."""
+        """Yields the rules that gave no verdict, if a record shows this."""
         for path, (run, names) in self._records.items():
             if isinstance(run, Bench):
                 given = placement.rules_of((run._number, names[0]))
@@ -348,7 +353,7 @@ class Runs:
                 yield from (rule for rule in unused_rules(names, faults) if str(rule) not in given)
 
     def _report(self) -> None:
-        """Adds what is known of each bus and program to the test's report, and to its properties in a JUnit file."""
+        """Adds the facts about each bus and program to the test's report, and to its properties in a JUnit file."""
         facts = [self._facts(path, run, names) for path, (run, names) in self._records.items()]
         facts += [{"program": program.shown().splitlines()} for run in self._runs for program in programs_of(run)]
         sections = []
@@ -367,12 +372,13 @@ class Runs:
         self._item.add_report_section("teardown", "canbusd", text)
 
     def _from_junit(self, page: str) -> str:
-        """The path of a page from the folder of the JUnit file, which finds it where both were copied elsewhere."""
+        """Returns the path of a page relative to the folder of the JUnit file, so that both can be copied elsewhere."""
         file = self._item.config.getoption("xmlpath", None)
         return os.path.relpath(page, os.path.dirname(os.path.abspath(file)) if file else None)
 
     def _facts(self, path: Path, run: Union["Server", Bench], names: list[str]) -> dict[str, list[str]]:
-        """Makes the page of a bus; returns its story, the end of its log, states and counts, and the path of the page."""
+        """Makes the page of a bus; returns its story, the end of its log, states and counts, and the path of the
+        page."""
         log, left = path.with_suffix(".log"), left_by(path, record_when(run))
         facts: dict[str, list[str]] = {"story": [], "log": summary.end_of_log(log) if log.exists() else []}
         if not left.exists():
@@ -392,12 +398,12 @@ class Runs:
 
 
 def programs_of(run: Union["Server", Bench]) -> Sequence["Program"]:
-    """The programs that were started on the buses of a run."""
+    """Returns the programs that the test started on the buses of a run."""
     return [] if isinstance(run, Bench) else run._programs
 
 
 def record_when(run: Union["Server", Bench]) -> str:
-    """When the record of a run is written: at its `end`, `live`, or `none` is."""
+    """Returns when the record of a run is written: at the run's `end`, `live`, or `none`."""
     return "end" if isinstance(run, Bench) else run._record_when
 
 
@@ -409,7 +415,7 @@ def _canbusd_runs(request: pytest.FixtureRequest, tmp_path_factory: pytest.TempP
 
 
 def marked(request: pytest.FixtureRequest, kind: Callable[..., object]) -> tuple[tuple[str, ...], dict[str, Any]]:
-    """The buses and the options of the test's marker, those that the kind of run has."""
+    """Returns the buses and the options of the test's marker that apply to this kind of run."""
     request.node.stash[USED] = True
     marker = request.node.get_closest_marker("canbusd")
     if marker is None:
@@ -424,7 +430,7 @@ def marked(request: pytest.FixtureRequest, kind: Callable[..., object]) -> tuple
 
 @contextlib.contextmanager
 def blamed_on_marker(request: pytest.FixtureRequest) -> Iterator[None]:
-    """Fails the test at what is wrong with the arguments of its marker, without the source of this package."""
+    """Fails the test if the arguments of its marker are wrong, without showing this package's source."""
     try:
         yield
     except ProgramNotFound:
@@ -434,7 +440,7 @@ def blamed_on_marker(request: pytest.FixtureRequest) -> Iterator[None]:
 
 
 def refused(request: pytest.FixtureRequest, fault: str) -> BaseException:
-    """The failure of a test with a wrong marker."""
+    """Returns the failure of a test with a wrong marker."""
     marker = request.node.get_closest_marker("canbusd")
     if marker is not None:
         fault = f"{marker_words(marker)}: {fault}"
@@ -443,7 +449,8 @@ def refused(request: pytest.FixtureRequest, fault: str) -> BaseException:
 
 @pytest.fixture
 def canbusd_server(_canbusd_runs: Runs) -> StartsServer:
-    """Starts servers: `canbusd_server("can0,can1", faults=..)`. After the test they end and are audited."""
+    """Starts servers: `canbusd_server("can0,can1", faults=..)`. After the test the servers end and their records are
+    audited."""
     return _canbusd_runs.server
 
 

@@ -1,9 +1,9 @@
-"""Records of runs, whose text docs/RECORD.md describes: reading one, and what happened in it.
+"""Reads the records of runs, whose text docs/RECORD.md describes, and their attempts and items.
 
     record = read_record("can0.rec")
     assert [attempt.outcome for attempt in record.attempts] == ["destroyed", "done"]
 
-The program says what each entry of a record brought about, and refuses one that is not legal.
+The program reports the effects of each entry of a record, and refuses a record that is not legal.
 """
 
 import contextlib
@@ -28,7 +28,7 @@ __all__ = ["Attempt", "BadRecord", "Item", "Record", "audit", "fault_named", "pa
 Path = Union[str, "os.PathLike[str]"]
 Outcome = Literal["done", "lastbit", "destroyed", "noack", "idle"]
 Fate = Literal["taken", "waiting", "unread", "dropped"]
-# The first line of a record, and the number of bytes of other files that the program is shown.
+# The first line of a record, and the number of bytes of another file that the program reads.
 BEGINNING, LINE = re.compile(b"canbus record [1-6]\n"), 256
 
 
@@ -36,38 +36,40 @@ BEGINNING, LINE = re.compile(b"canbus record [1-6]\n"), 256
 class Attempt:
     """An attempt to put the frame that won arbitration on the bus."""
 
-    #: The moment of the attempt, in seconds.
+    #: The time of the attempt, in seconds.
     timestamp: float
-    #: The interface that won arbitration; the empty text if nothing waited and the attempt only restarted others.
+    #: The interface that won arbitration; the empty text if no frame waited and the attempt only restarted interfaces.
     winner: str
-    #: Which of the winner's frames it was, from 0.
+    #: The number of the frame at the winner, from 0.
     number: int
     #: The frame in candump's spelling, such as `123#1122`.
     frame: str
-    #: `done`, or `lastbit`, `destroyed` or `noack`, after which the frame is sent again; `idle` without a winner.
+    #: `done`, or `lastbit`, `destroyed` or `noack` if the frame will be sent again; `idle` without a winner.
     outcome: Outcome
-    #: The fault of the attempt, in the words of a fault script: `good`, `global bit`, `local crc can1`.
+    #: The fault of the attempt in the words of a fault script: `good`, `global bit`, `local crc can1`.
     fault: str
     #: The interfaces that accepted the frame.
     accepted: tuple[str, ...]
     #: The interfaces that went bus off.
     off: tuple[str, ...]
-    #: The interfaces that were restarted automatically at its end.
+    #: The interfaces that were restarted automatically at the end of the attempt.
     restarted: tuple[str, ...]
 
 
 @dataclass(frozen=True)
 class Item:
-    """A frame or an error message frame that an interface handed to a socket, and what became of it."""
+    """A frame or an error message frame that an interface handed to a socket, and the outcome."""
 
     interface: str
-    #: The number of the socket, from 0 in the order in which they were opened.
+    #: The number of the socket, from 0 in the order of opening.
     socket: int
-    #: The interface that sent the frame; of an error message frame, or without a frame, the one where it was made.
+    #: The interface that sent the frame; for an error message frame, or without a frame, the interface that made the
+    #: item.
     sender: str
-    #: None of a dropped item where it may have been the frame or an error message frame.
+    #: The frame; None for a dropped item that may have been the frame or an error message frame.
     frame: Optional[Frame]
-    #: `taken`, `waiting` at the end of the run, `unread` when the socket was closed, or `dropped` for lack of room.
+    #: The outcome: `taken`, `waiting` at the end of the run, `unread` when the socket was closed, or `dropped` for lack
+    #: of room.
     fate: Fate
 
 
@@ -75,9 +77,9 @@ class Item:
 class Record(Bus):
     """The record of a run: the configuration of its bus, the lines of its entries, and the names of its interfaces."""
 
-    #: The text of the record, without what follows its last LF.
+    #: The text of the record, up to its last LF.
     text: bytes = field(repr=False)
-    #: Whether it ends before its line `end`.
+    #: Whether the record ends before its line `end`.
     is_cut: bool
     names: tuple[str, ...]
     #: The events of the run.
@@ -90,12 +92,12 @@ class Record(Bus):
 
     @property
     def attempts(self) -> list[Attempt]:
-        """The attempts of the run; of the idle ones only those that restarted an interface."""
+        """The attempts of the run; of the idle attempts only those that restarted an interface."""
         return attempts_of(self.replay, self.names)
 
     @property
     def items(self) -> list[Item]:
-        """The items that each socket received or lost: by attempt, then by socket."""
+        """The items that each socket received or lost, by attempt, then by socket."""
         items = self.replay.items
         return list(map(self._item, items.sockets, items.steps, items.errors, items.fates()))
 
@@ -109,7 +111,7 @@ class Record(Bus):
 
 
 def attempts_of(run: Replay, names: Sequence[str], first: int = 0) -> list[Attempt]:
-    """Returns the attempts of the steps of a run from this number on, which is the first of an entry."""
+    """Returns the attempts in the steps of a run from this number on, which is the first step of an entry."""
     steps = run.steps
     restarts: dict[int, list[int]] = {}
     for place in steps.places_of(RESTART, first):
@@ -130,7 +132,7 @@ def attempts_of(run: Replay, names: Sequence[str], first: int = 0) -> list[Attem
 
 
 def attempt_at(run: Replay, names: Sequence[str], place: int, restarted: Sequence[int] = ()) -> Attempt:
-    """Returns the attempt that is this step of a run, with the interfaces that were restarted in its end."""
+    """Returns the attempt at this step of a run, with the interfaces that were restarted at its end."""
     steps = run.steps
     return Attempt(
         float(moment_of(steps.moments[place])),
@@ -155,11 +157,10 @@ def read_record(
 ) -> Record:
     """Returns the record in this file.
 
-    `names` names the interfaces, as a list or as `can0,can1`. Without it they have the names in the log beside the
-    record (can0.log beside can0.rec), as far as they won an attempt there; the others are called `interface 0` and so
-    on. With `cut` a record may end before its last line, as a run that was killed leaves it; `is_cut` says whether it
-    does, and its entries are those whose lines are whole. With the bit rates of its bus its steps have the time on the
-    wire.
+    `names` names the interfaces, as a list or as `can0,can1`. Without it, interfaces that won an attempt have their
+    names in the log next to the record (can0.log for can0.rec). The others are called `interface 0` and so on. With
+    `cut` a record may end before its last line, as a killed run leaves it. `is_cut` says whether it does, and only
+    entries with complete lines count. With the bit rates of the bus, the steps have their time on the wire.
     """
     check_no_log(path)
     with open(path, "rb") as file:
@@ -168,7 +169,8 @@ def read_record(
 
 
 def check_no_log(path: Path) -> None:
-    """BadRecord if this is a log, with the record beside it; what is no file is left to the program."""
+    """Raises BadRecord if this is a log, and names the record next to it; a path that is no file is left to the
+    program."""
     if os.path.isfile(os.fspath(path)):
         with open(path, "rb") as file:
             is_log = file.read(1) == b"("
@@ -185,13 +187,13 @@ def parse_record(
     cut: bool = False,
     rates: Optional[Rates] = None,
 ) -> Record:
-    """Returns the record that these bytes spell, as read_record does; `path` says beside which file a log may be."""
+    """Returns the record in these bytes, like read_record; a log may be next to the file `path`."""
     with Events(cut, rates) as events:
         return record_of(events.texts(data), data[: data.rfind(b"\n") + 1], path, names, rates)
 
 
 def read_run(path: Path, names: Optional[Sequence[str]], cut: bool, rates: Optional[Rates]) -> Record:
-    """Returns the record in this file, as read_record does, but without its text, which may be large."""
+    """Returns the record in this file, like read_record, but without its text, which may be large."""
     check_no_log(path)
     with open(path, "rb") as file:
         check_beginning(file)
@@ -200,11 +202,12 @@ def read_run(path: Path, names: Optional[Sequence[str]], cut: bool, rates: Optio
 
 
 def check_beginning(file: BinaryIO) -> None:
-    """BadRecord if a file begins as no record does: the program would read all of it before it says so."""
+    """Raises BadRecord if the beginning of a file is not that of a record: the program would read all of the file
+    first."""
     try:
         text = os.pread(file.fileno(), LINE, 0)
     except OSError:
-        # A pipe, whose beginning can't be read twice.
+        # The beginning of a pipe can't be read twice.
         return
     if not BEGINNING.match(text):
         with Events(cut=True) as events, contextlib.suppress(StopIteration):
@@ -218,7 +221,7 @@ def record_of(
     names: Optional[Sequence[str]],
     rates: Optional[Rates],
 ) -> Record:
-    """Returns the record that has these events, of which each text is some lines, and this text."""
+    """Returns the record with these events, each a text of several lines, and this text."""
     run = Replay(rates)
     run.text = text
     for lines in events:
@@ -228,12 +231,12 @@ def record_of(
 
 
 def timed(run: Replay, rates: Rates) -> Replay:
-    """Returns a run whose steps have the time on the wire at these bit rates: it is read again if they have not."""
+    """Returns a run whose steps have the time on the wire at these bit rates; reads the record again if needed."""
     return run if run.rates == rates else parse_record(run.text, cut=not run.is_whole, rates=rates).replay
 
 
 def names_of(run: Replay, path: Optional[Path], given: Optional[Sequence[str]]) -> tuple[str, ...]:
-    """The names of the interfaces: those given, else those in the log beside the record, else their numbers."""
+    """Returns the names of the interfaces: the given ones, else those in the log next to the record, else numbers."""
     if given is not None:
         names = given.split(",") if isinstance(given, str) else given
         if len(names) != len(run.ifaces):
@@ -249,17 +252,17 @@ def names_of(run: Replay, path: Optional[Path], given: Optional[Sequence[str]]) 
 
 
 def number_named(number: int) -> str:
-    """The name of an interface without one."""
+    """Returns the name of an interface without one."""
     return f"interface {number}"
 
 
 def is_named(name: str) -> bool:
-    """Whether this is the name of an interface, and not only its number."""
+    """Returns whether this is the name of an interface, and not only its number."""
     return NAME.fullmatch(name) is not None
 
 
 def members_of(verdict: str, names: Sequence[str]) -> list[str]:
-    """Returns the names of the only interfaces that see the fault of a verdict: can1 of `local-crc:0002`."""
+    """Returns the names of the only interfaces that see the fault of a verdict: can1 for `local-crc:0002`."""
     _, _, digits = verdict.partition(":")
     return [name for number, name in enumerate(names) if digits and int(digits, 16) >> number & 1]
 
@@ -271,10 +274,10 @@ def fault_named(verdict: str, names: Sequence[str]) -> str:
 
 
 def audit(data: bytes, cut: bool = False) -> str:
-    """Returns what `canbusd audit`, or with `cut` `canbusd audit --cut`, has to say first of these bytes.
+    """Returns the verdict of `canbusd audit`, or of `canbusd audit --cut` with `cut`, on these bytes.
 
-    It is `ok 7 entries`, maybe with `, then cut off`, or `canbusd: ` and the fault: `entry 3: wrong`, `line 5: bad
-    line`, `bad version`, `read fault`.
+    The verdict is `ok 7 entries`, perhaps with `, then cut off`, or `canbusd: ` and the fault: `entry 3: wrong`, `line
+    5: bad line`, `bad version`, `read fault`.
     """
     try:
         return verdict_of(parse_record(data, cut=cut))
@@ -283,5 +286,5 @@ def audit(data: bytes, cut: bool = False) -> str:
 
 
 def verdict_of(record: Record) -> str:
-    """Returns what an audit says of a record whose entries are right."""
+    """Returns the verdict of an audit on a record whose entries are right."""
     return f"ok {record.replay.entries} entries{', then cut off' if record.is_cut else ''}"

@@ -1,8 +1,8 @@
-"""A run: its steps, its items, its interfaces and its sockets, by the lines of its events.
+"""A run: its steps, its items, its interfaces and its sockets, from the lines of its events.
 
-The program has the rules, and says in these lines what each entry of a record brought about. Here is kept what they say,
-and what follows of it: which frames wait, who takes part in arbitration, and what became of each item. There are millions
-of lines, so those of a kind are taken together, as columns of their words.
+The program has the rules, and reports the effects of each entry of a record in these lines. This module stores these
+effects and their consequences: the waiting frames, the participants of arbitration, and the outcome of each item. There
+are millions of lines, so lines of a kind are taken together, as columns of their words.
 """
 
 import itertools
@@ -22,67 +22,67 @@ from canbusd._run.steps import DONE, DOWN, RESTART, Items, Places, Rows, Steps
 FIRST_LINE = "canbus events 1"
 #: The replies to a send that the bus did not accept.
 REFUSED = ("bus-off", "interface-down", "no-buffers")
-#: In place of the text of an item that found no room, if no line says what it was.
+#: The text of an item without room, if no line has its content.
 UNKNOWN = "?"
-#: The interfaces, as lines have them.
+#: The numbers of interfaces by their digits in lines.
 IFACES = {str(number): number for number in range(16)}
 
 
 class Replay:
-    """A run, as far as the lines of its events were taken."""
+    """A run, up to the last event line that was taken."""
 
     def __init__(self, rates: Optional[Rates] = None) -> None:
-        #: The bit rates by which lines say how long attempts took the wire; None if they don't.
+        #: The bit rates with which the lines have the time of attempts on the wire; None if the lines don't have it.
         self.rates = rates
-        #: The text of its record, if that was read at once.
+        #: The text of the record, if it was read at once.
         self.text = b""
-        #: The configuration of the bus, once its line was taken.
+        #: The configuration of the bus, after its line was taken.
         self.bus: Optional[Bus] = None
         self.ifaces: list[Interface] = []
         self.sockets: list[Socket] = []
-        #: Frames of steps and error message frames, by their places; the first is no frame.
+        #: Frames of steps and error message frames, by their places; the first place means no frame.
         self.texts = Places("")
         self.steps, self.items = Steps(self.texts, self.ifaces), Items(self.sockets)
-        #: The number and the frame of all that were taken out of a transmit queue, at bus off or down, by the step.
+        #: By the step, the number and the frame of each frame that bus off or a down removed from a transmit queue.
         self.lost = self.steps.lost
-        #: The last steps before sends were refused, by the interface and the reply: one of REFUSED.
+        #: The last steps before refused sends, by the interface and the reply: one of REFUSED.
         self.refused: dict[tuple[int, str], list[int]] = {}
         #: The verdicts of idle attempts that restarted interfaces, by their entries.
         self.idle_verdicts: dict[int, str] = {}
         self.idle = 0
         #: The number of entries that were taken.
         self.entries = 0
-        #: Whether its last line was taken.
+        #: Whether the last line was taken.
         self.is_whole = False
         self._outcomes = Outcomes(self.sockets)
-        # Of each socket the interface, and the column of when its items were taken.
+        # For each socket its interface, and the column of the steps at which its items were taken.
         self._senders: list[Interface] = []
         self._taken: "list[array[int]]" = []
-        # The two error counts of one interface after the other, as steps have them.
+        # The two error counts of each interface in turn, as steps have them.
         self._counts = array("H")
-        # The number of frames that wait, as one number.
+        # The numbers of waiting frames at all interfaces, as one number.
         self._waiting = 0
         # The interfaces that are down, bit i for interface i.
         self._down = 0
-        # The number of attempts that were idle before a step.
+        # The number of idle attempts before a step.
         self._idle: dict[int, int] = {}
 
     @property
     def attempts(self) -> int:
-        """The number of attempts that tried a frame."""
+        """The number of attempts with a frame."""
         return self.steps.tried
 
     @property
     def idle_since(self) -> int:
-        """The number of attempts that were idle since the last step."""
+        """The number of idle attempts since the last step."""
         return self._idle.get(len(self.steps), 0)
 
     def take(self, lines: Iterable[str]) -> None:
-        """Takes these lines, which follow those before."""
+        """Takes these lines, which follow the earlier ones."""
         self.take_text("\n".join(lines))
 
     def take_text(self, text: str) -> None:
-        """Takes whole lines, without the LF of the last one, which follow those before."""
+        """Takes complete lines, which follow the earlier ones; the last line comes without its LF."""
         while self.bus is None and text:
             front, _, text = text.partition("\n")
             self._begin(front)
@@ -108,10 +108,10 @@ class Replay:
         self.ifaces += map(Interface, range(count))
         self._counts = array("H", [0, 0]) * count
 
-    # Lines of which there are few, each with the number of steps before it and that of its entry.
+    # Rare lines, each with the number of steps before the line and the number of its entry.
 
     def _take_others(self, lines: Lines) -> None:
-        """Takes the lines of which there are few."""
+        """Takes the rare lines."""
         if not lines.has_others:
             return
         calls: dict[str, Callable[[str, int, int], object]] = {
@@ -130,7 +130,7 @@ class Replay:
                 call(line, steps, entry)
 
     def _end(self, line: str, __: int, entry: int) -> None:
-        # It is no entry.
+        # This line is no entry.
         self.entries, self.is_whole = entry, line.startswith("end ")
 
     def _open_socket(self, line: str, *__: int) -> None:
@@ -152,7 +152,7 @@ class Replay:
             self.sockets[int(number)].set_errors(steps, int(value, 16) > 0)
 
     def _refuse(self, line: str, steps: int, __: int) -> None:
-        """A send had another reply than a number."""
+        """Notes a send whose reply is not a number."""
         number, _, _, reply = line.split(" ")[1:]
         if reply in REFUSED:
             iface = self.ifaces[self.sockets[int(number)].iface]
@@ -160,17 +160,17 @@ class Replay:
             self.refused.setdefault((iface.number, reply), []).append(steps - 1)
 
     def _note_idle(self, line: str, steps: int, entry: int) -> None:
-        """An attempt tried no frame."""
+        """Notes an attempt without a frame."""
         words = line.split(" ")
         self.idle += 1
         self._idle[steps] = self._idle.get(steps, 0) + 1
         if len(words) > 5:
             self.idle_verdicts[entry] = words[2]
 
-    # Lines of which there are millions.
+    # Frequent lines, of which there are millions.
 
     def _take_sends(self, lines: Lines) -> list[int]:
-        """Frames come into queues. Returns what each adds to the number of those that wait."""
+        """Adds frames to queues. Returns the increments to the numbers of waiting frames."""
         sends = lines.of(SEND)
         ifaces = [*map(self._senders.__getitem__, senders_of(sends, len(self.sockets)))]
         for iface, line in zip(ifaces, sends):
@@ -178,16 +178,17 @@ class Replay:
         return [iface.unit for iface in ifaces]
 
     def _take_receives(self, lines: Lines) -> None:
-        """Sockets give their items."""
+        """Notes that sockets hand out their items."""
         sockets = receivers_of(lines.of(RECEIVE), len(self.sockets))
         steps = lines.steps_before(RECEIVE, len(self.steps))
-        # Items that no socket got go into the last one, which is not kept.
+        # Receives without an item are counted in the last place, which is not kept.
         columns = [*self._taken, array("I")]
-        # For each line in turn; a queue without room is the quickest that keeps nothing.
+        # This goes through the lines in turn; an empty deque consumes an iterator fastest.
         deque(map(array.append, map(columns.__getitem__, sockets), steps), maxlen=0)
 
     def _take_steps(self, lines: Lines, units: Sequence[int]) -> None:
-        """Attempts try frames, interfaces are restarted or go down; `units` is what the sends add to the frames that wait."""
+        """Takes attempts with frames, restarts and downs; `units` are the increments by sends to the numbers of waiting
+        frames."""
         words = lines.words
         if not words:
             self._waiting += sum(units)
@@ -210,7 +211,7 @@ class Replay:
         self._idle = {len(self.steps): self.idle_since}
 
     def _take_parts(self, rows: Rows, parts: Sequence[Optional[Parts]], handed: Sequence[int]) -> list[tuple[int, str]]:
-        """Takes what few steps bring about, and returns the error message frames among the items, by their places."""
+        """Takes the rare effects of steps, and returns the error message frames among the items, by their places."""
         local = {verdict for verdict in {*rows.verdicts} if ":" in verdict}
         errors: list[tuple[int, str]] = []
         if not local and not any(parts) and not self._down and DOWN not in rows.kinds:
@@ -243,19 +244,19 @@ class Replay:
         return errors
 
     def _set_down(self, rows: Rows, row: int) -> None:
-        """An interface is down from this step on, or is no longer."""
+        """Notes that an interface is down from this step on, or no longer."""
         bit = 1 << rows.ifaces[row]
         down = self._down | bit if rows.kinds[row] == DOWN else self._down & ~bit
         if down != self._down:
             self._down = rows.down[row] = down
 
     def _others_on(self, sender: int) -> int:
-        """The set of the other interfaces that are neither bus off nor down."""
+        """Returns the set of the other interfaces that are neither bus off nor down."""
         on = sum(1 << iface for iface, tec in enumerate(self._counts[::2]) if tec < OFF and iface != sender)
         return on & ~self._down
 
     def _firsts_lost(self, rows: Rows) -> dict[int, int]:
-        """For each row in which an interface goes down, the number of the first frame in its transmit queue."""
+        """Returns for each row in which an interface goes down the number of the first frame in its transmit queue."""
         if DOWN not in rows.kinds:
             return {}
         gone, firsts = [iface.gone for iface in self.ifaces], {}
@@ -266,9 +267,9 @@ class Replay:
         return firsts
 
     def _lose(self, rows: Rows, row: int, count: int, firsts: dict[int, int]) -> None:
-        """An interface goes down or bus off, and loses all frames in its transmit queue.
+        """Notes that an interface goes down or bus off, and loses all frames in its transmit queue.
 
-        At bus off the first of them is that of the step.
+        At bus off the first of these frames is the step's frame.
         """
         iface = self.ifaces[rows.ifaces[row]]
         first = firsts[row] if row in firsts else int(rows.numbers[row])
@@ -278,8 +279,9 @@ class Replay:
         iface.lost += count
 
     def _drop(self, rows: Rows, row: int, part: Parts, end: int) -> list[tuple[int, str]]:
-        """Items find no room at sockets, the last ones of a step. Returns those that may be error message frames."""
-        # Nor is there one where no count changed.
+        """Notes that sockets have no room for the last items of a step. Returns those that may be error message
+        frames."""
+        # Without a change of counts there is no such frame either.
         is_frame = rows.kinds[row] == DONE and rows.verdicts[row] == "good" and not part.counts
         place = end - sum(count for _, count in part.dropped)
         found: list[tuple[int, str]] = []

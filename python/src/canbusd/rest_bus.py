@@ -1,10 +1,10 @@
-"""The rest bus: all nodes of a database but those under test, each message from its sender at its cycle time.
+"""The rest bus: all nodes of a database except those under test; each message comes from its sender at its cycle time.
 
     with server.rest_bus("car.dbc", without=["ECU"], nodes={"Engine": "can0", "Gateway": "can1"}) as rest:
         rest["Engine"]["EngineSpeed"] = 3000
         rest.stop("Gateway")
 
-That of a server sends from a thread, that of a bench in `run`.
+The rest bus of a server sends from a thread, that of a bench in `run`.
 """
 
 import contextlib
@@ -29,34 +29,34 @@ from canbusd.signals import Database, frame_of
 
 Self = TypeVar("Self", bound="RestBus")
 
-# In one moment values come first.
+# At the same time, values are set before frames are sent.
 VALUES, FRAMES = -1, 0
 
 
 class Counts(NamedTuple):
-    """The outcome of the frames of a message, or of several."""
+    """The numbers of frames of one or several messages, by outcome."""
 
     #: Frames that the bus accepted into a transmit queue.
     accepted: int = 0
     #: Frames that the bus refused: the queue was full, or the interface bus off or down.
     refused: int = 0
-    #: Frames that were left out, because this process was a whole cycle late.
+    #: Frames that were skipped, because this process was a whole cycle late.
     skipped: int = 0
 
     def plus(self, other: "Counts") -> "Counts":
-        """Returns the sums of both."""
+        """Returns the sums of two counts."""
         return Counts(*(one + its for one, its in zip(self, other)))
 
 
 class Outgoing:
-    """A message about to be sent, as a function given to `on_send` gets it: what it sets is so in this frame only."""
+    """A message about to be sent, which a function given to `on_send` gets: its changes apply only to this frame."""
 
     def __init__(self, message: MessageFormat, values: Mapping[str, Value], count: int) -> None:
         self._message, self._values = message, dict(values)
         self._data: Optional[bytes] = None
         #: The name of the message.
         self.name = message.name
-        #: How many of it were sent before; a frame that the bus refused was not.
+        #: The number of its frames sent before, without frames that the bus refused.
         self.count = count
 
     def __getitem__(self, signal: str) -> Value:
@@ -69,7 +69,7 @@ class Outgoing:
 
     @property
     def data(self) -> bytes:
-        """The bytes, with the values as they are now; setting it is the last word, until a signal is set."""
+        """The present bytes of the message; bytes that are set here override all signals, until a signal is set."""
         return self._message.encode(self._values, is_strict=False) if self._data is None else self._data
 
     @data.setter
@@ -78,26 +78,27 @@ class Outgoing:
 
 
 def checked_row(row: object) -> tuple[int, Value]:
-    """The moment of a row of a table, in microseconds, and its value; ValueError if it is no such pair."""
+    """Returns a table row as its time in microseconds and its value; raises ValueError if the row is not such a
+    pair."""
     if not isinstance(row, (tuple, list)) or len(row) != 2 or not isinstance(row[0], Real) or row[0] < 0:
         raise ValueError(f"a table has pairs of seconds and values, such as [(0.0, 800), (1.5, 3000)], not {row!r}")
     return micros(float(row[0])), row[1]
 
 
 def checked_rows(table: object) -> list[tuple[int, Value]]:
-    """The rows of a table in the order of their moments."""
+    """Returns the rows of a table, sorted by time."""
     rows = list(table) if isinstance(table, Iterable) and not isinstance(table, (str, Mapping)) else [table]
     return sorted(map(checked_row, rows), key=lambda row: row[0])
 
 
 class Playing:
-    """A shape that a signal has since this moment, in microseconds."""
+    """A shape that a signal follows since this time, in microseconds."""
 
     def __init__(self, shape: Shape, since: int) -> None:
         self._shape, self._since, self._number = shape, since, -1
 
     def value(self, moment: int) -> Value:
-        """Returns the value of the next frame, which is sent at this moment."""
+        """Returns the value for the next frame, which is sent at this time."""
         self._number += 1
         return self._shape.at((moment - self._since) / MICROS, self._number)
 
@@ -105,7 +106,7 @@ class Playing:
 class RestMessage(NamesWhatThereIs):
     """A message that a rest bus sends."""
 
-    # A signal is no attribute, also if one is set.
+    # Slots prevent a signal from being set as an attribute.
     __slots__ = (
         "_accepted", "_cycle", "_frame", "_function", "_phase", "_protection", "_refused", "_rest", "_run", "_shapes",
         "_skipped", "_tables", "_tick", "_values", "format", "interface", "is_running",
@@ -120,21 +121,22 @@ class RestMessage(NamesWhatThereIs):
         self._function: Optional[Callable[[Outgoing], None]] = None
         self._protection: Optional[Protection] = None
         self._tick: Callable[[int], None] = functools.partial(self._send_due, 0)
-        # The number of the run, by which what was due in an earlier one is known; and of the table of each signal.
+        # The number of the run, which makes calls from earlier runs invalid; and the number for the table of each
+        # signal.
         self._run, self._tables = 0, dict[str, int]()
-        # By its name, the shape of a signal, and when it began.
+        # By the name of a signal: its shape, and the time when that began.
         self._shapes: dict[str, Playing] = {}
         self._accepted = self._refused = self._skipped = 0
-        #: Its description in the file.
+        #: The description of the message in the file.
         self.format = message
-        #: The interface by which it is sent.
+        #: The interface that sends the message.
         self.interface = interface
-        #: Whether it is sent by its cycle time.
+        #: Whether the message is sent by its cycle time.
         self.is_running = False
 
     @property
     def counts(self) -> Counts:
-        """The outcome of its frames."""
+        """The numbers of the message's frames, by outcome."""
         return Counts(self._accepted, self._refused, self._skipped)
 
     def __getitem__(self, signal: str) -> Value:
@@ -145,7 +147,7 @@ class RestMessage(NamesWhatThereIs):
 
     @explained("values are a dict, such as {'EngineSpeed': 800}")
     def set(self, values: Mapping[str, Value]) -> None:
-        """Sets signals, from the next frame on; DatabaseError if one can't have its value, and then none has."""
+        """Sets signals, from the next frame on; raises DatabaseError if a value is not valid, and then sets none."""
         if not isinstance(values, Mapping):
             raise ValueError(f"values are a dict of signals, such as {{'EngineSpeed': 800}}, not {values!r}")
         with self._rest.changing():
@@ -156,8 +158,8 @@ class RestMessage(NamesWhatThereIs):
                 self._shapes.pop(signal, None)
 
     def play(self, signal: str, table: Union[Shape, Iterable[tuple[float, Value]]]) -> None:
-        """Sets a signal by a shape of canbusd.shapes, from now on, or by a table: each value at its moment, in seconds from
-        now, until the next; in place of an earlier shape or table of the signal."""
+        """Makes a signal follow a shape of canbusd.shapes, from now on, or a table: the signal has each value from its
+        time, in seconds from now, until the next. This replaces an earlier shape or table of the signal."""
         if isinstance(table, Shape):
             self._play_shape(signal, table)
             return
@@ -176,34 +178,35 @@ class RestMessage(NamesWhatThereIs):
         for value in shape.ends:
             self._check(signal, value)
         with self._rest.changing():
-            # No table of it goes on.
+            # This ends an earlier table of the signal.
             self._tables[signal] = self._tables.get(signal, 0) + 1
             self._shapes[signal] = Playing(shape, self._rest.now())
 
     def on_send(self, function: Optional[Callable[[Outgoing], None]]) -> None:
-        """Has this function called before each frame, to set counters and checksums in it."""
+        """Calls this function before each frame, so that it can set counters and checksums."""
         if function is not None and not callable(function):
             raise ValueError(f"a function is called before each frame, or None ends that, not {function!r}")
         with self._rest.changing():
             self._function = function
 
     def protect(self, profile: Optional[Profile] = None) -> Protection:
-        """Gives each frame the counter and the checksum of a profile of canbusd.e2e, after what `on_send` sets; without one of
-        that which the database has for it by attributes."""
+        """Adds the counter and the checksum of a profile of canbusd.e2e to each frame, after the values from `on_send`.
+        Without a profile, the attributes in the database define it."""
         protection = Protection(profile_of(profile, self.format))
         with self._rest.changing():
             self._protection = protection
         return protection
 
     def send(self, values: Optional[Mapping[str, Value]] = None) -> None:
-        """Sends one frame now, with these values, which stay. What the bus refuses it for is raised."""
+        """Sends one frame now, with these values, which stay. Raises the refusal of the bus."""
         with self._rest.changing():
             if values:
                 self.set(values)
             self._rest.send_now(self, self._next(self._rest.now()))
 
     def start(self) -> None:
-        """Sends it by its cycle time, from its phase after now on, if it has one, and isn't sent already."""
+        """Starts to send the message by its cycle time, after its phase, if it has a cycle time and is not sent
+        already."""
         with self._rest.changing() as schedule:
             if self._cycle and not self.is_running:
                 self.is_running = True
@@ -211,20 +214,20 @@ class RestMessage(NamesWhatThereIs):
                 schedule.add(self._rest.now() + self._phase, self.format.identifier, call)
 
     def stop(self) -> None:
-        """Sends it no more by its cycle time. What a transmit queue has still goes out."""
+        """Stops sending the message by its cycle time. Frames in a transmit queue are still sent."""
         with self._rest.changing():
             self.is_running = False
             self._run += 1
 
     def count(self, answer: str) -> None:
-        """Counts a frame by the answer to it: nothing if it was accepted, else the text of the refusal."""
+        """Counts a frame by its answer: the empty text if it was accepted, else the text of the refusal."""
         if answer:
             self._refused += 1
         else:
             self._accepted += 1
 
     def _check(self, signal: str, value: Value) -> None:
-        """DatabaseError if the signal can't have this value."""
+        """Raises DatabaseError if the signal can't have this value."""
         self.format.encode({**self._values, signal: value}, is_strict=False)
 
     def _turn_to(self, signal: str, run: int, value: Value, _: int) -> None:
@@ -232,7 +235,7 @@ class RestMessage(NamesWhatThereIs):
             self.set({signal: value})
 
     def _send_due(self, run: int, due: int) -> None:
-        """Sends the frame that is due, and has the next one sent a cycle later."""
+        """Sends the frame that is due, and schedules the next frame a cycle later."""
         if run != self._run:
             return
         missed = max(0, self._rest.now() - due) // self._cycle
@@ -241,7 +244,7 @@ class RestMessage(NamesWhatThereIs):
         self._rest.collect(self, self._next(due + missed * self._cycle))
 
     def _next(self, moment: int) -> Frame:
-        """The frame that is sent next, at this moment."""
+        """Returns the next frame, which is sent at this time."""
         if self._shapes:
             self._values = {**self._values, **{name: one.value(moment) for name, one in self._shapes.items()}}
             self._frame = frame_of(self.format, self.format.encode(self._values, is_strict=False))
@@ -256,7 +259,7 @@ class RestMessage(NamesWhatThereIs):
 
 
 class RestNode(NamesWhatThereIs):
-    """A node that a rest bus simulates. A signal that several of its messages have is named as `EngineData.Counter`."""
+    """A node that a rest bus simulates. A signal of several messages is named as `EngineData.Counter`."""
 
     __slots__ = ("messages", "name")
     _INSTEAD = {"*": "a signal is node['EngineSpeed']"}
@@ -273,23 +276,23 @@ class RestNode(NamesWhatThereIs):
         message[name] = value
 
     def play(self, signal: str, table: Union[Shape, Iterable[tuple[float, Value]]]) -> None:
-        """Sets a signal by a shape of canbusd.shapes, such as ``shapes.ramp(800, 3000, seconds=2)``, from now on, or by a table:
-        each value at its moment, in seconds from now, until the next."""
+        """Makes a signal follow a shape of canbusd.shapes, such as ``shapes.ramp(800, 3000, seconds=2)``, from now on,
+        or a table: the signal has each value from its time, in seconds from now, until the next."""
         message, name = self._find(signal)
         message.play(name, table)
 
     def start(self) -> None:
-        """Sends its messages by their cycle times."""
+        """Starts to send the node's messages by their cycle times."""
         for message in self.messages:
             message.start()
 
     def stop(self) -> None:
-        """Sends nothing by a cycle time any more."""
+        """Stops sending the node's messages by their cycle times."""
         for message in self.messages:
             message.stop()
 
     def _find(self, signal: str) -> tuple[RestMessage, str]:
-        """The message that has this signal, and the signal's name there."""
+        """Returns the message that has this signal, and the signal's name there."""
         title, _, name = signal.rpartition(".")
         found = [
             message for message in self.messages if title in ("", message.format.name) and has(message.format, name)
@@ -304,7 +307,7 @@ class RestNode(NamesWhatThereIs):
 
 
 class RestBus(NamesWhatThereIs):
-    """The common part of rest buses: nodes and messages by their names, values, and the times of calls."""
+    """The common part of rest buses: nodes and messages by name, values, and the due times of calls."""
 
     _INSTEAD = {
         **dict.fromkeys(("set", "get"), "a signal is rest['Engine']['EngineSpeed']"),
@@ -326,7 +329,7 @@ class RestBus(NamesWhatThereIs):
 
     @property
     def nodes(self) -> list[RestNode]:
-        """The nodes that it simulates."""
+        """The nodes that the rest bus simulates."""
         return list(self._nodes.values())
 
     @property
@@ -340,44 +343,45 @@ class RestBus(NamesWhatThereIs):
         return self._nodes[node]
 
     def message(self, name: str) -> RestMessage:
-        """Returns the message of this name; DatabaseError if no node of the rest bus sends it."""
+        """Returns the message with this name; raises DatabaseError if no node of the rest bus sends it."""
         if name not in self._by_name:
             known = ", ".join(self._by_name) or "none"
             raise DatabaseError(f"no message {name} in the rest bus; there are {known}", message=name)
         return self._by_name[name]
 
     def on_send(self, message: str, function: Optional[Callable[[Outgoing], None]]) -> None:
-        """Has a function called before each frame of a message: `def f(message): message["Counter"] = message.count % 16`.
+        """Calls a function before each frame of a message: `def f(message): message["Counter"] = message.count % 16`.
 
-        It is called by who sends, the thread of the rest bus as a rule, and should return soon.
+        The sending thread, usually that of the rest bus, calls the function, which should return soon.
         """
         self.message(message).on_send(function)
 
     @explained()
     def protect(self, message: str, profile: Optional[Profile] = None) -> Protection:
-        """Gives each frame of a message the counter and the checksum of a profile: ``rest.protect("EngineData",
-        e2e.Profile1(data_id=0x123))``, without one of that which the database has for it by attributes. The result has
-        `inject`, for wrong ones."""
+        """Adds the counter and the checksum of a profile to each frame of a message: ``rest.protect("EngineData",
+        e2e.Profile1(data_id=0x123))``. Without a profile, the attributes in the database define it. The result has
+        `inject`, for wrong counters and checksums."""
         return self.message(message).protect(profile)
 
     @explained("values are a dict, such as {'EngineSpeed': 800}")
     def send(self, message: str, values: Optional[Mapping[str, Value]] = None) -> None:
-        """Sends one frame of a message now, as an event does, with these values, which stay."""
+        """Sends one frame of a message now, as for an event, with these values, which stay."""
         self.message(message).send(values)
 
     def start(self, name: Optional[str] = None) -> None:
-        """Starts a node, or a message where no node has this name; without a name all."""
+        """Starts a node, or a message if no node has this name; without a name, starts all nodes."""
         for one in self._named(name):
             one.start()
 
     def stop(self, name: Optional[str] = None) -> None:
-        """Stops a node, or a message where no node has this name; without a name all. Values stay, events go on."""
+        """Stops a node, or a message if no node has this name; without a name, stops all nodes. Values stay, and events
+        continue."""
         for one in self._named(name):
             one.stop()
 
     def _silence(self, interface: str) -> list[RestMessage]:
-        """Stops the messages that go by an interface; returns those that were sent by their cycle times, none of a rest bus
-        that has ended."""
+        """Stops the messages that an interface sends; returns those that were sent by their cycle times, or none if the
+        rest bus has ended."""
         with self._lock:
             ceased = [one for one in self.messages if one.interface == interface and one.is_running]
             if self._is_closed:
@@ -387,21 +391,22 @@ class RestBus(NamesWhatThereIs):
             return ceased
 
     def _resume(self, messages: Sequence[RestMessage]) -> None:
-        """Starts these messages, unless it has ended."""
+        """Starts these messages, unless the rest bus has ended."""
         with self._lock:
             for one in () if self._is_closed else messages:
                 one.start()
 
     def counts(self, message: Optional[str] = None) -> Counts:
-        """Returns what became of the frames of a message, or of all."""
+        """Returns the numbers of frames by outcome, of a message or of all."""
         chosen = self.messages if message is None else [self.message(message)]
         return functools.reduce(Counts.plus, (one.counts for one in chosen), Counts())
 
     def replay(self, path: Union[str, "os.PathLike[str]"]) -> float:
-        """Sends the frames of a log, of those messages that are in the rest bus, at their moments from the first one's on.
+        """Sends the frames of a log whose messages are in the rest bus, with the log's time distances from the first
+        frame on.
 
-        They go by the interfaces of their senders, and these messages are no more sent by their cycle times. Returns how
-        many seconds it takes; ValueError if the log has none of them.
+        The frames go out at the interfaces of their senders, and the cycle times of these messages no longer apply.
+        Returns the duration in seconds; raises ValueError if the log has no such frame.
         """
         from canbusd._run.logs import read_entries
 
@@ -423,7 +428,7 @@ class RestBus(NamesWhatThereIs):
         return max(moment - start for moment, _, _ in rows) / MICROS
 
     def close(self) -> None:
-        """Ends it: nothing is sent any more."""
+        """Ends the rest bus: it sends no more frames."""
         raise NotImplementedError
 
     def __enter__(self: Self) -> Self:
@@ -436,17 +441,19 @@ class RestBus(NamesWhatThereIs):
         close_at_exit(self.close, kind)
 
     def check(self) -> None:
-        """Raises what it ended with, if that was a fault, such as one of a function given to `on_send`."""
+        """Raises the fault that ended the rest bus, if there was one, such as an error in a function given to
+        `on_send`."""
 
-    # The questions of its messages.
+    # Methods that messages call.
 
     def now(self) -> int:
-        """Returns the moment, in microseconds."""
+        """Returns the time in microseconds."""
         raise NotImplementedError
 
     @contextlib.contextmanager
     def changing(self) -> Iterator[Schedule]:
-        """A context in which what is sent may be changed; its value is the schedule. ValueError once the rest bus has ended."""
+        """A context for changes to the sent messages; its value is the schedule. Raises ValueError after the rest bus
+        has ended."""
         with self._lock:
             self.check()
             if self._is_closed:
@@ -455,22 +462,22 @@ class RestBus(NamesWhatThereIs):
             self._changed()
 
     def send_now(self, message: RestMessage, frame: Frame) -> None:
-        """Sends a frame that is not by a cycle; a refusal is raised."""
+        """Sends a frame outside its cycle; raises a refusal."""
         raise NotImplementedError
 
     def repeat(self, due: int, order: int, call: Callable[[int], None]) -> None:
-        """Has this called when it is due, as one that is due now asks for: nobody has to be woken."""
+        """Schedules the next call of a function that runs now: no thread must be woken."""
         self._schedule.add(due, order, call)
 
     def collect(self, message: RestMessage, frame: Frame) -> None:
-        """Takes a frame that is due; those of one moment go out together."""
+        """Takes a frame that is due; frames of the same time go out together."""
         self._collected.append((message, frame))
 
     def _changed(self) -> None:
-        """Something may be due earlier than before."""
+        """Handles a schedule change: a call may now be due earlier than before."""
 
     def _due(self, now: int) -> list[tuple[RestMessage, Frame]]:
-        """The frames that are due, once what is due was called."""
+        """Returns the frames that are due, after the due calls."""
         for due, call in self._schedule.take(now):
             call(due)
         collected, self._collected = self._collected, []

@@ -1,10 +1,10 @@
-"""Rules of faults: which attempts fail by who sends and what, in the words of a fault script.
+"""Fault rules: they select failing attempts by sender and frame, in the words of a fault script.
 
     next 32 from ecu global bit
     next 1 id 123 skip 2 lastbit
     always id 7DF local crc tester
 
-The program has them decide; here is what they are.
+The program applies the rules; this module defines their form.
 """
 
 import re
@@ -16,14 +16,14 @@ from canbusd._text import NAME, shown
 from canbusd._words import VERDICTS
 from canbusd.frames import EXTENDED, INVERTED
 
-#: The greatest number in a rule.
+#: The largest number in a rule.
 MOST = 99999999
 SHORT_MASK, LONG_MASK = EXTENDED | 0x7FF, EXTENDED | 0x1FFFFFFF
 NUMBER = re.compile("[0-9]{1,8}")
 WORD = re.compile("[0-9A-Fa-f]{1,8}")
 NAMES = f"{NAME.pattern}(?:,{NAME.pattern})*"
 VERDICT = re.compile("|".join(VERDICTS).replace("NAMES", NAMES))
-# The verdicts that may be meant by a first word that is none.
+# The verdicts that an unknown first word may mean.
 MEANT = {
     "bit": "global bit",
     "crc": "local crc NAMES",
@@ -41,17 +41,17 @@ MEANT = {
 
 @dataclass(frozen=True)
 class Rule:
-    """A rule: the attempts that it matches, how many of them it takes, and their verdict."""
+    """A rule: the attempts that it matches, the number that it takes, and their verdict."""
 
-    #: The number of attempts that get its verdict; None is all.
+    #: The number of attempts that get the verdict; None for all.
     count: Optional[int]
     #: The verdict in the words of a fault script.
     verdict: str
-    #: The interfaces that win the attempts; none is any.
+    #: The interfaces that win the attempts; empty for any.
     senders: tuple[str, ...] = ()
-    #: The identifier word and the mask that the frames match, as of a filter; None is any frame.
+    #: The identifier word and the mask that frames must match, like in a filter; None for any frame.
     identifier: Optional[tuple[int, int]] = None
-    #: How many attempts that match are left to the rules after it, before it takes any.
+    #: The number of matching attempts that the rule first leaves to later rules.
     skip: int = 0
 
     def __str__(self) -> str:
@@ -68,12 +68,12 @@ class Rule:
 
     @property
     def names(self) -> tuple[str, ...]:
-        """The interfaces that it names: those that send, and those that see its fault."""
+        """The interfaces in the rule: the senders, and those that see its fault."""
         return (*self.senders, *seen_by(self.verdict))
 
 
 def identifier_text(word: int, mask: int) -> str:
-    """The identifier of a rule as shortly as it can be said: `123`, `00000123`, or `123:700`."""
+    """Returns the shortest text for the identifier of a rule: `123`, `00000123`, or `123:700`."""
     if mask == SHORT_MASK and word <= 0x7FF:
         return f"{word:03X}"
     if mask == LONG_MASK and EXTENDED <= word <= LONG_MASK:
@@ -82,17 +82,17 @@ def identifier_text(word: int, mask: int) -> str:
 
 
 def seen_by(verdict: str) -> list[str]:
-    """The interfaces that a verdict names."""
+    """Returns the interfaces in a verdict."""
     return verdict.split(" ")[2].split(",") if verdict.startswith("local ") else []
 
 
 def is_rule(line: str) -> bool:
-    """Whether a line of a script is one with a rule."""
+    """Returns whether a line of a script is a rule."""
     return line.partition(" ")[0] in ("next", "always")
 
 
 def parse_rule(text: str) -> Rule:
-    """Returns the rule that this text is; ValueError says which of its words is wrong."""
+    """Returns the rule in this text; ValueError names the wrong word."""
     words = text.split(" ")
     try:
         count = count_of(words)
@@ -111,7 +111,7 @@ def parse_rule(text: str) -> Rule:
 
 
 def meant_by(words: Sequence[str]) -> str:
-    """Returns the verdict that may be meant by words that are none, as a question; the empty text if there is none."""
+    """Returns the verdict that unknown words may mean, as a question; the empty text if there is none."""
     if "" in words and len(words) > 1:
         return "; its words are parted by one space"
     found = MEANT.get(words[0]) if words else None
@@ -119,7 +119,7 @@ def meant_by(words: Sequence[str]) -> str:
 
 
 def taken(words: list[str], word: str) -> bool:
-    """Takes the first of the words, if it is this one; whether it was."""
+    """Removes the first of the words, if it is this one; returns whether it was."""
     if words[:1] != [word]:
         return False
     del words[0]
@@ -127,7 +127,7 @@ def taken(words: list[str], word: str) -> bool:
 
 
 def check_order(words: list[str], given: dict[str, bool]) -> None:
-    """ValueError if the next of the words begins a part that has to be before one that is given, or is given twice."""
+    """Raises ValueError if the next word begins a part that must come earlier, or that the rule already has."""
     parts = list(given)
     if words[:1] and words[0] in parts:
         place = parts.index(words[0])
@@ -136,12 +136,12 @@ def check_order(words: list[str], given: dict[str, bool]) -> None:
 
 
 def next_of(words: list[str]) -> str:
-    """Takes the first of the words; the empty text if there are no more."""
+    """Removes and returns the first of the words; returns the empty text if there are no more."""
     return words.pop(0) if words else ""
 
 
 def count_of(words: list[str]) -> Optional[int]:
-    """The number of attempts that the rule takes, by which it begins."""
+    """Returns the number of attempts that the rule takes, from its first words."""
     first = next_of(words)
     if first == "always":
         return None
@@ -154,7 +154,7 @@ def count_of(words: list[str]) -> Optional[int]:
 
 
 def senders_of(words: list[str]) -> tuple[str, ...]:
-    """The interfaces after `from`."""
+    """Returns the interfaces after `from`."""
     names = next_of(words)
     if not re.fullmatch(NAMES, names):
         raise ValueError(f"after from are names of interfaces, joined by commas, not {names!r}")
@@ -162,14 +162,14 @@ def senders_of(words: list[str]) -> tuple[str, ...]:
 
 
 def number_of(word: str, after: str) -> int:
-    """A decimal number of the rule."""
+    """Returns a decimal number of the rule."""
     if not NUMBER.fullmatch(word):
         raise ValueError(f"after {after} is a number of 1 to 8 digits, not {word!r}")
     return int(word)
 
 
 def identifier_of(word: str) -> tuple[int, int]:
-    """The identifier word and the mask of `123`, `00000123` or `123:700`."""
+    """Returns the identifier word and the mask for `123`, `00000123` or `123:700`."""
     identifier, colon, mask = word.partition(":")
     if not WORD.fullmatch(identifier) or (colon and not WORD.fullmatch(mask)):
         raise ValueError(f"after id are hexadecimal digits, as in 123, 00000123 or 123:700, not {word!r}")
@@ -186,7 +186,7 @@ def identifier_of(word: str) -> tuple[int, int]:
 
 
 def check_rules(rules: Iterable[Rule], names: Sequence[str]) -> None:
-    """ValueError if a rule names an interface that is none of these, which are those of its bus."""
+    """Raises ValueError if a rule names an interface that is not on its bus."""
     for rule in rules:
         unknown = next((name for name in rule.names if name not in names), None)
         if unknown is not None:
@@ -194,21 +194,21 @@ def check_rules(rules: Iterable[Rule], names: Sequence[str]) -> None:
 
 
 class GivenRules:
-    """The rules that a bus was given, by the numbers that the program calls them, and how many of them are left."""
+    """The rules that a bus was given, by their numbers in the program, and the remaining rules."""
 
     def __init__(self, rules: Iterable[Rule] = ()) -> None:
         self._rules: list[Rule] = []
-        # The number of verdicts that each rule still gives that is not used up, by its number; None is without end.
+        # By the number of a rule that is not used up: the number of verdicts that it still gives; None without an end.
         self._left: dict[int, Optional[int]] = {}
         for rule in rules:
             self.add(rule)
 
     def __len__(self) -> int:
-        """The number of rules that are left."""
+        """The number of remaining rules."""
         return len(self._left)
 
     def among(self, first: int) -> int:
-        """Returns how many of the first so many rules are left."""
+        """Returns the number of remaining rules among the first ones."""
         return sum(number <= first for number in self._left)
 
     def add(self, rule: Rule) -> None:
@@ -221,12 +221,12 @@ class GivenRules:
         self._left.clear()
 
     def unused(self) -> list[Rule]:
-        """Returns those with a number, `next 1 ..`, that gave no verdict, and that nobody ended."""
+        """Returns the rules with a number, `next 1 ..`, that gave no verdict, and that no command ended."""
         counted = ((self._rules[number - 1], left) for number, left in self._left.items() if left is not None)
         return [rule for rule, left in counted if rule.count == left]
 
     def gave(self, number: int) -> Rule:
-        """Returns the rule of this number, which gave an attempt its verdict, and counts that."""
+        """Returns the rule of this number, which gave an attempt its verdict, and counts the verdict."""
         left = self._left.get(number)
         if left == 1:
             del self._left[number]

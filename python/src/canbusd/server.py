@@ -1,4 +1,4 @@
-"""A server for a test: it is started, used and ended, and leaves logs and records.
+"""A server for a test: the test starts, uses and ends the server, which leaves logs and records.
 
     with Server("can0,can1", faults=Faults().last_bit(0)) as server:
         with server.bus("can0") as can0, server.bus("can1") as can1:
@@ -52,47 +52,48 @@ if TYPE_CHECKING:
     from canbusd.bus import CanbusdBus
     from canbusd.rest_bus import RestBus
 
-#: Seconds in which a server has to listen, and to end. Long records take their time.
+#: Time limits in seconds: for the server to listen, and to end. Long records take time.
 START, END = 10.0, 60.0
 ENTRIES = re.compile(r"bus (\S+) entries (\d+)")
-# Its note about a bus whose record is full.
+# The server's note about a bus whose record is full.
 FULL = re.compile(r"bus (\S+): record full")
-#: The calls that end it, with those that do so only if logs and records are written at the end.
+#: The calls that end the server, with those that do so only if logs and records are written at the end.
 ENDED_BY = "stop(), {}audit(), report() and its with block end it"
 
 
 def full_record(errors: Path, buses: Mapping[str, Sequence[str]], channel: Optional[str]) -> str:
-    """Says that the record of the bus of this interface is full, or of any: no frame is sent there any more."""
+    """Returns a note that the record of this interface's bus, or of any bus, is full: no further frame is sent
+    there."""
     said = errors.read_text(errors="replace") if errors.exists() else ""
     full = [name for name in FULL.findall(said) if channel is None or channel in buses[name][:-1]]
     return f"{full[0]}: {RECORD_FULL}{CURES[RECORD_FULL]}" if full else ""
 
 
 class Result(NamedTuple):
-    """How a server ended."""
+    """The result of a server that has ended."""
 
-    #: The status of the program: 0, or that of a program killed by a signal, below 0, after :meth:`Server.kill`.
+    #: The status of the program: 0, or a negative number after :meth:`Server.kill`, for a program killed by a signal.
     status: int
-    #: The number of entries that the record of each bus has, by the name of its first interface.
+    #: The number of entries in the record of each bus, by the name of its first interface.
     entries: dict[str, int]
 
 
 class Server(Expectations, SimulatesNodes, RunsPrograms, ProgramRun, NamesWhatThereIs):
     """`canbusd serve` with these buses, each the names of its interfaces: ``Server("can0,can1", "car0")``.
 
-    The options are those of the program. ``faults`` is a script for the one bus there is (:class:`canbusd.Faults`, a
-    path or a text), or a dict of them by the name of a bus's first interface. ``out`` is a folder for logs and
-    records; without it they are kept as long as the server is. With ``record="live"`` logs and records are written
-    while the server runs, ``flush`` milliseconds (100) after each call, and :meth:`log`, :meth:`record` and
-    :meth:`attempts` return what is there; with ``record="none"`` logs are, and there is no record. Then a run may go
-    on for weeks, and ``limit`` (1,000,000 entries) is not given. With a ``bitrate`` attempts take the time of their
-    bits, in place of ``pace_ms``; with a ``data_bitrate``, which may be called ``dbitrate`` too, FD frames with
-    ``bitrate_switch`` go on at that for their data. Each is a number for all buses, or a dict of numbers by the name of
-    an interface of each bus, with that of all others by None.
-    ``observe`` names the interfaces whose frames :meth:`expect` looks at, by default all, or the first of each bus where
-    there are more than 8; without any, ``observe=()``, the record has nothing of it. ``database``, a file or what
-    load_database returns, has the names of messages and signals that are expected. The server runs when the constructor returns,
-    and is ended by :meth:`stop`, by the end of a ``with`` block, and by the end of this process, even by a crash.
+    The options are those of the program. ``faults`` is a script for the only bus (:class:`canbusd.Faults`, a path or a
+    text), or a dict of scripts by the name of a bus's first interface. ``out`` is a folder for logs and records;
+    without it they are kept as long as the server object. With ``record="live"`` the server writes logs and records
+    while it runs, ``flush`` milliseconds (100) after each call, and :meth:`log`, :meth:`record` and :meth:`attempts`
+    return the data so far. With ``record="none"`` it writes logs in the same way, but no record. A run may then go on
+    for weeks, and ``limit`` (1,000,000 entries) is not given. With a ``bitrate`` attempts take the time of their bits,
+    in place of ``pace_ms``. With a ``data_bitrate``, also called ``dbitrate``, FD frames with ``bitrate_switch`` use
+    that rate for their data. Each rate is a number for all buses, or a dict of numbers by the name of an interface of
+    each bus; the key None is for all other buses. ``observe`` names the interfaces whose frames :meth:`expect` checks:
+    by default all, or the first of each bus if there are more than 8. With ``observe=()`` the record has no entry of
+    such a session. ``database``, a file or the result of load_database, has the names of expected messages and signals.
+    The server runs when the constructor returns, and is ended by :meth:`stop`, by the end of a ``with`` block, and by
+    the end of this process, even by a crash.
     """
 
     _INSTEAD = {
@@ -160,7 +161,7 @@ class Server(Expectations, SimulatesNodes, RunsPrograms, ProgramRun, NamesWhatTh
         placement.note_server(self._names(), self._take_down)
 
     def _take_down(self, names: Sequence[str], moment: float, seconds: float) -> None:
-        """Has interfaces be down from a moment on for so many seconds, if it still runs."""
+        """Takes interfaces down at a given time for this many seconds, if the server still runs."""
         placement.sleep_until(moment)
         try:
             sessions = [RawSession(self.address, name, ["filter 0"], TIMEOUT) for name in names]
@@ -175,15 +176,15 @@ class Server(Expectations, SimulatesNodes, RunsPrograms, ProgramRun, NamesWhatTh
                 placement.note_failure(reason)
 
     def _prepare(self, record: str) -> None:
-        """The facts about the run before it begins."""
-        # When the record is written; logs and records that are written while the server runs, by bus.
+        """Sets the facts about the run before it begins."""
+        # The time when the record is written; and the logs and records that are written while the server runs, by bus.
         self._record_when = record
         self._logs = {name: LiveLog(self._out / f"{name}.log") for name in self._by_bus}
         self._records = {name: LiveRecord(self._out / f"{name}.rec", bus[:-1]) for name, bus in self._by_bus.items()}
         self._programs: list[Program] = []
         self._rest_buses: "list[RestBus]" = []
         self._nodes: dict[str, Node] = {}
-        # The first interfaces of the buses of which all rules were ended.
+        # The first interfaces of the buses all of whose rules were ended.
         self._rules_ended: set[str] = set()
         self._observer: Optional[Observer] = None
         self._ending = threading.Lock()
@@ -191,7 +192,7 @@ class Server(Expectations, SimulatesNodes, RunsPrograms, ProgramRun, NamesWhatTh
 
     @property
     def _ends_too(self) -> str:
-        """The calls that end it where logs and records are written at the end."""
+        """The calls that end the server if logs and records are written at the end."""
         return "log(), record(), " if self._record_when == "end" else ""
 
     @property
@@ -201,7 +202,7 @@ class Server(Expectations, SimulatesNodes, RunsPrograms, ProgramRun, NamesWhatTh
 
     @explained()
     def bus(self, channel: str, can_filters: Optional[Filters] = None, **kwargs: Any) -> "CanbusdBus":
-        """Returns a bus of python-can on the interface of this name; the arguments are those of CanbusdBus."""
+        """Returns a python-can bus on the interface with this name; the arguments are those of CanbusdBus."""
         import canbusd._python_can  # noqa: F401  it says what is missing, so it comes first
         from can.exceptions import CanInitializationError
 
@@ -217,11 +218,11 @@ class Server(Expectations, SimulatesNodes, RunsPrograms, ProgramRun, NamesWhatTh
 
     @explained()
     def node(self, name: str, *programs: Program) -> Node:
-        """Returns the node of this interface, which comes and goes, with the programs that are it, as :meth:`start` returns them:
-        ``server.node("ecu", server.start("./ecu can0"))``.
+        """Returns the node of this interface, which can leave the bus and return, with its programs, as :meth:`start`
+        returns them: ``server.node("ecu", server.start("./ecu can0"))``.
 
-        ``node.power_off()`` and ``power_on()`` kill the programs and start them anew, ``sleep()``, ``wake()`` and
-        ``with node.unplugged():`` let them go on. An interface has one node, to which later calls may add programs.
+        ``node.power_off()`` and ``power_on()`` kill the programs and start them anew; ``sleep()``, ``wake()`` and
+        ``with node.unplugged():`` let them continue. An interface has one node, to which later calls may add programs.
         """
         self._first(str(name))
         node = self._nodes.setdefault(name, Node(self, name))
@@ -230,11 +231,11 @@ class Server(Expectations, SimulatesNodes, RunsPrograms, ProgramRun, NamesWhatTh
 
     @explained()
     def inject(self, faults: Script, interface: Optional[str] = None) -> None:
-        """Adds these fault rules to a running bus, after those that it has, from the next attempt on.
+        """Adds these fault rules to a running bus, after its present rules, from the next attempt on.
 
         `faults` are rules of Faults, such as ``Faults().next(32, sender="ecu").destroyed()``, or their text, and
-        `interface` is one of the bus; it may be left out if there is one bus. Refused if the bus would have more
-        than 64 rules: those before the one that is named are in force.
+        `interface` is an interface of the bus; it may be left out if there is one bus. A bus has at most 64 rules: the
+        refusal names the first rule that is too many, and the rules before it are in force.
         """
         rules = rules_of(faults)
         first = self._first(interface, "interface", "inject(faults, {})")
@@ -243,27 +244,29 @@ class Server(Expectations, SimulatesNodes, RunsPrograms, ProgramRun, NamesWhatTh
             session._give(rules)
 
     def rules_left(self, interface: Optional[str] = None) -> int:
-        """Returns how many rules of faults a bus has that are not used up, those without end too."""
+        """Returns the number of fault rules of a bus that are not used up, including rules without end."""
         first = self._first(interface, "interface", "rules_left({})")
         with self._rule_session(first) as session:
             left = session.rules_left()
         return max(0, left - self._planted_left(first)) if left else 0
 
     def _planted_left(self, first: str) -> int:
-        """How many of the rules that are left are a sweep's kind `busoff`: one of a sender that has not lost a frame by it."""
+        """Returns the number of remaining rules that a sweep's kind `busoff` added: such a rule remains until its
+        sender has lost a frame by it."""
         planted = [] if first in self._rules_ended else map(parse_rule, placement.rules_of((self._number, first)))
         senders = [rule.senders[0] for rule in planted if rule.senders and rule.identifier is None]
         return sum(not self._observing().session(sender).stats().lost for sender in senders)
 
     def end_rules(self, interface: Optional[str] = None) -> None:
-        """Ends all rules of faults of a bus; lines of its script by the numbers of attempts stay."""
+        """Ends all fault rules of a bus. Script lines for numbered attempts stay."""
         first = self._first(interface, "interface", "end_rules({})")
         with self._rule_session(first) as session:
             session.end_rules()
         self._rules_ended.add(first)
 
     def stop(self) -> Result:
-        """Ends the server, after the programs that it started; logs and records are written. Again it returns the same.
+        """Ends the server, after the programs that it started; logs and records are written. A second call returns the
+        same result.
 
         :raises ServerError: if the server ended with a fault, or was killed by others, or if a program that
             :meth:`start` has started had ended by itself
@@ -286,10 +289,10 @@ class Server(Expectations, SimulatesNodes, RunsPrograms, ProgramRun, NamesWhatTh
         return self._result
 
     def kill(self) -> Result:
-        """Ends the server as a crash would: of logs and records there is what was written while it ran."""
+        """Ends the server like a crash: logs and records have only the data written while it ran."""
         self._check_process()
         if self._result is None:
-            # Also one that is being stopped.
+            # This also ends a server that is being stopped.
             self._signal()
         with self._ending:
             if self._result is None:
@@ -301,9 +304,9 @@ class Server(Expectations, SimulatesNodes, RunsPrograms, ProgramRun, NamesWhatTh
     def log(self, name: Optional[str] = None) -> list["Message"]:
         """Returns the frames that were put on the bus of this interface, oldest first; ends the server.
 
-        With ``record="live"`` and ``"none"`` it does not end it, and returns those that were written so far. The channel
-        of each is the interface that sent it. A frame that was destroyed or not acknowledged is an error message frame.
-        The name may be left out if there is one bus.
+        With ``record="live"`` and ``"none"`` the server continues, and the result has the frames written so far. The
+        channel of each frame is the interface that sent it. A frame that was destroyed or not acknowledged is an error
+        message frame. The name may be left out if there is one bus.
         """
         first = self._first(name)
         return self._logs[first].messages() if self._record_when != "end" else read_log(self._file(name, "log"))
@@ -311,7 +314,7 @@ class Server(Expectations, SimulatesNodes, RunsPrograms, ProgramRun, NamesWhatTh
     def record(self, name: Optional[str] = None) -> Record:
         """Returns the record of the bus of this interface; ends the server.
 
-        With ``record="live"`` it does not end it, and returns what was written so far: its `is_cut` is true until the
+        With ``record="live"`` the server continues, and the result is the record so far: its `is_cut` is true until the
         server has ended.
         """
         first = self._recorded(name)
@@ -322,7 +325,7 @@ class Server(Expectations, SimulatesNodes, RunsPrograms, ProgramRun, NamesWhatTh
     def attempts(self, name: Optional[str] = None) -> list[Attempt]:
         """Returns the attempts on the bus of this interface: with ``record="live"`` those that were written so far.
 
-        Each call reads only what was added since the one before. Of another server they are known once it has ended.
+        Each call reads only the new part. For another server the attempts are known after it has ended.
         """
         first = self._recorded(name)
         if self._record_when == "live":
@@ -332,9 +335,9 @@ class Server(Expectations, SimulatesNodes, RunsPrograms, ProgramRun, NamesWhatTh
         return self.record(name).attempts
 
     def audit(self) -> dict[str, str]:
-        """Ends the server, and returns what `canbusd audit` says of each bus's record: `ok 7 entries` or a fault.
+        """Ends the server, and returns the verdict of `canbusd audit` on each bus's record: `ok 7 entries` or a fault.
 
-        Of one that was killed, with ``record="live"``, it is `ok 7 entries, then cut off`.
+        For a killed server with ``record="live"``, the verdict is `ok 7 entries, then cut off`.
         """
         return {name: self._audited(self._file(self._recorded(name), "rec")) for name in self._by_bus}
 
@@ -343,12 +346,12 @@ class Server(Expectations, SimulatesNodes, RunsPrograms, ProgramRun, NamesWhatTh
         return audited(left, cut=left != path)
 
     def report(self, name: Optional[str] = None) -> Path:
-        """Ends the server, and returns the path of a page for the browser that shows the run of the bus."""
+        """Ends the server, and returns the path of a browser page that shows the run of the bus."""
         page = self._file(self._recorded(name), "html")
         return self._page(self.record(name), page)
 
     def _page(self, record: Record, path: Path) -> Path:
-        """Writes the page of the bus with this record there."""
+        """Writes the page of the bus with this record to a path."""
         from canbusd._run.fault_rules_of_run import deciders, faults_beside
         from canbusd._run.summary import write_page
 
@@ -357,7 +360,7 @@ class Server(Expectations, SimulatesNodes, RunsPrograms, ProgramRun, NamesWhatTh
         return write_page(record, path, rules, self._rates_by_bus[record.names[0]], self.database)
 
     def _check_runs(self, what: str) -> None:
-        """ServerError if the server has ended, with what is not possible then."""
+        """Raises ServerError if the server has ended; the text names the impossible action."""
         if self._result is not None:
             by = "" if self._result.status < 0 else f"; {ENDED_BY.format(self._ends_too)}"
             raise ServerError(f"the server {'has ended' if by else 'was killed'}: {what}{by}")
@@ -368,7 +371,7 @@ class Server(Expectations, SimulatesNodes, RunsPrograms, ProgramRun, NamesWhatTh
             )
 
     def _rule_session(self, first: str) -> RuleSession:
-        """A session for the rules of the bus with this first interface."""
+        """Returns a session for the rules of the bus with this first interface."""
         self._check_runs("its rules have ended with it")
         try:
             return RuleSession(self.address, first)
@@ -376,16 +379,16 @@ class Server(Expectations, SimulatesNodes, RunsPrograms, ProgramRun, NamesWhatTh
             raise ServerError(f"no session on {first}: {reason_of(fault)}") from None
 
     def _observing(self) -> Observer:
-        """The sessions of the server's own; ServerError once it has ended."""
+        """Returns the server's own sessions; raises ServerError if the server has ended."""
         self._check_runs("nothing can be expected of it")
         if self._observer is None:
-            # Without the server itself, whose files go with it.
+            # The observer must not keep the server in memory, because the server's files are deleted with it.
             full = functools.partial(full_record, self._folder / "stderr", self._by_bus)
             self._observer = Observer(self.address, self._names(), self._observed, full)
         return self._observer
 
     def _names(self) -> list[list[str]]:
-        """The names of the interfaces of each bus."""
+        """Returns the names of the interfaces of each bus."""
         return [bus[:-1] for bus in self._by_bus.values()]
 
     def _shown(self, signals: Sequence[str] = ()) -> str:
@@ -410,7 +413,7 @@ class Server(Expectations, SimulatesNodes, RunsPrograms, ProgramRun, NamesWhatTh
             self._observer.close()
 
     def _first(self, name: Optional[str], what: str = "name", call: str = "{}") -> str:
-        """The first interface of the bus that has this one; a fault says what it was given as, and in which call."""
+        """Returns the first interface of the bus with this interface; an error names the argument and the call."""
         found = [first for first, names in self._by_bus.items() if name in names[:-1] or name is None]
         if name is None and len(found) > 1:
             example = call.format(repr(found[-1]))
@@ -421,7 +424,8 @@ class Server(Expectations, SimulatesNodes, RunsPrograms, ProgramRun, NamesWhatTh
         return found[0]
 
     def _recorded(self, name: Optional[str]) -> str:
-        """The first interface of the bus that has this one; ServerError if there is no record of it."""
+        """Returns the first interface of the bus with this interface; raises ServerError if there is no record of the
+        bus."""
         if self._record_when == "none":
             raise ServerError('there is no record: the server has record="none"')
         return self._first(name)
@@ -444,7 +448,7 @@ class Server(Expectations, SimulatesNodes, RunsPrograms, ProgramRun, NamesWhatTh
         raise ServerError(self.said or f"the server does not listen: {line!r}, status {status}")
 
     def _line(self, deadline: float) -> str:
-        """The first line that the server writes; what there is of it at its end, and at the deadline."""
+        """Returns the first line that the server writes, or a part of it if the server ends or the deadline comes."""
         assert self._child.stdout is not None
         output = self._child.stdout.fileno()
         line = b""
@@ -460,7 +464,7 @@ class Server(Expectations, SimulatesNodes, RunsPrograms, ProgramRun, NamesWhatTh
         return line.decode()
 
     def _ended(self) -> tuple[int, str]:
-        """Waits for the end of the server; its status, and what it wrote."""
+        """Waits for the end of the server; returns its status, and its output."""
         try:
             written, _ = self._child.communicate(timeout=END)
         except subprocess.TimeoutExpired:

@@ -1,9 +1,9 @@
-"""Values over time for the signals of a rest bus, and to be expected of others: ramps, sines, squares, noise, tables.
+"""Values over time, for the signals of a rest bus and for expectations: ramps, sines, squares, noise, tables.
 
     rest["Engine"].play("EngineSpeed", shapes.ramp(800, 3000, seconds=2))
     server.expect_signal("ShownSpeed", shape=shapes.ramp(800, 3000, seconds=2), tolerance=50, within=5)
 
-Time is that of the bus, from the call on. Ends that are left out are the limits of the signal in its database.
+Time is bus time, counted from the call. Missing ends are the limits of the signal in its database.
 """
 
 import bisect
@@ -27,35 +27,36 @@ S = TypeVar("S", bound="Between")
 
 
 class Shape:
-    """Values over time; the functions of this module return one."""
+    """Values over time; the functions of this module return shapes."""
 
-    #: Whether it can be expected: its values depend on nothing but the time.
+    #: Whether a test can expect the shape: its values depend only on the time.
     is_of_time = True
-    #: Seconds after which nothing new comes: the end of a ramp or of a table, a period.
+    #: The seconds after which the shape is complete: the end of a ramp or of a table, a period.
     seconds: float
 
     def of(self, signal: "SignalFormat") -> "Shape":
-        """Returns it for a signal, with the limits of that where it has no ends of its own; ValueError if there are none."""
+        """Returns the shape for a signal, with the signal's limits for missing ends; raises ValueError if there are
+        none."""
         return self
 
     @property
     def ends(self) -> "Sequence[Value]":
-        """Values among which are the least and the most that it has."""
+        """Returns values that include the minimum and maximum of the shape."""
         raise NotImplementedError
 
     def at(self, seconds: float, number: int) -> "Value":
-        """Returns the value after so many seconds, in the frame with this number since the start."""
+        """Returns the value after this many seconds, for the frame with this number since the start."""
         raise NotImplementedError
 
     def span(self, first: float, last: float) -> tuple[float, float]:
-        """Returns the least and the most value between two moments, in seconds."""
+        """Returns the minimum and maximum between two times, in seconds."""
         inner = [moment for moment in self._turns(first, last) if first < moment < last]
         values = [self.at(moment, 0) for moment in (first, *inner, last)]
         numbers = [float(value) for value in values]
         return min(numbers), max(numbers)
 
     def _turns(self, first: float, last: float) -> Iterable[float]:
-        """Moments between which it only rises, falls, or stays."""
+        """Returns times between which the shape only rises, falls, or stays."""
         return ()
 
 
@@ -68,7 +69,7 @@ class Between(Shape):
     seconds: float
 
     def of(self: S, signal: "SignalFormat") -> S:
-        """Returns it with the limits of a signal in place of ends that are left out."""
+        """Returns the shape with the limits of a signal in place of missing ends."""
         ends = {"start": (self.start, signal.least), "end": (self.end, signal.most)}
         for own, limit in ends.values():
             if own is None and not Decimal(limit).is_finite():
@@ -83,7 +84,7 @@ class Between(Shape):
         return self.start, self.end
 
     def _part(self, part: float) -> float:
-        """The value at a part of the way from the start to the end."""
+        """Returns the value at a fraction of the way from the start to the end."""
         first, last = self.ends
         return first + (last - first) * part
 
@@ -99,7 +100,7 @@ class Ramp(Between):
 
 
 class Sine(Between):
-    """A sine, which begins in the middle, and rises."""
+    """A sine, which begins in the middle and rises."""
 
     def at(self, seconds: float, number: int) -> float:
         return self._part(0.5 + 0.5 * math.sin(2 * math.pi * max(seconds, 0.0) / self.seconds))
@@ -111,7 +112,7 @@ class Sine(Between):
 
 @dataclass(frozen=True)
 class Square(Between):
-    """A square wave, which begins with its start."""
+    """A square wave, which begins with its start value."""
 
     duty: float = 0.5
 
@@ -119,7 +120,7 @@ class Square(Between):
         return self.ends[0 if max(seconds, 0.0) % self.seconds < self.duty * self.seconds else 1]
 
     def _turns(self, first: float, last: float) -> Iterable[float]:
-        # Just before a jump, and at it.
+        # The times just before a jump, and at the jump.
         for period in range(int(first // self.seconds), int(last // self.seconds) + 1):
             for jump in (period * self.seconds, (period + self.duty) * self.seconds):
                 yield from (jump - 1e-9, jump)
@@ -127,7 +128,7 @@ class Square(Between):
 
 @dataclass(frozen=True)
 class Noise(Between):
-    """Noise: each frame has another value, and the same seed the same ones."""
+    """Noise: each frame has another value, and the same seed gives the same values."""
 
     seed: int = 0
     is_of_time = False
@@ -163,7 +164,7 @@ class Toggle(Shape):
 
 @dataclass(frozen=True)
 class Table(Shape):
-    """Values, each from its moment on, until the next."""
+    """Values, each from its time on until the next."""
 
     rows: "Sequence[tuple[float, Value]]"
 
@@ -191,13 +192,13 @@ class Table(Shape):
 
 @explained()
 def ramp(start: Optional[float] = None, end: Optional[float] = None, *, seconds: float = 1.0) -> Ramp:
-    """Returns a ramp from `start` to `end` in so many seconds; then it stays there."""
+    """Returns a ramp from `start` to `end` in this many seconds; the value then stays at the end."""
     return Ramp(*_ends(start, end), _seconds("seconds", seconds))
 
 
 @explained()
 def sine(low: Optional[float] = None, high: Optional[float] = None, *, period: float = 1.0) -> Sine:
-    """Returns a sine between `low` and `high`, which begins in the middle, and rises."""
+    """Returns a sine between `low` and `high`, which begins in the middle and rises."""
     return Sine(*_ends(low, high), _seconds("period", period))
 
 
@@ -213,19 +214,20 @@ def square(
 
 @explained()
 def noise(low: Optional[float] = None, high: Optional[float] = None, *, seed: int = 0) -> Noise:
-    """Returns noise between `low` and `high`: another value in each frame, and the same ones for the same seed."""
+    """Returns noise between `low` and `high`: another value in each frame, and the same values for the same seed."""
     return Noise(*_ends(low, high), 1.0, seed)
 
 
 @explained()
 def toggle(*values: "Value", period: Optional[float] = None) -> Toggle:
-    """Returns these values in turn, 0 and 1 without any: another in each frame, or all of them in each period, in seconds."""
+    """Returns these values in turn, by default 0 and 1: another value in each frame, or all values in each period, in
+    seconds."""
     return Toggle(values or (0, 1), 0.0 if period is None else _seconds("period", period))
 
 
 @explained()
 def table(rows: "Iterable[tuple[float, Value]]") -> Table:
-    """Returns values from their moments on, such as ``[(0.0, 800), (1.5, 3000)]``, in seconds."""
+    """Returns values from their times on, such as ``[(0.0, 800), (1.5, 3000)]``, in seconds."""
     known = "pairs of seconds and values, such as [(0.0, 800), (1.5, 3000)]"
     found = list(rows) if isinstance(rows, Iterable) and not isinstance(rows, (str, Mapping)) else []
     for row in found:
@@ -242,8 +244,8 @@ def csv(
 ) -> Table:
     """Returns the values of a column of a CSV file, whose first line has the names of columns.
 
-    The moments, in seconds, are in the column `time`, else in the first one; they count from the first row. ValueError with
-    the line where the file is no such.
+    The times, in seconds, are in the column `time`, else in the first column; they count from the first row. ValueError
+    names the line of a malformed file.
     """
     with open(path, newline="", encoding="utf-8-sig") as file:
         reader = csv_files.reader(file, delimiter=delimiter)
@@ -265,7 +267,7 @@ def csv(
 
 
 def _value(text: str) -> "Value":
-    """A number, or the name of one."""
+    """Returns a number, or the name of a number."""
     stripped = text.strip()
     try:
         return int(stripped)

@@ -1,4 +1,4 @@
-"""Messages and signals by their names, as a DBC, an ARXML, a KCD or a SYM file describes them.
+"""Messages and signals by name, as a DBC, an ARXML, a KCD or a SYM file describes them.
 
     database = load_database("car.dbc")
     print(database)                # each message: its sender, cycle time and signals
@@ -22,25 +22,25 @@ from canbusd._text import times
 from canbusd.frames import FD_LENGTHS, BadFrame, Frame, MessageLike
 
 HOW_TO_GET = "pip install cantools, or apt-get install python3-canmatrix"
-#: How a library reads a file.
+#: A library's function that reads a file.
 Reader = Callable[[str], Iterator[MessageFormat]]
-#: Of how many values of a multiplexer cantools makes a list.
+#: The most values of a multiplexer that cantools lists.
 MOST_VALUES = 65_536
-#: The libraries that read files, in the order in which they are looked for, and the modules that know how.
+#: The libraries that read files, in the order of search, and the modules that use them.
 READERS = {"cantools": "canbusd._database.from_cantools", "canmatrix": "canbusd._database.from_canmatrix"}
 
 
 class Decoded(NamedTuple):
-    """A frame in the words of a file; `str()` of it is a line."""
+    """A frame in the words of a database; `str()` shows it on one line."""
 
     #: The name of the message.
     message: str
     signals: tuple[Signal, ...]
-    #: Why there are no signals: the frame is shorter than the message, or the library can't decode it.
+    #: The reason why there are no signals: the frame is shorter than the message, or the library can't decode it.
     fault: str = ""
 
     def value(self, name: str) -> Value:
-        """Returns the value of the signal of this name; DatabaseError if the frame has none."""
+        """Returns the value of the signal with this name; raises DatabaseError if the frame has no such signal."""
         for signal in self.signals:
             if signal.name == name:
                 return signal.value
@@ -51,9 +51,9 @@ class Decoded(NamedTuple):
 
 
 class Database(NamesWhatThereIs):
-    """The messages of files, by their identifiers and names; `str()` of it shows all of them.
+    """The messages of files, by identifier and name; `str()` shows all of them.
 
-    DatabaseError if two messages have one name or one identifier, and are not the same.
+    DatabaseError if two different messages have the same name or the same identifier.
     """
 
     _INSTEAD = {
@@ -74,7 +74,8 @@ class Database(NamesWhatThereIs):
             self._by_name[one.name] = self._by_frame[frame] = one
 
     def with_more(self, other: "Database") -> "Database":
-        """Returns these messages and those of another; if one of that has a name or an identifier of these, it is left out."""
+        """Returns these messages and those of another database, except messages with a name or an identifier that this
+        one has."""
         more = [one for one in other.messages if not self._has(one)]
         return Database([*self.messages, *more]) if more else self
 
@@ -88,7 +89,7 @@ class Database(NamesWhatThereIs):
 
     @property
     def nodes(self) -> list[str]:
-        """The names of the nodes that send or receive something, in the order of the files."""
+        """The names of the nodes that send or receive a message, in the order of the files."""
         names: dict[str, None] = {}
         for message in self.messages:
             names.update(dict.fromkeys(message.senders))
@@ -96,26 +97,26 @@ class Database(NamesWhatThereIs):
         return list(names)
 
     def message(self, name: str) -> MessageFormat:
-        """Returns the message of this name; DatabaseError if there is none."""
+        """Returns the message with this name; raises DatabaseError if there is none."""
         if name not in self._by_name:
             known = ", ".join(sorted(self._by_name)) or "none"
             raise DatabaseError(f"no message {name}; there are {known}", message=name)
         return self._by_name[name]
 
     def message_of(self, frame: MessageLike) -> Optional[MessageFormat]:
-        """Returns the message that a frame is; None for one that no file knows, and for remote and error message frames."""
+        """Returns the message of a frame; None for unknown identifiers, remote frames and error message frames."""
         if frame.is_remote_frame or frame.is_error_frame:
             return None
         return self._by_frame.get((frame.arbitration_id, frame.is_extended_id))
 
     def decode(self, frame: MessageLike) -> Optional[Decoded]:
-        """Returns what a frame says; None for one that no file knows, and for remote and error message frames."""
+        """Returns the decoded frame; None for unknown identifiers, remote frames and error message frames."""
         message = self.message_of(frame)
         if message is None:
             return None
         if len(frame.data) < message.size:
             return Decoded(message.name, (), f"{len(frame.data)} of {times(message.size, 'byte')}")
-        # Those of the libraries are of many kinds.
+        # The libraries raise many kinds of errors.
         try:
             return Decoded(message.name, tuple(message.decode(bytes(frame.data[: message.size]))))
         except Exception as fault:
@@ -134,12 +135,12 @@ class Database(NamesWhatThereIs):
 
 
 def lines_of(message: MessageFormat) -> Iterator[str]:
-    """A line for each signal of a message."""
+    """Returns a line for each signal of a message."""
     return (f"  {signal}" for signal in message.signals)
 
 
 def frame_of(message: MessageFormat, data: bytes) -> Frame:
-    """Returns the frame of a message with this data, an FD frame filled up to the next length that there is.
+    """Returns the frame of a message with this data; an FD frame is filled up to the next valid length.
 
     DatabaseError if no frame has as many bytes.
     """
@@ -152,15 +153,16 @@ def frame_of(message: MessageFormat, data: bytes) -> Frame:
 
 
 def load_database(*paths: Union[str, "os.PathLike[str]"], library: Optional[str] = None) -> Database:
-    """Returns the messages of these files; `library` is cantools or canmatrix, else the first that is installed."""
+    """Returns the messages of these files; `library` is cantools or canmatrix, by default the first that is
+    installed."""
     if not paths:
         raise ValueError("load_database needs the path of a file, such as load_database('car.dbc')")
     name, messages_in = installed(library)
     messages: list[MessageFormat] = []
     for path in (os.fspath(path) for path in paths):
-        # A file that is not there is a fault of its own.
+        # A missing file has its own error.
         open(path, "rb").close()
-        # Those of the libraries are of many kinds.
+        # The libraries raise many kinds of errors.
         try:
             if is_dbc(path):
                 check_numbers(path, MOST_VALUES if name == "cantools" else None)
@@ -176,7 +178,7 @@ def load_database(*paths: Union[str, "os.PathLike[str]"], library: Optional[str]
 
 
 def refusal(path: str, library: str, read: Reader, fault: Exception) -> DatabaseError:
-    """The fault of a file that can't be read, of a DBC file with the line, which the libraries don't always say."""
+    """Returns the error for a file that can't be read, with the line in a DBC file, which the libraries often omit."""
     place, said = path, str(fault) or type(fault).__name__
 
     def is_refused(beginning: str) -> bool:
@@ -195,8 +197,8 @@ def refusal(path: str, library: str, read: Reader, fault: Exception) -> Database
 
 
 def installed(library: Optional[str]) -> tuple[str, Reader]:
-    """The library that reads files, and how it does."""
-    # Else canmatrix writes on standard error which of its formats it lacks.
+    """Returns the library that reads files, and its reading function."""
+    # Otherwise canmatrix prints on standard error which optional formats are missing.
     logging.getLogger("canmatrix").addHandler(logging.NullHandler())
     if library is not None and library not in READERS:
         raise ValueError(f"library is one of {', '.join(READERS)}, not {library!r}")
@@ -211,6 +213,6 @@ def installed(library: Optional[str]) -> tuple[str, Reader]:
 
 
 def how_to_get(library: Optional[str]) -> str:
-    """How to get this library, or one of them."""
+    """Returns the way to install this library, or one of them."""
     cantools, _, canmatrix = HOW_TO_GET.partition(", or ")
     return {"cantools": cantools, "canmatrix": canmatrix}.get(library or "", HOW_TO_GET)

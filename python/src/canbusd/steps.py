@@ -1,4 +1,4 @@
-"""Steps of a test, for the reports that testers have: JUnit, pytest-html and allure-pytest.
+"""Steps of a test, for the reports of JUnit, pytest-html and allure-pytest.
 
     with step("the ECU wakes"):
         server.expect(0x701, within=1)
@@ -13,11 +13,11 @@ from typing import Any, Optional
 
 
 class Step:
-    """A step: its title, when it began, in seconds, how deep it is inside of others, and what became of it."""
+    """A step: its title, its start in seconds, its depth inside other steps, and its outcome."""
 
     def __init__(self, title: str, began: float, depth: int) -> None:
         self.title, self.began, self.depth = title, began, depth
-        #: `passed` or `failed` once it is over.
+        #: `passed` or `failed` after the step.
         self.outcome = "not over"
 
     def __str__(self) -> str:
@@ -25,7 +25,7 @@ class Step:
 
 
 class Steps:
-    """The steps of the test that runs."""
+    """The steps of the running test."""
 
     def __init__(self) -> None:
         self.done: list[Step] = []
@@ -33,12 +33,12 @@ class Steps:
         self._start = time.monotonic()
 
     def lines(self) -> list[str]:
-        """Returns a line for each."""
+        """Returns a line for each step."""
         return [str(one) for one in self.done]
 
     @contextlib.contextmanager
     def step(self, title: str, now: Optional[Callable[[], float]]) -> Iterator[None]:
-        """Keeps a step while it is carried out."""
+        """Notes a step while it runs."""
         began = now() if now is not None else time.monotonic() - self._start
         one = Step(title, began, self._depth)
         self.done.append(one)
@@ -54,7 +54,7 @@ class Steps:
             self._depth -= 1
 
 
-#: The steps of the test that pytest carries out.
+#: The steps of the test that pytest is running.
 current = Steps()
 
 
@@ -66,10 +66,11 @@ def begin() -> None:
 
 @contextlib.contextmanager
 def step(title: str, *, now: Optional[Callable[[], float]] = None) -> Iterator[None]:
-    """Names a step of a test, ``with step("the ECU wakes"): ..``, or, as a decorator, a function that is one.
+    """Names a step of a test, ``with step("the ECU wakes"): ..``, or, as a decorator, a function that is a step.
 
-    The report of the test has it, with the seconds since the test began, or what `now` returns: in a JUnit file, in that of
-    pytest-html, in that of allure-pytest, and of a test that fails on the terminal. Steps may be inside of others.
+    The test's report shows the step, with the seconds since the start of the test or the result of `now`. JUnit files
+    and the reports of pytest-html and allure-pytest have the step, and so does the terminal for a failing test. Steps
+    may contain other steps.
     """
     if not isinstance(title, str) or not title:
         raise ValueError(f"title is the text of a step, not {title!r}")
@@ -82,5 +83,5 @@ def step(title: str, *, now: Optional[Callable[[], float]] = None) -> Iterator[N
 
 
 def with_allure() -> Any:
-    """Returns the module allure, if pytest has loaded its plugin; None elsewhere."""
+    """Returns the module allure if pytest has loaded its plugin, else None."""
     return importlib.import_module("allure") if "allure_pytest" in sys.modules else None

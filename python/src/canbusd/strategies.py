@@ -5,8 +5,8 @@
         with Bench("can0,can1", faults=plan) as bench:
             ...
 
-A bench gives the same run for the same plan, so what Hypothesis finds and shrinks can be kept as an ordinary test: the
-plan that it prints is code.
+A bench gives the same run for the same plan. So a failure that Hypothesis finds and shrinks can be kept as an ordinary
+test: the printed plan is code.
 """
 
 from collections.abc import Sequence
@@ -23,9 +23,10 @@ Names = Union[str, Sequence[str]]
 
 
 def frames(*, extended: Optional[bool] = None, remote: bool = True, fd: bool = False) -> SearchStrategy[Frame]:
-    """Frames that can be sent: of 11 or 29 bits, with data or, unless `remote` is false, remote; with `fd` FD ones too.
+    """Generates valid frames with 11 or 29 bits: data frames, remote frames unless `remote` is false, and FD frames
+    with `fd`.
 
-    Simple ones are data frames with a low identifier of 11 bits and no data.
+    The simplest are data frames with a low 11-bit identifier and no data.
     """
     kinds = [data_frames(extended)]
     kinds += [remote_frames(extended)] if remote else []
@@ -34,18 +35,18 @@ def frames(*, extended: Optional[bool] = None, remote: bool = True, fd: bool = F
 
 
 def identifiers(extended: Optional[bool] = None) -> SearchStrategy[tuple[int, bool]]:
-    """Identifiers, each with whether it has 29 bits."""
+    """Generates identifiers, each with whether it has 29 bits."""
     short, long = (st.tuples(st.integers(0, most), st.just(most > 0x7FF)) for most in (0x7FF, 0x1FFFFFFF))
     return st.one_of(short, long) if extended is None else long if extended else short
 
 
 def data_frames(extended: Optional[bool] = None) -> SearchStrategy[Frame]:
-    """Classic data frames."""
+    """Generates classic data frames."""
     return st.builds(lambda one, data: Frame(one[0], data, one[1]), identifiers(extended), bytes_of(range(9)))
 
 
 def remote_frames(extended: Optional[bool] = None) -> SearchStrategy[Frame]:
-    """Remote frames."""
+    """Generates remote frames."""
     return st.builds(
         lambda one, dlc: Frame(one[0], b"", one[1], is_remote_frame=True, dlc=dlc),
         identifiers(extended),
@@ -54,7 +55,7 @@ def remote_frames(extended: Optional[bool] = None) -> SearchStrategy[Frame]:
 
 
 def fd_frames(extended: Optional[bool] = None) -> SearchStrategy[Frame]:
-    """FD frames, of each length that there is, with each flag or without."""
+    """Generates FD frames of each valid length, with each flag or without."""
     return st.builds(
         lambda one, data, brs, esi: Frame(
             one[0], data, one[1], is_fd=True, bitrate_switch=brs, error_state_indicator=esi
@@ -67,17 +68,17 @@ def fd_frames(extended: Optional[bool] = None) -> SearchStrategy[Frame]:
 
 
 def bytes_of(lengths: Sequence[int]) -> SearchStrategy[bytes]:
-    """Bytes of these lengths, each equally likely."""
+    """Generates bytes of these lengths, each equally likely."""
     return st.sampled_from(lengths).flatmap(lambda length: st.binary(min_size=length, max_size=length))
 
 
 def listed(names: Names) -> list[str]:
-    """The names of interfaces."""
+    """Returns the names of interfaces as a list."""
     return names.split(",") if isinstance(names, str) else list(names)
 
 
 def faults_of_one(names: Names) -> SearchStrategy[str]:
-    """The faults that an attempt may have, in the words of a fault script."""
+    """Generates the faults of an attempt, in the words of a fault script."""
     known = listed(names)
     hit = st.sets(st.sampled_from(known), min_size=1).map(lambda some: ",".join(sorted(some, key=known.index)))
     local = st.builds("local {} {}".format, st.sampled_from(["crc", "stuff", "form"]), hit)
@@ -85,7 +86,8 @@ def faults_of_one(names: Names) -> SearchStrategy[str]:
 
 
 def rules(names: Names, attempts: int = 32) -> SearchStrategy[Rule]:
-    """Rules for the next attempts of one interface or of any, which may skip some; neither is more than `attempts`."""
+    """Generates rules for the next attempts of one interface or of any, which may skip some attempts; neither number is
+    more than `attempts`."""
     known = listed(names)
     senders = st.one_of(st.just(()), st.sampled_from(known).map(lambda name: (name,)))
     counts, skips = st.integers(1, attempts), st.integers(0, attempts)
@@ -93,16 +95,16 @@ def rules(names: Names, attempts: int = 32) -> SearchStrategy[Rule]:
 
 
 def fault_plans(names: Names, attempts: int = 32, most: int = 8, most_rules: int = 0) -> SearchStrategy[Faults]:
-    """Fault plans of a bus with these interfaces: at most `most` faults, in the first attempts, and `most_rules` rules.
+    """Generates fault plans for these interfaces: at most `most` faults, in the first attempts, and `most_rules` rules.
 
-    They shrink to few faults in early attempts, of which one in the last bit is the simplest.
+    Plans shrink to few faults in early attempts; the simplest fault is in the last bit.
     """
     verdicts = st.dictionaries(st.integers(0, attempts - 1), faults_of_one(names), max_size=most)
     return st.builds(plan_of, verdicts, st.lists(rules(names, attempts), max_size=most_rules))
 
 
 def plan_of(verdicts: dict[int, str], given: Sequence[Rule] = ()) -> Faults:
-    """The plan with these faults, by the numbers of attempts, and these rules."""
+    """Returns the plan with these faults, by the numbers of attempts, and these rules."""
     plan = Faults()
     for rule in given:
         plan._add_rule(rule)
@@ -114,7 +116,8 @@ def plan_of(verdicts: dict[int, str], given: Sequence[Rule] = ()) -> Faults:
 def message_sets(
     names: Names, *, most: int = 4, extended: Optional[bool] = None
 ) -> SearchStrategy[dict[str, list[Frame]]]:
-    """The messages that each interface of a bus sends, by its name: no identifier is sent by two, as on a real bus."""
+    """Generates the messages that each interface of a bus sends, by its name: no two interfaces share an identifier, as
+    on a real bus."""
     known = listed(names)
     senders = st.lists(
         st.tuples(data_frames(extended), st.sampled_from(known)),

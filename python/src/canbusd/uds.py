@@ -5,7 +5,7 @@
         assert tester.read(0xF190) == b"WVWZZZ1JZXW000001"
         ecu.inject(uds.fault("consecutive frame 2", "lost"))
 
-Services and codes are those of ISO 14229-1, segments those of ISO 15765-2. ODX and CDD files are not read.
+Services and codes follow ISO 14229-1, segments follow ISO 15765-2. ODX and CDD files are not supported.
 """
 
 from canbusd._isotp.end import IsoTpError as IsoTpError

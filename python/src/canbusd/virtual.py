@@ -1,4 +1,4 @@
-"""Virtual time: whether this program runs in it, and how pytest starts itself anew there."""
+"""Virtual time: whether this process runs in it, and the restart of pytest in virtual time."""
 
 import functools
 import os
@@ -9,12 +9,12 @@ import warnings
 from collections.abc import Iterable, Sequence
 from typing import Optional
 
-#: Variables that canbusd-run sets for programs in virtual time: for its memory, and the options that repeat the run.
+#: The variables that canbusd-run sets for programs in virtual time: its memory, and the options that repeat the run.
 SETTING, OPTIONS = "CANBUSD_RUN_VIRTUAL", "CANBUSD_RUN_OPTIONS"
 
 
 def is_virtual() -> bool:
-    """Returns whether this program runs in virtual time, as of ``canbusd-run --virtual`` or ``--canbusd-virtual``."""
+    """Returns whether this process runs in virtual time, from ``canbusd-run --virtual`` or ``--canbusd-virtual``."""
     return bool(os.environ.get(SETTING))
 
 
@@ -25,7 +25,7 @@ def _warn_of_no_rate() -> None:
 
 
 def note_rates(rates: Iterable[object]) -> None:
-    """Warns, once, of a server in virtual time with a bus that has no bit rate."""
+    """Warns once if a server in virtual time has a bus without a bit rate."""
     if is_virtual() and None in rates:
         _warn_of_no_rate()
 
@@ -40,17 +40,18 @@ def virtual_words(words: Sequence[str], seed: Optional[int] = None, jitter: Opti
 
 
 def python_words(words: Sequence[str]) -> list[str]:
-    """Returns the words by which this Python was started; before Python 3.10, those of pytest with its ``words``."""
+    """Returns the words that started this Python; before Python 3.10, the words of pytest with its arguments
+    ``words``."""
     given: Sequence[str] = getattr(sys, "orig_argv", ())
     return [sys.executable, *given[1:]] if given else [sys.executable, "-m", "pytest", *words]
 
 
 def begin_test(test: str) -> None:
-    """Has `random` begin anew, as all that is random does as a test of pytest begins: by the run's seed and this name."""
+    """Seeds `random` anew at the start of a pytest test, from the run's seed and this name, like all random sources."""
     random.seed(f"{os.environ.get(OPTIONS)} {test}")
 
 
 def repeated_by(test: str) -> str:
-    """Returns the command that repeats a test of pytest in this run's virtual time."""
+    """Returns the command that repeats a pytest test in this run's virtual time."""
     options = os.environ.get(OPTIONS, "").replace("--", "--canbusd-")
     return " ".join(filter(None, ["python3 -m pytest --canbusd-virtual", options, shlex.quote(test)]))

@@ -1,6 +1,6 @@
-"""Lines of DBC files: which one has a number that no signal has, and where a message or a signal is.
+"""Checks of the lines of DBC files: numbers that no signal can have, and the lines of messages and signals.
 
-The libraries that read such files take each number as it is written, for however long that takes.
+The libraries that read such files parse every number, even if this takes very long.
 """
 
 import re
@@ -10,16 +10,16 @@ from typing import Optional
 
 from canbusd._text import shown
 
-#: The number of digits that a number has at most, and what its exponent is: those of a double are 309 and 324.
+#: The most digits of a number, and the largest exponent: a double has at most 309 and 324.
 MOST_DIGITS, MOST_EXPONENT = 400, 999
-#: The number of bytes that a message has at most, and a line.
+#: The most bytes of a message, and of a line.
 MOST_BYTES, MOST_LINE = 65_535, 1 << 20
 QUOTE = re.compile(rb'(?<!\\)"')
 NUMBER = re.compile(rb"(?<![\w.])[0-9.]+(?:[eE][-+]?([0-9]+))?")
 MESSAGE = re.compile(rb"BO_ +([0-9]+) +([^ :]+) *: *([0-9]*)")
 SIGNAL = re.compile(rb"SG_ +([^ :]+)[^:]*:(?: *([0-9]+) *\| *([0-9]+) *@)?")
 RANGE = re.compile(rb"([0-9]{1,400})-([0-9]{1,400})")
-#: The attributes that are read as numbers, and what they may have.
+#: The attributes that are read as numbers, and their valid values.
 ATTRIBUTE = re.compile(rb'BA_(?:DEF_DEF_)? +"(Gen(?:Msg(?:Cycle|StartDelay)Time|SigStartValue))"(?: .*)? ([^ ;]+) *;')
 FINITE = re.compile(rb"[-+]?(?:[0-9]+\.?[0-9]*|\.[0-9]+)(?:[eE][-+]?[0-9]+)?")
 
@@ -33,16 +33,16 @@ class LineFault(ValueError):
 
 
 def is_dbc(path: str) -> bool:
-    """Whether this is a DBC file, by its ending."""
+    """Whether the ending of this path is that of a DBC file."""
     return path.lower().endswith(".dbc")
 
 
 def check_numbers(path: str, most_values: Optional[int] = None) -> None:
-    """LineFault if a number is beyond those of signals, so that to read it takes long, or makes no sense; so is a range of
-    multiplexer values of more than `most_values`, for a library that makes a list of them."""
+    """Raises LineFault for a number beyond the range of signals, which makes no sense or takes long to read. A range of
+    more than `most_values` multiplexer values is such a fault too, for a library that lists all of them."""
     is_in_text = False
     for number, line in lines_of(path):
-        # A text in quotes, which may begin in a line before, is no number.
+        # A quoted text, which may begin on an earlier line, is not a number.
         parts = QUOTE.split(line)
         fault = fault_in(b'"'.join(parts[is_in_text::2]).strip(), b"" if is_in_text else line.strip())
         is_in_text ^= len(parts) % 2 == 0
@@ -54,7 +54,7 @@ def check_numbers(path: str, most_values: Optional[int] = None) -> None:
 
 
 def lines_of(path: str) -> Iterator[tuple[int, bytes]]:
-    """Yields the lines of a file by their numbers; LineFault at one that is too long, of which no more is read."""
+    """Yields the lines of a file with their numbers. A line that is too long raises LineFault and ends the reading."""
     with open(path, "rb") as file:
         for number, line in enumerate(iter(lambda: file.readline(MOST_LINE), b""), 1):
             if len(line) == MOST_LINE:
@@ -63,7 +63,7 @@ def lines_of(path: str) -> Iterator[tuple[int, bytes]]:
 
 
 def fault_in(bare: bytes, line: bytes) -> Optional[str]:
-    """Returns what is wrong in a line, which is given without its texts, too; None for nothing."""
+    """Returns the fault in a line, which is also given without its quoted texts; None if there is no fault."""
     for one in NUMBER.finditer(bare):
         if len(one[0]) > MOST_DIGITS or int(one[1] or 0) > MOST_EXPONENT:
             said = one[0].decode() if len(one[0]) < 30 else f"{one[0][:12].decode()} .. of {len(one[0])} characters"
@@ -80,7 +80,7 @@ def fault_in(bare: bytes, line: bytes) -> Optional[str]:
 
 
 def refused_line(path: str, is_refused: Callable[[str], bool]) -> LineFault:
-    """Returns the first line after which the beginning of a file is refused, as the whole file is, with its text."""
+    """Returns the number and text of the first line that makes the beginning of the file fail like the whole file."""
     lines = [line for _, line in lines_of(path)]
     right, wrong = 0, len(lines)
     with tempfile.NamedTemporaryFile(suffix=".dbc") as file:
@@ -95,7 +95,8 @@ def refused_line(path: str, is_refused: Callable[[str], bool]) -> LineFault:
 
 
 def line_of(path: str, identifier: int, message: str, signal: str = "") -> int:
-    """Returns the number of the line of a message, the last one of this identifier and name, or of a signal of it; 0 for none."""
+    """Returns the line number of the last message with this identifier and name, or of its signal; 0 if there is
+    none."""
     found, is_its = 0, False
     for number, line in lines_of(path):
         text = line.strip()

@@ -1,8 +1,8 @@
-"""The messages and signals of a database's file, whichever library has read it.
+"""The messages and signals of a database file, in one form for all libraries.
 
-A library reads the file, and decodes frames to raw numbers; what a value is, which signals of a multiplexed message are there,
-the bytes of a message, and whether the file makes sense is worked out here, so it is the same with each of them. canmatrix takes
-100 us to encode a message, more than a rest bus has.
+A library reads the file and decodes frames to raw numbers. This module computes values, encodes messages, finds the
+signals of multiplexed messages and checks the file. So the results are the same with each library. canmatrix needs 100
+us to encode a message, which is too slow for a rest bus.
 """
 
 import struct
@@ -15,21 +15,21 @@ from typing import NamedTuple, Optional, Union
 from canbusd._database.dbc_lines import is_dbc, line_of
 from canbusd.frames import FD_LENGTHS
 
-#: The value of a signal: a number, or the name of one.
+#: The value of a signal: a number, or the name of a number.
 Value = Union[int, float, str]
-#: The number of a signal on the bus.
+#: The raw number of a signal on the bus.
 Raw = Union[int, float]
-#: A part of the name of a send type, in lower case, that says that a message goes by an event, not by its cycle time.
+#: Parts of a send type's name, in lower case, that mark a message as sent by an event instead of its cycle time.
 EVENTS = ("event", "spontan", "trigger", "change", "write", "ifactive")
 PERIODS = ("cycl", "period")
-#: Above this a number has no digits after its point, and is a float.
+#: Above this limit a number has no digits after the decimal point, and is a float.
 MOST_WHOLE = Decimal(10) ** 28
-#: The form of a float by how many bits it has, as struct has them.
+#: The format of a float for the module struct, by its number of bits.
 FLOATS = {16: "<e", 32: "<f", 64: "<d"}
 
 
 class DatabaseError(ValueError):
-    """Why a file can't be read, or a message or a signal is none of it; as far as they are known, it has their names."""
+    """The file can't be read, or it has no such message or signal. The error carries their names if these are known."""
 
     def __init__(self, text: str, path: str = "", message: str = "", signal: str = "") -> None:
         super().__init__(text)
@@ -37,10 +37,10 @@ class DatabaseError(ValueError):
 
 
 class Signal(NamedTuple):
-    """A signal of a frame."""
+    """A decoded signal of a frame."""
 
     name: str
-    #: A number with factor and offset applied, or its name where the file has one.
+    #: A number with factor and offset applied, or the name of the number if the file has one.
     value: Value
     unit: str
 
@@ -50,50 +50,51 @@ class Signal(NamedTuple):
 
 @dataclass(frozen=True)
 class SignalFormat:
-    """A signal of a message, as the file has it."""
+    """A signal of a message, as the file describes it."""
 
     name: str
     unit: str = ""
-    #: The names of the nodes that receive it.
+    #: The names of the nodes that receive the signal.
     receivers: tuple[str, ...] = ()
-    #: The number on the bus times `factor`, plus `offset`, is the value.
+    #: The value is the number on the bus times `factor`, plus `offset`.
     factor: Decimal = Decimal(1)
     offset: Decimal = Decimal(0)
-    #: The least and the most value; None if the file has no limits.
+    #: The minimum and maximum of the value; None if the file has no limits.
     minimum: Optional[Decimal] = None
     maximum: Optional[Decimal] = None
     #: The names of numbers on the bus.
     choices: Mapping[int, str] = field(default_factory=dict)
-    #: The value on the bus at the start.
+    #: The number on the bus at the start.
     raw_start: Decimal = Decimal(0)
     is_signed: bool = False
     is_float: bool = False
-    #: The bits of the frame that it takes, its lowest first: bit 0 is the lowest of byte 0, bit 8 that of byte 1.
+    #: The bits of the frame that the signal occupies, lowest first: bit 0 is the lowest of byte 0, bit 8 the lowest of
+    #: byte 1.
     bits: tuple[int, ...] = ()
-    #: Whether its number says which other signals there are.
+    #: Whether the signal is a multiplexer, whose number selects the other signals.
     is_multiplexer: bool = False
-    #: The multiplexer with which it is there, and for which numbers of that, as pairs of the first and the last.
+    #: The multiplexer that selects this signal, and its numbers that do, as pairs of the first and the last number.
     multiplexer: str = ""
     multiplexer_values: tuple[tuple[int, int], ...] = ()
 
     @property
     def start(self) -> Value:
-        """Its value at the start."""
+        """The value of the signal at the start."""
         return self.value(self.raw)
 
     @cached_property
     def raw(self) -> Raw:
-        """Its number on the bus at the start, which is within its limits."""
+        """The number on the bus at the start, within the signal's limits."""
         return self.number(min(max(self.raw_start * self.factor + self.offset, self.least), self.most))
 
     @cached_property
     def least(self) -> Decimal:
-        """The least value."""
+        """The minimum of the value."""
         return self._limit(self.minimum, Decimal("-Infinity"), min)
 
     @cached_property
     def most(self) -> Decimal:
-        """The most value."""
+        """The maximum of the value."""
         return self._limit(self.maximum, Decimal("Infinity"), max)
 
     def _limit(self, given: Optional[Decimal], none: Decimal, choose: "Callable[..., Decimal]") -> Decimal:
@@ -104,12 +105,12 @@ class SignalFormat:
         return choose(raw * self.factor + self.offset for raw in self._raw_limits())
 
     def _raw_limits(self) -> tuple[int, int]:
-        """The least and the most number that its bits can say."""
+        """Returns the least and the greatest number that fit into the signal's bits."""
         size = len(self.bits)
         return (-(1 << size - 1), (1 << size - 1) - 1) if self.is_signed else (0, (1 << size) - 1)
 
     def value(self, raw: Raw) -> Value:
-        """Returns the value that a number on the bus is, or its name."""
+        """Returns the value of a number on the bus, or the name of that number."""
         if raw in self.choices:
             return self.choices[int(raw)]
         if self.is_float and raw - raw:
@@ -117,7 +118,8 @@ class SignalFormat:
         return plain(Decimal(str(raw)) * self.factor + self.offset)
 
     def raw_of(self, value: Value) -> Raw:
-        """Returns the number on the bus of a value, of its text, or of its name; DatabaseError if it has none."""
+        """Returns the number on the bus for a value, for the text of a value, or for a name; raises DatabaseError if
+        there is none."""
         for number_of_name, name in self.choices.items():
             if name == value:
                 return number_of_name
@@ -130,12 +132,12 @@ class SignalFormat:
         return raw
 
     def number(self, value: Decimal) -> Raw:
-        """Returns the number on the bus of a value."""
+        """Returns the number on the bus for a value."""
         raw = (value - self.offset) / self.factor
         return float(raw) if self.is_float else int(raw.to_integral_value())
 
     def placed(self, raw: Raw) -> int:
-        """Returns the bits of a frame that have this number, the frame's byte 0 being the lowest."""
+        """Returns a frame's bits that hold this number; byte 0 of the frame is the lowest."""
         size = len(self.bits)
         number = int.from_bytes(struct.pack(FLOATS[size], raw), "little") if self.is_float else int(raw)
         return sum(1 << bit for place, bit in enumerate(self.bits) if number >> place & 1)
@@ -173,44 +175,44 @@ class SignalFormat:
 
 @dataclass(frozen=True)
 class MessageFormat:
-    """A message, as the file has it; `str()` of it is a line."""
+    """A message, as the file describes it; `str()` shows it on one line."""
 
     name: str
     identifier: int
     is_extended: bool
-    #: The number of bytes that it has.
+    #: The number of data bytes of the message.
     size: int
     signals: tuple[SignalFormat, ...]
-    #: How the library decodes the numbers of the signals that are there.
+    #: A function of the library that decodes the numbers of the present signals.
     unpack: Callable[[bytes], Mapping[str, Raw]] = field(repr=False, compare=False)
     is_fd: bool = False
-    #: The nodes that send it, the main one first.
+    #: The nodes that send the message, the main sender first.
     senders: tuple[str, ...] = ()
-    #: Seconds between two of them; 0 if the file has none.
+    #: The cycle time in seconds; 0 if the file has none.
     cycle_time: float = 0.0
-    #: Seconds from the start to the first; 0 if the file has none.
+    #: The delay of the first message after the start, in seconds; 0 if the file has none.
     start_delay: float = 0.0
-    #: The name of its send type, as the file has it.
+    #: The name of the message's send type in the file.
     send_type: str = ""
-    #: Its attributes in a DBC file, as texts by their names.
+    #: The attributes of the message in a DBC file, as texts by name.
     attributes: Mapping[str, str] = field(default_factory=dict, repr=False, compare=False)
-    #: The file.
+    #: The path of the file.
     path: str = field(default="", compare=False)
 
     def place(self, signal: str = "") -> str:
-        """Returns where it is: its file, of a DBC file with its line, or that of a signal of it."""
+        """Returns the file of the message, and in a DBC file the line of the message or of its signal."""
         line = line_of(self.path, self.identifier, self.name, signal) if is_dbc(self.path) else 0
         return f"{self.path}:{line}" if line else self.path
 
     @property
     def is_cyclic(self) -> bool:
-        """Whether it is sent by its cycle time: if it has one, unless its send type says that an event sends it."""
+        """Whether the message is sent by its cycle time: it has a cycle time, and its send type names no event."""
         kind = self.send_type.lower()
         is_event = any(word in kind for word in EVENTS) and not any(word in kind for word in PERIODS)
         return self.cycle_time > 0 and not is_event
 
     def signal(self, name: str) -> SignalFormat:
-        """Returns the signal of this name; DatabaseError if there is none."""
+        """Returns the signal with this name; raises DatabaseError if there is none."""
         for signal in self.signals:
             if signal.name == name:
                 return signal
@@ -218,16 +220,16 @@ class MessageFormat:
         raise DatabaseError(f"no signal {self.name}.{name}; there are {known}", self.path, self.name, name)
 
     def decode(self, data: bytes) -> Iterator[Signal]:
-        """Yields the signals that a frame of this length has; of multiplexed ones only those that are there."""
+        """Yields the signals of a frame with this length; of the multiplexed signals only those that are present."""
         raw = self.unpack(data)
         for signal in self.present(raw):
             if signal.name in raw:
                 yield Signal(signal.name, signal.value(raw[signal.name]), signal.unit)
 
     def encode(self, values: Mapping[str, Value], is_strict: bool = True) -> bytes:
-        """Returns the bytes that have these values; other signals are as they start.
+        """Returns the bytes of the message with these values; all other signals have their start values.
 
-        With `is_strict` each signal that is given has to be there, as its multiplexers are then.
+        With `is_strict` each given signal must be present, as the multiplexers select it.
         """
         try:
             raw = {signal.name: signal.raw for signal in self.signals}
@@ -245,11 +247,11 @@ class MessageFormat:
             bits = sum(signal.placed(raw[signal.name]) for signal in self.signals if signal.name in there)
             return bits.to_bytes(self.size, "little")
         except OverflowError as fault:
-            # A float that is too large.
+            # The float is too large for its bits.
             raise DatabaseError(f"{self.place()}: message {self.name}: {fault}", self.path, self.name) from None
 
     def present(self, raw: Mapping[str, Raw]) -> list[SignalFormat]:
-        """Returns the signals that are there, if the multiplexers have these numbers."""
+        """Returns the signals that are present if the multiplexers have these numbers."""
         if not self._is_multiplexed:
             return list(self.signals)
         by_name = {signal.name: signal for signal in self.signals}
@@ -277,7 +279,8 @@ class MessageFormat:
         return len(bits) > len(set(bits))
 
     def check(self) -> None:
-        """DatabaseError if the file contradicts itself in this message; its text has the file, message and signal."""
+        """Raises DatabaseError if the file contradicts itself in this message; the text names the file, message and
+        signal."""
         seen: set[str] = set()
         for signal in self.signals:
             past = [bit for bit in signal.bits if not 0 <= bit < self.size * 8]
@@ -297,7 +300,7 @@ class MessageFormat:
             seen.add(signal.name)
 
     def _check_bits(self, there: Sequence[str]) -> None:
-        """DatabaseError if two of these signals have a bit in common: which of them would it be of?"""
+        """Raises DatabaseError if two of these signals share a bit, because the bit's owner is then unknown."""
         owners: dict[int, str] = {}
         for signal in self.signals if self._has_common_bits else ():
             if signal.name in there:
@@ -322,7 +325,8 @@ class MessageFormat:
 
 
 def bits_of(start: int, size: int, is_little_endian: bool) -> tuple[int, ...]:
-    """Returns the bits of a signal, its lowest first; its bit `start` is the lowest of a little-endian one, else the highest."""
+    """Returns the bits of a signal, lowest first; `start` is the lowest bit of a little-endian signal, else the
+    highest."""
     if is_little_endian:
         return tuple(range(start, start + size))
     highest = start // 8 * 8 + 7 - start % 8
@@ -330,24 +334,24 @@ def bits_of(start: int, size: int, is_little_endian: bool) -> tuple[int, ...]:
 
 
 def limits(least: object, most: object) -> tuple[Optional[Decimal], Optional[Decimal]]:
-    """Returns the limits of a signal; a file that says [0|0] says none."""
+    """Returns the limits of a signal; None if the file has [0|0], which means no limits."""
     first, last = (None if limit is None else Decimal(str(limit)) for limit in (least, most))
     return (None, None) if first is not None and last is not None and first >= last else (first, last)
 
 
 def named(nodes: Optional[Sequence[object]]) -> tuple[str, ...]:
-    """Returns the names of nodes; a DBC file says Vector__XXX for none."""
+    """Returns the names of nodes; Vector__XXX in a DBC file means no node."""
     names = [str(node).strip() for node in nodes or ()]
     return tuple(name for name in dict.fromkeys(names) if name and name != "Vector__XXX")
 
 
 def plain(value: Union[int, float, Decimal]) -> Union[int, float]:
-    """Returns a number as one of Python, whole if it is."""
+    """Returns a number as a number of Python, as an int if it is whole."""
     if isinstance(value, Decimal):
         return int(value) if abs(value) < MOST_WHOLE and value == value.to_integral_value() else float(value)
     return int(value) if value == value // 1 else float(value)
 
 
 def shown(value: Decimal) -> str:
-    """A limit as it is shown; a float has none."""
+    """Returns a limit as text; a float without limits has infinite ones."""
     return f"{plain(value)}" if value.is_finite() else f"{value}"

@@ -1,4 +1,4 @@
-"""Files of databases, read by canmatrix."""
+"""Reads database files with canmatrix."""
 
 import ast
 import contextlib
@@ -14,10 +14,10 @@ from canbusd._database.dbc_lines import LineFault, lines_of
 from canbusd._database.formats import DatabaseError, MessageFormat, Raw, SignalFormat, bits_of, limits, named
 from canbusd._text import shown
 
-# The note of canmatrix on a line of a DBC file that it leaves out.
+# canmatrix notes with this text that it ignores a line of a DBC file.
 LEFT_OUT = re.compile(r"^error with line no: [0-9]+\n(b.*)$", re.M)
 
-# The files that canmatrix reads by lxml, without which it knows nothing of them.
+# The endings of files that canmatrix reads with lxml; without lxml it rejects them.
 OF_LXML = (".arxml", ".kcd", ".xml")
 
 
@@ -29,7 +29,7 @@ def messages_in(path: str) -> Iterator[MessageFormat]:
         matrices = formats.loadp(path)
     left_out = LEFT_OUT.search(printed.getvalue())
     if left_out:
-        # Its number is wrong after a line of values.
+        # A line of values can make canmatrix read the wrong number.
         number = next((number for number, line in lines_of(path) if repr(line) == left_out[1]), 0)
         raise LineFault(number, shown(ast.literal_eval(left_out[1]).decode("latin-1").strip()))
     if not matrices:
@@ -41,8 +41,8 @@ def messages_in(path: str) -> Iterator[MessageFormat]:
 
 
 def message_of(frame: Any, matrix: Any, path: str) -> MessageFormat:
-    """The message that a frame of canmatrix is."""
-    # Those of a container are in PDUs, at places that each frame says anew.
+    """Returns the message of a frame from canmatrix."""
+    # The signals of a container are in PDUs, whose places each frame defines anew.
     signals = [] if frame.is_pdu_container else frame.signals
     multiplexers = [signal.name for signal in signals if signal.is_multiplexer]
 
@@ -67,7 +67,7 @@ def message_of(frame: Any, matrix: Any, path: str) -> MessageFormat:
 
 
 def signal_of(signal: Any, multiplexers: list[str], matrix: Any) -> SignalFormat:
-    """A signal of a frame in which these are the multiplexers."""
+    """Returns the signal of a frame that has these multiplexers."""
     above, ranges = signal.muxer_for_signal or "", tuple((int(first), int(last)) for first, last in signal.mux_val_grp)
     if not above and signal.mux_val is not None and multiplexers:
         above = multiplexers[0]
@@ -98,5 +98,5 @@ def signal_of(signal: Any, multiplexers: list[str], matrix: Any) -> SignalFormat
 
 
 def seconds(milliseconds: Any) -> float:
-    """A time that the file has in milliseconds."""
+    """Returns a time in seconds, which the file has in milliseconds."""
     return float(milliseconds or 0) / 1000

@@ -1,4 +1,4 @@
-"""Files of databases, read by cantools."""
+"""Reads database files with cantools."""
 
 import importlib
 from collections.abc import Iterator
@@ -16,8 +16,8 @@ def messages_in(path: str) -> Iterator[MessageFormat]:
 
 
 def message_of(message: Any, path: str) -> MessageFormat:
-    """The message that one of cantools is."""
-    # Those of a container are in PDUs, at places that each frame says anew.
+    """Returns the message for a message of cantools."""
+    # The signals of a container are in PDUs, whose places each frame defines anew.
     signals = [] if getattr(message, "is_container", False) else message.signals
 
     def unpack(data: bytes) -> dict[str, Raw]:
@@ -41,13 +41,13 @@ def message_of(message: Any, path: str) -> MessageFormat:
 
 
 def attribute(message: Any, name: str) -> Any:
-    """The value of a message's attribute in a DBC file; None if there is none, and in other files."""
+    """Returns the value of a message's attribute in a DBC file; None in other files, or if the attribute is missing."""
     attributes = getattr(message.dbc, "attributes", None) or {}
     return attributes[name].value if name in attributes else None
 
 
 def signal_of(signal: Any) -> SignalFormat:
-    """The signal that one of cantools is."""
+    """Returns the signal for a signal of cantools."""
     least, most = limits(signal.minimum, signal.maximum)
     return SignalFormat(
         name=signal.name,

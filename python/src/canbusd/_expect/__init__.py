@@ -1,1 +1,2 @@
-"""Expectations: what the sessions of a server or a fixture received, and whether it is what a test wants."""
+"""Expectations: the frames and states that sessions of a server or a fixture received, compared with a test's
+wishes."""

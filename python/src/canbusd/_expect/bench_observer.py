@@ -1,4 +1,4 @@
-"""A bench seen from inside a test: sessions on its interfaces, and time that goes on while a test waits."""
+"""The observer of a bench: sessions on its interfaces. The bench's time advances while a test waits."""
 
 from collections.abc import Callable, Sequence
 from typing import Optional, Protocol, TypeVar
@@ -12,22 +12,22 @@ T = TypeVar("T")
 
 
 class Waits(Protocol):
-    """The side of a bench that an observer uses."""
+    """The part of a bench that an observer uses."""
 
     def open(self, channel: str, *, fd: bool = False) -> Session:
         """Opens a session."""
 
     def pass_time(self, look: Callable[[], Optional[T]], seconds: float) -> Optional[T]:
-        """Lets time pass until there is something to be found."""
+        """Lets time pass until a function finds something."""
 
 
 class Watch:
-    """A session of a bench that receives all frames of its interface."""
+    """A session on a bench that receives all frames of its interface."""
 
     def __init__(self, session: Session) -> None:
         self._session, self.channel = session, session.channel
         session.call("origin 1")
-        #: The state of the interface at first, and its error counts.
+        #: The first known state of the interface, and its error counts.
         self.first = session.status()
 
     def error_counters(self) -> ErrorCounters:
@@ -39,7 +39,7 @@ class Watch:
         return self._session.stats()
 
     def rules_left(self) -> int:
-        """Returns how many rules the bus has that are not used up."""
+        """Returns the number of the bus's rules that are not used up."""
         return self._session.rules_left()
 
     def end_rules(self) -> None:
@@ -55,21 +55,21 @@ class Watch:
         self._session.up(self._moment())
 
     def _moment(self) -> Optional[float]:
-        """The moment up to which time has passed; on a bench with a bit rate it is set."""
+        """Returns the time that the bench has reached; on a bench with a bit rate this function also sets it."""
         bench = self._session._bench
         return bench.now if bench._rates is None else None
 
     def hand_on(self, add: Callable[[str, str], None]) -> None:
-        """Hands on what has come, as messages of the protocol."""
+        """Hands on the received frames, as messages of the protocol."""
         for message in self._session.handed_over():
             add(self.channel, f"< {message}")
 
     def close(self) -> None:
-        """Leaves it to the bench, with which it ends."""
+        """Does nothing: the bench ends its sessions."""
 
 
 class BenchObserver(Observer):
-    """The sessions of a bench's own, and its time, which passes while somebody waits."""
+    """The observer's sessions on a bench; the bench's time advances while a test waits."""
 
     owner = "bench"
 
@@ -81,7 +81,7 @@ class BenchObserver(Observer):
         return Watch(self._bench.open(name, fd=True))
 
     def _begin_reading(self) -> None:
-        """Nothing comes by itself."""
+        """Starts no thread: a bench delivers frames only when it is asked."""
 
     def settle(self) -> None:
         self._gather()

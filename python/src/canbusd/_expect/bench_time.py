@@ -1,4 +1,5 @@
-"""The time of a bench, which passes while a test waits: attempts are made, and rest buses send what is due."""
+"""The time of a bench, which advances while a test waits: the bench makes attempts, and rest buses send frames that are
+due."""
 
 import contextlib
 import threading
@@ -20,24 +21,24 @@ if TYPE_CHECKING:
 
 T = TypeVar("T")
 MICROS = 1_000_000
-#: Bits in which a frame begins, if one waits after an attempt; fewer than those of any frame, so that it is one.
+#: A waiting frame begins within this many bits after an attempt. Every frame has more bits, so only one begins.
 SOON = 30
-#: Attempts at one moment, of a bench without a bit rate, after which it is plain that frames wait for ever.
+#: After this many attempts at one time, on a bench without a bit rate, frames will evidently wait for ever.
 MOST_AT_ONCE = 100_000
 
 
 class Due(Protocol):
-    """A sender of frames at moments, in microseconds."""
+    """A sender whose frames are due at certain times, in microseconds."""
 
     def first_due(self) -> Optional[int]:
-        """When the next is due."""
+        """Returns the time of the next frame that is due."""
 
     def put_due(self, moment: int) -> None:
-        """Sends what is due at this moment."""
+        """Sends the frames that are due at this time."""
 
 
 class PassesTime(Expectations):
-    """The expectations of a bench, and its buses as a server has them."""
+    """The expectations of a bench, and its buses for python-can, as a server has them."""
 
     names: tuple[str, ...]
     _rates: Optional[Rates]
@@ -48,9 +49,9 @@ class PassesTime(Expectations):
     def __init__(self, observe: Union[str, Sequence[str], None]) -> None:
         self._observed = observed_of(observe, [self.names], lambda name: self._named(name, "observe"))
         self._observer: Optional[BenchObserver] = None
-        #: The number of sessions that are the package's own, if they were opened first.
+        #: The number of the package's own sessions, if they were opened first.
         self._own_sessions = 0
-        # The senders at moments; and the moment that waiting calls have reached, in microseconds.
+        # The senders with due times, and the time that waiting calls have reached, in microseconds.
         self._due: list[Due] = []
         self._reached = 0
 
@@ -63,12 +64,12 @@ class PassesTime(Expectations):
         raise NotImplementedError
 
     def run(self, *, until: float) -> list[Attempt]:
-        """Makes the attempts that begin before a moment."""
+        """Makes the attempts that begin before a given time."""
         raise NotImplementedError
 
     @property
     def now(self) -> float:
-        """The moment, in seconds: that of the last attempt, or up to which time has passed."""
+        """The time in seconds: the time of the last attempt, or a later time that a wait has reached."""
         return self._now / MICROS
 
     @property
@@ -76,8 +77,8 @@ class PassesTime(Expectations):
         return max(self._reached, round(float(self._moment) * MICROS))
 
     def pass_time(self, look: Callable[[], Optional[T]], seconds: Optional[float]) -> Optional[T]:
-        """Returns what `look` finds, once time has passed until that is something; None if it is nothing within these
-        seconds, or, without them, when nothing more can come."""
+        """Advances time until `look` finds something, and returns the finding. Returns None after these seconds, or,
+        without a limit, when no frame can come any more."""
         if seconds is not None:
             check_within(seconds, "timeout")
         with self._turn:
@@ -97,8 +98,8 @@ class PassesTime(Expectations):
                 raise RuntimeError(f"frames still wait after {MOST_AT_ONCE} attempts at one moment")
 
     def _step(self, end: Optional[int]) -> bool:
-        """Makes the next attempt, or goes to the moment at which something is due, but not past this one; returns whether
-        there was something."""
+        """Makes the next attempt, or advances to the next due time, but not past this limit; returns whether either
+        existed."""
         moments = [(moment, one) for one in self._due for moment in [one.first_due()] if moment is not None]
         first = min((moment for moment, _ in moments), default=None)
         if first is not None and first <= self._now and (end is None or first < end):
@@ -115,7 +116,7 @@ class PassesTime(Expectations):
         return True
 
     def _was_tried(self, limit: Optional[int]) -> bool:
-        """Makes the attempt that begins now, if a frame waits."""
+        """Makes the attempt that begins now, if a frame waits; returns whether one did."""
         if self._rates is None:
             return self._attempt_now() is not None
         soon = self._now + -(-SOON * MICROS // self._rates.bitrate)
@@ -123,7 +124,7 @@ class PassesTime(Expectations):
         return bool(attempts)
 
     def _attempt_now(self) -> Optional[Attempt]:
-        """An attempt at this moment, of a bench without a bit rate."""
+        """Makes an attempt at this time, on a bench without a bit rate."""
         raise NotImplementedError
 
     def _go_to(self, moment: int) -> None:
@@ -133,7 +134,7 @@ class PassesTime(Expectations):
             self._run_to(moment)
 
     def _run_to(self, moment: int) -> list[Attempt]:
-        """Makes the attempts that begin before a moment."""
+        """Makes the attempts that begin before a given time."""
         if moment <= self._now and moment <= self._reached:
             return []
         attempts = self.run(until=moment / MICROS)
@@ -142,7 +143,7 @@ class PassesTime(Expectations):
         return attempts
 
     def wait(self, seconds: float) -> None:
-        """Lets so many seconds of the bus pass: attempts are made, and what is due is sent."""
+        """Lets this many seconds pass on the bus: the bench makes attempts, and senders send frames that are due."""
         check_within(seconds, "seconds")
         self.pass_time(lambda: None, seconds)
 
@@ -150,7 +151,7 @@ class PassesTime(Expectations):
         return self.pass_time(lambda: predicate() or None, timeout)
 
     def _observing(self) -> BenchObserver:
-        """The sessions of the bench's own."""
+        """The bench's own sessions."""
         if self._observer is None:
             is_first = self._sessions == 1
             self._observer = BenchObserver(self, self.names, self._observed)
@@ -158,7 +159,7 @@ class PassesTime(Expectations):
         return self._observer
 
     def step(self, title: str) -> "contextlib.AbstractContextManager[None]":
-        """Names a step of the test for its report, with the moment of the bench."""
+        """Names a step of the test for its report, with the time of the bench."""
         return step(title, now=lambda: self.now)
 
     def expect_from_now(self) -> None:
@@ -166,19 +167,19 @@ class PassesTime(Expectations):
             super().expect_from_now()
 
     def inject(self, faults: Script, interface: Optional[str] = None) -> None:
-        """Gives the bus rules of faults."""
+        """Adds fault rules to the bus."""
         raise NotImplementedError
 
     def rules_left(self, interface: Optional[str] = None) -> int:
-        """Returns how many rules of faults the bus has that are not used up, those without end too."""
+        """Returns the number of fault rules of the bus that are not used up, including rules without end."""
         return self._observing().session(self._named(interface)).rules_left()
 
     def end_rules(self, interface: Optional[str] = None) -> None:
-        """Ends all rules of the bus, whoever gave them; lines of a script by the numbers of attempts stay."""
+        """Ends all rules of the bus. Script lines for numbered attempts stay."""
         self._observing().session(self._named(interface)).end_rules()
 
     def _named(self, interface: Optional[str], what: str = "interface") -> str:
-        """The interface that is named, or the first; ValueError if it is none of the bus."""
+        """Returns the named interface, or the first; raises ValueError if the bus has no such interface."""
         if interface is not None and interface not in self.names:
             raise ValueError(f"{what} is an interface of the bench, one of {', '.join(self.names)}, not {interface!r}")
         return interface or self.names[0]

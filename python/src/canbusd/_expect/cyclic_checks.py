@@ -1,4 +1,4 @@
-"""Whether frames that were received came in time, in order, and unchanged. Moments are in microseconds."""
+"""Checks of received frames: their timing, their order, and unchanged values. Times are in microseconds."""
 
 from collections.abc import Callable, Iterable, Sequence
 from typing import NamedTuple, Optional
@@ -8,7 +8,7 @@ from canbusd._expect.received_frames import Seen
 
 
 class Gap(NamedTuple):
-    """The time between two frames of a cyclic message, the second of which has this number."""
+    """The time between two frames of a cyclic message; `number` is the number of the second frame."""
 
     number: int
     begin: int
@@ -16,51 +16,51 @@ class Gap(NamedTuple):
 
     @property
     def length(self) -> int:
-        """How long it is."""
+        """The length of the gap."""
         return self.end - self.begin
 
 
 def gaps_of(moments: Sequence[int]) -> list[Gap]:
-    """Returns the gaps between these moments, the first of which has the number 1."""
+    """Returns the gaps between these times; the first gap has the number 1."""
     return [Gap(number, *pair) for number, pair in enumerate(zip(moments, moments[1:]), 1)]
 
 
 def wrong_gaps(gaps: Iterable[Gap], period: int, tolerance: int) -> list[Gap]:
-    """Returns those that are no period long, give or take the tolerance."""
+    """Returns the gaps that differ from the period by more than the tolerance."""
     return [gap for gap in gaps if abs(gap.length - period) > tolerance]
 
 
 def gap_words(gap: Gap, period: int) -> str:
-    """Says by how much a gap is wrong: `gap 3: 0.152000 s, 0.052000 too long, from (..) to (..)`."""
+    """Returns the error of a gap in words: `gap 3: 0.152000 s, 0.052000 too long, from (..) to (..)`."""
     wrong = gap.length - period
     kind = "long" if wrong > 0 else "short"
     return f"gap {gap.number}: {seconds(gap.length)} s, {seconds(abs(wrong))} too {kind}, {span(gap.begin, gap.end)}"
 
 
 def span(begin: int, end: int) -> str:
-    """The moments from which and to which something was, as a log writes them."""
+    """Returns the times of a start and an end, in the spelling of a log."""
     return f"from ({begin / 1e6:017.6f}) to ({end / 1e6:017.6f})"
 
 
 def seconds(micros: int) -> str:
-    """Microseconds as seconds."""
+    """Returns microseconds as seconds."""
     return f"{micros // 1_000_000}.{micros % 1_000_000:06}"
 
 
 class Followed(NamedTuple):
-    """How far a sequence was found."""
+    """The part of a sequence that was found."""
 
-    #: The frames of its first steps.
+    #: The frames of the sequence's first steps.
     found: list[Seen]
-    #: The frame after them that may not come between.
+    #: The next frame, which is not allowed between the steps.
     intruder: Optional[Seen] = None
 
 
 def follow(frames: Iterable[Seen], steps: Sequence[Wanted], between: Optional[Sequence[Wanted]]) -> Followed:
-    """Returns the frames that are these steps, one after another, up to the first that may not come between.
+    """Finds the frames of these steps, one after another, up to the first frame that is not allowed between them.
 
-    Before the first step there may be any frame, and after it those that are one of `between`, with None any; error
-    message frames may always be.
+    Before the first step any frame is allowed. After it only frames in `between` are, or all if `between` is None.
+    Error message frames are always allowed.
     """
     found: list[Seen] = []
     for seen in frames:
@@ -75,7 +75,7 @@ def follow(frames: Iterable[Seen], steps: Sequence[Wanted], between: Optional[Se
 
 
 class Change(NamedTuple):
-    """The values of a frame that differ from those of the frame before it."""
+    """The values of a frame that differ from the values of the frame before."""
 
     before: object
     after: object
@@ -85,7 +85,7 @@ class Change(NamedTuple):
 def first_change(
     before: Optional[object], frames: Iterable[Seen], content: Callable[[Seen], Optional[object]]
 ) -> Optional[Change]:
-    """Returns the first change of what frames say, from what was said before them; None is nothing."""
+    """Returns the first change of the values in frames, compared with earlier values; None stands for no value."""
     for seen in frames:
         now = content(seen)
         if now is not None and before is not None and now != before:
@@ -95,7 +95,8 @@ def first_change(
 
 
 def may_change(before: Optional[object], content: Callable[[Seen], Optional[object]]) -> Callable[[Seen], bool]:
-    """Returns whether frames, one after another, may be a change: they say something, and not what was said first."""
+    """Returns a function that, called with one frame after another, reports whether a frame may be a change: it has a
+    value that differs from the first value."""
     first = [] if before is None else [before]
 
     def may_be(seen: Seen) -> bool:

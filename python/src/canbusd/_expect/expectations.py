@@ -5,8 +5,8 @@
         server.expect(id=0x123, within=1.0)
         server.expect_state("ecu", "off")
 
-Only what sessions get is seen here: what they received since the last expectation, and nothing that is looked up now and
-then. What an attempt was, and why it failed, is in the record: `Server.attempts`.
+Expectations see only messages that sessions received since the last expectation; they poll nothing. The record has each
+attempt and the reason why it failed: `Server.attempts`.
 """
 
 import contextlib
@@ -32,14 +32,14 @@ if TYPE_CHECKING:
 
     from canbusd._expect.observer import Observer, Watching
 
-#: The transmit error count from which an interface is bus off, and what a destroyed frame adds to it.
+#: The transmit error count from which an interface is bus off, and the increment for a destroyed frame.
 OFF, DESTROYED = 256, 8
 
 T = TypeVar("T")
 
 
 def wait_for(predicate: Callable[[], T], timeout: float) -> Optional[T]:
-    """Returns what the predicate returns once that is true; None if it is not within these seconds."""
+    """Returns the first true result of the predicate; None if there is none within these seconds."""
     if not callable(predicate):
         raise ValueError(f"predicate is a function that is called until it is true, as lambda: .., not {predicate!r}")
     check_within(timeout, "timeout")
@@ -63,11 +63,11 @@ class Expectations(Supervision):
         raise NotImplementedError
 
     def inject(self, faults: Script, interface: Optional[str] = None) -> None:
-        """Gives the bus of an interface rules of faults."""
+        """Adds fault rules to the bus of an interface."""
         raise NotImplementedError
 
     def _shown(self, signals: Sequence[str] = ()) -> str:
-        """The last frames that were seen, for the end of a failure."""
+        """Returns the last frames that the test saw, for the end of a failure's text."""
         return self._observing().shown(self.database, signals)
 
     def _wait(self, predicate: Callable[[], T], timeout: float) -> Optional[T]:
@@ -108,33 +108,35 @@ class Expectations(Supervision):
 
     @explained()
     def state(self, name: str) -> State:
-        """Returns the state of an interface while the server runs: `active`, `warning`, `passive`, `off` or `down`."""
+        """Returns the state of an interface, while the server runs: `active`, `warning`, `passive`, `off` or `down`."""
         return self.error_counters(name).state
 
     @explained()
     def down(self, name: str) -> None:
         """Takes an interface off the bus, as `ip link set can0 down` does; the frames in its transmit queue are lost.
 
-        It sends, accepts and acknowledges nothing until `up`, and a send is refused as `interface down`. Its sockets stay
-        open. It may be down already. A state that is expected next is one from now on.
+        The interface sends, accepts and acknowledges nothing until `up`, and a send is refused as `interface down`. Its
+        sockets stay open. The interface may already be down. The next `expect_state` ignores earlier states.
         """
         observer = self._observing()
         observer.session(name).down()
-        # No error message frame says it.
+        # No error message frame reports this state.
         observer.came_into(name, "down")
 
     @explained()
     def up(self, name: str) -> None:
-        """Brings an interface up, or back from bus off; both error counts are 0 then. It may be up already."""
+        """Brings an interface up, or back from bus off. Both error counts are then 0. The interface may already be
+        up."""
         self._observing().session(name).up()
 
     @explained()
     def bus_off(self, name: str, timeout: float = 5.0) -> ErrorCounters:
-        """Drives an interface bus off, whatever the others send; returns once it is.
+        """Drives an interface bus off, whatever the others send, and returns once the interface is bus off.
 
-        The next attempts in which it sends are destroyed, 32 if it had no errors, so it has to send: a rule for them is
-        injected. AssertionError if it is not off after these seconds; its text says where it sent nothing. The rule is
-        ended then, unless the bus has others, which would end with it: it is left, as the text says.
+        An injected rule destroys the next attempts of the interface, 32 if it had no errors, so the interface must
+        send. AssertionError if it is not bus off after these seconds; the text says if the interface sent nothing. This
+        call then ends the rule. If the bus has other rules, which would end too, the rule stays, and the text reports
+        this.
         """
         __tracebackhide__ = True
         check_within(timeout, "timeout")
@@ -144,7 +146,7 @@ class Expectations(Supervision):
             counters = self._wait(drive.off, timeout)
             if counters is None:
                 raise AssertionError(f"{drive.failure(timeout)}{self._shown()}")
-            # If it restarts by itself it may be back.
+            # An interface that restarts by itself may be active again.
             was = observer.skip_to_state(name, "off")
             return was.counters if was is not None and counters.state != "off" else counters
         finally:
@@ -152,7 +154,8 @@ class Expectations(Supervision):
 
     @explained()
     def wait_for(self, predicate: Callable[[], T], timeout: float = 1.0) -> T:
-        """Calls the predicate until it returns something true, and returns that; TimeoutError after these seconds."""
+        """Calls the predicate until its result is true, and returns the result; raises TimeoutError after these
+        seconds."""
         __tracebackhide__ = True
         found = self._wait(predicate, timeout)
         if found is None:
@@ -161,12 +164,13 @@ class Expectations(Supervision):
 
     @explained()
     def wait(self, seconds: float) -> None:
-        """Lets so many seconds of the bus pass."""
+        """Lets this many seconds pass on the bus."""
         check_within(seconds, "seconds")
         time.sleep(seconds)
 
     def expect_from_now(self) -> None:
-        """Expectations look only at what comes from now on. The pytest plugin calls it at the start of each test."""
+        """Makes expectations ignore all earlier frames and states. The pytest plugin calls this at the start of each
+        test."""
         self._observing().forget()
 
     @explained()
@@ -185,13 +189,14 @@ class Expectations(Supervision):
         is_extended_id: Optional[bool] = None,
         is_error_frame: bool = False,
     ) -> "Message":
-        """Returns the first frame that was seen, or is within these seconds, and that has this identifier and data.
+        """Returns the first frame with this identifier and data that was seen already, or comes within these seconds.
 
-        `id` may be the name of a message of the server's database. A `signal`, `EngineSpeed` or `Engine.EngineSpeed`, has
-        to be there, and `above`, `below` or `equals` this value, or `between` these two. Frames that were seen before
-        count, from the one after that which the last expectation returned; with a `channel` only those that this interface
-        received. A frame that several interfaces received is one. AssertionError after these seconds; its text ends with
-        what was seen. An identifier above 7FF has 29 bits unless `is_extended_id` says otherwise.
+        `id` may be the name of a message of the server's database. A `signal`, `EngineSpeed` or `Engine.EngineSpeed`,
+        must be present, and its value must meet the limits `above`, `below`, `equals` or `between`, which has two ends.
+        All frames count that came after the frame of the last expectation; with a `channel` only frames that this
+        interface received. A frame that several interfaces received counts once. AssertionError after these seconds;
+        its text ends with the frames that were seen. An identifier above 7FF has 29 bits unless `is_extended_id` says
+        otherwise.
         """
         __tracebackhide__ = True
         wanted = self._wanted(
@@ -223,9 +228,9 @@ class Expectations(Supervision):
         is_extended_id: Optional[bool] = None,
         is_error_frame: bool = False,
     ) -> None:
-        """Fails if such a frame was seen since the last expectation, or is within these seconds.
+        """Fails if such a frame was seen since the last expectation, or comes within these seconds.
 
-        It fails, too, if frames were lost since then, so that this can't be known.
+        The expectation also fails if frames were lost since then, because a lost frame may be such a frame.
         """
         __tracebackhide__ = True
         wanted = self._wanted(
@@ -247,12 +252,13 @@ class Expectations(Supervision):
 
     @explained()
     def expect_state(self, name: str, state: State, *, within: float = 1.0) -> ErrorCounters:
-        """Returns once an interface is in this state, or was since the last state of it that was expected, however shortly.
+        """Returns once an interface is in this state, or has been in it, however briefly, since the last expected
+        state.
 
-        That is known by the error message frames that its interface received; of `down` there is none, so it has to be down
-        when it is looked at, from time to time. AssertionError if it does not come into it
-        within these seconds; its text says in which states it was. Returns its error counts: as they are, if it still
-        is in this state, else those when it came into it, of which the receive count at bus off is not known, and 0.
+        The error message frames that the interface received show its states. No such frame reports `down`, so the
+        interface must be down when this call polls it. AssertionError if the interface does not reach the state within
+        these seconds; the text lists its states. Returns the present error counts if the interface is still in this
+        state, else the counts when it entered the state. The receive count at bus off is then unknown, and given as 0.
         """
         __tracebackhide__ = True
         if state not in STATES:
@@ -273,32 +279,33 @@ class Expectations(Supervision):
 
 
 class Drive:
-    """Destroys the next frames of an interface until it is bus off, and no frame after that."""
+    """Destroys the next frames of an interface until it is bus off, and no later frame."""
 
     def __init__(self, bus: "Watching", name: str, inject: Callable[[Faults, str], None]) -> None:
         self._bus, self._name, self._inject = bus, name, inject
         self._counters, self._stats = bus.error_counters(), bus.stats()
-        # When the last rule was injected: how many others there were, and how many frames the interface had done.
+        # When the last rule was injected: the number of other rules, and the number of frames that the interface had
+        # sent.
         self._injected: Optional[tuple[int, int]] = None
 
     def off(self) -> Optional[ErrorCounters]:
-        """Returns the counts of the interface once it is off, or was, if it restarts by itself."""
+        """Returns the interface's error counts once it is bus off, or has been if it restarts by itself."""
         left = self._bus.rules_left()
         counters, stats = self._bus.error_counters(), self._bus.stats()
         if counters.state == "off":
             return counters
         if stats.lost > self._stats.lost and counters.state != "down":
-            # It went off since it was asked for its counts.
+            # The interface went bus off after the request for its counts.
             return self._bus.error_counters()
         if self._injected is None or (left <= self._injected[0] and stats.done > self._injected[1]):
-            # The first rule, or one for what frames have taken off the count that went through before it.
+            # The first rule, or a further rule because frames that passed earlier have lowered the error count.
             missing = -(-(OFF - counters.tec) // DESTROYED)
             self._inject(Faults().next(missing, sender=self._name).destroyed(), self._name)
             self._injected = left, stats.done
         return None
 
     def failure(self, timeout: float) -> str:
-        """Returns why the interface is not off after these seconds."""
+        """Returns the reason why the interface is not bus off after these seconds."""
         counters, stats = self._bus.error_counters(), self._bus.stats()
         now, left = in_words(self._name, counters), self._bus.rules_left()
         is_kept = left and not self._is_only(left)
@@ -306,12 +313,12 @@ class Drive:
         return f"{now}, and did not go bus off within {seconds_words(timeout)}: {self._reason(counters, stats)}{others}"
 
     def end_rule(self) -> None:
-        """Ends what is left of its rule where the bus has no other: a bus ends all its rules or none."""
+        """Ends the rest of this rule if the bus has no other rule: a bus ends all its rules or none."""
         if self._is_only(self._bus.rules_left()):
             self._bus.end_rules()
 
     def _is_only(self, left: int) -> bool:
-        """Whether its own is the only rule, if the bus has so many left."""
+        """Returns whether the bus has only this rule, if it has this many left."""
         return left == 1 and self._injected is not None and self._injected[0] == 0
 
     def _reason(self, counters: ErrorCounters, stats: Stats) -> str:

@@ -1,4 +1,4 @@
-"""The frame that a test looks for, by its fields, by the name of its message or by a signal; and in words."""
+"""The frame that a test expects: its fields, the name of its message or a signal, and its description in words."""
 
 import difflib
 import functools
@@ -13,26 +13,26 @@ from canbusd._text import times
 from canbusd.frames import FD_LENGTHS, Frame, data_bytes
 from canbusd.signals import Database, DatabaseError, Value
 
-#: The arguments by which a step of a sequence describes its frame.
+#: The arguments that describe the frame of a sequence's step.
 OF_STEP = ("id", "data", "signal", "above", "below", "equals", "between", "is_extended_id", "is_error_frame")
-#: A frame that is looked for: its identifier, the name of its message, or a dict of the arguments of `expect`.
+#: An expected frame: its identifier, the name of its message, or a dict of the arguments of `expect`.
 Step = Union[int, str, Mapping[str, Any]]
 
-# Identifiers below this have 11 bits unless it is said otherwise.
+# Identifiers below this limit have 11 bits, unless the caller says otherwise.
 LEAST_EXTENDED = 0x800
 MOST_IDENTIFIER = 0x1FFFFFFF
 NO_DATABASE = "names of messages and signals need a database: give the server database='car.dbc', or a rest bus"
-# The most names that are suggested for an unknown signal.
+# The maximum number of names to suggest for an unknown signal.
 MOST_NAMED = 12
 
 
 class Wanted:
-    """The frame that is looked for: `matches` tests a frame, and `str()` has it in words, `frame 123 with data 11 22`.
+    """An expected frame: `matches` tests a frame, and `str()` describes it in words, `frame 123 with data 11 22`.
 
-    None is any. `id` is an identifier or the name of a message; one above 7FF has 29 bits unless `is_extended_id` says
-    otherwise. A `signal` is named as `EngineSpeed`, or as `Engine.EngineSpeed` with its message; of `above`, `below`,
-    `equals` and `between`, which has its two ends, those that are given have to be so. `channel` is only said. ValueError
-    if no frame can be that.
+    An argument of None matches anything. `id` is an identifier or the name of a message; an identifier above 7FF has 29
+    bits unless `is_extended_id` says otherwise. A `signal` is named as `EngineSpeed`, or as `Engine.EngineSpeed` with
+    its message. Its value must meet each given limit: `above`, `below`, `equals`, and `between` with two ends.
+    `channel` only appears in the description. ValueError if no frame can match.
     """
 
     def __init__(
@@ -54,7 +54,7 @@ class Wanted:
         self._is_error, self._channel, self._asked_extended = is_error_frame, channel, is_extended_id
         self._id, is_extended = identifier(id, database)
         check_identifier(self._id, is_extended if self._name else None, is_extended_id, is_error_frame)
-        # A class of errors has no such bits.
+        # The number of an error class has neither 11 nor 29 bits.
         has_bits = not is_error_frame or bool(self._name)
         self._is_extended = is_extended if is_extended_id is None and has_bits else is_extended_id
         self._data = None if data is None else checked_data(data)
@@ -67,7 +67,7 @@ class Wanted:
             raise ValueError(f"{next(iter(self._conditions))} is of a signal: give signal='EngineSpeed' too")
 
     def matches(self, frame: Frame) -> bool:
-        """Whether a frame is what is looked for."""
+        """Returns whether a frame is the expected one."""
         if not self.is_of(frame) or (self._data is not None and frame.data != self._data):
             return False
         if self._signal is None:
@@ -76,7 +76,7 @@ class Wanted:
         return value is not None and all(CONDITIONS[name](value, limit) for name, limit in self._conditions.items())
 
     def is_of(self, frame: Frame) -> bool:
-        """Whether a frame has the identifier that is looked for, whatever its data is."""
+        """Returns whether a frame has the expected identifier, whatever its data is."""
         return self._is_same_number(frame) and (self._is_extended is None or frame.is_extended_id == self._is_extended)
 
     def _is_same_number(self, frame: Frame) -> bool:
@@ -84,16 +84,17 @@ class Wanted:
 
     @property
     def signals(self) -> tuple[str, ...]:
-        """The names of the signals that are asked for, without those of their messages."""
+        """The names of the expected signals, without their messages."""
         return () if self._signal is None else (self._signal.own_name,)
 
     @property
     def has_content(self) -> bool:
-        """Whether frames of one identifier are looked for, or a signal, and what it says counts."""
+        """Whether an identifier or a signal is expected, so that the content of frames counts."""
         return self._signal is not None or (self._id is not None and self._data is not None)
 
     def content(self, frame: Frame) -> Optional[object]:
-        """What a frame says of what is looked for: the value of the signal, else its data; None if it says nothing."""
+        """Returns the expected content of a frame: the value of the signal, else its data; None if the frame has no
+        such content."""
         if not self.is_of(frame):
             return None
         if self._signal is not None:
@@ -101,11 +102,12 @@ class Wanted:
         return f"#R{frame.dlc}" if frame.is_remote_frame else frame.data.hex(" ").upper() or "no byte"
 
     def hint(self, frame: Frame) -> str:
-        """Says that a frame has the number that is looked for, but in an identifier of other bits; nothing else."""
+        """Returns a note if a frame has the expected number in an identifier of the other length; else the empty
+        text."""
         if self._id is None or self.is_of(frame) or not self._is_same_number(frame):
             return ""
         digits, bits = (f"{self._id:08X}", 29) if frame.is_extended_id else (f"{self._id:03X}", 11)
-        # The bits of a message by its name are the file's.
+        # For a message that is given by name, the database defines the length of the identifier.
         expected = "" if self._name else f", or expect is_extended_id={frame.is_extended_id}"
         return f"{digits} with {bits} bits came: give can.Message is_extended_id={not frame.is_extended_id}{expected}"
 
@@ -130,7 +132,7 @@ class Wanted:
 
 
 def checked_data(data: object) -> bytes:
-    """The bytes that a frame has to have; ValueError if none can."""
+    """Returns the bytes that a frame must have; raises ValueError if no frame can have them."""
     found = data_bytes(data)
     if len(found) not in FD_LENGTHS:
         raise ValueError(
@@ -140,7 +142,8 @@ def checked_data(data: object) -> bytes:
 
 
 def identifier(id: Union[int, str, None], database: Optional[Database]) -> tuple[Optional[int], Optional[bool]]:
-    """The identifier that this is, or that the message with this name has, and whether it has 29 bits; ValueError else."""
+    """Returns the identifier, or that of the message with this name, and whether it has 29 bits; raises ValueError for
+    others."""
     if id is None:
         return None, None
     if isinstance(id, str):
@@ -157,7 +160,7 @@ def identifier(id: Union[int, str, None], database: Optional[Database]) -> tuple
 
 
 def check_identifier(id: Optional[int], has: Optional[bool], is_extended_id: Optional[bool], is_error: bool) -> None:
-    """ValueError if no frame has this identifier; `has` is whether the message with its name has 29 bits."""
+    """Raises ValueError if no frame has this identifier; `has` says whether the message with this name has 29 bits."""
     if id is None:
         return
     if not 0 <= id <= MOST_IDENTIFIER:
@@ -169,13 +172,14 @@ def check_identifier(id: Optional[int], has: Optional[bool], is_extended_id: Opt
 
 
 def digits_in(text: str) -> str:
-    """The hexadecimal digits of a number, as identifiers are written: 101 or 0x101; the empty text if it is none."""
+    """Returns the hexadecimal digits of a number in the spelling of identifiers, 101 or 0x101; the empty text for other
+    texts."""
     found = re.fullmatch("(?:0[xX])?([0-9A-Fa-f]+)", text)
     return found[1] if found else ""
 
 
 class SignalOf:
-    """A signal by its name, `EngineSpeed` or `Engine.EngineSpeed`, in the words of a database; in messages with this
+    """A signal by its name, `EngineSpeed` or `Engine.EngineSpeed`, as a database describes it; in messages with this
     identifier, if one is given."""
 
     def __init__(
@@ -192,14 +196,14 @@ class SignalOf:
         if not found:
             where = f"message {self._message}" if self._message else "any message"
             raise DatabaseError(f"{id:X} is not the identifier of {where} of the database", signal=name)
-        #: What the database says of it, in each message that has it.
+        #: The signal's descriptions in the database, one for each message that has the signal.
         self.formats = formats_of(self.own_name, found, is_bare=not self._message and id is None)
         self._id = found[0].identifier if self._message else None
-        # Cyclic messages often say the same again, and libraries take their time.
+        # Cyclic messages often repeat the same data, and the libraries are slow.
         self._decoded = functools.lru_cache(maxsize=4096)(database.decode)
 
     def value(self, frame: Frame) -> Optional[Value]:
-        """The value that a frame gives the signal; None if it has no such signal."""
+        """Returns the value of the signal in a frame; None if the frame has no such signal."""
         if self._id is not None and frame.arbitration_id != self._id:
             return None
         decoded = self._decoded(frame)
@@ -209,9 +213,10 @@ class SignalOf:
 
 
 def formats_of(name: str, messages: Sequence[MessageFormat], is_bare: bool) -> list[SignalFormat]:
-    """Returns what these messages have of a signal; DatabaseError names those that there are, the close ones first.
+    """Returns the descriptions of a signal in these messages; DatabaseError lists the existing signals, similar names
+    first.
 
-    The name is bare where nothing says which message it is.
+    The name has no message if nothing determines the message.
     """
     if not is_bare:
         return [message.signal(name) for message in messages]
@@ -227,7 +232,7 @@ def formats_of(name: str, messages: Sequence[MessageFormat], is_bare: bool) -> l
 
 
 def wanted_of(step: Step, database: Optional[Database]) -> Wanted:
-    """The frame that a step of a sequence looks for."""
+    """Returns the expected frame of a sequence's step."""
     if isinstance(step, (list, tuple)):
         given = ", ".join(map(repr, step))
         raise ValueError(f"steps are given one by one, as expect_sequence({given}), not as {step!r}")

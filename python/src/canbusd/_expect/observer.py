@@ -1,4 +1,4 @@
-"""The sessions by which a server is seen from inside a test: see canbusd.expectations."""
+"""The sessions by which a test observes a server: see canbusd.expectations."""
 
 import contextlib
 import threading
@@ -21,16 +21,16 @@ from canbusd.signals import Database
 
 T = TypeVar("T")
 
-# Up to how many interfaces a server has all of them are observed, if `observe` names none; of more the first of each
-# bus, since each that is observed makes each frame an entry more of the record.
+# If `observe` names nothing, all interfaces of a server with at most this many are observed. Of a server with more, the
+# first interface of each bus is, because each observed interface adds an entry to the record for each frame.
 MOST_OBSERVED = 8
-# Up to how many of them have a session from the start, which receives their states at least. A server has 64 sessions.
+# Up to this many interfaces have a session from the start, at least to receive their states. A server has 64 sessions.
 MOST_WITH_STATES = 16
-# The number of frames that a session keeps as they came while nobody expects anything. More are handed on, so many at once, and then
-# other threads, such as that of a rest bus, run for these seconds.
+# A session keeps this many frames unread while nobody expects anything. If there are more, the reader hands on this
+# many at once, and then lets other threads, such as the thread of a rest bus, run for these seconds.
 MOST_UNREAD_FRAMES, FRAMES_AT_ONCE, PAUSE_SECONDS = 20_000, 16, 0.0001
 
-#: In how many frames one is looked for that came earlier.
+#: The number of earlier frames in which an expected frame is searched.
 MOST_TAKEN = 10_000
 IN_ORDER = (
     "expectations look after the frame that the last one returned: expect frames in their order, or by expect_sequence"
@@ -38,7 +38,7 @@ IN_ORDER = (
 
 
 def decoded_words(frame: Frame, database: Optional[Database], signals: Sequence[str]) -> str:
-    """Returns what follows a frame that the database knows: the name of its message, and these of its signals."""
+    """Returns the words after a frame that the database knows: the name of its message, and these of its signals."""
     decoded = None if database is None else database.decode(frame)
     if decoded is None:
         return ""
@@ -47,7 +47,7 @@ def decoded_words(frame: Frame, database: Optional[Database], signals: Sequence[
 
 
 def observed_by_default(buses: Sequence[Sequence[str]]) -> list[str]:
-    """Returns which interfaces are observed where none is named."""
+    """Returns the interfaces that are observed if the caller names none."""
     names = [name for bus in buses for name in bus]
     return names if len(names) <= MOST_OBSERVED else [bus[0] for bus in buses]
 
@@ -55,7 +55,7 @@ def observed_by_default(buses: Sequence[Sequence[str]]) -> list[str]:
 def observed_of(
     observe: Union[str, Sequence[str], None], buses: Sequence[Sequence[str]], check: Callable[[str], object]
 ) -> list[str]:
-    """Returns the interfaces whose frames count, by an argument; `check` raises ValueError for a name that is none of them."""
+    """Returns the interfaces whose frames count, from an argument; `check` raises ValueError for an unknown name."""
     if observe is None:
         return observed_by_default(buses)
     if not isinstance(observe, Iterable):
@@ -67,19 +67,19 @@ def observed_of(
 
 
 class Watching(Protocol):
-    """A session on an interface that receives what that does: of a server, or of a bench."""
+    """A session on an interface of a server or a bench that receives what the interface receives."""
 
     channel: str
     first: ErrorCounters
 
     def error_counters(self) -> ErrorCounters:
-        """The state of the interface, and its error counts."""
+        """Returns the state of the interface, and its error counts."""
 
     def stats(self) -> Stats:
-        """The counts of the session and of its interface."""
+        """Returns the counts of the session and of its interface."""
 
     def rules_left(self) -> int:
-        """The number of rules that the bus has that are not used up."""
+        """Returns the number of the bus's rules that are not used up."""
 
     def end_rules(self) -> None:
         """Ends all rules of the bus."""
@@ -91,17 +91,18 @@ class Watching(Protocol):
         """Brings the interface up."""
 
     def hand_on(self, add: Callable[[str, str], None]) -> None:
-        """Hands on what has come."""
+        """Hands on the received messages."""
 
     def close(self) -> None:
-        """Ends it."""
+        """Ends the session."""
 
 
 class Observer:
-    """The sessions of a server's own: one on each interface, unless none is observed; then on each whose state is asked.
+    """A server's own sessions: one on each interface. If no interface is observed, each gets its session when a test
+    asks for its state.
 
-    Who expects something reads them, and looks at all that came. A thread reads them meanwhile, so that nothing is
-    dropped while the test does something else.
+    A call that expects something reads the sessions, and checks all received messages. Between such calls a thread
+    reads the sessions, so that nothing is dropped while the test does something else.
     """
 
     #: The server or bench that has the interfaces.
@@ -115,28 +116,29 @@ class Observer:
         full: Callable[[Optional[str]], str] = lambda channel: "",
     ) -> None:
         self._address = address
-        # Says that a record is full, if it is so.
+        # Returns a text that a record is full, if one is full.
         self._full = full
         self.received = Received(buses, observed)
         self._sessions: dict[str, Watching] = {}
-        # By the name of each interface that is observed, how many frames its socket had dropped when it was last expected.
+        # By the name of each observed interface: the number of frames that its socket had dropped at the last
+        # expectation.
         self._dropped: dict[str, int] = {}
         self._lock = threading.RLock()
-        #: The moment of the last frame that came before all that is expected.
+        #: The time of the last frame that came before all expected frames.
         self._forgotten = -1
-        # The number of threads that wait for frames, and read them.
+        # The number of threads that wait for frames, and read the sessions.
         self._waiting = 0
         self._reader: Optional[Reader] = None
         names = [name for bus in buses for name in bus]
         self._all = names
         if observed:
-            # Of many interfaces only those whose frames count have one from the start.
+            # Of many interfaces only those whose frames count have a session from the start.
             for name in names if len(names) <= MOST_WITH_STATES else observed:
                 self.session(name)
             self._begin_reading()
 
     def _begin_reading(self) -> None:
-        """Has a thread read what comes while nobody expects anything."""
+        """Starts a thread that reads messages while nobody expects anything."""
         self._reader = Reader(self._live(), self._read_along)
 
     def _open(self, name: str) -> Watching:
@@ -148,7 +150,7 @@ class Observer:
         return [session for session in self._sessions.values() if isinstance(session, ObservingSession)]
 
     def session(self, name: str) -> Watching:
-        """Returns the session on an interface, which is opened if there is none."""
+        """Returns the session on an interface; opens one if there is none."""
         with self._lock:
             found = self._sessions.get(name)
             if found is None:
@@ -161,7 +163,7 @@ class Observer:
             return found
 
     def settle(self) -> None:
-        """Takes all that the interfaces have received up to now."""
+        """Takes all messages that the interfaces have received up to now."""
         with self._lock:
             sessions = self._live()
         deadline = time.monotonic() + TIMEOUT
@@ -178,9 +180,9 @@ class Observer:
                 wait_for_input([session], left)
 
     def wait(self, look: Callable[[], Optional[T]], may_be: Callable[[Seen], bool], within: float) -> Optional[T]:
-        """Returns what `look` finds in what was received; None if that is nothing within these seconds.
+        """Returns the finding of `look` in the received messages; None if it finds nothing within these seconds.
 
-        It looks at once, then after each arrival that may be what it looks for, and at the end.
+        `look` is called at once, then after each arrival that may match, and at the end.
         """
         deadline = time.monotonic() + within
         with self._waits():
@@ -193,7 +195,7 @@ class Observer:
                 self._await(may_be, arrived, deadline)
 
     def _await(self, may_be: Callable[[Seen], bool], arrived: int, deadline: float) -> None:
-        """Waits for an arrival that may be looked for, of those after as many as this."""
+        """Waits for an arrival that may match, after this many arrivals."""
         while True:
             with self._lock:
                 if any(may_be(seen) for seen in self.received.arrived_since(arrived)):
@@ -206,7 +208,7 @@ class Observer:
             self._gather()
 
     def find(self, matches: Callable[[Frame], bool], channel: Optional[str], within: float) -> Optional[Seen]:
-        """Takes the first frame that matches, of those that came since the last that was taken and within seconds."""
+        """Takes the first matching frame that came after the last taken frame, or comes within these seconds."""
         self.received.channels(channel)
 
         def look() -> Optional[Seen]:
@@ -218,7 +220,7 @@ class Observer:
         return found
 
     def take(self, seen: Seen, channel: Optional[str]) -> None:
-        """Takes a frame, and those before it: the next are looked for after it."""
+        """Takes a frame and all frames before it: the next search begins after this frame."""
         with self._lock:
             self.received.take(seen, channel)
         self._note_dropped()
@@ -226,7 +228,8 @@ class Observer:
     def collect(
         self, matches: Callable[[Frame], bool], channel: Optional[str], count: int, within: float
     ) -> list[Seen]:
-        """Returns the first so many frames that match, of those that were not taken, each once; fewer after these seconds."""
+        """Returns the first matching frames, up to this number, of the frames not taken yet, each once; fewer after
+        these seconds."""
         self.received.channels(channel)
         left = count
 
@@ -255,41 +258,42 @@ class Observer:
             return list(self.received.untaken(channel))
 
     def contents(self, wanted: Wanted, channel: Optional[str]) -> list[object]:
-        """Returns what was said of what is looked for since the last expectation, each once in a row."""
+        """Returns the expected content of the frames since the last expectation, without repetitions in a row."""
         said = (wanted.content(seen.frame) for seen in self.untaken(channel))
         return [content for content, _ in groupby(content for content in said if content is not None)]
 
     def last_content(self, wanted: Wanted, channel: Optional[str]) -> Optional[object]:
-        """Returns what was said last of what is looked for, up to the last expectation."""
+        """Returns the last expected content, of the frames up to the last expectation."""
         self.settle()
         with self._lock:
             said = (wanted.content(seen.frame) for seen in self.received.taken(channel))
             return next((content for content in said if content is not None), None)
 
     def last_taken(self, matches: Callable[[Frame], bool], channel: Optional[str]) -> Optional[Seen]:
-        """Returns the last frame that matches, of those up to the last expectation."""
+        """Returns the last matching frame, of the frames up to the last expectation."""
         self.settle()
         with self._lock:
             return next((seen for seen in self.received.taken(channel) if matches(seen.frame)), None)
 
     def is_forgotten(self, seen: Seen) -> bool:
-        """Whether a frame came before the last `forget`."""
+        """Returns whether a frame came before the last `forget`."""
         return seen.moment <= self._forgotten
 
     def said_instead(self, wanted: Wanted, channel: Optional[str]) -> str:
-        """Says what was said in place of what is looked for, for the text of a failure; nothing if nothing was."""
+        """Returns a note for a failure on the content that came in place of the expected content; else the empty
+        text."""
         contents = [str(content) for content in self.contents(wanted, channel)]
         if not contents or not wanted.has_content:
             return ""
         return f": it was {', '.join(['..'] * (len(contents) > MOST_SHOWN) + contents[-MOST_SHOWN:])}"
 
     def hint(self, wanted: Wanted, channel: Optional[str]) -> str:
-        """Says that the number which is looked for came, but in an identifier of other bits; nothing if it did not."""
+        """Returns a note if the expected number came in an identifier of the other length; else the empty text."""
         hints = (wanted.hint(seen.frame) for seen in self.untaken(channel))
         return next((f"\n{hint}" for hint in hints if hint), "")
 
     def came_before(self, wanted: Wanted, channel: Optional[str]) -> str:
-        """Says that what is looked for came before the last expectation, for the text of a failure; nothing if it did not."""
+        """Returns a note for a failure if the expected frame came before the last expectation; else the empty text."""
         with self._lock:
             taken = islice(self.received.taken(channel), MOST_TAKEN)
             before = next((seen for seen in taken if wanted.matches(seen.frame)), None)
@@ -298,7 +302,8 @@ class Observer:
         return f"\nit came earlier: {self.line(before, channel)}\n{IN_ORDER}"
 
     def find_state(self, name: str, state: str, within: float) -> Optional[StateSeen]:
-        """Returns when an interface came into a state, since the last that was expected and within seconds."""
+        """Returns the first entry of an interface into a state, after the last expected state or within these
+        seconds."""
         self.session(name)
 
         def may_be(seen: Seen) -> bool:
@@ -308,19 +313,19 @@ class Observer:
         return self.wait(lambda: self.came_into(name, state, is_settled=True), may_be, within)
 
     def came_into(self, name: str, state: str, is_settled: bool = False) -> Optional[StateSeen]:
-        """Returns when an interface came into a state, since the last that was expected; None if it did not."""
+        """Returns the first entry of an interface into a state after the last expected state; None if there is none."""
         if not is_settled:
             self.settle()
         counters = self.session(name).error_counters()
         with self._lock:
-            # No error message frame says that it went down.
+            # No error message frame reports that the interface went down.
             if counters.state == "down":
                 self.received.note_down(name, counters)
             return self.received.expected_state(name, state)
 
     def skip_to_state(self, name: str, state: str) -> Optional[StateSeen]:
-        """Returns the last time that an interface came into this state, if it did since the one that was expected last; the
-        next is expected after that."""
+        """Returns the last entry of an interface into this state after the last expected state, if there is one. The
+        next expected state comes after this entry."""
         self.settle()
         with self._lock:
             found = None
@@ -329,12 +334,12 @@ class Observer:
             return found
 
     def states_since(self, name: str) -> list[str]:
-        """Returns the states in which an interface was since the one that was expected last, and that itself."""
+        """Returns the states of an interface from the last expected state on, including that state."""
         with self._lock:
             return self.received.states_since(name)
 
     def forget(self) -> None:
-        """All that was received up to now is before what is expected next."""
+        """Makes later expectations ignore all messages that were received up to now."""
         self.settle()
         with self._lock:
             self.received.take_all()
@@ -342,7 +347,8 @@ class Observer:
         self._note_dropped()
 
     def missed(self, channel: Optional[str]) -> str:
-        """Says how many frames were lost, of those that were not taken, for the text of a failure; nothing if none was."""
+        """Returns a note for a failure on the number of lost frames, of those not taken; the empty text if none was
+        lost."""
         texts = []
         for name in self.received.channels(channel):
             dropped = self._sessions[name].stats().dropped - self._dropped.get(name, 0)
@@ -356,14 +362,14 @@ class Observer:
         return f": {', and '.join(texts)}" if texts else ""
 
     def _note_dropped(self) -> None:
-        """Items dropped up to now do not count for the next expectation."""
+        """Makes the next expectation ignore the items that were dropped up to now."""
         for name in self.received.observed:
             self._dropped[name] = self._sessions[name].stats().dropped
 
     def shown(self, database: Optional[Database] = None, signals: Sequence[str] = ()) -> str:
-        """Returns the last frames that were seen, as lines of a log, and how the interfaces are, for a failure.
+        """Returns the last seen frames, as lines of a log, and the states of the interfaces, for a failure.
 
-        With a database each has the name of its message, and what it says of these signals.
+        With a database each line has the name of the frame's message, and its values of these signals.
         """
         observed = self.received.observed
         if not observed:
@@ -383,11 +389,11 @@ class Observer:
         return "\n".join([*shown, *self._states()])
 
     def channel(self, seen: Seen) -> str:
-        """The first interface that received a frame from another, else the one that sent it."""
+        """Returns the first interface that received a frame from another interface, else its sender."""
         return seen.channel(self.received.names_of(seen))
 
     def line(self, seen: Seen, channel: Optional[str] = None) -> str:
-        """The line of a log that shows a frame, as this interface saw it or the first."""
+        """Returns the log line of a frame, as this interface saw the frame, or the first interface that did."""
         return described_line(channel or self.channel(seen), seen.frame)
 
     def close(self) -> None:
@@ -398,11 +404,11 @@ class Observer:
             session.close()
 
     def _states(self) -> Iterator[str]:
-        """Yields how each interface is that had an error, or has frames that were not put on the bus."""
+        """Yields the state of each interface that had an error, or has frames that were not put on the bus."""
         for name in self._all:
             try:
                 session = self.session(name)
-            except Exception:  # Without a place for one more session there is nothing to say.
+            except Exception:  # Without a place for a further session there is nothing to report.
                 continue
             counters, stats = session.error_counters(), session.stats()
             if counters != ("active", 0, 0) or stats.waiting or stats.lost:
@@ -411,7 +417,7 @@ class Observer:
 
     @contextlib.contextmanager
     def _waits(self) -> Iterator[None]:
-        """Who waits reads by itself, and the thread does not."""
+        """Marks that the caller waits and reads by itself, so that the thread does not read."""
         with self._lock:
             self._waiting += 1
         try:
@@ -421,13 +427,14 @@ class Observer:
                 self._waiting -= 1
 
     def _gather(self) -> None:
-        """Takes what has come."""
+        """Takes the received messages."""
         with self._lock:
             for session in self._sessions.values():
                 session.hand_on(self.received.add)
 
     def _read_along(self) -> None:
-        """Reads what has come, unless somebody waits for it: it is looked at once somebody does, or it is much."""
+        """Reads the received messages, unless somebody waits for them. They are checked when somebody waits, or when
+        there are many."""
         with self._lock:
             if self._waiting:
                 return
@@ -437,7 +444,8 @@ class Observer:
             time.sleep(PAUSE_SECONDS)
 
     def _hand_some_on(self) -> bool:
-        """Hands on some of the oldest frames of each session that has too many, and returns whether there was one."""
+        """Hands on some of the oldest frames of each session that has too many; returns whether there was such a
+        session."""
         with self._lock:
             full = [session for session in self._live() if session.unread > MOST_UNREAD_FRAMES]
             for session in full:

@@ -1,8 +1,8 @@
-"""The frames of each bus that a server's own sessions received, in their order, each once, and states.
+"""The frames of each bus that a server's own sessions received, in bus order and each once, and the states.
 
-Sessions on several interfaces of a bus receive the same frame, one sooner than another. Here it is one: it is known by
-its moment, its text and its number at its sender, and stands at its moment. So the order is that of the bus, whichever
-session was read first.
+Sessions on several interfaces of a bus receive the same frame at different times. This module keeps the frame once: it
+recognises the frame by its timestamp, its text and its number at its sender, and sorts by timestamp. So frames are in
+the order of the bus, whichever session was read first.
 """
 
 from bisect import bisect_left, bisect_right
@@ -14,50 +14,50 @@ from typing import NamedTuple, Optional
 from canbusd._session.protocol import ErrorCounters, State
 from canbusd.frames import Frame, frame_of_message
 
-# The most frames of a bus that are kept, and the most changes of state of an interface.
+# The most frames kept for each bus, and the most state changes kept for each interface.
 MOST_KEPT, MOST_STATES = 200_000, 20_000
-# The most frames that a failure shows.
+# The most frames that the text of a failure shows.
 MOST_SHOWN = 10
-# Classes of error message frames, and the bits of byte 1 in one of class 004 (linux/can/error.h).
+# The classes of error message frames, and the bits of byte 1 in class 004 (linux/can/error.h).
 CONTROLLER, BUS_OFF, RESTARTED = 0x004, 0x040, 0x100
 PASSIVE_BITS, WARNING_BITS = 0x30, 0x0C
-# The transmit error count from which an interface is bus off. Its error message frame has no counts.
+# The transmit error count from which an interface is bus off. The error message frame for bus off has no counts.
 OFF = 256
 
 
 class Seen:
-    """A frame or an error message frame that was on a bus, and the interfaces at which it was seen."""
+    """A frame or an error message frame on a bus, and the interfaces that saw the frame."""
 
     __slots__ = ("moment", "number", "key", "words", "channels", "_frame")
 
     def __init__(self, moment: int, number: str, key: tuple[object, ...], words: list[str]) -> None:
-        #: In microseconds.
+        #: The timestamp in microseconds.
         self.moment = moment
-        #: Which of its sender's frames it is; empty if that is not known.
+        #: The number of the frame at its sender; empty if this is not known.
         self.number = number
         self.key, self.words = key, words
-        #: By the name of each interface that received it, whether that has sent it too.
+        #: By the name of each interface that received the frame: whether this interface also sent it.
         self.channels: dict[str, bool] = {}
         self._frame: Optional[Frame] = None
 
     @property
     def frame(self) -> Frame:
-        """The frame itself."""
+        """The frame as an object."""
         if self._frame is None:
             self._frame = frame_of_message(Frame, *self.words)
         return self._frame
 
     def channel(self, names: Sequence[str]) -> str:
-        """The first of these interfaces that received it from another, else the one that sent it."""
+        """The first of these interfaces that received the frame from another interface, else its sender."""
         seen = [name for name in names if name in self.channels]
         return next((name for name in seen if not self.channels[name]), seen[0])
 
 
 def without_copies(frames: Iterable[Seen]) -> Iterator[Seen]:
-    """Yields frames, without those that receivers have again after a fault in the last bit of end of frame.
+    """Yields frames without second copies, which receivers get after a fault in the last bit of end of frame.
 
-    Such a copy is the next frame of its sender, with the number that it had before. So it follows no other frame with its
-    identifier and data.
+    Such a copy is the next frame of its sender, and has the same number as before. So no frame with the same identifier
+    and data comes between.
     """
     numbers: dict[tuple[str, ...], str] = {}
     for seen in frames:
@@ -69,20 +69,20 @@ def without_copies(frames: Iterable[Seen]) -> Iterator[Seen]:
 
 
 class StateSeen(NamedTuple):
-    """A state of an interface, and its error counts when it came into it."""
+    """A state of an interface, and the error counts when the interface entered the state."""
 
-    #: In microseconds; None of a state in which it was found.
+    #: The time in microseconds; None for the state at the start of the observation.
     moment: Optional[int]
     counters: ErrorCounters
 
 
 def micros(moment: str) -> int:
-    """Returns the moment of a message, `1.000002`, in microseconds."""
+    """Returns the time of a message, `1.000002`, in microseconds."""
     return int(moment.replace(".", ""))
 
 
 def state_in(words: Sequence[str]) -> Optional[ErrorCounters]:
-    """Returns the state that an error message frame reports; None for one that reports none."""
+    """Returns the state that an error message frame reports; None if it reports no state."""
     if words[0] != "error" or len(words) < 4:
         return None
     number, data = int(words[1], 16), bytes.fromhex(words[3]).ljust(8, b"\0")
@@ -103,17 +103,18 @@ class SeenBus:
         self.names = tuple(names)
         self.frames: list[Seen] = []
         self._moments: list[int] = []
-        #: The number of frames that were forgotten, which were before the first.
+        #: The number of forgotten frames, which came before the first one in the list.
         self.forgotten = 0
-        # By each session, what it received last, and how often one after another.
+        # For each session, the last message that it received, and the number of times in a row.
         self._last: dict[str, tuple[tuple[object, ...], int]] = {}
 
     def add(self, name: str, moment: int, words: list[str], number: str, is_own: bool) -> Optional[Seen]:
-        """Adds what a session on this interface received; returns it if it was not seen elsewhere."""
+        """Adds a message that a session on this interface received; returns the frame if no other session had seen
+        it."""
         owner = name if words[0] == "error" else ""
         key = moment, owner, number, *words
         last, times = self._last.get(name, (None, 0))
-        # The same frame again, in the same microsecond.
+        # The session received the same frame again, in the same microsecond.
         times = times + 1 if last == key else 0
         self._last[name] = key, times
         seen = self._known((*key, times), moment)
@@ -124,7 +125,8 @@ class SeenBus:
         return seen if is_new else None
 
     def place(self, after: int) -> int:
-        """The place in `frames` of the frame with this number, from 0 since the start, or of the first that is kept."""
+        """Returns the place in `frames` of the frame with this number, counted from 0 at the start, or of the first
+        kept frame."""
         return max(0, after - self.forgotten)
 
     def _known(self, key: tuple[object, ...], moment: int) -> Optional[Seen]:
@@ -140,7 +142,7 @@ class SeenBus:
         self.frames.insert(place, seen)
         self._moments.insert(place, seen.moment)
         if len(self.frames) > MOST_KEPT:
-            # Some at once: each takes the rest along.
+            # Several are deleted at once, because each deletion moves all the others.
             some = MOST_KEPT // 10
             del self.frames[:some], self._moments[:some]
             self.forgotten += some
@@ -148,27 +150,29 @@ class SeenBus:
 
 
 class Received:
-    """The frames received on the buses of a server, and the place of the expectations among them.
+    """The frames that came on the buses of a server, and the place that the expectations have reached.
 
-    `observed` are the interfaces whose frames count; of others there are error message frames only, which say their states.
+    `observed` are the interfaces whose frames count; other interfaces only have error message frames, which report
+    their states.
     """
 
     def __init__(self, buses: Sequence[Sequence[str]], observed: Sequence[str]) -> None:
         self.observed = tuple(observed)
         self.buses = [SeenBus(names) for names in buses]
         self._bus_of = {name: bus for bus in self.buses for name in bus.names}
-        #: The frames that came, in their order, and how many of them are forgotten.
+        #: The frames that came, in order, and the number of forgotten frames.
         self.arrivals: deque[Seen] = deque(maxlen=MOST_KEPT)
         self.arrived = 0
-        #: By the name of an interface the states that it was in, oldest first.
+        #: By the name of an interface: the states that the interface had, oldest first.
         self.states: dict[str, list[StateSeen]] = {}
-        # By the name of an interface, and by its bus for all of them, the number of the first frame that was not taken.
+        # The number of the first frame that was not taken, by the name of an interface, and by the bus for all its
+        # interfaces.
         self._untaken: dict[str, int] = {}
         self._untaken_of_bus = [0 for _ in self.buses]
-        # By the name of an interface the place of the state that was expected last.
+        # By the name of an interface: the place of the last expected state.
         self._expected: dict[str, int] = {}
 
-    # Frames and states that come.
+    # Arriving frames and states.
 
     def add(self, name: str, text: str) -> None:
         """Adds a message that hands over a frame, `< frame 123 1.000002 11 other 17`, to a session on this interface."""
@@ -188,7 +192,7 @@ class Received:
                 self.arrived += 1
 
     def begin(self, name: str, counters: ErrorCounters) -> None:
-        """Notes in which state an interface is found first, if nothing came of it yet."""
+        """Notes the first known state of an interface, unless an error message frame has already reported a state."""
         self.states.setdefault(name, []).insert(0, StateSeen(None, counters))
 
     def note_down(self, name: str, counters: ErrorCounters) -> None:
@@ -205,13 +209,14 @@ class Received:
             self._expected[name] = max(0, self._expected.get(name, 0) - some)
 
     def arrived_since(self, number: int) -> Iterator[Seen]:
-        """Yields what arrived after as much as this."""
+        """Yields the arrivals after the first `number`."""
         return islice(self.arrivals, max(0, len(self.arrivals) - (self.arrived - number)), None)
 
-    # Frames.
+    # Expected frames.
 
     def channels(self, channel: Optional[str]) -> Sequence[str]:
-        """The observed interfaces at which a frame may be; ValueError if there is none, or this is none of them."""
+        """Returns the observed interfaces that may have seen a frame; raises ValueError if there is none, or if the
+        channel is not observed."""
         if not self.observed:
             raise ValueError("no interface of the server is observed: it was given observe=()")
         if channel is not None and channel not in self.observed:
@@ -219,17 +224,17 @@ class Received:
         return self.observed if channel is None else (channel,)
 
     def untaken(self, channel: Optional[str] = None) -> Iterator[Seen]:
-        """Yields the frames that were not taken yet, at this interface or at any, in the order of their moments."""
+        """Yields the frames that were not taken yet, at this interface or at any, by their timestamps."""
         names = self.channels(channel)
         found: list[Seen] = []
         for number, bus in self._buses_of(channel):
             frames = bus.frames[bus.place(self._first(number, channel)) :]
             found += [seen for seen in frames if any(name in seen.channels for name in names)]
-        # Those of a bus are in order, and of two buses neither is first.
+        # The frames of a bus are in order, and no bus comes before another.
         return iter(sorted(found, key=lambda seen: seen.moment) if len(self.buses) > 1 else found)
 
     def taken(self, channel: Optional[str] = None) -> Iterator[Seen]:
-        """Yields the frames that were taken, at this interface or at any, the last first."""
+        """Yields the taken frames, at this interface or at any, latest first."""
         names = self.channels(channel)
         found: list[Seen] = []
         for number, bus in self._buses_of(channel):
@@ -238,15 +243,15 @@ class Received:
         return iter(sorted(found, key=lambda seen: -seen.moment) if len(self.buses) > 1 else found[::-1])
 
     def _buses_of(self, channel: Optional[str]) -> list[tuple[int, SeenBus]]:
-        """The buses with this interface, or all, by their numbers."""
+        """Returns the numbers of the buses with this interface, or of all."""
         return [(number, bus) for number, bus in enumerate(self.buses) if channel is None or channel in bus.names]
 
     def _first(self, number: int, channel: Optional[str]) -> int:
-        """The number of the first frame of a bus that was not taken, of those at this interface or at any."""
+        """Returns the number of the first frame of a bus that was not taken, at this interface or at any."""
         return self._untaken_of_bus[number] if channel is None else self._untaken.get(channel, 0)
 
     def take(self, seen: Seen, channel: Optional[str] = None) -> None:
-        """Takes a frame, and those before it: of its bus, or of this interface."""
+        """Takes a frame and all earlier frames of its bus, or of this interface."""
         for number, bus in enumerate(self.buses):
             if not any(name in bus.names for name in seen.channels):
                 continue
@@ -256,7 +261,7 @@ class Received:
                 self._untaken[name] = max(self._untaken.get(name, 0), place)
 
     def take_all(self) -> None:
-        """Takes all that came, and the states up to the last."""
+        """Takes all frames that came, and all states before the last."""
         for number, bus in enumerate(self.buses):
             self._untaken_of_bus[number] = bus.forgotten + len(bus.frames)
             for name in bus.names:
@@ -265,24 +270,24 @@ class Received:
             self._expected[name] = len(states) - 1
 
     def missed(self, channel: Optional[str]) -> int:
-        """The number of frames that were forgotten that were not taken."""
+        """Returns the number of frames that were forgotten before they were taken."""
         return sum(max(0, bus.forgotten - self._first(number, channel)) for number, bus in self._buses_of(channel))
 
     def last(self) -> list[Seen]:
-        """Returns the last frames that were seen, in their order."""
+        """Returns the last frames that were seen, in order."""
         return sorted((seen for bus in self.buses for seen in bus.frames[-MOST_SHOWN:]), key=lambda seen: seen.moment)[
             -MOST_SHOWN:
         ]
 
     def names_of(self, seen: Seen) -> Sequence[str]:
-        """The interfaces of the bus on which a frame was."""
+        """Returns the interfaces of the bus that carried a frame."""
         return self._bus_of[next(iter(seen.channels))].names
 
-    # States.
+    # Expected states.
 
     def expected_state(self, name: str, state: str) -> Optional[StateSeen]:
-        """Returns the first time since the state that was expected last that an interface came into this one; else the
-        present one, if it is that. The next is looked for from there."""
+        """Returns the first entry of an interface into this state after the last expected state; else the present
+        state, if this is the expected one. The next search begins there."""
         states = self.states[name]
         last = len(states) - 1
         for place in [*range(self._expected.get(name, 0) + 1, last), last]:
@@ -293,12 +298,12 @@ class Received:
         return None
 
     def later_state(self, name: str, state: str) -> bool:
-        """Whether an interface came into this state after the one that was expected last."""
+        """Returns whether an interface entered this state after the last expected state."""
         return any(seen.counters.state == state for seen in self.states[name][self._expected.get(name, 0) + 1 :])
 
     def states_since(self, name: str) -> list[str]:
-        """Returns the states in which an interface was since the one that was expected last, the last of many; none if it is
-        in that."""
+        """Returns the states of an interface from the last expected state on, but only the last ones if there are many.
+        Returns none if no state followed."""
         was = [seen.counters.state for seen in self.states[name][self._expected.get(name, 0) :]]
         shown = [".."] * (len(was) > MOST_SHOWN) + was[-MOST_SHOWN:]
         return shown if len(was) > 1 else []

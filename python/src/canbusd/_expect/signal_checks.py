@@ -1,4 +1,4 @@
-"""Expectations of a signal over time: that it follows a shape, or stays between two values."""
+"""Expectations of a signal over time: the signal follows a shape, or stays between two values."""
 
 from collections.abc import Sequence
 from decimal import Decimal
@@ -11,34 +11,35 @@ from canbusd.shapes import Shape
 
 
 class Sample(NamedTuple):
-    """A value of a signal, and when it was on the bus, in seconds."""
+    """A value of a signal, and the time of its frame on the bus, in seconds."""
 
     moment: float
     value: Value
-    #: The number that it is, or that its name is of.
+    #: The number of the value, or of its name.
     number: Optional[Decimal]
     seen: Seen
 
 
 class Follower:
-    """Looks for a shape in the values of a signal, one after the other.
+    """Looks for a shape in the successive values of a signal.
 
-    A shape may begin at each of them, or since the one before it, and each value may be late: so it has to be, give or take the
-    tolerance, among those of the shape in that time.
+    The shape may begin at each value, or at any time since the value before. Each value may also be late. So a value
+    must be within the tolerance of the values that the shape has in that span of time.
     """
 
     def __init__(self, shape: Shape, tolerance: float, late: float, before: Optional[float] = None) -> None:
         self._shape, self._tolerance, self._late = shape, tolerance, late
-        # When the value before the first was on the bus, if it is known.
+        # The time of the value before the first one, if it is known.
         self._before = before
         self._samples: list[Sample] = []
         # The places of the values at which the shape may have begun.
         self._begun: list[int] = []
-        #: Of those where it did not, the one after which it was followed longest, and where it was left.
+        #: Of the starts that failed, the start after which the signal followed the shape longest, and the place where
+        #: it left the shape.
         self._best: Optional[tuple[int, int]] = None
 
     def add(self, sample: Sample) -> Optional[list[Sample]]:
-        """Takes the next value; returns those of the shape once it is whole."""
+        """Takes the next value; returns the values of the shape when the shape is complete."""
         place = len(self._samples)
         self._samples.append(sample)
         still = []
@@ -54,7 +55,7 @@ class Follower:
         return None
 
     def _span(self, begun: int, place: int) -> tuple[float, float]:
-        """The values that the shape may have at a place, if it has begun at another, or since the one before."""
+        """Returns the range of the shape at a place, if the shape began at another place, or since the value before."""
         since = self._samples[place].moment - self._samples[begun].moment
         before = self._samples[begun - 1].moment if begun else self._before
         gap = 0.0 if before is None else self._samples[begun].moment - before
@@ -66,7 +67,7 @@ class Follower:
         return number is not None and least - self._tolerance <= float(number) <= most + self._tolerance
 
     def failure(self) -> str:
-        """Says how far the shape was followed."""
+        """Returns a text that says how far the signal followed the shape."""
         if not self._samples:
             return "it did not come"
         if self._begun:
@@ -82,14 +83,14 @@ class Follower:
 
 
 def limits_of(formats: Sequence[SignalFormat], between: Optional[Sequence[float]]) -> tuple[Decimal, Decimal]:
-    """The values between which a signal has to stay: those that are given, else the limits of the database."""
+    """Returns the values between which a signal must stay: the given ones, else the limits of the database."""
     if between is not None:
         return Decimal(str(between[0])), Decimal(str(between[1]))
     return max(one.least for one in formats), min(one.most for one in formats)
 
 
 def number_of(value: Value, formats: Sequence[SignalFormat]) -> Optional[Decimal]:
-    """The number that a value is, or that its name is of; None for another name."""
+    """Returns the number of a value or of its name; None for an unknown name."""
     if not isinstance(value, str):
         return Decimal(str(value))
     for one in formats:
@@ -100,6 +101,6 @@ def number_of(value: Value, formats: Sequence[SignalFormat]) -> Optional[Decimal
 
 
 def is_between(value: Value, formats: Sequence[SignalFormat], least: Decimal, most: Decimal) -> bool:
-    """Whether a value is between these; a name is the number that it is of."""
+    """Returns whether a value is between these two; a name counts as its number."""
     number = number_of(value, formats)
     return number is not None and least <= number <= most

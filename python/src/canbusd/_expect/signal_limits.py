@@ -1,4 +1,5 @@
-"""The limits of a signal's value, `above`, `below`, `equals` and `between`, and limits that no value can meet."""
+"""The limits of a signal's value, `above`, `below`, `equals` and `between`, and checks for limits that no value can
+meet."""
 
 import math
 from collections.abc import Callable, Mapping, Sequence
@@ -11,7 +12,7 @@ from canbusd.signals import Value
 
 
 def check_conditions(name: str, formats: Sequence[SignalFormat], conditions: Mapping[str, Any]) -> None:
-    """ValueError if one of these can never be so; `formats` are the signals that the name may mean."""
+    """Raises ValueError if no value can meet one of these limits; `formats` are the signals that the name may mean."""
     for kind in ("above", "below"):
         if kind in conditions:
             check_number(kind, conditions[kind])
@@ -22,13 +23,13 @@ def check_conditions(name: str, formats: Sequence[SignalFormat], conditions: Map
 
 
 def check_number(kind: str, limit: object) -> None:
-    """ValueError if a limit is no number."""
+    """Raises ValueError if a limit is not a number."""
     if not isinstance(limit, (Real, Decimal)) or math.isnan(limit):
         raise ValueError(f"{kind} is a number, not {limit!r}")
 
 
 def check_ends(ends: object) -> None:
-    """ValueError if these are not the two ends of a range, the lower one first."""
+    """Raises ValueError if these are not the two ends of a range, the lower end first."""
     if not isinstance(ends, (tuple, list)) or len(ends) != 2:
         raise ValueError(f"between has two ends, such as (0, 100), not {ends!r}")
     for one in ends:
@@ -38,7 +39,7 @@ def check_ends(ends: object) -> None:
 
 
 def check_value(name: str, formats: Sequence[SignalFormat], value: Value) -> None:
-    """ValueError if this is no number and none of the names that the signal has for one, or a number that has a name."""
+    """Raises ValueError if this is neither a number nor a name of the signal, or if it is a number that has a name."""
     if any(value in one.choices.values() for one in formats):
         return
     names = list(dict.fromkeys(name for one in formats for name in one.choices.values()))
@@ -51,7 +52,7 @@ def check_value(name: str, formats: Sequence[SignalFormat], value: Value) -> Non
 
 
 def is_number(value: Value) -> bool:
-    """Whether this is a number, or the text of one, but not NaN."""
+    """Returns whether this is a number other than NaN, or the text of such a number."""
     try:
         return not math.isnan(float(value))
     except (TypeError, ValueError):
@@ -59,30 +60,31 @@ def is_number(value: Value) -> bool:
 
 
 def name_of(signal: SignalFormat, value: Value) -> str:
-    """The name that a signal has for a number; the empty text if it has none."""
+    """Returns the signal's name for a number; the empty text if the number has no name."""
     numbers_of_names = {name: float(raw * signal.factor + signal.offset) for raw, name in signal.choices.items()}
     return next((name for name, number in numbers_of_names.items() if is_near(number, value)), "")
 
 
 def is_near(value: Value, wanted: Value) -> bool:
-    """Whether a value is this one: a name the same, a number but for the last digits, which a factor may change."""
+    """Returns whether two values are equal: names must be the same, and numbers may differ in the last digits because
+    of a factor."""
     if isinstance(value, str):
         return value == str(wanted)
     return is_number(wanted) and math.isclose(value, float(wanted), rel_tol=1e-9, abs_tol=1e-12)
 
 
 def is_above(value: Value, limit: float) -> bool:
-    """Whether a value is a number above this."""
+    """Returns whether a value is a number above this limit."""
     return not isinstance(value, str) and value > limit
 
 
 def is_below(value: Value, limit: float) -> bool:
-    """Whether a value is a number below this."""
+    """Returns whether a value is a number below this limit."""
     return not isinstance(value, str) and value < limit
 
 
 def is_between(value: Value, ends: Sequence[float]) -> bool:
-    """Whether a value is a number from the one to the other."""
+    """Returns whether a value is a number in this range."""
     return not isinstance(value, str) and ends[0] <= value <= ends[1]
 
 
@@ -95,5 +97,5 @@ CONDITIONS: dict[str, Callable[[Value, Any], bool]] = {
 
 
 def limit_words(limit: object) -> str:
-    """The limit of a signal: a value, or the two ends of a range."""
+    """Returns the limit of a signal in words: a value, or the two ends of a range."""
     return " and ".join(map(str, limit)) if isinstance(limit, (tuple, list)) else str(limit)

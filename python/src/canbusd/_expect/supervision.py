@@ -1,4 +1,4 @@
-"""Expectations of several frames of a running server: they are cyclic, in order, and stay the same.
+"""Expectations of several frames of a running server: cyclic frames, frames in order, and unchanged frames.
 
     server.expect_cyclic(0x100, period=0.1, tolerance=0.01, count=10)
     server.expect_sequence("Request", "Response", within=0.5)
@@ -36,14 +36,14 @@ if TYPE_CHECKING:
 
     from canbusd._expect.observer import Observer
 
-#: Seconds more than the periods take, in which cyclic frames may come that begin late or are late.
+#: Additional seconds for cyclic frames that begin late or are late.
 SLACK = 1.0
-# The number of wrong gaps that a failure shows.
+# The number of wrong gaps that a failure's text shows.
 MOST_GAPS = 100
 
 
 def check_count(count: object, what: str) -> None:
-    """ValueError if this is no number of what is waited for."""
+    """Raises ValueError if this is not a valid count."""
     if isinstance(count, bool) or not isinstance(count, int) or count < 1:
         raise ValueError(f"count is a number of {what}, 1 or more, not {count!r}")
 
@@ -59,7 +59,7 @@ class Supervision:
         raise NotImplementedError
 
     def _shown(self, signals: Sequence[str] = ()) -> str:
-        """The last frames that were seen, for the end of a failure."""
+        """Returns the last frames that the test saw, for the end of a failure's text."""
         raise NotImplementedError
 
     @explained()
@@ -76,10 +76,10 @@ class Supervision:
     ) -> list[float]:
         """Returns the times between so many frames of this identifier, or of the message with this name, in seconds.
 
-        `count` is the number of these gaps, each of which has to be a `period` long, give or take the `tolerance`, by
-        default a tenth of it. They are those of the frames since the last expectation, by the moments at which these were
-        on the bus, however late this is called. AssertionError shows each gap that is wrong; so it is where fewer frames
-        come `within` seconds, by default those of the periods and one more.
+        `count` is the number of these gaps. Each must be a `period` long within the `tolerance`, which is a tenth of
+        the period by default. The frames are those since the last expectation, with their times on the bus, however
+        late the test calls this. AssertionError shows each wrong gap. It is also raised if fewer frames come `within`
+        seconds, by default the time of the periods and one second more.
         """
         __tracebackhide__ = True
         check_within(period, "period")
@@ -120,12 +120,13 @@ class Supervision:
         channel: Optional[str] = None,
         is_extended_id: Optional[bool] = None,
     ) -> "list[Message]":
-        """Returns so many frames of this identifier, or of the message with this name, whose counters and checksums are right.
+        """Returns so many frames of this identifier, or of the message with this name, whose counters and checksums are
+        right.
 
-        `profile` is one of canbusd.e2e, such as ``e2e.Profile1(data_id=0x123)``, by default that which the database has for the
-        message by attributes. The frames are those since the last
-        expectation and within seconds; the first goes on from the one before it, if that was expected. AssertionError shows
-        each frame that is wrong, and what it is.
+        `profile` is a profile of canbusd.e2e, such as ``e2e.Profile1(data_id=0x123)``; by default the attributes of the
+        message in the database define it. The frames are those since the last expectation and within these seconds. The
+        first frame's counter continues from the frame before, if that was expected. AssertionError shows each wrong
+        frame and its fault.
         """
         __tracebackhide__ = True
         check_within(within)
@@ -166,13 +167,14 @@ class Supervision:
         id: Union[int, str, None] = None,
         channel: Optional[str] = None,
     ) -> list[tuple[float, Value]]:
-        """Returns the values of a signal that follow a shape of canbusd.shapes, each with its moment in seconds from the first.
+        """Returns the values of a signal that follow a shape of canbusd.shapes, each with its moment in seconds from
+        the first.
 
-        The shape has to be seen whole, a ramp to its end and a sine for a period, within these seconds; the values before it do
-        not count. The `tolerance` is in units of the signal, and by default a hundredth of what is between the shape's ends; a
-        value may be `late` by so many seconds.
-        Without a shape the values of all these seconds are returned, and have to be `between` two, else within the limits of
-        the database. AssertionError says how far the shape was followed, or which value is none of them.
+        The shape must be complete within these seconds, a ramp to its end and a sine for a period. Values before the
+        shape do not count. The `tolerance` is in units of the signal, and by default a hundredth of the distance
+        between the shape's ends. A value may be `late` by this many seconds. Without a shape the values of all these
+        seconds are returned. They must be `between` two values, else within the limits of the database. AssertionError
+        says how far the signal followed the shape, or which value is outside the limits.
         """
         __tracebackhide__ = True
         check_within(within)
@@ -279,11 +281,13 @@ class Supervision:
         between: Optional[Sequence[Step]] = None,
         channel: Optional[str] = None,
     ) -> "list[Message]":
-        """Returns the first frames that are these, one after another, of those since the last expectation and within seconds.
+        """Returns the first frames that match these steps in order, since the last expectation and within these
+        seconds.
 
         A step is an identifier, the name of a message, or a dict of the arguments of `expect`, such as ``{"id": 0x123,
-        "data": b"\\\\x01"}``. Between the first and the last any other frame may come, or with `between` only these; error
-        message frames may always. AssertionError says which step is missing, or what came between.
+        "data": b"\\\\x01"}``. Between the first and the last frame any other frame may come, or only the frames in
+        `between`. Error message frames may always come. AssertionError names the missing step, or the frame that came
+        between.
         """
         __tracebackhide__ = True
         if not steps:
@@ -313,7 +317,7 @@ class Supervision:
     def _missing(
         self, wanted: Sequence[Wanted], followed: Optional[Followed], within: float, channel: Optional[str]
     ) -> str:
-        """Says why there was no such sequence, and what of it there was."""
+        """Returns a text that says which part of the sequence is missing, and which part came."""
         observer = self._observing()
         frames = observer.untaken(channel)
         found, intruder = followed or follow(frames, wanted, None)
@@ -324,7 +328,7 @@ class Supervision:
             after = f" after {wanted[len(found) - 1]}" if found else ""
             at = "" if channel is None else f" at {channel}"
             text = f"no {step}{after}{at} within {seconds_words(within)}{observer.missed(channel)}"
-            # It may be there, in another order.
+            # The frame may have come in another order.
             early = next((seen for seen in frames if found and step.matches(seen.frame)), None)
             text += f": it came before, {observer.line(early, channel)}" if early else observer.hint(step, channel)
         lines = [f"  {observer.line(seen, channel)}" for seen in found]
@@ -342,8 +346,8 @@ class Supervision:
     ) -> None:
         """Fails if the data of frames with this identifier, or the value of this signal, changes within these seconds.
 
-        It must stay what it was at the last expectation, or first after it. It fails, too, if no such frame was ever
-        seen, or frames were lost, so that this can't be known.
+        The content must stay as at the last expectation, or as in the first frame after it. The expectation also fails
+        if no such frame was ever seen, or if frames were lost, because a lost frame may have changed.
         """
         __tracebackhide__ = True
         if id is None and signal is None:

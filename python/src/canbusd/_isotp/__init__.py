@@ -1,1 +1,1 @@
-"""ISO-TP in Python, whose segments may have faults: the segments of a message, the options of an end, and the end."""
+"""ISO-TP in Python, with faults for segments: the segments of a message, the options of an end, and the end itself."""

@@ -1,34 +1,35 @@
-"""The options of an end of ISO-TP, as its sockets and can-isotp have them."""
+"""The options of an end of ISO-TP, as its sockets and can-isotp expect them."""
 
 from dataclasses import dataclass
 from typing import Optional, Union
 
-#: The number of bytes that a frame may have that is sent.
+#: The valid maximum sizes of a sent frame, in bytes.
 FRAME_LENGTHS = (8, 12, 16, 20, 24, 32, 48, 64)
 
 
 @dataclass(frozen=True)
 class Options:
-    """The identifiers of an end, and how it sends and receives."""
+    """The identifiers of an end, and its options for sending and receiving."""
 
     tx: int
     rx: int
-    #: The byte that fills frames up to 8 bytes; None if they are as short as can be.
+    #: The byte that fills frames up to 8 bytes; None for frames that are as short as possible.
     padding: Optional[int] = None
     fd: bool = False
-    #: The number of bytes that a frame has at most that is sent.
+    #: The most bytes of a sent frame.
     tx_dl: int = 8
-    #: Its flow control: a byte of time between consecutive frames, and how many of them before the next.
+    #: The flow control of this end: the byte for the time between consecutive frames, and the number of frames in a
+    #: block.
     stmin: int = 0
     block_size: int = 0
-    #: The first byte of what is sent, and of what is received.
+    #: The first byte of sent frames, and of received frames.
     addresses: Optional[tuple[int, int]] = None
-    #: The identifier of requests to all, in single frames.
+    #: The identifier of requests to all nodes, in single frames.
     functional: Optional[int] = None
 
     @property
     def has_29_bits(self) -> bool:
-        """Whether its identifiers have 29 bits."""
+        """Whether the end's identifiers have 29 bits."""
         return self.tx > 0x7FF
 
 
@@ -43,7 +44,7 @@ def options_of(
     extended: Union[int, tuple[int, int], None],
     functional: Optional[int],
 ) -> Options:
-    """Returns the options that these arguments of `isotp` are; ValueError if one is wrong."""
+    """Returns the options for these arguments of `isotp`; raises ValueError if an argument is wrong."""
     identifiers = {"tx": tx, "rx": rx, **({} if functional is None else {"functional": functional})}
     for name, identifier in identifiers.items():
         if isinstance(identifier, bool) or not isinstance(identifier, int) or not 0 <= identifier <= 0x1FFFFFFF:
@@ -77,7 +78,7 @@ def options_of(
 
 
 def _addresses(extended: object) -> Optional[tuple[int, int]]:
-    """The address bytes of what is sent and received; None for none."""
+    """Returns the address bytes of sent and received frames; None for no address."""
     if extended is None:
         return None
     meaning = (

@@ -1,7 +1,7 @@
-"""An end of ISO-TP in this process, by ISO 15765-2, whose segments may have faults.
+"""An end of ISO-TP in this process, by ISO 15765-2, with faults for its segments.
 
-A thread reads what comes and answers first frames. A call that sends a message waits until each of its frames is on the bus,
-when the session gets it back, and for flow controls.
+A thread reads incoming frames and answers first frames. A call that sends a message waits for flow controls, and until
+each of its frames is on the bus, when the session gets the frame back.
 """
 
 import errno
@@ -40,35 +40,36 @@ if TYPE_CHECKING:
 
     from canbusd.bus import CanbusdBus
 
-#: Seconds in which a frame has to be on the bus, a flow control to come, and a consecutive frame: N_As, N_Bs and N_Cr.
+#: Time limits in seconds, N_As, N_Bs and N_Cr: for a frame to reach the bus, for a flow control, and for a consecutive
+#: frame.
 LONGEST_FRAME, LONGEST_CONTROL, LONGEST_GAP = 1.0, 1.0, 1.0
 
 
 class Incoming:
-    """A message of which not all has come."""
+    """A message that is not complete yet."""
 
     def __init__(self, size: int, data: bytes) -> None:
         self.size, self.data = size, bytearray(data)
-        #: The number of bytes that its consecutive frames have, but for the last: one more than its first frame.
+        #: The number of bytes in each consecutive frame except the last: one more than in the first frame.
         self.longest = len(data) + 1
-        #: The number of the next consecutive frame, and how many come before the next flow control.
+        #: The number of the next consecutive frame, and the number of frames before the next flow control.
         self.number, self.left = 1, 0
-        #: By when the next has to come.
+        #: The time limit for the next frame.
         self.deadline = time.monotonic() + LONGEST_GAP
 
 
 class Faults:
-    """The faults of segments that are still to come."""
+    """The faults of future segments."""
 
     def __init__(self) -> None:
         self._left: list[tuple[SegmentFault, int]] = []
 
     def add(self, fault: SegmentFault) -> None:
-        """Adds a fault, for as many messages as it says."""
+        """Adds a fault, for the number of messages that the fault names."""
         self._left.append((fault, fault.count))
 
     def take(self, name: str) -> Optional[SegmentFault]:
-        """Returns the fault that a segment has, the first that was added; it is used up by one message."""
+        """Returns the first added fault that a segment has; a message uses the fault up once."""
         for place, (fault, count) in enumerate(self._left):
             if fault.segment == name:
                 self._left[place : place + 1] = [(fault, count - 1)] if count > 1 else []
@@ -77,7 +78,7 @@ class Faults:
 
 
 class PythonIsoTp(IsoTp):
-    """An end over a bus of python-can on this interface, which `opened` opens."""
+    """An end over a bus of python-can, which `opened` opens on this interface."""
 
     library = "canbusd"
 
@@ -88,15 +89,15 @@ class PythonIsoTp(IsoTp):
         filters = [{"can_id": one, "can_mask": 0x1FFFFFFF, "extended": one > 0x7FF} for one in sorted(received)]
         self._bus = opened(channel, can_filters=filters, error_frames=False, fd=options.fd, receive_own_messages=True)
         self._sending, self._news, self._faults = threading.Lock(), threading.Condition(), Faults()
-        #: Messages, each with whether it was for all, and the numbers of the errors of those that failed.
+        #: The received messages, each with whether it was for all nodes, and the errno of each failed message.
         self._received: deque[Union[tuple[bytes, bool], int]] = deque()
         self._controls: deque[Received] = deque()
-        # The number of frames that were given to the bus, and how many of them it has carried.
+        # The number of frames that were given to the bus, and the number that the bus has carried.
         self._given = self._carried = 0
         self._incoming: Optional[Incoming] = None
-        # Flow controls that are late, and when they are due.
+        # Late flow controls, and the times when they are due.
         self._late: list[tuple[float, Segment]] = []
-        # Why the thread has ended.
+        # The reason why the thread has ended.
         self._end: Optional[BaseException] = None
         self._thread = threading.Thread(target=self._read, name="canbusd ISO-TP", daemon=True)
         self._thread.start()
@@ -135,7 +136,7 @@ class PythonIsoTp(IsoTp):
         return None if found is None else found[0]
 
     def recv_request(self, timeout: Optional[float] = None) -> Optional[tuple[bytes, bool]]:
-        """Returns the next message, as `recv` does, with whether it was for all."""
+        """Returns the next message, as `recv` does, and whether it was for all nodes."""
         with self._news:
             self._news.wait_for(lambda: self._received or self._end, timeout)
             if self._received:
@@ -149,22 +150,22 @@ class PythonIsoTp(IsoTp):
 
     @property
     def is_over(self) -> bool:
-        """Whether it was closed, or its server has ended."""
+        """Whether the end was closed, or its server has ended."""
         return self._end is not None
 
     @property
     def is_receiving(self) -> bool:
-        """Whether a message has begun to come, and is not complete."""
+        """Whether a message has begun to arrive, but is not complete."""
         return self._incoming is not None
 
     def close(self) -> None:
         self._bus.shutdown()
         self._thread.join()
 
-    # Sending.
+    # Methods that send.
 
     def _with_faults(self, segment: Segment) -> Iterator[Segment]:
-        """Yields what is sent in place of a segment."""
+        """Yields the segments to send in place of a segment, because of faults."""
         with self._news:
             fault = self._faults.take(segment.name)
         if fault is None:
@@ -173,10 +174,10 @@ class PythonIsoTp(IsoTp):
             yield from with_fault(segment, fault.kind, fault.delay)
 
     def _give(self, segment: Segment, identifier: int) -> int:
-        """Gives a segment to the bus; returns which of the frames it is."""
+        """Gives a segment to the bus; returns the number of its frame."""
         data = filled(segment.data, self._options.padding)
         frame = Frame(identifier, data, identifier > 0x7FF, is_fd=self._options.fd)
-        # Frames are counted in the order in which they are given.
+        # Frames are counted in the order in which the bus gets them.
         with self._news:
             try:
                 self._bus.send(frame.message(), LONGEST_FRAME)
@@ -186,7 +187,7 @@ class PythonIsoTp(IsoTp):
             return self._given
 
     def _error(self, fault: BaseException) -> IsoTpError:
-        """The error of a transfer that a fault of the bus is."""
+        """Returns the error of a transfer for a fault of the bus."""
         code = getattr(fault, "error_code", None)
         if code == errno.ENETDOWN:
             is_down = str(fault).startswith(INTERFACE_DOWN)
@@ -200,7 +201,7 @@ class PythonIsoTp(IsoTp):
             self._news.wait_for(lambda: self._carried >= number or self._end, seconds_until(is_over))
             if self._carried >= number:
                 return
-            # A frame that was lost, at bus off or when the interface went down, does not come any more.
+            # A frame that was lost at bus off, or when the interface went down, never comes.
             self._carried = self._given
             end = self._end
         if end is not None:
@@ -211,7 +212,8 @@ class PythonIsoTp(IsoTp):
         raise IsoTpError(ERRORS[errno.ECOMM], errno.ECOMM)
 
     def _await_control(self, deadline: float) -> tuple[int, float]:
-        """Waits for a flow control; returns how many frames may follow, 0 for all, and the seconds between them."""
+        """Waits for a flow control; returns the number of frames that may follow, 0 for all, and the seconds between
+        them."""
         while True:
             with self._news:
                 is_over = min(deadline, time.monotonic() + LONGEST_CONTROL)
@@ -226,7 +228,7 @@ class PythonIsoTp(IsoTp):
             if control.number == GO_ON:
                 return control.data[0], distance(control.data[1])
 
-    # Receiving, in the thread.
+    # Methods that receive, in the thread.
 
     def _read(self) -> None:
         try:
@@ -245,7 +247,7 @@ class PythonIsoTp(IsoTp):
                 self._news.notify_all()
 
     def _seconds_left(self) -> Optional[float]:
-        """Seconds until something is due; None if nothing is."""
+        """Returns the seconds until the next event is due; None if there is none."""
         deadlines = [moment for moment, _ in self._late]
         deadlines += [self._incoming.deadline] if self._incoming else []
         return seconds_until(min(deadlines)) if deadlines else None
@@ -260,12 +262,12 @@ class PythonIsoTp(IsoTp):
             self._fail(errno.ETIMEDOUT)
 
     def _fail(self, number: int) -> None:
-        """Gives up the message of which some has come."""
+        """Gives up the incomplete message."""
         self._incoming = None
         self._received.append(number)
 
     def _take(self, message: "Message") -> None:
-        """Takes a frame from another."""
+        """Handles a frame from another node."""
         is_functional = message.arbitration_id == self._options.functional
         data, address = bytes(message.data), self._addresses[1]
         if not (is_functional or message.arbitration_id == self._options.rx) or data[: len(address)] != address:
@@ -273,7 +275,7 @@ class PythonIsoTp(IsoTp):
         try:
             segment = read_segment(data, len(address))
         except ValueError:
-            # As a socket does, it ignores what is none.
+            # A socket ignores frames that are no segments, and so does this end.
             return
         if segment.name == SINGLE:
             self._received.append((segment.data, is_functional))
@@ -283,7 +285,7 @@ class PythonIsoTp(IsoTp):
         elif segment.name == FLOW_CONTROL:
             self._controls.append(segment)
         elif segment.name == FIRST and segment.number == 0:
-            # Its length is in the next bytes, and above 4,095.
+            # The length is in the next bytes, and is above 4,095.
             self._reply(self._control(OVERFLOW))
         elif segment.name == FIRST:
             self._incoming = Incoming(segment.number, segment.data)
@@ -309,7 +311,7 @@ class PythonIsoTp(IsoTp):
                 self._send_control(incoming)
 
     def _send_control(self, incoming: Incoming) -> None:
-        """Answers a first frame, or the end of a block."""
+        """Answers a first frame, or the end of a block, with a flow control."""
         fault = self._faults.take(FLOW_CONTROL)
         incoming.left = self._options.block_size
         go_on = self._control(GO_ON)
@@ -330,7 +332,8 @@ class PythonIsoTp(IsoTp):
             self._incoming = None
 
     def _reply(self, segment: Segment) -> None:
-        """Gives a flow control to the bus. If that takes none, as at bus off, the message fails, and the thread goes on."""
+        """Gives a flow control to the bus. If the bus refuses it, as at bus off, the message fails, and the thread
+        continues."""
         try:
             self._give(segment, self._options.tx)
         except IsoTpError as fault:

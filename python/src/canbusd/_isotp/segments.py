@@ -1,4 +1,4 @@
-"""The segments of a message of ISO-TP by ISO 15765-2, by their names, and the faults that each may have."""
+"""The segments of an ISO-TP message by ISO 15765-2, their names, and the faults that each may have."""
 
 from collections.abc import Iterator, Sequence
 from dataclasses import dataclass, replace
@@ -10,35 +10,36 @@ from canbusd.frames import FD_LENGTHS
 Kind = Literal["lost", "twice", "late", "short", "wrong number", "wait", "overflow"]
 KINDS: tuple[Kind, ...] = get_args(Kind)
 SINGLE, FIRST, CONSECUTIVE, FLOW_CONTROL = "single frame", "first frame", "consecutive frame", "flow control"
-#: The first four bits of a segment.
+#: The first four bits of a segment, by its kind.
 CODES = {0: SINGLE, 1: FIRST, 2: CONSECUTIVE, 3: FLOW_CONTROL}
-#: The states of a flow control: go on, wait, and that the message is too long.
+#: The states of a flow control: continue, wait, and message too long.
 GO_ON, WAIT, OVERFLOW = range(3)
-#: The byte that fills frames up where no other is given: it needs no stuff bits.
+#: The byte that fills frames up if no padding is given: this byte needs no stuff bits.
 FILLER = 0xCC
-#: The faults of each kind of segment.
+#: The possible faults of each kind of segment.
 ONLY_FOR: dict[str, str] = {"wrong number": CONSECUTIVE, "wait": FLOW_CONTROL, "overflow": FLOW_CONTROL}
 
 
 @dataclass(frozen=True)
 class SegmentFault:
-    """A fault of a segment, in the next messages that have it; uds.fault makes one."""
+    """A fault of a segment, in the next messages that have the segment; uds.fault creates the fault."""
 
     segment: str
     kind: Kind
-    #: In how many messages.
+    #: The number of messages that have the fault.
     count: int = 1
-    #: By how many seconds a late one is late.
+    #: The delay of a late segment, in seconds.
     delay: float = 1.5
 
 
 def fault(segment: str, kind: Kind, *, count: int = 1, delay: float = 1.5) -> SegmentFault:
-    """Returns a fault of a segment, such as ``fault("consecutive frame 3", "lost")``, for `inject` of an end, an Ecu or a Client.
+    """Returns a fault of a segment, such as ``fault("consecutive frame 3", "lost")``, for `inject` of an end, an Ecu or
+    a Client.
 
-    Segments are `single frame`, `first frame`, `consecutive frame N`, counted from 1, and `flow control`, and each may be
-    `lost`, come `twice`, be `late` by `delay` seconds, or too `short` by a byte. A consecutive frame may have the `wrong
-    number`; a flow control may say `wait`, and go on after the delay, or `overflow`. It is so in the next `count` messages
-    that have this segment.
+    Segments are `single frame`, `first frame`, `consecutive frame N`, counted from 1, and `flow control`, and each may
+    be `lost`, come `twice`, be `late` by `delay` seconds, or too `short` by a byte. A consecutive frame may have the
+    `wrong number`; a flow control may say `wait`, and go on after the delay, or `overflow`. The fault affects the next
+    `count` messages that have this segment.
     """
     name, _, number = str(segment).partition(f"{CONSECUTIVE} ")
     if segment not in (SINGLE, FIRST, FLOW_CONTROL) and not (not name and number.isdecimal() and int(number) > 0):
@@ -57,16 +58,17 @@ def fault(segment: str, kind: Kind, *, count: int = 1, delay: float = 1.5) -> Se
 
 @dataclass(frozen=True)
 class Segment:
-    """A segment of a message: its name, and its bytes without those that fill the frame up."""
+    """A segment of a message: its name, and its bytes without padding."""
 
     name: str
     data: bytes
-    #: Seconds that it waits before it is sent.
+    #: Seconds to wait before this segment is sent.
     delay: float = 0.0
 
 
 class Received(NamedTuple):
-    """The segment that a frame has: its kind, the number in its first byte or the length of the message, and the rest."""
+    """The segment in a frame: its kind, the number in its first byte or the length of the message, and the remaining
+    bytes."""
 
     name: str
     number: int
@@ -74,7 +76,7 @@ class Received(NamedTuple):
 
 
 def segments_of(data: bytes, tx_dl: int, address: bytes) -> Iterator[Segment]:
-    """Yields the segments of a message, each with at most `tx_dl` bytes, of which the first may be an address."""
+    """Yields the segments of a message, each with at most `tx_dl` bytes; the first byte may be an address."""
     head = len(address)
     if len(data) <= 7 - head:
         yield Segment(SINGLE, address + bytes([len(data)]) + data)
@@ -95,14 +97,15 @@ def flow_control(status: int, block_size: int, stmin: int, address: bytes) -> Se
 
 
 def read_segment(data: bytes, head: int) -> Received:
-    """Returns what a frame says, after an address of `head` bytes; ValueError if it is no segment."""
+    """Returns the segment in a frame, after an address of `head` bytes; raises ValueError if the frame has no
+    segment."""
     content = data[head:]
     name = CODES.get(content[0] >> 4) if content else None
     if name is None:
         raise ValueError(f"no segment: {data.hex(' ')}")
     number, rest = content[0] & 15, content[1:]
     if name == SINGLE and number == 0 and rest:
-        # A single frame of an FD frame has its length in a byte of its own.
+        # A single frame in an FD frame has a separate byte for its length.
         number, rest = rest[0], rest[1:]
     if name == SINGLE:
         if not 0 < number <= len(rest):
@@ -114,7 +117,7 @@ def read_segment(data: bytes, head: int) -> Received:
 
 
 def filled(data: bytes, padding: Optional[int]) -> bytes:
-    """Returns the bytes of a frame, filled up to 8 if there is a padding, and to a length of FD frames."""
+    """Returns the bytes of a frame, filled up to 8 bytes if there is a padding, and to a valid length for FD frames."""
     size = next(length for length in FD_LENGTHS if length >= len(data))
     if padding is not None:
         size = max(size, 8)
@@ -122,7 +125,7 @@ def filled(data: bytes, padding: Optional[int]) -> bytes:
 
 
 def with_fault(segment: Segment, kind: Kind, delay: float) -> Sequence[Segment]:
-    """Returns what is sent in place of a segment that has a fault."""
+    """Returns the segments to send in place of a segment with a fault."""
     if kind == "lost":
         return []
     if kind == "twice":
@@ -136,15 +139,15 @@ def with_fault(segment: Segment, kind: Kind, delay: float) -> Sequence[Segment]:
 
 
 def _renumbered(data: bytes) -> bytes:
-    """The bytes of a consecutive frame with the number after its own."""
+    """Returns the bytes of a consecutive frame with the next number in place of its own."""
     place = 0 if data[0] >> 4 == 2 else 1
     return data[:place] + bytes([0x20 | (data[place] + 1) % 16]) + data[place + 1 :]
 
 
 def distance(stmin: int) -> float:
-    """Returns how many seconds are at least between two consecutive frames, by the byte of a flow control.
+    """Returns the minimum time between two consecutive frames in seconds, from the byte of a flow control.
 
-    A reserved one is the longest, as the standard has it.
+    A reserved byte means the longest time, as in the standard.
     """
     if 0xF1 <= stmin <= 0xF9:
         return (stmin - 0xF0) / 10_000

@@ -1,1 +1,1 @@
-"""Rest buses: which node sends what, and when it is due, on a bench and on a server."""
+"""Rest buses: the messages that each node sends and their due times, on a bench and on a server."""

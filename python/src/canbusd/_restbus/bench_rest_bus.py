@@ -1,4 +1,4 @@
-"""The rest bus of a bench: frames are due at exact moments, and `run` goes from one to the next."""
+"""The rest bus of a bench: frames are due at exact times, and `run` goes from one due time to the next."""
 
 from collections.abc import Mapping
 from typing import TYPE_CHECKING, Optional
@@ -32,10 +32,11 @@ class BenchRestBus(RestBus):
 
     @explained()
     def run(self, until: float) -> list[Attempt]:
-        """Sends what is due before this moment, each frame at its own, and returns the attempts that are made meanwhile.
+        """Sends the frames that are due before this time, each at its due time, and returns the attempts made
+        meanwhile.
 
-        On a bench with a bit rate these are the attempts that begin before it, without one those in which all frames that
-        wait are tried, at the moment at which something is due.
+        On a bench with a bit rate these are the attempts that begin before this time. On a bench without a bit rate all
+        waiting frames are tried at each due time.
         """
         check_within(until, "until")
         attempts: list[Attempt] = []
@@ -47,7 +48,7 @@ class BenchRestBus(RestBus):
                 goal = max(due, self._bench._now) if due is not None and is_due else end
                 attempts += self._go_to(goal)
                 if self._now < goal:
-                    # A node woke, whose messages may be due before.
+                    # A node woke up, and its messages may be due earlier.
                     continue
                 if not is_due:
                     return attempts
@@ -55,11 +56,11 @@ class BenchRestBus(RestBus):
                 attempts += self._tried()
 
     def first_due(self) -> Optional[int]:
-        """When the next frame is due, for a bench whose time passes while a test waits."""
+        """Returns the time when the next frame is due, for a bench whose time passes while a test waits."""
         return None if self._is_closed else self._schedule.first()
 
     def put_due(self, moment: int) -> None:
-        """Sends what is due at this moment, for such a bench."""
+        """Sends the frames that are due at this time, for such a bench."""
         with self.changing():
             self._now = moment
             self._put()
@@ -72,7 +73,7 @@ class BenchRestBus(RestBus):
             message.count(answer)
 
     def close(self) -> None:
-        """Ends it: its sessions are closed, if the bench still runs."""
+        """Closes the rest bus, and its sessions if the bench still runs."""
         self._is_closed = True
         if self._bench._child.stdin is not None:
             for session in self._sessions.values():
@@ -88,7 +89,7 @@ class BenchRestBus(RestBus):
             raise Refused(answer)
 
     def _answer(self, message: RestMessage, frame: Frame) -> str:
-        """Sends a frame; the text of a refusal."""
+        """Sends a frame; returns the text of a refusal, else the empty text."""
         try:
             self._sessions[message.interface].send(frame)
             return ""
@@ -96,7 +97,8 @@ class BenchRestBus(RestBus):
             return str(fault)
 
     def _go_to(self, moment: int) -> list[Attempt]:
-        """Makes the attempts that begin before a moment, on a bench with a bit rate, and goes there; if a node wakes, not as far."""
+        """Goes to a time; on a bench with a bit rate, makes the attempts that begin before it. Stops earlier if a node
+        wakes up."""
         attempts: list[Attempt] = []
         if self._bench._rates:
             asleep = len(self._bench._sleepers)
@@ -107,7 +109,7 @@ class BenchRestBus(RestBus):
         return attempts
 
     def _tried(self) -> list[Attempt]:
-        """Makes attempts at this moment, on a bench without a bit rate, until no frame waits."""
+        """Makes attempts at this time, on a bench without a bit rate, until no frame waits."""
         if self._bench._rates:
             return []
         first = self._bench.attempt(at=self._now / MICROS)

@@ -1,4 +1,4 @@
-"""A node of a test that comes and goes: its interface, its programs, and the rest bus messages that it sends."""
+"""A node of a test that leaves the bus and returns: its interface, its programs, and its messages from rest buses."""
 
 import contextlib
 import weakref
@@ -16,13 +16,13 @@ if TYPE_CHECKING:
 
 
 class Run(Protocol):
-    """The side of a server or a bench that a node uses."""
+    """The part of a server or a bench that a node uses."""
 
     database: "Optional[Database]"
 
     @property
     def _sleepers(self) -> Sleepers:
-        """The nodes that sleep until a frame wakes them."""
+        """Returns the nodes that sleep until a frame wakes them."""
 
     def down(self, name: str) -> None:
         """Takes an interface off the bus."""
@@ -31,7 +31,7 @@ class Run(Protocol):
         """Brings an interface up."""
 
     def _open_rest_buses(self) -> "Sequence[RestBus]":
-        """The rest buses that have not ended."""
+        """Returns the rest buses that have not ended."""
 
 
 class Node(NamesWhatThereIs):
@@ -48,47 +48,48 @@ class Node(NamesWhatThereIs):
     }
 
     def __init__(self, run: Run, name: str, programs: "Sequence[Program]" = ()) -> None:
-        #: The name of its interface.
+        #: The name of the node's interface.
         self.name = name
-        # A run has its nodes, and goes once nobody else has it.
+        # The run owns its nodes, so this reference must not keep the run in memory.
         self._run: Run = weakref.proxy(run)
         self._programs = tuple(programs)
-        # Whether it is off the bus by one of its calls, and what wakes it then.
+        # Whether one of the node's calls took it off the bus, and the frames that wake it.
         self._is_off = False
         self._wake_up: Optional[WakeUp] = None
-        # The messages that rest buses sent by its interface when it left the bus.
+        # The messages that rest buses sent by this interface when the node left the bus.
         self._ceased: "list[tuple[RestBus, list[RestMessage]]]" = []
 
     def power_off(self) -> None:
-        """It loses its power: its programs are killed, and the frames in its transmit queue are lost."""
+        """Cuts the power: the node's programs are killed, and the frames in its transmit queue are lost."""
         for program in self._programs:
             program._power_off()
         self._leave(None)
 
     def power_on(self) -> None:
-        """It has power: it is on the bus with both error counts 0, and the programs that `power_off` killed start anew."""
+        """Restores the power: both error counts are 0, and the programs that `power_off` killed start anew."""
         self.wake()
         for program in self._programs:
             program._power_on()
 
     @explained()
     def sleep(self, wake_on: Optional[WakeOn] = None) -> None:
-        """It leaves the bus, as a sleeping node does. Its programs go on, and their sends are refused.
+        """Takes the node off the bus, as if it slept. Its programs continue, and their sends are refused.
 
-        A frame of another node wakes it whose identifier is `wake_on`, the name of a message, a range such as
-        ``range(0x500, 0x540)``, or in a list of these; its programs don't receive this frame. It has to be a classical data
-        frame, as of transceivers with selective wake-up; an identifier above 7FF has 29 bits. Without `wake_on` only `wake`
-        and `power_on` wake it.
+        A frame of another node wakes this node if `wake_on` has its identifier. `wake_on` is an identifier, the name of
+        a message, a range such as ``range(0x500, 0x540)``, or a list of these. The programs don't receive the frame.
+        Only a classical data frame wakes the node, as with transceivers for selective wake-up. An identifier above 7FF
+        has 29 bits. Without `wake_on` only `wake` and `power_on` wake it.
         """
         self._leave(None if wake_on is None else WakeUp(wake_on, self._run.database))
 
     def wake(self) -> None:
-        """It is on the bus again, with both error counts 0."""
+        """Puts the node on the bus again, with both error counts 0."""
         self._return(self._run.up)
 
     @contextlib.contextmanager
     def unplugged(self) -> Iterator[None]:
-        """Its cable is out in the `with` block; its programs go on. A node that was asleep before is so after it."""
+        """Unplugs the node's cable in the `with` block; its programs continue. A node that slept before sleeps again
+        afterwards."""
         was_off, wake_up = self._is_off, self._wake_up
         self._leave(None)
         kind = None
@@ -101,7 +102,7 @@ class Node(NamesWhatThereIs):
             close_at_exit(lambda: self._leave(wake_up) if was_off else self.wake(), kind)
 
     def _return(self, up: Callable[[str], None]) -> None:
-        """It is on the bus again, once `up` has brought its interface up."""
+        """Brings the node's interface up with `up`, and resumes the messages of its rest buses."""
         with self._run._sleepers.lock:
             self._run._sleepers.remove(self.name)
             up(self.name)
@@ -111,7 +112,7 @@ class Node(NamesWhatThereIs):
                 rest._resume(messages)
 
     def _leave(self, wake_up: Optional[WakeUp]) -> None:
-        """It leaves the bus until it is woken, by such a frame if there is one."""
+        """Takes the node off the bus until it is woken, by such a frame if there is one."""
         with self._run._sleepers.lock:
             self._run._sleepers.remove(self.name)
             self._ceased += [(rest, rest._silence(self.name)) for rest in self._run._open_rest_buses()]

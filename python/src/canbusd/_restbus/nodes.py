@@ -1,4 +1,5 @@
-"""Which node of a database sends what in a rest bus, by which interface and from when on."""
+"""The messages that each node of a database sends in a rest bus, the interface of each node, and the first due
+times."""
 
 import os
 from collections.abc import Iterable, Mapping, Sequence
@@ -13,18 +14,18 @@ Source = Union[Database, str, "os.PathLike[str]"]
 
 
 class NoInterface(ValueError):
-    """A node that sends something has no interface, or one that there is not. The text has the cure in words of Python."""
+    """A node that sends a message has no interface, or names an unknown one. The text has the remedy in Python."""
 
     def __init__(self, node: str, interface: str, known: Sequence[str]) -> None:
         self.node, self.known = node, known
-        #: What is wrong, without a cure.
+        #: The fault without the remedy.
         self.fault = f"node {node} has no interface{f' {interface!r}' if interface else ''}"
         cure = f"give nodes={{{node!r}: ..}} or interface=.., one of {', '.join(known)}, or without=[{node!r}]"
         super().__init__(f"{self.fault}: {cure}")
 
 
 def database_of(source: Source) -> Database:
-    """Returns a database, which may be given as the path of its file; ValueError for what is neither."""
+    """Returns a database, which the caller may give as the path of its file; raises ValueError for other arguments."""
     if isinstance(source, Database):
         return source
     if not isinstance(source, (str, os.PathLike)):
@@ -33,22 +34,23 @@ def database_of(source: Source) -> Database:
 
 
 def sender(message: MessageFormat) -> str:
-    """Returns the node that sends a message; the empty text for none."""
+    """Returns the node that sends a message; the empty text if there is none."""
     return message.senders[0] if message.senders else ""
 
 
 def is_sendable(message: MessageFormat) -> bool:
-    """Whether one frame has room for the message."""
+    """Returns whether the message fits into one frame."""
     return bool(message.size <= FD_LENGTHS[-1])
 
 
 def has(message: MessageFormat, name: str) -> bool:
-    """Whether a message has a signal of this name."""
+    """Returns whether a message has a signal with this name."""
     return any(signal.name == name for signal in message.signals)
 
 
 def phases_of(messages: Sequence[MessageFormat]) -> list[int]:
-    """When the first frame of each message is due, from the start: as the file says, else so that few are due together."""
+    """Returns the time of the first frame of each message, counted from the start: the delay in the file, else a time
+    that keeps frames apart."""
     cyclic = [message for message in messages if message.is_cyclic]
     spread = dict(zip((one.name for one in cyclic), phases([micros(message.cycle_time) for message in cyclic])))
     return [micros(one.start_delay) if one.start_delay else spread.get(one.name, 0) for one in messages]
@@ -61,10 +63,10 @@ def interfaces_of(
     interface: Optional[str],
     known: Sequence[str],
 ) -> dict[str, str]:
-    """Returns the interface of each node that sends something, but for those that are left out.
+    """Returns the interface of each node that sends a message, except for the nodes in `without`.
 
-    It is the one given for the node, else `interface`, else the one that has the node's name. NoInterface if there is
-    none, and ValueError if the name of a node is wrong.
+    This is the interface given for the node, else `interface`, else the interface with the node's name. NoInterface if
+    none of these exists, and ValueError if the name of a node is wrong.
     """
     senders = list(dict.fromkeys(sender(message) for message in database.messages if message.senders))
     if not isinstance(nodes, Mapping):

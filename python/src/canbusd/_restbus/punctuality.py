@@ -1,19 +1,20 @@
 """Makes the threads of this process punctual.
 
-Unless told otherwise a thread that computes keeps the others out for 5 milliseconds at a time, and a full collection of garbage
-stops all of them while it looks at each object: for 30 milliseconds at those of pytest and a library of databases.
+By default a computing thread blocks the others for 5 milliseconds at a time. A full garbage collection blocks all
+threads while it visits each object. With the objects of pytest and a database library this takes 30 milliseconds.
 """
 
 import gc
 import sys
 import threading
 
-#: Seconds for which a thread that computes may keep another one out.
+#: A computing thread may block another thread for this many seconds.
 INTERVAL = 0.0001
 
 
 class Punctuality:
-    """While somebody asks for it, threads take turns sooner, and what was there before is no garbage to look for."""
+    """While anybody asks for punctuality, threads switch more often, and the garbage collector skips the objects that
+    existed before."""
 
     def __init__(self) -> None:
         self._lock = threading.Lock()
@@ -22,19 +23,19 @@ class Punctuality:
         self._has_frozen = False
 
     def begin(self) -> None:
-        """Asks for it, until `end` is called as often."""
+        """Asks for punctuality, until a matching call of `end`."""
         with self._lock:
             self._users += 1
             if self._users == 1:
                 self._interval = sys.getswitchinterval()
                 sys.setswitchinterval(min(self._interval, INTERVAL))
-                # Objects frozen by other code are not ours to thaw.
+                # Only objects that this class froze may be unfrozen here.
                 self._has_frozen = not gc.get_freeze_count()
                 if self._has_frozen:
                     gc.freeze()
 
     def end(self) -> None:
-        """Needs it no more."""
+        """Ends one request for punctuality."""
         with self._lock:
             self._users -= 1
             if not self._users:

@@ -1,4 +1,4 @@
-"""The times of calls, in microseconds, and phases that keep cyclic calls apart."""
+"""The due times of calls, in microseconds, and phases that keep cyclic calls apart."""
 
 import heapq
 import math
@@ -6,32 +6,32 @@ from collections.abc import Callable, Iterator, Sequence
 from typing import Optional
 
 MICROS = 1_000_000
-#: Microseconds in which about two frames find room at 500 kbit/s, and the time over which phases are compared.
+#: Microseconds in which about two frames fit at 500 kbit/s, and the time over which phases are compared.
 SLOT, LONGEST = 500, 2 * MICROS
-#: Multiples of it, without their whole part, are spread over 0 to 1, however many there are.
+#: The fractional parts of multiples of this number spread evenly over 0 to 1, for any count.
 GOLDEN = (math.sqrt(5) - 1) / 2
-#: How many phases of one message are compared.
+#: The number of phases that are compared for a message.
 TRIES = 128
 
 
 class Schedule:
-    """Calls by the moments at which they are due; those of one moment by their order, then as they were added."""
+    """Calls sorted by due time; calls with the same due time by their order, then in the order of their addition."""
 
     def __init__(self) -> None:
         self._heap: list[tuple[int, int, int, Callable[[int], None]]] = []
         self._added = 0
 
     def add(self, due: int, order: int, call: Callable[[int], None]) -> None:
-        """Adds a call, which is given the moment at which it was due."""
+        """Adds a call, which gets its due time as an argument."""
         heapq.heappush(self._heap, (due, order, self._added, call))
         self._added += 1
 
     def first(self) -> Optional[int]:
-        """Returns when the next call is due; None if there is none."""
+        """Returns the due time of the next call; None if there is none."""
         return self._heap[0][0] if self._heap else None
 
     def take(self, now: int) -> Iterator[tuple[int, Callable[[int], None]]]:
-        """Yields the calls that are due at this moment or before, each with its own; they may add others."""
+        """Yields the calls that are due at this time or before, with their due times; these calls may add others."""
         while self._heap and self._heap[0][0] <= now:
             due, _, _, call = heapq.heappop(self._heap)
             yield due, call
@@ -43,10 +43,10 @@ def micros(seconds: float) -> int:
 
 
 def phases(cycles: Sequence[int]) -> list[int]:
-    """Returns for each of these cycle times when the first of its frames is due, so that few frames are due together.
+    """Returns the due time of the first frame for each cycle time, so that few frames are due together.
 
-    The shortest are given theirs first. Of each some moments of its first cycle are tried, spread over it, and the one
-    is taken around which the fewest frames of the others are due.
+    The shortest cycle times are placed first. For each, this function tries several times spread over the first cycle,
+    and takes the time with the fewest frames of other messages near it.
     """
     if not cycles:
         return []

@@ -1,4 +1,4 @@
-"""Nodes that a bench or a server simulates: its mixins."""
+"""The mixins that let a bench or a server simulate nodes."""
 
 from collections.abc import Mapping, Sequence
 from typing import TYPE_CHECKING, Any, Generic, Literal, Optional, TypeVar, Union
@@ -18,10 +18,10 @@ Library = Literal["can-isotp", "canbusd-run", "canbusd"]
 
 
 class HasRestBus(Generic[R]):
-    """The common part of a bench and a server for a rest bus."""
+    """The rest bus part that a bench and a server share."""
 
     database: "Optional[Database]"
-    # The rest buses that were made.
+    # The rest buses made so far.
     _rest_buses: "list[R]"
 
     def down(self, name: str) -> None:
@@ -38,7 +38,7 @@ class HasRestBus(Generic[R]):
         raise NotImplementedError
 
     def _make_rest_bus(self, database: "Database", interfaces: Mapping[str, str]) -> R:
-        """The rest bus of a database, whose nodes send by these interfaces."""
+        """Returns a rest bus for a database, whose nodes send by these interfaces."""
         raise NotImplementedError
 
     @explained()
@@ -49,28 +49,28 @@ class HasRestBus(Generic[R]):
         nodes: Optional[Mapping[str, str]] = None,
         interface: Optional[str] = None,
     ) -> R:
-        """Returns the rest bus of a database, or of its file: all nodes but those `without`.
+        """Returns the rest bus of a database, or of its file: all nodes except those in `without`.
 
-        They send in its `with` block, those of a bench in `rest.run(until=..)`. A node sends by the interface that `nodes` has
-        for it, else by `interface`, else by the one with its name.
+        On a server the nodes send in the `with` block, on a bench in `rest.run(until=..)`. A node sends by its
+        interface in `nodes`, else by `interface`, else by the interface with the node's name.
         """
         from canbusd._restbus.nodes import database_of, interfaces_of
 
         known = database_of(database)
         found = interfaces_of(known, without, nodes or {}, interface, self.interfaces)
-        # Expectations then know its names, too.
+        # Expectations then also know the names in the database.
         self.database = known if self.database is None else self.database.with_more(known)
         rest = self._make_rest_bus(known, found)
         self._rest_buses = [*self._open_rest_buses(), rest]
         return rest
 
     def _open_rest_buses(self) -> "list[R]":
-        """The rest buses that have not ended."""
+        """Returns the rest buses that have not ended."""
         return [one for one in self._rest_buses if not one._is_closed]
 
 
 class SimulatesNodes(HasRestBus["RestBus"]):
-    """The part of a server for simulated nodes."""
+    """The part of a server that simulates nodes."""
 
     address: str
     _result: Any
@@ -100,13 +100,14 @@ class SimulatesNodes(HasRestBus["RestBus"]):
         functional: Optional[int] = None,
         library: Optional[Library] = None,
     ) -> "IsoTp":
-        """Returns an end of ISO-TP on an interface: it sends with the identifier `tx`, and receives what has `rx`.
+        """Returns an end of ISO-TP on an interface: it sends with the identifier `tx`, and receives frames with `rx`.
 
-        Identifiers above 7FF have 29 bits. `padding` is the byte that fills frames up to 8 bytes, `tx_dl` how many bytes a frame
-        has at most that is sent, with `fd` up to 64, and `stmin` and `block_size` are what the end asks for in its flow
-        controls, `stmin` as its byte there. `extended` is the address in the first byte of each frame, or a pair of what is
-        sent and what is received. Requests to all have the identifier `functional`: they are received too, and sent by
-        ``send(data, functional=True)``. can-isotp does it where it is installed, else a socket of canbusd-run, else Python.
+        Identifiers above 7FF have 29 bits. `padding` is the byte that fills frames up to 8 bytes, and `tx_dl` the most
+        bytes of a sent frame, up to 64 with `fd`. The end's flow controls carry `stmin`, as a byte, and `block_size`.
+        `extended` is the address in the first byte of each frame, or a pair of addresses for sent and received frames.
+        Requests to all nodes have the identifier `functional`: the end receives them too, and sends them by
+        ``send(data, functional=True)``. The implementation is can-isotp if it is installed, else a socket of
+        canbusd-run, else Python.
         """
         from canbusd._isotp.options import options_of
         from canbusd.isotp import open_isotp

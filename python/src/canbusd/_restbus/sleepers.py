@@ -15,50 +15,51 @@ from canbusd.frames import Frame, frame_of
 from canbusd.record import Attempt
 
 LOG = logging.getLogger("can.canbusd")
-#: Wakes a node, whose interface is brought up by this function of its name.
+#: Wakes a node; the argument is a function that brings up the interface with a given name.
 Wake = Callable[[Callable[[str], None]], None]
 
 
 class Sleeper(NamedTuple):
-    """A node that sleeps, which `wake` wakes."""
+    """A sleeping node, which `wake` wakes."""
 
     wake_up: WakeUp
     wake: Wake
-    #: By an interface, how many frames its session had got when the node fell asleep.
+    #: By the name of an interface: the number of frames that its session had received when the node fell asleep.
     before: dict[str, int]
 
 
 class Sleepers:
-    """Those of a bench, which hands on its attempts. `lock` is held while a node falls asleep or wakes."""
+    """The sleeping nodes of a bench, which hands on its attempts. A thread holds `lock` while a node falls asleep or
+    wakes up."""
 
     def __init__(self, lock: "threading.RLock", up: Callable[[str], None]) -> None:
         self.lock, self._up = lock, up
-        # By the names of their interfaces.
+        # The sleepers, by the names of their interfaces.
         self._asleep: dict[str, Sleeper] = {}
 
     def __len__(self) -> int:
         return len(self._asleep)
 
     def add(self, name: str, wake_up: WakeUp, wake: Wake) -> None:
-        """Adds the node of an interface, which is down."""
+        """Adds the node of an interface that is down."""
         self._asleep[name] = Sleeper(wake_up, wake, {})
 
     def remove(self, name: str) -> None:
-        """Removes the node of an interface, if it is there."""
+        """Removes the node of an interface, if it sleeps."""
         self._asleep.pop(name, None)
 
     def are_woken_by(self, attempt: Attempt) -> bool:
-        """Whether this attempt has put a frame on the bus that wakes somebody."""
+        """Returns whether this attempt has put a frame on the bus that wakes a node."""
         is_whole = attempt.outcome == "done" or bool(attempt.accepted)
         return is_whole and any(one.wake_up.matches(Frame.parse(attempt.frame)) for one in self._asleep.values())
 
     def note(self, attempt: Attempt) -> None:
-        """Wakes those that are woken by this attempt."""
+        """Wakes the nodes that this attempt wakes."""
         if self.are_woken_by(attempt):
             self._wake_by(Frame.parse(attempt.frame))
 
     def _wake_by(self, frame: Frame, channel: str = "", number: int = 0) -> None:
-        """Wakes those whose frame this is, the session on an interface having got so many before it."""
+        """Wakes the nodes that this frame wakes; `number` frames had come to the session on the interface before."""
         for name, sleeper in list(self._asleep.items()):
             if number >= sleeper.before.get(channel, 0) and sleeper.wake_up.matches(frame):
                 self.remove(name)
@@ -66,10 +67,10 @@ class Sleepers:
 
 
 class Watch(RawSession):
-    """A session on an interface that receives what wakes a node."""
+    """A session on an interface that receives the frames that wake a node."""
 
     def __init__(self, address: str, name: str) -> None:
-        #: The number of frames that were taken here.
+        #: The number of frames taken from this session.
         self.taken = 0
         try:
             super().__init__(address, name, [str(filter_message(NO_FRAMES))], TIMEOUT)
@@ -79,11 +80,11 @@ class Watch(RawSession):
 
 
 class LiveSleepers(Sleepers):
-    """Those of a server. While one sleeps, a session on each interface of its bus receives what wakes it: any of the others may
-    be down."""
+    """The sleeping nodes of a server. While one sleeps, a session on each interface of its bus receives the waking
+    frames, because any other interface may be down."""
 
     def __init__(self, address: str, buses: Sequence[Sequence[str]]) -> None:
-        # By a session of its own: another thread may wait for what those of the server receive.
+        # These sessions are separate, because another thread may wait for the frames of the server's own sessions.
         super().__init__(threading.RLock(), lambda name: self._watches[name].up())
         self._address, self._buses = address, buses
         self._watches: dict[str, Watch] = {}
@@ -96,7 +97,7 @@ class LiveSleepers(Sleepers):
                 threading.Thread(target=self._read, args=(watch,), name="canbusd wake-up", daemon=True).start()
         super().add(name, wake_up, wake)
         self._filter()
-        # Frames from before may still be on their way to here.
+        # Earlier frames may still be on their way to this process.
         before = {one: self._watches[one].stats().queued for one in names}
         self._asleep[name] = Sleeper(wake_up, wake, before)
 
@@ -107,28 +108,29 @@ class LiveSleepers(Sleepers):
             self._filter()
 
     def close(self) -> None:
-        """Ends its sessions."""
+        """Ends the sessions."""
         with self.lock:
             self._asleep.clear()
         for watch in self._watches.values():
             watch.close()
 
     def _filter(self) -> None:
-        """Has the sessions receive what wakes somebody; more filters than fit into a message are applied here only."""
+        """Makes the sessions receive the frames that wake a node. If the filters do not fit into a message, only this
+        process filters."""
         filters = [one for sleeper in self._asleep.values() for one in sleeper.wake_up.filters] or NO_FRAMES
         message = filter_message(filters) or filter_message(None)
         for watch in self._watches.values():
             watch.answer(str(message))
 
     def _read(self, watch: Watch) -> None:
-        """Hands on what a session receives, until it ends."""
+        """Hands on the frames that a session receives, until it ends."""
         while (frame := next_frame(watch)) is not None:
             with self.lock:
                 number, watch.taken = watch.taken, watch.taken + 1
                 try:
                     self._wake_by(frame, watch.channel, number)
                 except Exception as reason:
-                    # As of a server that was killed, or whose record is full.
+                    # Causes are a server that was killed, or a record that is full.
                     LOG.warning("a node was not woken by %s: %s", frame, reason)
 
 

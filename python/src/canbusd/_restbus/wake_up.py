@@ -1,4 +1,4 @@
-"""Frames that wake a sleeping node, as a transceiver with selective wake-up knows them."""
+"""The frames that wake a sleeping node, as a transceiver with selective wake-up selects them."""
 
 from collections.abc import Iterable, Iterator, Sequence
 from typing import Any, Optional, Union
@@ -13,7 +13,8 @@ KNOWN = "wake_on is an identifier, the name of a message, a range, such as range
 
 
 class WakeUp:
-    """The frames that wake a node: classical data frames with one of these identifiers, those above 7FF with 29 bits."""
+    """The frames that wake a node: classical data frames with one of these identifiers; identifiers above 7FF have 29
+    bits."""
 
     def __init__(self, wake_on: WakeOn, database: Optional[Database]) -> None:
         given = [wake_on] if isinstance(wake_on, (int, str, range)) else wake_on
@@ -24,7 +25,7 @@ class WakeUp:
             raise ValueError(f"{KNOWN}; {wake_on!r} has none")
 
     def matches(self, frame: Frame) -> bool:
-        """Whether a frame wakes the node. Selective wake-up knows classical frames only."""
+        """Returns whether a frame wakes the node. Selective wake-up only works with classical frames."""
         is_classical = not (frame.is_fd or frame.is_remote_frame or frame.is_error_frame)
         return is_classical and any(
             frame.is_extended_id == is_extended and frame.arbitration_id in span for span, is_extended in self._spans
@@ -32,7 +33,7 @@ class WakeUp:
 
     @property
     def filters(self) -> list[dict[str, Any]]:
-        """Filters that pass these frames."""
+        """Filters that accept these frames."""
         return [
             {"can_id": first | EXTENDED * is_extended, "can_mask": mask | EXTENDED | REMOTE}
             for span, is_extended in self._spans
@@ -41,7 +42,8 @@ class WakeUp:
 
 
 def spans_of(one: Union[int, str, range], database: Optional[Database]) -> Iterator[tuple[range, bool]]:
-    """Yields the identifiers that are meant, and whether they have 29 bits; ValueError for what is none."""
+    """Yields the identifiers for this argument, and whether they have 29 bits; raises ValueError for wrong
+    arguments."""
     if not isinstance(one, range):
         number, is_extended = identifier(one, database)
         check_identifier(number, is_extended, is_extended, is_error=False)
@@ -55,10 +57,10 @@ def spans_of(one: Union[int, str, range], database: Optional[Database]) -> Itera
 
 
 def masks_of(span: range) -> Iterator[tuple[int, int]]:
-    """Yields identifiers and masks that have the numbers of a range, the fewest there are."""
+    """Yields the fewest identifiers and masks that match exactly the numbers of a range."""
     first = span.start
     while first < span.stop:
-        # The most that have their upper bits in common.
+        # The largest block of numbers with the same upper bits.
         size = first & -first or MOST_IDENTIFIER + 1
         while first + size > span.stop:
             size //= 2

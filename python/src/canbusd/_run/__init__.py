@@ -1,1 +1,1 @@
-"""Runs: what `canbusd audit --events` says of a record, in columns; its story, its logs, and two runs compared."""
+"""Runs: the output of `canbusd audit --events` in columns, its story, its logs, and the comparison of two runs."""

@@ -1,7 +1,7 @@
-"""Which frames of two runs are the same: those of one sender with one identifier are aligned, in their order.
+"""Finds the frames that two runs share: frames of the same sender with the same identifier are aligned in order.
 
-In each such row the frames with the same data are found by the algorithm of Myers (An O(ND) Difference Algorithm, 1986);
-what is between these is paired in its order.
+In each such row the algorithm of Myers (An O(ND) Difference Algorithm, 1986) finds the frames with the same data. The
+frames between these are paired in order.
 """
 
 from collections.abc import Iterator, Sequence
@@ -9,31 +9,32 @@ from typing import NamedTuple, Optional
 
 from canbusd.record import Attempt
 
-#: How many frames that only one of the runs has are found in a row; rows that differ more are paired in their order.
+#: The search in a row allows this many frames that only one run has; rows with more differences are paired in order.
 MOST_EDITS = 400
 Place = Optional[int]
 
 
 class Sent(NamedTuple):
-    """A frame of a run: its attempts, by their numbers in the run."""
+    """A frame of a run: its attempts, as numbers of the run's attempts."""
 
     attempts: list[int]
 
     @property
     def first(self) -> int:
-        """Its first attempt."""
+        """The frame's first attempt."""
         return self.attempts[0]
 
 
 class Pair(NamedTuple):
-    """A frame of the first run, and the same one of the second; only one of them where the other run has it not."""
+    """A frame of the first run, and the same frame of the second run; one of them is missing if only one run has the
+    frame."""
 
     one: Optional[Sent]
     other: Optional[Sent]
 
 
 def pairs_of(one: Sequence[Attempt], other: Sequence[Attempt]) -> Iterator[list[Pair]]:
-    """Yields the pairs of frames of each sender and identifier, in their order."""
+    """Yields the pairs of frames of each sender and identifier, in order."""
     left, right = rows_of(one), rows_of(other)
     for key in {**left, **right}:
         rows = left.get(key, []), right.get(key, [])
@@ -57,7 +58,7 @@ def rows_of(attempts: Sequence[Attempt]) -> dict[tuple[str, str], list[Sent]]:
 
 
 def aligned(one: Sequence[str], other: Sequence[str]) -> list[tuple[Place, Place]]:
-    """Returns the places of both rows in pairs; None if one of them has nothing."""
+    """Returns the places of both rows in pairs; in a pair, None means that this row has no such frame."""
     most = min(len(one), len(other))
     begin = next((k for k in range(most) if one[k] != other[k]), most)
     end = next((k for k in range(most - begin) if one[-1 - k] != other[-1 - k]), most - begin)
@@ -74,7 +75,7 @@ def aligned(one: Sequence[str], other: Sequence[str]) -> list[tuple[Place, Place
 
 
 def between(first: tuple[int, int], end: tuple[int, int]) -> Iterator[tuple[Place, Place]]:
-    """Yields pairs of what is between frames that are the same, in its order."""
+    """Yields pairs of the frames between the frames that are the same, in order."""
     left, right = range(first[0], end[0]), range(first[1], end[1])
     paired = min(len(left), len(right))
     yield from zip(left, right)
@@ -83,8 +84,9 @@ def between(first: tuple[int, int], end: tuple[int, int]) -> Iterator[tuple[Plac
 
 
 def common(one: Sequence[str], other: Sequence[str]) -> list[tuple[int, int]]:
-    """Returns the places of a longest common part; none if the rows differ by more than MOST_EDITS."""
-    # By its diagonal, how far into the first row the edits up to now reach; and that before each number of edits.
+    """Returns the places of a longest common part; an empty list if the rows differ by more than MOST_EDITS."""
+    # For each diagonal, the place in the first row that the edits have reached; and these places before each number of
+    # edits.
     ends, before = {1: 0}, []
     for edits in range(min(len(one) + len(other), MOST_EDITS) + 1):
         before.append(dict(ends))
@@ -100,7 +102,7 @@ def common(one: Sequence[str], other: Sequence[str]) -> list[tuple[int, int]]:
 
 
 def walked_back(before: Sequence[dict[int, int]], x: int, y: int) -> list[tuple[int, int]]:
-    """Returns the pairs on the way back from the end of both rows."""
+    """Returns the pairs, traced back from the end of both rows."""
     pairs = []
     for edits in range(len(before) - 1, -1, -1):
         ends, diagonal = before[edits], x - y

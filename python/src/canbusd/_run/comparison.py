@@ -1,7 +1,7 @@
-"""Two runs beside each other: the differences of their frames.
+"""Compares two runs: the differences between their frames.
 
-A frame is the same in both by its sender, its identifier and their order, so that one that is sent again is one difference.
-Interfaces are compared by their names where both runs have names for all of theirs, and else by their numbers.
+Frames of both runs are matched by sender, identifier and order, so that a frame that is sent again is one difference.
+Interfaces are compared by name if both runs name all their interfaces, else by number.
 """
 
 import collections
@@ -16,35 +16,35 @@ from canbusd._text import times
 from canbusd.record import Attempt, Record, attempts_of, is_named, number_named
 
 Kind = Literal["only here", "only there", "other data", "other outcome", "later", "earlier", "restarts", "downs"]
-#: By how many seconds the moments of a frame may differ, counted from the first frame of both runs.
+#: The tolerance for the times of a frame in seconds; both runs count time from their first frame.
 TOLERANCE = 0.01
-# The number of differences that are listed as text.
+# The most differences that are listed as text.
 MOST_LISTED = 1000
 SIGNS = {"only here": "-", "only there": "+"}
 
 
 class Difference(NamedTuple):
-    """A difference of a frame."""
+    """A difference between the runs in a frame."""
 
     kind: Kind
-    #: The attempt of the first run in which it is; of a frame that only the second has the one that follows it.
+    #: The attempt of the first run; for a frame that only the second run has, the attempt after the frame's place.
     attempt: int
-    #: The same in the second run.
+    #: The same for the second run.
     other: int
     words: str
 
     def line(self) -> str:
-        """Returns it in a line: the attempts of both runs, its kind and its words."""
+        """Returns the difference on one line: the attempts of both runs, the kind and a description."""
         here = "" if self.kind == "only there" else f"{self.attempt:,}"
         there = "" if self.kind == "only here" else f"{self.other:,}"
         return f"{SIGNS.get(self.kind, '!')} {here:>9} {there:>9}  {self.kind}: {self.words}"
 
 
 def names_of_both(one: Record, other: Record) -> tuple[Sequence[str], Sequence[str]]:
-    """Returns the names by which the interfaces of two runs are compared and shown.
+    """Returns the names for comparing and showing the interfaces of two runs.
 
-    They are those of each run where all have one. Else an interface is called alike in both: by the name that it has in
-    either of them, or all by their numbers, if the names of the runs don't fit each other.
+    If all interfaces have names, each run uses its own names. Else both runs use the same name for an interface: the
+    name that either run has. If these names contradict each other, both runs use numbers.
     """
     if all(map(is_named, [*one.names, *other.names])):
         return one.names, other.names
@@ -57,20 +57,20 @@ def names_of_both(one: Record, other: Record) -> tuple[Sequence[str], Sequence[s
 
 
 class Comparison:
-    """Two runs, with names by which they can be compared; `title` is how a page calls the second one."""
+    """Two runs, with names for comparing them; `title` is the name of the second run on a page."""
 
     def __init__(self, one: Record, other: Record, title: str = "", tolerance: float = TOLERANCE) -> None:
         self.records, self.title, self.tolerance = (one, other), title, tolerance
         self.names = names_of_both(one, other)
         made = [attempts_of(record.replay, names) for record, names in zip(self.records, self.names)]
-        #: The attempts of both runs that had a frame, which are numbered from 0.
+        #: The attempts of both runs that had a frame, numbered from 0.
         self.one, self.other = ([attempt for attempt in run if attempt.outcome != "idle"] for run in made)
         self._restarted = [collections.Counter(name for attempt in run for name in attempt.restarted) for run in made]
         self._downed = [downs_of(record, names) for record, names in zip(self.records, self.names)]
         self._rows = list(pairs_of(self.one, self.other))
 
     def reversed(self, title: str) -> "Comparison":
-        """Returns the comparison of the second run with the first, which has this title: the same pairs, turned round."""
+        """Returns the comparison of the second run with the first, under this title: the same pairs, reversed."""
         turned = object.__new__(Comparison)
         turned.records, turned.names = self.records[::-1], self.names[::-1]
         turned.title, turned.tolerance = title, self.tolerance
@@ -81,7 +81,8 @@ class Comparison:
 
     @functools.cached_property
     def partners(self) -> dict[int, int]:
-        """The attempts of the second run that are the same as some of the first, from the last of each frame on."""
+        """Maps attempts of the second run to the same attempts of the first; a frame's attempts are matched from the
+        last one back."""
         found: dict[int, int] = {}
         for pair in itertools.chain(*self._rows):
             if pair.one is not None and pair.other is not None:
@@ -90,8 +91,8 @@ class Comparison:
 
     @functools.cached_property
     def differences(self) -> list[Difference]:
-        """All differences, in their order."""
-        # The place that a frame of the other run only would have.
+        """All differences, in order."""
+        # The place that a frame of only the other run would have.
         here, there = places(self.partners, len(self.other)), places(reversed_pairs(self.partners), len(self.one))
         found = [one for row in self._rows for one in self._in_row(row, here, there)]
         more = [
@@ -126,7 +127,7 @@ class Comparison:
         if ends[0] != ends[1]:
             kinds.append(("other outcome", f"{ends[0]} against {ends[1]}"))
         else:
-            # A frame that a node missed in its outage is a part of that.
+            # A frame that a node missed during its outage is no separate difference.
             gone = self._away[0][one.first] | self._away[1][other.first]
             takers = accepted(self.one, one, gone), accepted(self.other, other, gone)
             if takers[0] != takers[1]:
@@ -139,7 +140,7 @@ class Comparison:
             yield Difference(kinds[0][0], one.first, other.first, about + "; ".join(words for _, words in kinds))
 
     def _counted(self, kind: Kind, did: str, counts: "Sequence[collections.Counter[str]]") -> Iterator[Difference]:
-        """Yields what an interface did in one run oftener than in the other."""
+        """Yields the events of an interface whose counts differ between the runs."""
         for name in sorted(set(counts[0]) | set(counts[1])):
             if counts[0][name] != counts[1][name]:
                 words = f"{name} {did} {times(counts[0][name], 'time')} against {counts[1][name]}"
@@ -151,7 +152,7 @@ class Comparison:
 
     @functools.cached_property
     def _shift(self) -> float:
-        """By how much the second run is later as a whole: at the first frame of the first run that both have."""
+        """The delay of the whole second run: at the first frame of the first run that both runs have."""
         pairs = (pair for row in self._rows for pair in row)
         both = [(one, other) for one, other in pairs if one is not None and other is not None]
         if not both:
@@ -165,7 +166,8 @@ class Comparison:
 
     @property
     def reordered(self) -> Optional[int]:
-        """The first attempt of the first run before which the second has one that follows it here; None if there is none."""
+        """The first attempt that comes later in the second run than an attempt that follows it in the first run; None
+        if the orders agree."""
         last = -1
         for other in sorted(self.partners):
             if self.partners[other] < last:
@@ -174,7 +176,7 @@ class Comparison:
         return None
 
     def heading(self) -> str:
-        """Returns in one line how the runs differ."""
+        """Returns the difference between the runs on one line."""
         if self.differences:
             first = self.differences[0]
             many = times(len(self.differences), "difference")
@@ -184,14 +186,15 @@ class Comparison:
         return f"No difference in {times(len(self.one), 'attempt')}"
 
     def lines(self) -> list[str]:
-        """Returns the heading and the differences as lines: `-` the first run only, `+` the second, `!` both."""
+        """Returns the heading and the differences as lines: `-` only the first run, `+` only the second, `!` both."""
         more = len(self.differences) - MOST_LISTED
         lines = [one.line() for one in self.differences[:MOST_LISTED]]
         return [self.heading(), *lines, *([f"and {times(more, 'difference')} more"] if more > 0 else [])]
 
 
 def places(partners: dict[int, int], count: int) -> list[int]:
-    """Returns for each attempt of a run the one of the other run that follows those before it."""
+    """Returns for each attempt of a run the place in the other run that follows the partners of the earlier
+    attempts."""
     last, found = -1, []
     for attempt in range(count):
         last = max(last, partners.get(attempt, -1))
@@ -200,17 +203,18 @@ def places(partners: dict[int, int], count: int) -> list[int]:
 
 
 def reversed_pairs(partners: dict[int, int]) -> dict[int, int]:
-    """Returns the attempts of the first run with those of the second."""
+    """Returns the map from attempts of the first run to those of the second."""
     return {one: other for other, one in partners.items()}
 
 
 def key_of(attempt: Attempt) -> tuple[object, ...]:
-    """Returns the compared facts of an attempt; interfaces are in the order of their bus, so other keys may be the same."""
+    """Returns the compared facts of an attempt; sets of interfaces are in bus order, so equal sets may have different
+    keys."""
     return attempt.frame, attempt.outcome, attempt.fault, attempt.accepted, attempt.off
 
 
 def told(run: Sequence[Attempt], sent: Sent) -> str:
-    """A frame with its sender: `can0 123#11`."""
+    """Returns a frame with its sender: `can0 123#11`."""
     attempt = run[sent.first]
     return f"{attempt.winner} {attempt.frame}"
 
@@ -225,24 +229,24 @@ def outcomes(run: Sequence[Attempt], sent: Sent) -> str:
 
 
 def outcome_of(attempt: Attempt) -> str:
-    """The outcome of an attempt, with its fault and who went bus off."""
+    """Returns the outcome of an attempt, with its fault and the interfaces that went bus off."""
     fault = "" if attempt.fault in ("good", attempt.outcome) else f" ({attempt.fault})"
     return attempt.outcome + fault + (f", {' and '.join(sorted(attempt.off))} bus off" if attempt.off else "")
 
 
 def accepted(run: Sequence[Attempt], sent: Sent, gone: "frozenset[str]") -> list[set[str]]:
-    """Returns the receivers of a frame in each of its attempts, but for these, whatever the numbers of these interfaces are."""
+    """Returns the receivers of a frame in each of its attempts, except for the interfaces in `gone`."""
     return [set(run[place].accepted) - gone for place in sent.attempts]
 
 
 def downs_of(record: Record, names: Sequence[str]) -> "collections.Counter[str]":
-    """Returns how often each interface of a run went down."""
+    """Returns the number of times that each interface of a run went down."""
     steps = record.replay.steps
     return collections.Counter(names[steps.ifaces[place]] for place in steps.places_of(DOWN))
 
 
 def away(record: Record, names: Sequence[str]) -> "list[frozenset[str]]":
-    """Returns for each attempt of a run who was bus off or down then."""
+    """Returns for each attempt of a run the interfaces that were bus off or down at that time."""
     steps, gone = record.replay.steps, frozenset[str]()
     found = []
     for kind, iface, off in zip(steps.kinds, steps.ifaces, steps.off):

@@ -1,4 +1,4 @@
-"""Draws what happened in a record as plain text of at most 120 columns: error counters, and arbitration bit by bit."""
+"""Draws the events of a record as plain text with at most 120 columns: error counters, and arbitration bit by bit."""
 
 import bisect
 from collections.abc import Iterator, Sequence
@@ -7,7 +7,7 @@ from canbusd._run.run_parts import OFF, PASSIVE, WARNING
 from canbusd._run.steps import Step, WireFrame
 from canbusd.record import Record
 
-# With what is at the left and the right of them, 120 columns.
+# The width of the drawing; with the texts to its left and right a line has 120 columns.
 MOST_COLUMNS = 96
 HEIGHT = 16
 LIMITS = [(OFF, "bus off"), (PASSIVE, "error passive"), (WARNING, "error warning")]
@@ -35,7 +35,7 @@ def counters(record: Record, first: int, last: int) -> Iterator[str]:
 
 
 def row_of(columns: list[tuple[int, int]], floor: int, scale: int) -> str:
-    """One row of a drawing: the counts from `floor` on, and the limit that is in it."""
+    """Returns a row of a drawing: the counts from `floor` on, and the limit in this row."""
     least = max(floor, 1)
     cells = "".join("#" if transmit >= least else "o" if receive >= least else " " for transmit, receive in columns)
     limit = next((f"  {text}" for limit, text in LIMITS if floor <= limit < floor + scale), "")
@@ -43,7 +43,7 @@ def row_of(columns: list[tuple[int, int]], floor: int, scale: int) -> str:
 
 
 def arbitration(record: Record, first: int, last: int) -> Iterator[str]:
-    """Yields the lines that draw the bits of each attempt in which more than one interface took part."""
+    """Yields the lines that draw the bits of each attempt for which several interfaces competed."""
     names, steps = record.names, record.replay.steps
     for place, attempt in enumerate(steps.attempts):
         if first <= attempt <= last and len(steps.met(place)) > 1:
@@ -53,7 +53,7 @@ def arbitration(record: Record, first: int, last: int) -> Iterator[str]:
 
 
 def contenders_of(step: Step, names: Sequence[str]) -> Iterator[str]:
-    """The bits of each interface that took part, up to where it lost."""
+    """Returns the bits of each competing interface, up to the bit at which it lost arbitration."""
     width = max(map(len, names))
     best: WireFrame = dict(step.contenders)[step.iface]
     for number, frame in step.contenders:

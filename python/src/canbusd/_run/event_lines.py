@@ -1,4 +1,4 @@
-"""The lines of the events of a run, those of a kind together: of a few kinds there are millions."""
+"""The lines of a run's events, grouped by kind, because a few kinds have millions of lines."""
 
 import itertools
 import operator
@@ -6,33 +6,33 @@ from collections.abc import Iterable, Iterator, Sequence
 
 from canbusd._run.steps import numbers_in
 
-#: Kinds of lines by their third letters, as of `attempt`: frames that came into a queue, items that were taken, steps, and
-#: restarts and downs, whose lines become those of steps; all others are read one by one.
+#: The frequent kinds of lines by their third letters, as of `attempt`: frames that entered a queue, taken items, steps,
+#: and restarts and downs, whose lines become lines of steps. All other lines are read one by one.
 SEND, RECEIVE, STEP, RESTART, DOWN = b"nctsw"
 OTHER = ord("o")
-#: By which bytes of kinds are translated: of each kind to 1 for it and 0 for others, and without what is in no queue.
+#: Translation tables for kinds: each kind becomes 1 and all others 0; and the kinds that change no queue.
 IS = {kind: bytes(kind == other for other in range(256)) for kind in (SEND, RECEIVE, STEP)}
 FREQUENT = bytes(IS)
 IS[OTHER] = bytes(other not in IS for other in range(256))
 NO_QUEUE = bytes(other for other in range(256) if other not in (SEND, STEP))
-#: The replies to sends and attempts that most of their lines have.
+#: The reply that most lines of a send or an attempt have.
 USUAL = {SEND: " = number ", STEP: " = tried "}
-#: The number of words that the line of a step has before what became of it.
+#: The number of words in the line of a step before its outcome.
 WORDS = 8
-#: A restart or a down as the line of a step, which has no verdict and no frame.
+#: The line of a step for a restart or a down, which has no verdict and no frame.
 NO_ATTEMPT = "attempt {}  = tried {} 0  {} 0000 0000{}"
-#: What an attempt says after its frame, before the set of the interfaces that it restarts.
+#: The word after the frame of an attempt, before the set of interfaces that it restarts.
 RESTARTED = " restarted "
-#: Before parts of which only those of some interfaces are meant.
+#: Precedes parts that apply only to some interfaces.
 ONLY = "; only {:04X}"
-#: In place of the number of a socket, if a receive handed out no item: the last place of a list.
+#: Replaces the number of a socket if a receive handed out no item: the last place of a list.
 NOBODY = -1
 
 third_letter = operator.itemgetter(2)
 
 
 class Senders(dict[str, int]):
-    """The numbers with which texts begin, and which a space may follow."""
+    """The numbers at the beginning of texts, which a space may follow."""
 
     def __missing__(self, text: str) -> int:
         number = self[text] = int(text.partition(" ")[0])
@@ -40,7 +40,7 @@ class Senders(dict[str, int]):
 
 
 class Receivers(dict[str, int]):
-    """The sockets that were handed an item, by what their lines have after `receive`, such as `1 = d`; else NOBODY."""
+    """The sockets that got an item, by the text after `receive` in their lines, such as `1 = d`; else NOBODY."""
 
     def __missing__(self, text: str) -> int:
         socket, _, reply = text.partition(" = ")
@@ -52,24 +52,25 @@ SENDERS, RECEIVERS = Senders(), Receivers()
 
 
 class Lines:
-    """Lines that follow each other. A step is one line: an attempt that restarts interfaces has a line more for each."""
+    """Consecutive lines. A step has one line: an attempt that restarts interfaces gets a further line for each of
+    them."""
 
     def __init__(self, text: str, first: int, may_restart: bool) -> None:
-        """`first` is the number of the first entry; attempts may restart interfaces, or no one does."""
+        """`first` is the number of the first entry; `may_restart` is whether attempts may restart interfaces."""
         self.all = text.split("\n")
         self.kinds = bytearray("".join(map(third_letter, self.all)).encode())
-        #: The entry of each line.
+        #: The entry number of each line.
         self.entries: Sequence[int] = range(first, first + len(self.all))
         if RESTART in self.kinds or DOWN in self.kinds or may_restart and RESTARTED in text:
             for place in reversed(range(len(self.all))):
                 if self.kinds[place] in (RESTART, DOWN) or RESTARTED in self.all[place]:
                     self._spread(place)
-        # No other reply to a send is without a hyphen.
+        # Only the usual reply to a send has no hyphen.
         if "-" in text and self.kinds.count(SEND) != text.count(USUAL[SEND]):
             self._sort_out(SEND)
-        #: The words of the lines of steps, WORDS and what became of the step, one line after the other.
+        #: The words of the lines of steps, one line after the other: WORDS words and the outcome of the step.
         self.words = self._words_of_steps()
-        # An attempt that tried no frame has fewer, as has what else is called so.
+        # Attempts without a frame have fewer words, as do other lines of this kind.
         if len(self.words) != (WORDS + 1) * self.kinds.count(STEP):
             self._sort_out(STEP)
             self.words = self._words_of_steps()
@@ -79,14 +80,14 @@ class Lines:
         return [*itertools.chain.from_iterable(split)]
 
     def _sort_out(self, kind: int) -> None:
-        """Lets lines of this kind that have another reply be read one by one."""
+        """Excludes the lines of this kind with an unusual reply: they are read one by one."""
         places = itertools.compress(itertools.count(), self.kinds.translate(IS[kind]))
         for place, line in zip(places, self.of(kind)):
             if USUAL[kind] not in line:
                 self.kinds[place] = OTHER
 
     def _spread(self, place: int) -> None:
-        """Gives each step of the entry in a line its line."""
+        """Gives each step of the entry at a line its own line."""
         found = [*lines_of(self.all[place])]
         if len(found) != 1:
             entries = self.entries = [*self.entries]
@@ -96,50 +97,52 @@ class Lines:
 
     @property
     def has_others(self) -> bool:
-        """Whether some lines are of no frequent kind."""
+        """Whether some lines have no frequent kind."""
         return bool(self.kinds.translate(None, FREQUENT))
 
     def of(self, kind: int) -> list[str]:
-        """The lines of a kind."""
+        """Returns the lines of a kind."""
         return list(itertools.compress(self.all, self.kinds.translate(IS[kind])))
 
     def entries_of(self, kind: int) -> Iterator[int]:
-        """The entries of the lines of a kind."""
+        """Returns the entries of the lines of a kind."""
         return itertools.compress(self.entries, self.kinds.translate(IS[kind]))
 
     def steps_before(self, kind: int, first: int) -> Iterator[int]:
-        """The number of steps that there were before each line of a kind, with those before the first line."""
+        """Returns the number of steps before each line of a kind; `before` steps come before the first line."""
         steps = itertools.accumulate(self.kinds.translate(IS[STEP]), initial=first)
         return itertools.compress(steps, self.kinds.translate(IS[kind]))
 
     def in_queues(self, units: Sequence[int], left: Iterable[int], first: int) -> list[int]:
-        """The number of frames that wait in queues before each step and after the last line, by what each send and step changes."""
+        """Returns the number of waiting frames before each step and after the last line, from the changes by each send
+        and step."""
         kinds = self.kinds.translate(None, NO_QUEUE)
         came = [*itertools.accumulate(units, initial=first)]
         gone = [*itertools.accumulate(left, initial=0)]
-        # Before each step, how many sends there were: as many as lines that are no steps.
+        # The number of sends before each step, which is the number of lines that are no steps.
         sends = map(operator.sub, itertools.compress(itertools.count(), kinds.translate(IS[STEP])), itertools.count())
         return [*map(operator.add, map(came.__getitem__, sends), gone), came[-1] + gone[-1]]
 
 
 def senders_of(sends: Iterable[str], sockets: int) -> Iterator[int]:
-    """The numbers of the sockets in the lines of sends; there are so many sockets."""
+    """Returns the numbers of the sockets in the lines of sends; `sockets` is the number of all sockets."""
     return map(SENDERS.__getitem__, map(words_after("send", len(str(sockets))), sends))
 
 
 def receivers_of(receives: Iterable[str], sockets: int) -> Iterator[int]:
-    """The numbers of the sockets in the lines of receives, NOBODY if one has no item; there are so many sockets."""
+    """Returns the numbers of the sockets in the lines of receives; NOBODY for a line without an item. `sockets` is the
+    number of all sockets."""
     return map(RECEIVERS.__getitem__, map(words_after("receive", len(f"{sockets} = d")), receives))
 
 
 def words_after(name: str, size: int) -> "operator.itemgetter[slice]":
-    """What of a line is after the name of its call, and of this size."""
+    """Returns the part of a line after the name of its call, in this size."""
     place = len(name) + 1
     return operator.itemgetter(slice(place, place + size))
 
 
 def lines_of(line: str) -> Iterator[str]:
-    """Yields the lines of the steps of an entry, or the line as it is."""
+    """Yields the lines of the steps of an entry, or the line unchanged."""
     event, semicolon, parts = line.partition("; ")
     words = event.split(" ")
     if words[0] in ("restart", "down") and words[-1] == "ok":

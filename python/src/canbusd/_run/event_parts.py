@@ -1,4 +1,4 @@
-"""The effects of a step as lines have them, which many steps have in common."""
+"""The effects of a step as the lines spell them; many steps share the same effects."""
 
 import functools
 from array import array
@@ -8,20 +8,20 @@ from typing import Any, NamedTuple, Optional
 from canbusd._run.run_parts import Socket
 from canbusd._run.steps import DONE, KIND_NUMBERS, RESTART
 
-#: The number that is kept, of some hundred bytes each: if attempts fail there are many.
+#: The maximum number of kept effects, of some hundred bytes each: failing attempts make many.
 MOST_KEPT = 4096
 
 
 class Parts(NamedTuple):
     """Effects that few steps have."""
 
-    #: Of the error counts, two of each interface, the places of those that change, and both.
+    #: The changed error counts: their place among the counts, two for each interface, and the two new counts.
     counts: list[tuple[slice, "array[int]"]]
-    #: The number of frames that bus off took out of the transmit queue of the sender, or that an interface went down out of its own.
+    #: The number of frames that left a transmit queue because its sender went bus off, or its interface went down.
     lost: int
     #: Error message frames, by their places among the items of the step.
     errors: Sequence[tuple[int, str]]
-    #: The sockets at which items found no room, and how many; they are the last of its items.
+    #: The sockets that had no room for items, and the number of these items; they are the last items of the step.
     dropped: list[tuple[int, int]]
 
 
@@ -30,12 +30,12 @@ class Outcome(NamedTuple):
 
     #: The kind of the step.
     kind: int
-    #: Who accepted its frame, and who went bus off, as columns have them: bit i for interface i.
+    #: The interfaces that accepted the frame, and those that went bus off, as in the columns: bit i for interface i.
     accepted: bytes
     off: bytes
     #: The number of frames that leave the transmit queue of the sender.
     left: int
-    #: The number of items that were handed out, and the sockets to which they were, in their order, as a column has them.
+    #: The number of items that were handed out, and their sockets in order, as in a column.
     handed: int
     sockets: bytes
     #: The time on the wire, if the line has it.
@@ -84,7 +84,8 @@ class Outcomes(dict[str, Outcome]):
         return Outcome(kind, accepted, off, (kind == DONE) + lost, handed, sockets, wire, rare)
 
     def _parts_of(self, parts: Iterable[str], members: int, is_restart: bool) -> Iterator[str]:
-        """Yields what parts say of a set of interfaces, bit i for interface i; the time on the wire is of no restart."""
+        """Yields the parts for a set of interfaces, bit i for interface i; the time on the wire belongs to no
+        restart."""
         for part in parts:
             name, *words = part.split(" ")
             if name in ("put", "dropped"):
@@ -99,7 +100,7 @@ class Outcomes(dict[str, Outcome]):
 
 @functools.lru_cache(maxsize=4096)
 def result_of(text: str) -> tuple[int, bytes, bytes]:
-    """The kind of a step, the interfaces that accepted its frame, and those that went bus off."""
+    """Returns the kind of a step, the interfaces that accepted its frame, and those that went bus off."""
     kind, accepted, off = text.split(" ")
     accepting, going = (array("H", [int(members, 16)]).tobytes() for members in (accepted, off))
     return KIND_NUMBERS[kind], accepting, going
@@ -107,7 +108,7 @@ def result_of(text: str) -> tuple[int, bytes, bytes]:
 
 @functools.lru_cache(maxsize=65536)
 def part_of(part: str) -> tuple[str, Any]:
-    """The name of a part, and what it says, as an outcome has it: many parts say the same."""
+    """Returns the name and the content of a part of an outcome, cached because many parts are the same."""
     name, *words = part.split(" ")
     if name == "put":
         return name, put_of(words)
@@ -121,17 +122,18 @@ def part_of(part: str) -> tuple[str, Any]:
 
 
 def put_of(words: Iterable[str]) -> tuple[bytes, Sequence[tuple[int, str]]]:
-    """The sockets that got items, as an outcome has them, and the error message frames by their places among these."""
+    """Returns the sockets that got items, as an outcome has them, and the error message frames by their places among
+    these."""
     found = [*map(halves, words)]
     errors = [(place, error) for place, (_, _, error) in enumerate(found) if error]
     return column_of(int(socket) for socket, _, _ in found), errors
 
 
 def column_of(sockets: Iterable[int]) -> bytes:
-    """Sockets as bytes of their column."""
+    """Returns sockets as bytes of their column."""
     return array("I", sockets).tobytes()
 
 
 def halves(word: str) -> tuple[str, str, str]:
-    """A word before its colon and after it."""
+    """Returns the parts of a word before and after its colon."""
     return word.partition(":")

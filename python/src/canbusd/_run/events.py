@@ -1,4 +1,5 @@
-"""The lines of `canbusd audit --events` on a record, docs/RECORD.md, or the reason why it is refused."""
+"""The lines of `canbusd audit --events` on a record, docs/RECORD.md, or the reason why the program refuses the
+record."""
 
 import contextlib
 import fcntl
@@ -13,20 +14,20 @@ from typing import IO, BinaryIO, Optional
 from canbusd._process.program import ProgramNotFound, find_program
 from canbusd._process.rates import Rates
 
-# The number of bytes that are read at once; more are no quicker.
+# The number of bytes in a read; larger reads are no faster.
 BLOCK = 1 << 17
 # The most lines that the program may be ahead.
 AHEAD = 1 << 20
-# F_SETPIPE_SZ of fcntl.h; Python has a name for it from 3.10 on.
+# F_SETPIPE_SZ of fcntl.h; Python has a name for it since 3.10.
 SET_PIPE_SIZE = 1031
-# After how many milliseconds without a line somebody looks whether one will come.
+# After this many milliseconds without a line, `doubt` is called.
 SILENCE = 1000
 
 
 class BadRecord(ValueError):
-    """Why a file is not the record of a run.
+    """The reason why a file is not the record of a run.
 
-    `verdict` is what `canbusd audit` says of it, such as `line 5: bad line`; None if it is not asked that.
+    `verdict` is the verdict of `canbusd audit` on the file, such as `line 5: bad line`; None if the audit was not run.
     """
 
     def __init__(self, message: str, verdict: Optional[str] = None) -> None:
@@ -35,10 +36,10 @@ class BadRecord(ValueError):
 
 
 class Events:
-    """An audit of a record that is handed in at once, or piece by piece as it is written, or that the program reads itself.
+    """An audit of a record. The caller hands the record in, complete or piece by piece, or the program reads it.
 
-    With `cut` the record may end before its line `end`. With bit rates the lines say how long attempts took the wire, with
-    `faults`, as in `can0,can1@FILE`, which rule of that script gave an attempt its verdict.
+    With `cut` the record may end before its line `end`. With bit rates the lines have the time of attempts on the wire.
+    With `faults`, as in `can0,can1@FILE`, they have the rule of that script that gave an attempt its verdict.
     """
 
     def __init__(
@@ -58,9 +59,9 @@ class Events:
         self._input, self._output = self._process.stdin, self._process.stdout
         widen(self._process.stdout)
         if self._input is not None:
-            # A write takes what has room: the program may wait until its own output is read.
+            # A write takes only as much as fits: the program may wait until its own output is read.
             os.set_blocking(self._input.fileno(), False)
-        # The number of lines that were handed in, how many came, and what was written of one that has not ended.
+        # The number of lines handed in, the number of lines received, and the beginning of an incomplete line.
         self._handed = self._came = 0
         self._rest = ""
         self.close = weakref.finalize(self, end, self._process)
@@ -77,10 +78,11 @@ class Events:
         self.close()
 
     def texts(self, text: bytes, is_last: bool = True, doubt: Callable[[], object] = lambda: None) -> Iterator[str]:
-        """Yields the lines of the events of these lines of the record: some together, without the LF of the last.
+        """Yields the event lines for these lines of the record: several at once, without the last LF.
 
-        They have a line each: the first one with the second, and `end` once this `is_last`. BadRecord at the first that is
-        wrong, of which the program says so once it has read all: before that, `doubt` is called after a second without a line.
+        Each line of the record has an event line: the first two share one, and `end` has one when this text `is_last`.
+        BadRecord at the first wrong line. The program reports a wrong line only after it has read everything. So
+        `doubt` is called after a second without a line.
         """
         assert self._input is not None
         unwritten = memoryview(text)
@@ -109,19 +111,19 @@ class Events:
                     yield lines
 
     def texts_of_file(self) -> Iterator[str]:
-        """Yields the lines of the events of the file, some together, without the LF of the last."""
+        """Yields the event lines of the file, several at once, without the last LF."""
         while block := read_block(self._output):
             yield from self._whole_lines(block)
         self._check_status()
 
     def _whole_lines(self, block: bytes) -> Iterator[str]:
-        """Yields the lines that end in what was read, if some do, together."""
+        """Yields the complete lines of the text that was read, if there are any, at once."""
         lines, has_ended, self._rest = f"{self._rest}{block.decode()}".rpartition("\n")
         if has_ended:
             yield lines
 
     def _check_status(self) -> None:
-        """Waits for the end of the program; BadRecord if it refused the record."""
+        """Waits for the end of the program; raises BadRecord if the program refused the record."""
         assert self._process.stderr is not None
         said = self._process.stderr.read().decode(errors="replace")
         status = self._process.wait()
@@ -133,13 +135,13 @@ class Events:
 
 
 def widen(pipe: IO[bytes]) -> None:
-    """Gives a pipe more room, if the system lets it, so that who writes need not wait while a block is taken."""
+    """Enlarges a pipe, if the system allows it, so that the writer need not wait while a reader handles a block."""
     with contextlib.suppress(OSError):
         fcntl.fcntl(pipe, SET_PIPE_SIZE, AHEAD)
 
 
 def read_block(pipe: IO[bytes]) -> bytes:
-    """Reads what fills a block, or is left."""
+    """Reads until a block is full or the file ends."""
     parts, size = [], 0
     while size < BLOCK and (part := os.read(pipe.fileno(), BLOCK - size)):
         parts.append(part)
@@ -148,7 +150,8 @@ def read_block(pipe: IO[bytes]) -> bytes:
 
 
 def write_some(descriptor: int, text: memoryview) -> int:
-    """Hands text to the program; returns how much it took, all of it where it has ended at a fault."""
+    """Hands text to the program; returns the number of bytes taken, or all of them if the program ended with a
+    fault."""
     try:
         return os.write(descriptor, text)
     except BrokenPipeError:
@@ -156,7 +159,7 @@ def write_some(descriptor: int, text: memoryview) -> int:
 
 
 def end(process: "subprocess.Popen[bytes]") -> None:
-    """Ends a program, if it still runs, and frees what it has."""
+    """Ends a program if it still runs, and frees its resources."""
     process.kill()
     for stream in (process.stdin, process.stdout, process.stderr):
         if stream is not None:
@@ -166,7 +169,8 @@ def end(process: "subprocess.Popen[bytes]") -> None:
 
 
 def fault_of(said: str) -> BadRecord:
-    """The fault that an audit reports: its verdict, then `  /dev/stdin:5: LINE`, and in further lines why."""
+    """Returns the fault that an audit reports: its verdict, then ` /dev/stdin:5: LINE`, and further lines with the
+    reason."""
     verdict, *notes = said.removeprefix("canbusd: ").splitlines() or [""]
     words = [note.strip() for note in notes]
     if words:

@@ -1,4 +1,4 @@
-"""Which rule of faults gave each attempt of a run its verdict: the program says it, for the faults of the run."""
+"""The fault rules that gave each attempt of a run its verdict: the program reports them for the faults of the run."""
 
 import contextlib
 import dataclasses
@@ -17,24 +17,24 @@ from canbusd.record import Path as AnyPath, Record, check_beginning, check_no_lo
 from canbusd.rules import NAMES, Rule, parse_rule
 
 Found = TypeVar("Found")
-# More bytes than a line has: names of 16 interfaces, twice, and a few words.
+# More bytes than a line has: two times the names of 16 interfaces, and a few words.
 LONGEST_LINE = 4096
-# The ends of the names of files: of a run that goes on, and of one that was cut off.
+# The endings of file names: for a run that continues, and for a run that was cut off.
 GROWING = (".new", ".cut")
-# The program's words about names that are not as many as the interfaces of a record's bus.
+# The program's words if the number of names differs from the number of interfaces of a record's bus.
 OTHER_BUS = "names of another bus"
-# The names in lines of faults, which may be a million.
+# Matches the names in lines of faults, of which there may be a million.
 NAMED = re.compile(rb" (?:from|local (?:stuff|crc|form)) (\S+)")
 JOINED = re.compile(NAMES)
 
 
 class FaultsFile:
-    """The script or the faults of a run, whose file is opened at once and read once: a pipe can't be read again, and a
-    server that ends renames its files. So the record is kept open with it, if that is a file."""
+    """The script or the faults of a run. The file is opened at once and read once, because a pipe can't be read again
+    and a server renames its files when it ends. A record that is a file stays open together with it."""
 
     def __init__(self, path: AnyPath, record: Optional[AnyPath] = None, is_beside: bool = False) -> None:
         self.path = os.fspath(path)
-        #: Whether it lies beside the record, as a server leaves it.
+        #: Whether the file is next to the record, as a server leaves it.
         self.is_beside = is_beside
         #: The last line, if it was left out.
         self.torn = b""
@@ -56,15 +56,15 @@ class FaultsFile:
 
     @functools.cached_property
     def text(self) -> bytes:
-        """Returns its content; BadRecord if its first bytes are of no script."""
+        """Returns the file's content; raises BadRecord if its first bytes are not those of a script."""
         first = self._file.read(LONGEST_LINE)
         if len(first) == LONGEST_LINE and b"\n" not in first:
             raise BadRecord(f"no line of faults has {LONGEST_LINE:,} bytes, as its first one has", "script line 1")
         return first + self._file.read()
 
     def read(self, by: Callable[[bytes], Found], is_cut: bool) -> Found:
-        """Returns what is found by the text. The last line of one beside a record that is cut off may be torn: it counts for no
-        entry, and is left out where the program can't read it."""
+        """Reads the file, and returns the result of a function on its text. If the record is cut off, the last line
+        next to it may be partial: it belongs to no entry, and is left out if the program can't read it."""
         try:
             return by(self.text)
         except BadRecord as fault:
@@ -76,13 +76,13 @@ class FaultsFile:
 
 
 def is_of_faults(fault: BadRecord) -> bool:
-    """Whether the program found this fault in faults, at which it looks first, and not in the record."""
+    """Returns whether the program found this fault in the faults, which it checks first, and not in the record."""
     return (fault.verdict or "").startswith(("script line ", "bad bus"))
 
 
 def faults_beside(record: AnyPath) -> Optional[FaultsFile]:
-    """The faults that a server writes beside this record, or None if the run had none: can0.rec.faults beside can0.rec,
-    can0.rec.faults.new beside can0.rec.new."""
+    """Returns the faults that a server writes next to this record, or None if the run had none: can0.rec.faults for
+    can0.rec, can0.rec.faults.new for can0.rec.new."""
     path = Path(record)
     stem, ending = (path.stem, path.suffix) if path.suffix in GROWING else (path.name, "")
     faults = path.with_name(f"{stem}.faults{ending}")
@@ -90,7 +90,8 @@ def faults_beside(record: AnyPath) -> Optional[FaultsFile]:
 
 
 def with_names(record: Record, faults: FaultsFile) -> Record:
-    """Returns the record with a name for its one interface that has none, if faults name one that it does not have."""
+    """Returns the record with a name for its only nameless interface, if the faults name an interface that the record
+    lacks."""
     unnamed = [place for place, name in enumerate(record.names) if not is_named(name)]
     if len(unnamed) != 1:
         return record
@@ -103,7 +104,7 @@ def with_names(record: Record, faults: FaultsFile) -> Record:
 
 
 def names_in(faults: bytes) -> set[str]:
-    """Returns the names of interfaces in faults, whose lines may be a million, but for those in comments."""
+    """Returns the names of interfaces in faults, of up to a million lines; names in comments do not count."""
     if faults.startswith(b"#") or b"\n#" in faults:
         faults = b"\n".join(line for line in faults.split(b"\n") if not line.startswith(b"#"))
     found = (names.decode(errors="replace") for names in {*NAMED.findall(faults)})
@@ -113,9 +114,10 @@ def names_in(faults: bytes) -> set[str]:
 def read_ruled(
     path: AnyPath, names: Sequence[str], cut: bool, rates: Optional[Rates], faults: FaultsFile
 ) -> tuple[Record, list[str]]:
-    """Returns the record in this file, as read_run does, and its rules, as deciders does: it is read once, so it may be a pipe.
+    """Returns the record in this file, as read_run does, and its rules, as deciders does. The file is read once, so it
+    may be a pipe.
 
-    is_of_faults says of a BadRecord whether faults are wrong, or the record.
+    After a BadRecord, is_of_faults reports whether the faults are wrong or the record.
     """
     check_no_log(path)
     with faults, contextlib.ExitStack() as stack:
@@ -128,7 +130,7 @@ def read_ruled(
 def ruled_in(
     file: BinaryIO, text: bytes, path: AnyPath, names: Sequence[str], cut: bool, rates: Optional[Rates]
 ) -> tuple[Record, list[str]]:
-    """Returns the record in this file and its rules, by the faults of this text."""
+    """Returns the record in this file and its rules, for the faults in this text."""
     taken = TakenRules()
     given = names.split(",") if isinstance(names, str) else names
     with bus_with(given, text) as bus, Events(cut, rates, file, bus) as events:
@@ -144,11 +146,11 @@ def ruled_in(
 
 
 def deciders(record: Record, faults: FaultsFile) -> list[str]:
-    """Returns the rule that gave each attempt of a run that tried a frame its verdict; the empty text if none did. Where no
-    rule did the list is empty. BadRecord says what is wrong with faults.
+    """Returns, for each attempt with a frame, the rule that gave the attempt its verdict; the empty text if no rule
+    did. The list is empty if no rule gave any verdict. BadRecord has the error in the faults.
 
-    The last line of those beside a record that is cut off may be torn: it counts for no entry, and is left out where the
-    program can't read it.
+    If a record is cut off, the last line of the faults next to it may be partial: it belongs to no entry, and is left
+    out if the program can't read it.
     """
     with faults:
         return faults.read(lambda text: rules_of(record, text, faults), record.is_cut)
@@ -170,18 +172,18 @@ def rules_of(record: Record, text: bytes, faults: FaultsFile) -> list[str]:
 
 @contextlib.contextmanager
 def bus_with(names: Sequence[str], text: bytes) -> Iterator[str]:
-    """The word for a bus with these names and faults of this text, as the program takes it."""
+    """Returns the program's argument for a bus with these names and the faults of this text."""
     with tempfile.NamedTemporaryFile() as script:
         script.write(text)
         script.flush()
-        # One that has no name here, `interface 1`, has one as the program takes it.
+        # An interface without a name here, `interface 1`, gets the program's name for it.
         yield f"{','.join(names).replace(' ', '-')}@{script.name}"
 
 
 def unused_rules(names: Sequence[str], faults: FaultsFile) -> list[Rule]:
-    """Returns the rules with a number, `next 1 ..`, that gave no attempt a verdict, and that nobody ended.
+    """Returns the rules with a number, `next 1 ..`, that gave no attempt a verdict, and that no command ended.
 
-    `faults` are those that a server has written beside a whole record.
+    `faults` is the file that a server has written next to a complete record.
     """
     with faults:
         if not faults.text or faults.record is None:
@@ -191,7 +193,7 @@ def unused_rules(names: Sequence[str], faults: FaultsFile) -> list[Rule]:
 
 
 def taken_in(events: Iterable[str]) -> "TakenRules":
-    """Returns the rules that lines of events say."""
+    """Returns the rules in the lines of events."""
     taken = TakenRules()
     for _ in taken.without(events):
         pass
@@ -199,24 +201,24 @@ def taken_in(events: Iterable[str]) -> "TakenRules":
 
 
 class TakenRules:
-    """The rules that a bus took, as the lines of events say them, by the numbers that they have there."""
+    """The rules that a bus took, from the lines of events, by their numbers in these lines."""
 
     def __init__(self) -> None:
-        # In the words of the program. Those that nobody has ended are from this number on.
+        # The rules in the program's words. Rules from this number on have not been ended.
         self._words: dict[int, str] = {}
         self._first = 1
-        # The number of the rule of each attempt that tried a frame, 0 for none.
+        # The number of the rule for each attempt with a frame, 0 for none.
         self._numbers: list[int] = []
 
     def without(self, events: Iterable[str]) -> Iterator[str]:
-        """Yields the lines of events as they are without faults, and takes what they say of rules."""
+        """Yields the lines of events as they are without faults, and notes the rules in them."""
         for text in events:
             lines = "\n".join(filter(None, map(self._take, text.split("\n"))))
             if lines:
                 yield lines
 
     def _take(self, line: str) -> str:
-        """Takes what a line says of rules, and returns the rest."""
+        """Notes the rules in a line, and returns the rest of the line."""
         if line.startswith("attempt "):
             line, _, number = line.partition("; rule ")
             if " = tried " in line:
@@ -232,12 +234,12 @@ class TakenRules:
         return line
 
     def deciders(self) -> list[str]:
-        """Returns the rule of each attempt, as the function of this name does."""
+        """Returns the rule of each attempt, like the function of this name."""
         texts = {number: str(parse_rule(self._words[number])) for number in {*self._numbers} - {0}}
         return [texts.get(number, "") for number in self._numbers] if texts else []
 
     def unused(self) -> list[Rule]:
-        """Returns the rules with a number that gave no attempt a verdict, and that nobody ended."""
+        """Returns the rules with a number that gave no attempt a verdict, and that no command ended."""
         left = {*range(self._first, len(self._words) + 1)}.difference(self._numbers)
         rules = (parse_rule(self._words[number]) for number in sorted(left))
         return [rule for rule in rules if rule.count is not None]

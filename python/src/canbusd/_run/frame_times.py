@@ -1,27 +1,29 @@
-"""The time of frames on the wire of a bus that has bit rates: the program adds it to a run in which they are sent."""
+"""The time of frames on the wire of a bus with bit rates: the program computes it for a run that sends the frames."""
 
 from collections.abc import Iterable
 
 from canbusd._process.rates import Rates
 from canbusd.record import parse_record
 
-# The number of frames that are kept.
+# The number of frames whose times are kept.
 MOST_KEPT = 1 << 16
-# The first lines of a run in which each frame is done: version 4 has frames of every kind, and room for all.
+# The first lines of a run that sends every frame successfully: version 4 has all kinds of frames, and the bus has room
+# for all.
 FRONT = ["canbus record 4", "bus 1 always 0000 1 4294967294 0", "open 0 1 = socket 0", "option 0 fd 1 = ok"]
 
 
 class FrameTimes:
-    """The number of nanoseconds that frames take the wire, with the bits that follow them; what is known of a frame is kept."""
+    """The number of nanoseconds that frames take on the wire, with the bits that follow them. The times of frames are
+    cached."""
 
     def __init__(self, rates: Rates) -> None:
         self.rates = rates
         self._kept: dict[str, int] = {}
-        # A program that is missing is reported at once.
+        # A missing program is reported at once.
         self.of(["000#"])
 
     def of(self, texts: Iterable[str]) -> list[int]:
-        """Returns those of these frames, in their order; the program is asked once for all that are new."""
+        """Returns the times of these frames, in order; one run of the program computes all new ones."""
         wanted = list(texts)
         new = [text for text in dict.fromkeys(wanted) if text not in self._kept]
         if len(self._kept) + len(new) > MOST_KEPT:

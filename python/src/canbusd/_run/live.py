@@ -1,4 +1,4 @@
-"""Logs and records that a server writes while it runs: what there is of them, of which each line is read once."""
+"""Logs and records that a server writes while it runs; each line is read once."""
 
 import contextlib
 import threading
@@ -17,14 +17,14 @@ if TYPE_CHECKING:
 
 
 def left_by(record: Path, when: str) -> Path:
-    """Where the record is that has this path once it is whole: of one that is written `live` can0.rec.new while its run
-    goes on, or was killed."""
+    """Returns the present path of a record that will have this path when it is complete: can0.rec.new while a `live`
+    run continues, or after it was killed."""
     growing = record.with_name(f"{record.name}.new")
     return growing if when == "live" and growing.exists() else record
 
 
 class GrowingFile:
-    """A file that another process appends lines to, at the first of these paths if there is one."""
+    """A file to which another process appends lines: the first of these paths that exists."""
 
     def __init__(self, *paths: Path) -> None:
         self._paths = paths
@@ -32,20 +32,21 @@ class GrowingFile:
         self._place = 0
 
     def text(self, first: int = 0) -> bytes:
-        """Returns its whole lines from this place on."""
+        """Returns the complete lines from this place on."""
         with self._opened() as file:
             file.seek(first)
             whole, lf, _ = file.read().rpartition(b"\n")
         return whole + lf
 
     def take(self) -> bytes:
-        """Takes the whole lines that were not taken yet."""
+        """Takes the complete lines that were not taken yet."""
         text = self.text(self._place)
         self._place += len(text)
         return text
 
     def lines(self) -> Iterator[str]:
-        """Yields the whole lines that were not taken yet, without their LF; each is taken once the next is asked for."""
+        """Yields the complete lines that were not taken yet, without LF; a line counts as taken when the next is asked
+        for."""
         for line in self.text(self._place).splitlines(True):
             yield line[:-1].decode(errors="replace")
             self._place += len(line)
@@ -58,7 +59,7 @@ class GrowingFile:
 
 
 class LiveLog:
-    """A log that is written while its server runs."""
+    """A log that a running server writes."""
 
     def __init__(self, path: Path) -> None:
         self._path, self._file = path, GrowingFile(path)
@@ -66,7 +67,7 @@ class LiveLog:
         self._lock = threading.Lock()
 
     def messages(self) -> "list[Message]":
-        """Returns the messages that were written so far."""
+        """Returns the messages that the server has written so far."""
         with self._lock:
             for line in self._file.lines():
                 self._messages.append(message_of(line, self._path, len(self._messages) + 1))
@@ -74,11 +75,11 @@ class LiveLog:
 
 
 class LiveRecord:
-    """A record that is written while its server runs, of a bus with interfaces of these names."""
+    """A record that a running server writes, for a bus with interfaces of these names."""
 
     def __init__(self, path: Path, names: Sequence[str]) -> None:
         self._file, self._names = GrowingFile(path.with_name(f"{path.name}.new"), path), tuple(names)
-        # The audit of what was taken of it, and what that says of the run.
+        # The audit of the lines taken so far, and the run as the audit describes it.
         self._events: Optional[Events] = None
         self._run = Replay()
         self._attempts: list[Attempt] = []
@@ -86,11 +87,11 @@ class LiveRecord:
         self._lock = threading.Lock()
 
     def record(self, rates: Optional[Rates] = None) -> Record:
-        """Returns the record as far as it was written, with the time on the wire at these bit rates, if there are any."""
+        """Returns the record so far, with the times on the wire at these bit rates, if there are any."""
         return parse_record(self._file.text(), names=self._names, cut=True, rates=rates)
 
     def attempts(self) -> list[Attempt]:
-        """Returns the attempts that were written so far; only the entries since the last call are read."""
+        """Returns the attempts that the server has written so far; reads only the entries since the last call."""
         with self._lock:
             if self._fault is not None:
                 raise self._fault
@@ -100,12 +101,12 @@ class LiveRecord:
                 self._fault = fault
                 raise
             if self._run.bus is None:
-                # It says why this is no record yet.
+                # This explains why there is no record yet.
                 parse_record(self._file.text(), cut=True)
             return list(self._attempts)
 
     def _read(self) -> None:
-        """Reads what was added, with what it brought about; a line or an entry that is wrong is so each time."""
+        """Reads the added lines and their effects; a wrong line or entry raises the same error each time."""
         text = self._file.take()
         if not text or self._run.is_whole:
             return

@@ -1,4 +1,4 @@
-"""Logs in candump's format, as a server and a bench write them beside their records."""
+"""Logs in candump's format, as a server and a bench write them next to their records."""
 
 import itertools
 import os
@@ -16,16 +16,16 @@ if TYPE_CHECKING:
 Path = Union[str, "os.PathLike[str]"]
 
 LOG_LINE = re.compile(r"\(([0-9]+\.[0-9]{6})\) (\S+) (\S+)")
-#: The length that no line of a log reaches, of any format.
+#: All lines of logs, of any format, are shorter than this.
 MOST_LINE = 16_384
 
 
 class LongLine(ValueError):
-    """A line is none of a log; the text has its place."""
+    """A line does not belong to a log; the text has the place of the line."""
 
 
 def lines_of(file: "IO[AnyStr]", path: Path) -> "Iterator[AnyStr]":
-    """Yields the lines of a log; LongLine at one that is none, of which no more is read."""
+    """Yields the lines of a log. A line that is too long raises LongLine and ends the reading."""
     for number in itertools.count(1):
         line = file.readline(MOST_LINE)
         if not line:
@@ -46,7 +46,7 @@ def read_log(path: Path) -> "list[Message]":
 
 
 def message_of(line: str, path: Path, number: int) -> "Message":
-    """Returns the message of a line, without its LF, of a log; a fault says which log and which line."""
+    """Returns the message in a log's line without its LF; a fault names the log and the line."""
     import canbusd._python_can  # noqa: F401  it says what is missing
 
     words = LOG_LINE.fullmatch(line)
@@ -56,16 +56,17 @@ def message_of(line: str, path: Path, number: int) -> "Message":
 
 
 def log_beside(path: Path) -> Optional[str]:
-    """The log that `canbusd serve` writes beside this record, or None: can0.log beside can0.rec and can0.rec.new."""
+    """Returns the log that `canbusd serve` writes next to this record, or None: can0.log for can0.rec and
+    can0.rec.new."""
     record = os.fspath(path).removesuffix(".new").removesuffix(".cut")
     folder, name = os.path.split(record)
-    # For os.path.splitext the record `....rec` of the bus `...` has no ending.
+    # os.path.splitext finds no ending in the record `....rec` of the bus `...`.
     log = os.path.join(folder, f"{name.rpartition('.')[0] or name}.log")
     return log if log != os.fspath(path) and os.path.isfile(log) else None
 
 
 def names_in_log(steps: Steps, log: Path) -> dict[int, str]:
-    """The names of the interfaces that won an attempt; none if the log is of another run.
+    """Returns the names of the interfaces that won an attempt; none if the log belongs to another run.
 
     A log has a line for each tried attempt: `(MOMENT) NAME FRAME`, with the winner's name.
     """
@@ -73,7 +74,7 @@ def names_in_log(steps: Steps, log: Path) -> dict[int, str]:
     tried = ((moment_of(moment), winner) for kind, moment, winner in columns if kind < RESTART)
     names: dict[int, str] = {}
     with open(log, encoding="ascii", errors="replace") as file:
-        # A line of a run that was killed may be torn.
+        # The last line of a run that was killed may be partial.
         whole = (line for line in iter(lambda: file.readline(MOST_LINE), "") if line.endswith("\n"))
         for line, (moment, winner) in zip(whole, tried):
             words = line.split()

@@ -1,4 +1,5 @@
-"""Logs of other tools: candump's, those that python-can reads and writes by a file's ending, as ASC and BLF, and pcapng."""
+"""Logs of other tools: candump logs, formats that python-can recognises by the file's ending, such as ASC and BLF, and
+pcapng."""
 
 import collections
 import dataclasses
@@ -18,43 +19,43 @@ from canbusd._text import shown
 from canbusd._whole_file import Path, replaced
 from canbusd.frames import BadFrame, Frame, frame_like, log_line
 
-#: The endings of files that python-can reads, also if `.gz` follows; another file is a log of candump.
+#: The endings of files that python-can reads, also with `.gz`; any other file is a candump log.
 ENDINGS = (".asc", ".blf", ".csv", ".db", ".mf4", ".trc")
-#: The endings of files that are text.
+#: The endings of text files.
 TEXTS = (".asc", ".csv", ".trc")
 # The ending of captures for Wireshark.
 PCAPNG = ".pcapng"
-#: The endings of files that are written; the others that python-can writes lose frames, flags or channels.
+#: The endings of files that this module writes; the other formats of python-can lose frames, flags or channels.
 WRITTEN = (".log", ".asc", ".blf", PCAPNG)
-# The formats with numbers of channels in place of names.
+# The formats that have channel numbers instead of names.
 NUMBERED = (".asc", ".blf")
-# python-can and later versions of candump put the direction after the frame.
+# python-can and later versions of candump write the direction after the frame.
 LINE = re.compile(r"\(([0-9]{1,10}\.[0-9]{6})\) +(\S+) +(\S+)(?: +([RT]))?")
-# python-can counts channels from 0, and its ASC and BLF files have one more.
+# python-can counts channels from 0, its ASC and BLF files from 1.
 NUMBER = re.compile("[0-9]+")
 # The first bytes of a record.
 RECORD = "canbus record "
 
 
 class Entry(NamedTuple):
-    """A frame of a log, with its moment, and the interface or the channel that it is of."""
+    """A frame of a log, its time, and its interface or channel."""
 
     channel: str
     frame: Frame
 
 
 def read_entries(path: Path, names: Sequence[str] = ()) -> Iterator[Entry]:
-    """Yields the entries of a log, whose ending says what it is.
+    """Yields the entries of a log; the file's ending determines the format.
 
-    A log with numbers of channels has the interfaces can0, can1 and so on, or those of these names. ValueError names the
-    file, and of candump's logs the line.
+    A log with channel numbers has the interfaces can0, can1 and so on, or these names. ValueError names the file, and
+    for candump logs the line.
     """
     if os.fspath(path).lower().endswith(PCAPNG):
         raise ValueError(f"{os.fspath(path)}: a capture for Wireshark is only written, not read")
     if is_candump(path):
         yield from candump_entries(path)
         return
-    # It has errors of many kinds for what a file should not be.
+    # python-can raises many kinds of errors for a malformed file.
     try:
         check_lines(path)
         for message in python_can_messages(path):
@@ -66,12 +67,12 @@ def read_entries(path: Path, names: Sequence[str] = ()) -> Iterator[Entry]:
 
 
 def is_candump(path: Path) -> bool:
-    """Whether this is a log of candump, by its ending."""
+    """Returns whether this is a candump log, by its ending."""
     return os.path.splitext(os.fspath(path).lower().removesuffix(".gz"))[1] not in ENDINGS
 
 
 def candump_entries(path: Path) -> Iterator[Entry]:
-    """Yields the entries of a log of candump."""
+    """Yields the entries of a candump log."""
     with open(path, encoding="utf-8", errors="replace") as file:
         for number, line in enumerate(lines_of(file, path), 1):
             text = line.rstrip("\r\n ")
@@ -82,7 +83,7 @@ def candump_entries(path: Path) -> Iterator[Entry]:
 
 
 def entry_of(text: str, place: str) -> Entry:
-    """The entry of a line, at this place."""
+    """Returns the entry of the line at this place."""
     words = LINE.fullmatch(text)
     if not words:
         raise ValueError(f"{place}: not `(SECONDS.MICROS) INTERFACE FRAME`: {shown(text)}")
@@ -94,7 +95,8 @@ def entry_of(text: str, place: str) -> Entry:
 
 
 def check_lines(path: Path) -> None:
-    """Reads the lines of a text file, of which python-can would keep each, however long it is; a fifo is read only once."""
+    """Checks the length of the lines of a text file, because python-can would keep each line; a fifo is read only
+    once."""
     name = os.fspath(path).lower()
     is_text = os.path.splitext(name.removesuffix(".gz"))[1] in TEXTS
     if is_text and not stat.S_ISFIFO(os.stat(path).st_mode):
@@ -109,14 +111,14 @@ def python_can_messages(path: Path) -> "Iterator[Any]":
 
     can_io: Any = importlib.import_module("can.io")
 
-    # The moments of an ASC file are counted from its date.
+    # ASC files count time from their date.
     more: dict[str, Any] = {"relative_timestamp": False} if ".asc" in os.path.basename(path).lower() else {}
     with can_io.LogReader(os.fspath(path), **more) as reader:
         yield from reader
 
 
 def name_of(channel: object, names: Sequence[str]) -> str:
-    """The name of an interface, if a log has a number for it, or none."""
+    """Returns the name of an interface if the log has a channel number, or no channel."""
     text = str(channel)
     if channel is not None and not NUMBER.fullmatch(text):
         return text
@@ -125,10 +127,11 @@ def name_of(channel: object, names: Sequence[str]) -> str:
 
 
 def write_entries(path: Path, entries: Iterable[Entry], names: Sequence[str] = ()) -> tuple[int, list[str]]:
-    """Writes a log, whose ending says what it is; how many frames it has, and the interfaces.
+    """Writes a log; the file's ending determines the format. Returns the number of frames, and the interfaces.
 
-    If it has numbers of channels the first interface is the first channel: of these names, and then as they turn up.
-    What was there before is replaced once all is written; ValueError for another ending.
+    In a format with channel numbers the channels are the interfaces of these names, then the others in the order of
+    their first frames. The new file replaces the old one after all frames are written. ValueError for an unknown
+    ending.
     """
     ending = os.path.splitext(os.fspath(path))[1].lower()
     if ending not in WRITTEN:
@@ -143,12 +146,12 @@ def write_entries(path: Path, entries: Iterable[Entry], names: Sequence[str] = (
 
 
 def is_numbered(path: Path) -> bool:
-    """Whether a log that is written has numbers of channels, by its ending."""
+    """Returns whether a log to be written has channel numbers, by its ending."""
     return os.fspath(path).lower().endswith(NUMBERED)
 
 
 def write_candump(file: BinaryIO, entries: Iterable[Entry]) -> int:
-    """Writes a log of candump; how many frames it has."""
+    """Writes a candump log; returns the number of its frames."""
     count = 0
     for name, frame in entries:
         file.write(f"{log_line(name, frame)}\n".encode("ascii"))
@@ -157,18 +160,19 @@ def write_candump(file: BinaryIO, entries: Iterable[Entry]) -> int:
 
 
 def write_pcapng(file: BinaryIO, entries: Iterable[Entry], known: Sequence[str]) -> int:
-    """Writes a capture for Wireshark, first these interfaces; how many frames it has."""
+    """Writes a capture for Wireshark, with these interfaces first; returns the number of its frames."""
     capture = Capture(file, [(name, 0) for name in known])
     count = 0
     for name, frame in entries:
-        # A log says which frames were sent there, if anything.
+        # A log shows sent frames only, if it shows a direction at all.
         capture.write([(name, frame, 0 if frame.is_rx else OUTBOUND)])
         count += 1
     return count
 
 
 def write_by_python_can(file: BinaryIO, ending: str, entries: Iterable[Entry], known: list[str]) -> int:
-    """Writes a log with numbers of channels, those of the interfaces in this list, which grows; how many frames it has."""
+    """Writes a log with channel numbers for the interfaces in this list, which grows; returns the number of its
+    frames."""
     import canbusd._python_can  # noqa: F401  it says what is missing
 
     can_io: Any = importlib.import_module("can.io")
@@ -179,7 +183,7 @@ def write_by_python_can(file: BinaryIO, ending: str, entries: Iterable[Entry], k
         io.TextIOWrapper(file, encoding="utf-8")
     ) as logger:
         if first is not None and hasattr(logger, "start_timestamp"):
-            # Its date has milliseconds, and moments are counted from there.
+            # The date has milliseconds, and times count from the date.
             logger.start_timestamp = int(first.frame.timestamp * 1000) / 1000
         for name, frame in itertools.chain([] if first is None else [first], rest):
             if name not in known:

@@ -1,6 +1,6 @@
-"""Captures for Wireshark: pcapng, with frames as the link type of SocketCAN has them.
+"""Captures for Wireshark: pcapng files with frames in the link type of SocketCAN.
 
-Blocks and options are those of the pcapng specification (draft-ietf-opsawg-pcapng), frames those of LINKTYPE_CAN_SOCKETCAN.
+Blocks and options follow the pcapng specification (draft-ietf-opsawg-pcapng), and frames follow LINKTYPE_CAN_SOCKETCAN.
 """
 
 import struct
@@ -13,31 +13,31 @@ from canbusd.frames import ERROR, EXTENDED, REMOTE, Frame, flag_number
 LINKTYPE_CAN_SOCKETCAN = 227
 # The types of blocks.
 SECTION, INTERFACE, PACKET = 0x0A0D0D0A, 1, 6
-# Options, each with the number that its block gives it: of a section, of an interface, of a packet.
+# The options of a section, of an interface and of a packet, each with its number in the block.
 APPLICATION = 4
 NAME, SPEED, RESOLUTION = 2, 8, 9
 FLAGS = 2
 # The flag of the link type that marks an FD frame.
 FD = 0x4
-#: Which way a packet went, in its flags.
+#: The direction of a packet, in its flags.
 INBOUND, OUTBOUND = 1, 2
 
-#: A frame, the interface that it is of, and which way it went; 0 if that is not known.
+#: A frame, its interface, and its direction; 0 if this is not known.
 Packet = tuple[str, Frame, int]
 
 
 class Capture:
-    """A capture that is written packet by packet; each write is of whole blocks."""
+    """A capture that is written packet by packet; each write contains complete blocks."""
 
     def __init__(self, file: BinaryIO, interfaces: Iterable[tuple[str, int]] = ()) -> None:
-        """Begins with these interfaces, each with its bits a second; 0 if it has none."""
+        """Starts with these interfaces, each with its bit rate; 0 if it has none."""
         self._file = file
         self._numbers: dict[str, int] = {}
         begin = block(SECTION, struct.pack("<IHHq", 0x1A2B3C4D, 1, 0, -1), option(APPLICATION, b"canbusd"))
         file.write(begin + b"".join(self._interface(name, bitrate) for name, bitrate in interfaces))
 
     def write(self, packets: Iterable[Packet]) -> None:
-        """Writes frames, each with its interface, which is a new one where it was not there, and which way it went."""
+        """Writes frames, each with its interface and its direction; an unknown interface is added."""
         blocks = []
         for name, frame, way in packets:
             if name not in self._numbers:
@@ -49,12 +49,12 @@ class Capture:
         self._numbers[name] = len(self._numbers)
         speed = [option(SPEED, struct.pack("<Q", bitrate))] if bitrate else []
         head = struct.pack("<HHI", LINKTYPE_CAN_SOCKETCAN, 0, 0)
-        # Moments are microseconds.
+        # Timestamps are in microseconds.
         return block(INTERFACE, head, option(NAME, name.encode()), option(RESOLUTION, b"\x06"), *speed)
 
 
 def padded(data: bytes) -> bytes:
-    """Returns bytes that end at a multiple of 4."""
+    """Returns bytes padded to a multiple of 4."""
     return data + bytes(-len(data) % 4)
 
 
@@ -64,14 +64,15 @@ def option(code: int, value: bytes) -> bytes:
 
 
 def block(kind: int, body: bytes, *options: bytes) -> bytes:
-    """Returns a block; its length is at both ends, and options end with an empty one."""
+    """Returns a block; its length comes at both ends, and an empty option ends the options."""
     whole = padded(body) + (b"".join(options) + bytes(4) if options else b"")
     length = struct.pack("<I", len(whole) + 12)
     return struct.pack("<I", kind) + length + whole + length
 
 
 def socketcan(frame: Frame) -> bytes:
-    """Returns a frame as the link type has it: the identifier in network order, the length, flags, and the data."""
+    """Returns a frame in the link type's form: the identifier in network byte order, the length, the flags and the
+    data."""
     identifier = frame.arbitration_id
     identifier |= ERROR if frame.is_error_frame else EXTENDED if frame.is_extended_id else 0
     identifier |= REMOTE if frame.is_remote_frame else 0
@@ -80,7 +81,7 @@ def socketcan(frame: Frame) -> bytes:
 
 
 def packet(number: int, frame: Frame, way: int) -> bytes:
-    """Returns the block of a frame of the interface with this number."""
+    """Returns the block of a frame at the interface with this number."""
     data, moment = socketcan(frame), round(frame.timestamp * 1e6)
     head = struct.pack("<IIIII", number, moment >> 32, moment & 0xFFFFFFFF, len(data), len(data))
     return block(PACKET, head + padded(data), *([option(FLAGS, struct.pack("<I", way))] if way else []))

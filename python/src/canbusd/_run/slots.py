@@ -1,8 +1,8 @@
-"""When the attempts of a run have the wire, if its bus has bit rates, and how busy that makes the wire.
+"""The times when attempts of a run occupy the wire, on a bus with bit rates, and the resulting bus load.
 
-The moment of an attempt is the end of the frame that it tries, in whole microseconds, rounded down: so that frame ends
-up to 999 nanoseconds later. Of the ends that are possible the earliest are taken, one attempt after another, so what
-the rounding leaves open does not add up, and attempts overlap only if they do for all of them.
+The timestamp of an attempt is the end of its frame, rounded down to microseconds, so the frame ends up to 999
+nanoseconds later. For each attempt in turn, this module takes the earliest possible end. So rounding errors do not add
+up, and attempts overlap only if they overlap for all possible ends.
 """
 
 from collections.abc import Iterable, Sequence
@@ -11,39 +11,39 @@ from typing import NamedTuple
 from canbusd._run.steps import RESTART, moment_of
 from canbusd.replay import Replay
 
-# The most nanoseconds that a frame ends after its moment.
+# A frame ends at most this many nanoseconds after its timestamp.
 MOST_LATER = 999
-# The last moment that there is, at which a bus's time stops, in microseconds.
+# The last possible time, at which the clock of a bus stops, in microseconds.
 LAST_MOMENT = 9999999999999999
 
 
 class Slot(NamedTuple):
-    """When an attempt has the wire, in nanoseconds."""
+    """The time when an attempt occupies the wire, in nanoseconds."""
 
-    #: The place of its step in the replay.
+    #: The place of the attempt's step in the replay.
     step: int
-    #: The start of frame.
+    #: The time of the start of frame.
     begin: int
-    #: When the next attempt may begin.
+    #: The time when the next attempt may begin.
     over: int
-    #: By how much at least it begins before the attempt before it is over.
+    #: The minimum overlap with the attempt before.
     overlap: int
 
 
 class Load(NamedTuple):
-    """How long the wire was busy, from the start of the first attempt until the last is over, in nanoseconds."""
+    """The busy time of the wire, between the start of the first attempt and the end of the last, in nanoseconds."""
 
     busy: int
     whole: int
 
     @property
     def share(self) -> float:
-        """The share of the time; above 1 if attempts overlap."""
+        """The busy share of the time; above 1 if attempts overlap."""
         return self.busy / self.whole if self.whole else 0.0
 
 
 def slots_of(run: Replay) -> list[Slot]:
-    """Returns the slots of the attempts that tried a frame, of a run that was read with its bit rates."""
+    """Returns the slots of the attempts with a frame, for a run that was read with its bit rates."""
     slots: list[Slot] = []
     over, steps = 0, run.steps
     for place, (kind, moment, frame, busy) in enumerate(
@@ -61,7 +61,7 @@ def slots_of(run: Replay) -> list[Slot]:
 
 
 def load_of(slots: Sequence[Slot]) -> Load:
-    """Returns the load of the wire by these attempts."""
+    """Returns the load of the wire from these attempts."""
     if not slots:
         return Load(0, 0)
     whole = max(slot.over for slot in slots) - min(slot.begin for slot in slots)
@@ -69,7 +69,7 @@ def load_of(slots: Sequence[Slot]) -> Load:
 
 
 def overlaps_of(run: Replay, slots: Iterable[Slot]) -> list[str]:
-    """Returns a line for each attempt that begins before the one before it is over."""
+    """Returns a line for each attempt that begins before the end of the attempt before."""
     lines = []
     for slot in slots:
         if slot.overlap:
@@ -80,7 +80,7 @@ def overlaps_of(run: Replay, slots: Iterable[Slot]) -> list[str]:
 
 
 def load_words(load: Load) -> str:
-    """The bus load, in words."""
+    """Returns the bus load in words."""
     if not load.whole:
         return "load 0 %: no frame was tried"
     return (

@@ -1,4 +1,4 @@
-"""The steps of a run and the items of its sockets, in columns of numbers: a run may have a million of each."""
+"""The steps of a run and the items of its sockets, in columns of numbers, because a run may have a million of each."""
 
 import bisect
 import functools
@@ -15,22 +15,23 @@ from canbusd._run.run_parts import WAITING_BITS, Interface, Socket
 from canbusd._words import OUTCOMES
 from canbusd.frames import EXTENDED, REMOTE, is_fd
 
-#: The kinds of steps, by their numbers in the column and on a page. Kinds before `restart` are attempts, `idle` is only on pages.
+#: The kinds of steps, by their numbers in the column and on a page. Kinds before `restart` are attempts; `idle` occurs
+#: only on pages.
 KINDS = (*OUTCOMES, "restart", "down", "idle")
 DONE, LASTBIT, DESTROYED, NOACK, RESTART, DOWN, IDLE = range(7)
-#: The outcome of an item, by its number; `waiting` is at the end of the run, `unread` at the close of its socket.
+#: The outcome of an item, by its number; `waiting` means at the end of the run, `unread` at the close of its socket.
 FATES = ("taken", "waiting", "unread", "dropped")
 TAKEN, WAITING, UNREAD, DROPPED = range(4)
 
 KIND_NUMBERS = {kind: number for number, kind in enumerate(KINDS)}
 
 T = TypeVar("T")
-#: The transmit and receive error count of an interface.
+#: The transmit and receive error counts of an interface.
 Counts = tuple[int, int]
 
 
 class Places(defaultdict[T, int]):
-    """Each value once, with its place; one that is not there yet gets the next."""
+    """Values and their places; a new value gets the next place."""
 
     def __init__(self, *values: T) -> None:
         super().__init__(itertools.count(len(values)).__next__, zip(values, range(len(values))))
@@ -38,18 +39,18 @@ class Places(defaultdict[T, int]):
 
     @property
     def all(self) -> list[T]:
-        """The values by their places."""
+        """The values in the order of their places."""
         fresh = itertools.islice(reversed(self), len(self) - len(self._all))
         self._all += [*fresh][::-1]
         return self._all
 
     def places_of(self, values: Iterable[T]) -> list[int]:
-        """Returns the places of values."""
+        """Returns the places of these values."""
         return [*map(self.__getitem__, values)]
 
 
 class WireFrame:
-    """A data, remote or FD frame as the record spells it, with what arbitration and filters look at."""
+    """A data, remote or FD frame in the record's spelling, with the fields that arbitration and filters use."""
 
     __slots__ = ("text", "word", "bits", "is_fd")
 
@@ -64,9 +65,9 @@ class WireFrame:
 
 @functools.lru_cache(maxsize=4096)
 def arbitration_bits(identifier: str, rtr: str) -> str:
-    """The bits that arbitration compares (Bosch CAN 2.0), with blanks between fields, at the same places in all frames.
+    """The bits that arbitration compares (Bosch CAN 2.0), with blanks between fields at the same places in all frames.
 
-    An FD frame has those of a data frame.
+    An FD frame has the bits of a data frame.
     """
     number = int(identifier, 16)
     if len(identifier) == 3:
@@ -77,9 +78,9 @@ def arbitration_bits(identifier: str, rtr: str) -> str:
 
 @dataclass
 class Step:
-    """A tried attempt, a restart, or that an interface went down. Interfaces are numbers here.
+    """An attempt with a frame, a restart, or the event that an interface went down. Interfaces are numbers here.
 
-    An attempt that restarts interfaces is followed by a step for each, with the same entry.
+    After an attempt that restarts interfaces comes a step for each of them, with the same entry.
     """
 
     __slots__ = (
@@ -99,13 +100,13 @@ class Step:
         "waiting",
         "idle",
     )
-    #: done, lastbit, destroyed, noack, restart or down.
+    #: One of done, lastbit, destroyed, noack, restart and down.
     kind: str
     entry: int
     moment: str
     #: The winner, or the interface that was restarted or went down.
     iface: int
-    #: Its number among the attempts; of a restart or a down that of the next attempt.
+    #: The number of the attempt; for a restart or a down the number of the next attempt.
     attempt: int
     number: int
     text: str
@@ -115,75 +116,78 @@ class Step:
     hit: Sequence[int]
     #: The frame of each interface that takes part.
     contenders: list[tuple[int, WireFrame]]
-    #: After the step: transmit and receive count of each interface.
+    #: The transmit and receive count of each interface after the step.
     counts: Sequence[Counts]
-    #: Before the step: how many frames wait at each interface.
+    #: The number of waiting frames at each interface before the step.
     waiting: Sequence[int]
-    #: The number of attempts that were idle since the step before. One that restarts interfaces counts for the first of them.
+    #: The number of idle attempts since the step before. An attempt that restarts interfaces counts for the first of
+    #: them.
     idle: int
 
 
 @dataclass
 class Rows:
-    """Steps that are not in their columns yet. What few of them have is by their numbers among these."""
+    """Steps that are not in their columns yet. Rare facts are stored by the step's number among these."""
 
     kinds: Sequence[int]
-    #: As bytes of the columns.
+    #: Values as bytes of the columns.
     accepted: Sequence[bytes]
     off: Sequence[bytes]
     entries: list[int]
-    #: As lines have them.
+    #: Values as the lines have them.
     moments: Sequence[str]
     verdicts: Sequence[str]
     ifaces: Sequence[int]
     numbers: Sequence[str]
     frames: Sequence[str]
-    #: Times on the wire, if lines have them.
+    #: The times on the wire, if the lines have them.
     wires: Sequence[Optional[tuple[int, ...]]]
-    #: The number of frames that waited.
+    #: The number of waiting frames.
     waiting: Sequence[int]
     #: The number of frames that left the queue of the interface that won, or went down.
     left: Sequence[int]
-    #: The error message frames that it brought about, in the order of the steps.
+    #: The error message frames that the steps caused, in the order of the steps.
     errors: dict[int, list[str]] = field(default_factory=dict)
-    #: The interfaces that were hit.
+    #: The interfaces that a fault hit.
     hit: dict[int, int] = field(default_factory=dict)
-    #: The error counts after it, if they changed, as bytes of the column.
+    #: The error counts after the step if they changed, as bytes of the column.
     counts: dict[int, bytes] = field(default_factory=dict)
-    #: The interfaces that are down after it, if they changed.
+    #: The interfaces that are down after the step, if they changed.
     down: dict[int, int] = field(default_factory=dict)
 
 
 class Steps(Sequence[Step]):
-    """The steps of a run. A column has a number for each; a step is made of them when it is asked for."""
+    """The steps of a run. A column has a number for each step; Step objects are created when needed."""
 
     def __init__(self, texts: Places[str], ifaces: Sequence[Interface]) -> None:
-        # Frames and verdicts have their places in the columns.
+        # Frames and verdicts, by their places in the columns.
         self.texts = texts
         self.verdict_texts: Places[str] = Places()
         self._all_ifaces = ifaces
         self.kinds, self.ifaces, self.entries = array("B"), array("B"), array("I")
-        #: In microseconds.
+        #: Times in microseconds.
         self.moments = array("Q")
         self.attempts, self.numbers, self.idle = array("I"), array("I"), array("I")
         self.frames, self.verdicts = array("I"), array("I")
-        #: Of each step, for one interface after the other, how many frames wait before it, and its two counts after it.
+        #: For each step, one interface after the other: the number of waiting frames before the step, and both counts
+        #: after it.
         self.waiting, self.counts = array("H"), array("H")
         #: The steps that changed counts.
         self.changed = array("I")
         #: Sets of interfaces, bit i for interface i.
         self.accepted, self.off, self.hit = array("H"), array("H"), array("H")
-        #: By the step, the frames that bus off or down took out of a transmit queue: the number and the frame of each.
+        #: By the step, the frames that bus off or a down removed from a transmit queue: the number and the frame of
+        #: each.
         self.lost: dict[int, list[tuple[int, str]]] = {}
-        #: The interfaces that are down after it, as a set.
+        #: The set of interfaces that are down after the step.
         self.down = array("H")
-        #: The number of nanoseconds that the frame takes the wire, and the attempt until the next one may begin; how many bits of the
-        #: frame go at the nominal bit rate, and at the one for data. All are 0 if the line does not say it.
+        #: The nanoseconds that the frame takes on the wire, and those until the next attempt may begin; the bits of the
+        #: frame at the nominal bit rate, and at the data bit rate. All are 0 if the line does not have them.
         self.frame_nanos, self.busy_nanos = array("I"), array("I")
         self.nominal_bits, self.fast_bits = array("H"), array("H")
-        #: The number of attempts that there were.
+        #: The number of attempts.
         self.tried = 0
-        # Of each interface the steps in which it tried a frame, among so many steps.
+        # For each interface the steps in which it tried a frame, and the number of steps that were sorted so far.
         self._tries: "list[array[int]]" = []
         self._sorted = 0
 
@@ -191,9 +195,9 @@ class Steps(Sequence[Step]):
         return len(self.kinds)
 
     def extend(self, rows: Rows, idle: dict[int, int]) -> None:
-        """Adds these steps, with how many attempts were idle before some of them, or after the last one."""
+        """Adds these steps, with the number of idle attempts before some of them, or after the last one."""
         first = len(self)
-        # Numbers of one or two bytes are quick as bytes, and others as lists.
+        # Numbers of one or two bytes are fast as bytes, and others as lists.
         self.kinds.frombytes(bytes(rows.kinds))
         self.ifaces.frombytes(bytes(rows.ifaces))
         self.accepted.frombytes(b"".join(rows.accepted))
@@ -214,7 +218,7 @@ class Steps(Sequence[Step]):
             self._note(column, {row: wire[place] for row, wire in wires.items()}, first)
 
     def _places_of_frames(self, rows: Rows) -> list[int]:
-        """The places of the frames; the error message frames that a step brings about get theirs after its frame."""
+        """Returns the places of the frames; the error message frames of a step get their places after its frame."""
         places, first = [], 0
         for row, errors in rows.errors.items():
             places += self.texts.places_of(rows.frames[first : row + 1])
@@ -223,7 +227,7 @@ class Steps(Sequence[Step]):
         return places + self.texts.places_of(rows.frames[first:])
 
     def _numbered(self, kinds: "array[int]") -> Iterable[int]:
-        """The numbers of these attempts; a restart or a down has that of the next one."""
+        """Returns the numbers of these attempts; a restart or a down has the number of the next attempt."""
         first = self.tried
         self.tried += len(kinds) - kinds.count(RESTART) - kinds.count(DOWN)
         if self.tried - first == len(kinds):
@@ -231,20 +235,22 @@ class Steps(Sequence[Step]):
         return itertools.accumulate(map(RESTART.__gt__, kinds[:-1]), initial=first)
 
     def _note(self, column: "array[int]", numbers: dict[int, int], first: int = 0) -> None:
-        """Makes a column as long as the others: with these numbers, by the steps from this one on, else with 0."""
+        """Extends a column to the length of the others: with these numbers for some steps from this one on, else with
+        0."""
         column.frombytes(bytes(column.itemsize * (len(self) - len(column))))
         for row, number in numbers.items():
             column[first + row] = number
 
     def _go_on(self, column: "array[int]", numbers: dict[int, int], first: int) -> None:
-        """Makes a column as long as the others: from these steps on it has these numbers, before that its last one."""
+        """Extends a column to the length of the others: these steps change its value, which otherwise stays the
+        same."""
         last = column[-1] if column else 0
         for row, number in [*numbers.items(), (len(self) - first, 0)]:
             column.extend(array(column.typecode, [last]) * (first + row - len(column)))
             last = number
 
     def _count(self, counts: dict[int, bytes], first: int) -> None:
-        """Makes the column of the counts as long as the others: from these steps on they are these."""
+        """Extends the column of the counts to the length of the others: these steps change the counts."""
         lengths = map(operator.sub, [*counts, len(self) - first], [0, *counts])
         wide = 2 * len(self._all_ifaces)
         before = (self.counts[-wide:] or array("H", [0]) * wide).tobytes()
@@ -283,7 +289,7 @@ class Steps(Sequence[Step]):
         )
 
     def place_of(self, attempt: Optional[int]) -> Optional[int]:
-        """Returns where the attempt of this number is among the steps, if it is there."""
+        """Returns the place of this attempt among the steps; None if no step is this attempt."""
         if attempt is None:
             return None
         # A restart or a down has the number of the attempt after it.
@@ -291,30 +297,30 @@ class Steps(Sequence[Step]):
         return place if place >= 0 and self.attempts[place] == attempt and self.kinds[place] < RESTART else None
 
     def places_of(self, kind: int, first: int = 0) -> list[int]:
-        """Returns which of the steps from the first one on are of this kind."""
+        """Returns the steps of this kind, from the first one on."""
         if not self.count_of(kind):
             return []
         return [place for place in range(first, len(self)) if self.kinds[place] == kind]
 
     def count_of(self, kind: int) -> int:
-        """Returns how many steps are of this kind."""
+        """Returns the number of steps of this kind."""
         return self.kinds.tobytes().count(kind)
 
     def text(self, place: int) -> str:
-        """Returns the frame of a step; the empty text of one that is no attempt."""
+        """Returns the frame of a step; the empty text if the step is no attempt."""
         return self.texts.all[self.frames[place]]
 
     def verdict(self, place: int) -> str:
-        """Returns the verdict of a step; the empty text of one that is no attempt."""
+        """Returns the verdict of a step; the empty text if the step is no attempt."""
         return self.verdict_texts.all[self.verdicts[place]]
 
     def counts_row(self, place: int) -> "array[int]":
-        """Returns the counts after a step, two of each interface."""
+        """Returns the counts after a step, two for each interface."""
         wide = 2 * len(self._all_ifaces)
         return self.counts[wide * place : wide * (place + 1)]
 
     def counts_before(self, place: int) -> "array[int]":
-        """Returns the counts before a step, two of each interface."""
+        """Returns the counts before a step, two for each interface."""
         return self.counts_row(place - 1) if place else array("H", [0, 0]) * len(self._all_ifaces)
 
     def counts_after(self, place: int) -> tuple[Counts, ...]:
@@ -323,22 +329,23 @@ class Steps(Sequence[Step]):
         return tuple(zip(row[::2], row[1::2]))
 
     def waiting_before(self, place: int) -> tuple[int, ...]:
-        """Returns how many frames wait at each interface before a step."""
+        """Returns the number of waiting frames at each interface before a step."""
         wide = len(self._all_ifaces)
         return tuple(self.waiting[wide * place : wide * (place + 1)])
 
     def met(self, place: int) -> list[int]:
-        """Returns who took part in a step: each interface at which a frame waits."""
+        """Returns the participants of a step: each interface with a waiting frame."""
         if self.kinds[place] >= RESTART:
             return []
         return [iface for iface, count in enumerate(self.waiting_before(place)) if count]
 
     def contenders(self, place: int) -> list[tuple[int, WireFrame]]:
-        """Returns who took part in a step, with their frames."""
+        """Returns the participants of a step with their frames."""
         return [(iface, WireFrame(self._next(iface, place))) for iface in self.met(place)]
 
     def _next(self, iface: int, place: int) -> str:
-        """The next frame that an interface tries or loses, from a step on; if there is none, the first that waits in the end."""
+        """Returns the next frame that an interface tries or loses, from a step on; else its first frame that waits at
+        the end."""
         if self.ifaces[place] == iface:
             return self.text(place)
         self._sort_tries()
@@ -349,7 +356,7 @@ class Steps(Sequence[Step]):
         return self.text(tries[later]) if self.kinds[tries[later]] < RESTART else self.lost[tries[later]][0][1]
 
     def _sort_tries(self) -> None:
-        """Adds the steps since the last call to the lists of steps in which each interface tried a frame, or lost it untried."""
+        """Adds the steps since the last call to the lists of steps in which each interface tried or lost a frame."""
         self._tries = self._tries or [array("I") for _ in self._all_ifaces]
         for place in range(self._sorted, len(self)):
             if self.kinds[place] < RESTART or place in self.lost:
@@ -358,22 +365,22 @@ class Steps(Sequence[Step]):
 
 
 class Items:
-    """The items that interfaces handed to sockets, in this order, in columns."""
+    """The items that interfaces handed to sockets, in order, in columns."""
 
     def __init__(self, sockets: Sequence[Socket]) -> None:
         #: The number of the socket, and the step in which it got the item.
         self.sockets, self.steps = array("I"), array("I")
-        #: The place of an error message frame among the texts; 0 if the item is the frame of its step.
+        #: The place of an error message frame among the texts; 0 if the item is the step's frame.
         self.errors = array("I")
         self._all_sockets = sockets
-        # From where on items were dropped, and to where, one after the other: there may be a million.
+        # The first and last places of dropped items, in pairs, because there may be a million items.
         self._dropped = array("I")
 
     def __len__(self) -> int:
         return len(self.sockets)
 
     def extend(self, sockets: Sequence[bytes], counts: Iterable[int], first: int) -> None:
-        """Adds what each step from the first one on handed to sockets, and how many that are."""
+        """Adds the items that each step from the first one on handed to sockets, and their numbers."""
         for members, count in Counter(sockets).items():
             for number in array("I", members):
                 self._all_sockets[number].handed += count
@@ -383,19 +390,19 @@ class Items:
         self.errors.frombytes(bytes(self.errors.itemsize * (len(self.sockets) - len(self.errors))))
 
     def drop(self, first: int, count: int) -> None:
-        """Items found no room: so many from this one on."""
+        """Marks this many items, from this one on, as without room."""
         self._dropped.extend((first, first + count))
 
     def drops(self) -> Iterator[range]:
-        """Yields the places of the items that found no room, those in a row together."""
+        """Yields the places of the items that found no room, in groups of consecutive places."""
         return map(range, self._dropped[::2], self._dropped[1::2])
 
     def fates(self) -> "array[int]":
-        """Returns what became of each item."""
+        """Returns the outcome of each item."""
         fates, queues = array("B", [TAKEN]) * len(self), self._queues()
         for places in self.drops():
             fates[places.start : places.stop] = array("B", [DROPPED]) * len(places)
-        # A socket has not given the last items that it got.
+        # The last items of a socket's queue have not been taken.
         left = Counter({socket.number: socket.queued - socket.taken for socket in self._all_sockets})
         place, many = len(self), sum(left.values())
         while many:
@@ -408,14 +415,15 @@ class Items:
         return fates
 
     def ends(self) -> "array[int]":
-        """Returns the number of steps before each was taken or its socket closed; 0 if it was neither."""
-        # A socket gives first the item that it got first.
+        """Returns the number of steps before each item was taken or its socket closed; 0 if neither happened."""
+        # A socket hands out its items in the order of their arrival.
         ends = [*map(ends_at, self._all_sockets), itertools.repeat(0)]
         found: Iterator[int] = map(next, map(ends.__getitem__, self._queues()), itertools.repeat(0))
         return array("I", found)
 
     def _queues(self) -> "array[int]":
-        """The number of the socket in whose queue each item was; of one that found no room how many sockets there are."""
+        """Returns the number of the socket whose queue held each item; the number of sockets for an item without
+        room."""
         queues, none = array("I", self.sockets), array("I", [len(self._all_sockets)])
         for places in self.drops():
             queues[places.start : places.stop] = none * len(places)
@@ -423,13 +431,13 @@ class Items:
 
 
 def ends_at(socket: Socket) -> Iterator[int]:
-    """After how many steps each item that comes to a socket leaves it, without an end."""
+    """Yields the number of steps after which each item leaves the socket's queue; the iterator has no end."""
     last = 0 if socket.closed_after is None else socket.closed_after + 1
     return itertools.chain(socket.taken_after, itertools.repeat(last))
 
 
 def by_iface(waiting: Sequence[int], ifaces: int) -> "array[int]":
-    """The number of frames that wait at each of the interfaces, one after the other, by these numbers for all."""
+    """Returns the number of waiting frames at each interface in turn, from these numbers for all interfaces."""
     each = operator.methodcaller("to_bytes", ifaces * WAITING_BITS // 8, "little")
     found = array("H", b"".join(map(each, waiting)))
     if sys.byteorder == "big":
@@ -438,7 +446,7 @@ def by_iface(waiting: Sequence[int], ifaces: int) -> "array[int]":
 
 
 def moment_of(micros: int) -> str:
-    """Returns the moment as a record spells it."""
+    """Returns the time in the record's spelling."""
     return f"{micros // 1000000}.{micros % 1000000:06}"
 
 

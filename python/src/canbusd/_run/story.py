@@ -1,4 +1,4 @@
-"""A run in words: its heading, its facts, and the events that a reader looks for."""
+"""A run in words: its heading, its facts, and its noteworthy events."""
 
 import bisect
 import itertools
@@ -16,9 +16,9 @@ from canbusd._words import OUTCOMES
 from canbusd.record import members_of
 from canbusd.replay import Replay
 
-# Refusals and drops of one place are one event where no more steps than these are between them.
+# Refusals or drops at one place are one event if at most this many steps are between them.
 GAP = 8
-# Steps in a row in which a count is as bad.
+# Matches successive steps in which a count has the same severity.
 SAME_LEVEL = re.compile(rb"\x00+|\x01+|\x02+|\x03+")
 REASONS = {
     "no-buffers": "its transmit queue was full",
@@ -28,7 +28,7 @@ REASONS = {
 
 
 class Event(NamedTuple):
-    """Something that a reader looks for, at a step of the run; -1 before the first."""
+    """A noteworthy event at a step of the run; the step is -1 before the first one."""
 
     step: int
     kind: str
@@ -37,20 +37,20 @@ class Event(NamedTuple):
 
 
 def joined(words: Sequence[str]) -> str:
-    """`a`, `a and b`, `a, b and c`."""
+    """Returns a list in words: `a`, `a and b`, `a, b and c`."""
     return " and ".join([", ".join(words[:-1]), words[-1]] if len(words) > 1 else words)
 
 
 def events_of(run: Replay, names: Sequence[str]) -> list[Event]:
-    """The events of a run, by their steps."""
+    """Returns the events of a run, sorted by step."""
     found = [*state_events(run, names), *second_copies(run, names), *refusals_of(run, names), *drops_of(run, names)]
     return sorted(found, key=lambda event: event.step)
 
 
 def state_events(run: Replay, names: Sequence[str]) -> Iterator[Event]:
-    """Changes of state, frames lost by bus off or down, and restarts."""
+    """Returns changes of state, frames lost by bus off or down, and restarts."""
     steps = run.steps
-    # The step in which each interface last went bus off, or down.
+    # The step in which each interface last went bus off or down.
     went: dict[int, int] = {}
     no_attempts = steps.places_of(RESTART) + steps.places_of(DOWN)
     for number in sorted({*no_attempts, *level_changes(steps, len(names))}):
@@ -71,7 +71,7 @@ def state_events(run: Replay, names: Sequence[str]) -> Iterator[Event]:
 
 
 def down_of(run: Replay, number: int, name: str) -> Iterator[Event]:
-    """The events of an interface that goes down in a step."""
+    """Returns the events of an interface that goes down in a step."""
     iface, lost = run.steps.ifaces[number], len(run.lost.get(number, []))
     yield Event(number, "down", iface, f"{name} went down: it takes no part until it is up")
     if lost:
@@ -81,7 +81,8 @@ def down_of(run: Replay, number: int, name: str) -> Iterator[Event]:
 
 
 def level_changes(steps: Steps, ifaces: int) -> Iterator[int]:
-    """The steps in which a count of an interface becomes as bad as it was not before, or no longer is, and maybe the first."""
+    """Returns the steps in which an interface's count reaches or leaves a level of severity, and perhaps the first
+    step."""
     for place in range(2 * ifaces if steps.changed else 0):
         column = steps.counts[place :: 2 * ifaces]
         most = max(column, default=0)
@@ -91,16 +92,17 @@ def level_changes(steps: Steps, ifaces: int) -> Iterator[int]:
 
 
 def states_of(counts: Sequence[int]) -> list[int]:
-    """How bad the two counts of each interface are."""
+    """Returns the severity of each interface, from the higher of its two counts."""
     return [severity(max(both)) for both in zip(counts[::2], counts[1::2])]
 
 
 def outage_of(steps: Steps, went: int, back: int) -> str:
-    """How long an interface was off or down, from one step to another: `; it was off for 203.1 ms, attempts 836 to 1,012`."""
+    """Returns how long an interface was off or down, between two steps: `; it was off for 203.1 ms, attempts 836 to
+    1,012`."""
     micros = steps.moments[back] - steps.moments[went]
     duration = f" for {duration_words(micros)}" if micros > 0 else ""
     first, last = steps.attempts[went], steps.attempts[back] - 1
-    # The first is that in which it went off, or that after it went down.
+    # The first attempt is the one that made the interface go off, or the one after it went down.
     is_down = steps.kinds[went] == DOWN
     is_tried = last >= first if is_down else last > first
     attempts = f"attempts {first:,} to {last:,}" if is_tried else "and no frame was tried"
@@ -108,7 +110,7 @@ def outage_of(steps: Steps, went: int, back: int) -> str:
 
 
 def duration_words(micros: int) -> str:
-    """A duration in the unit that fits: `40 µs`, `203.1 ms`, `1.3 s`, `2 min 5.0 s`."""
+    """Returns a duration in a suitable unit: `40 µs`, `203.1 ms`, `1.3 s`, `2 min 5.0 s`."""
     if micros < 1_000:
         return f"{micros} µs"
     if micros < 1_000_000:
@@ -118,16 +120,17 @@ def duration_words(micros: int) -> str:
 
 
 class Climb(NamedTuple):
-    """The attempts that raised the transmit count of an interface since it was last 0."""
+    """The attempts that raised the transmit count of an interface since the count was last 0."""
 
-    #: The number of its first attempt, and how many there were that changed a count.
+    #: The number of its first attempt, and the number of attempts that changed a count.
     first: int
     attempts: int
-    #: The number of attempts that failed, by their verdicts or `noack`.
+    #: The number of failed attempts, by their verdict or `noack`.
     faults: Counter[str]
 
     def words(self, names: Sequence[str]) -> str:
-        """`32 of its 33 attempts from attempt 1,000 on failed (31 x global bit, 1 x last bit)`, or `all its 32 attempts ..`."""
+        """Returns `32 of its 33 attempts from attempt 1,000 on failed (31 x global bit, 1 x last bit)`, or `all its 32
+        attempts ..`."""
         each = ", ".join(f"{count:,} x {fault_words(fault, names)}" for fault, count in self.faults.most_common())
         failed, attempts = sum(self.faults.values()), times(self.attempts, "attempt")
         which = f"all its {attempts}" if 1 < failed == self.attempts else f"{failed:,} of its {attempts}"
@@ -135,7 +138,7 @@ class Climb(NamedTuple):
 
 
 def climb_to(steps: Steps, last: int, iface: int) -> Climb:
-    """The attempts that raised the transmit count of an interface up to this step of its own."""
+    """Returns the attempts that raised the transmit count of an interface, up to this step of that interface."""
     found: list[int] = []
     for place in reversed(range(bisect.bisect_right(steps.changed, last))):
         number = steps.changed[place]
@@ -149,13 +152,13 @@ def climb_to(steps: Steps, last: int, iface: int) -> Climb:
 
 
 def fault_words(fault: str, names: Sequence[str]) -> str:
-    """A verdict in words, or a missing acknowledgement."""
+    """Returns a verdict in words, or a missing acknowledgement."""
     short = {"noack": "no acknowledgement", "lastbit": "last bit"}
     return short.get(fault) or verdict_words(fault, names)
 
 
 def change_of(steps: Steps, number: int, i: int, names: Sequence[str]) -> Iterator[Event]:
-    """The change of the state of an interface in a step."""
+    """Returns the change of an interface's state in a step."""
     tec, rec = steps.counts_after(number)[i]
     name, state = names[i], severity(max(tec, rec))
     if state == 3:
@@ -170,11 +173,11 @@ def change_of(steps: Steps, number: int, i: int, names: Sequence[str]) -> Iterat
 
 
 def second_copies(run: Replay, names: Sequence[str]) -> Iterator[Event]:
-    """Attempts by which a receiver accepted a frame that it had already: after a fault in the last bit."""
+    """Returns the attempts in which a receiver accepted a frame a second time, after a fault in the last bit."""
     steps = run.steps
     if not steps.count_of(LASTBIT):
         return
-    # Of each interface the last frame that has to be sent again, and how many copies receivers have.
+    # For each interface the last frame that must be sent again, and the number of copies that receivers have.
     had: dict[int, tuple[int, Counter[int]]] = {}
     for number, (kind, iface, accepted) in enumerate(zip(steps.kinds, steps.ifaces, steps.accepted)):
         if not accepted or (iface not in had and kind != LASTBIT):
@@ -195,14 +198,14 @@ def second_copies(run: Replay, names: Sequence[str]) -> Iterator[Event]:
 
 
 def refusals_of(run: Replay, names: Sequence[str]) -> Iterator[Event]:
-    """Sends that were refused because a queue was full or an interface off."""
+    """Returns the sends that were refused because a queue was full or an interface was off."""
     for (iface, reason), steps in run.refused.items():
         for first, count in groups(steps):
             yield Event(first, "refused", iface, f"{names[iface]} refused {times(count, 'send')}: {REASONS[reason]}")
 
 
 def drops_of(run: Replay, names: Sequence[str]) -> Iterator[Event]:
-    """Items that found no room in the receive queue of a socket."""
+    """Returns the items that found no room in the receive queue of a socket."""
     items = run.items
     found: dict[int, list[int]] = {}
     for place in itertools.chain.from_iterable(items.drops()):
@@ -215,7 +218,7 @@ def drops_of(run: Replay, names: Sequence[str]) -> Iterator[Event]:
 
 
 def groups(steps: Iterable[int]) -> Iterator[tuple[int, int]]:
-    """The first of each run of steps that are close together, and how many there are."""
+    """Returns the first step of each group of close steps, and the number of steps in the group."""
     first = last = count = 0
     for step in steps:
         if count and step - last > GAP:
@@ -228,7 +231,7 @@ def groups(steps: Iterable[int]) -> Iterator[tuple[int, int]]:
 
 
 def verdict_words(verdict: str, names: Sequence[str]) -> str:
-    """A verdict of the record in words: `local crc at can1` for `local-crc:0002`."""
+    """Returns a verdict of the record in words: `local crc at can1` for `local-crc:0002`."""
     kind, colon, _ = verdict.partition(":")
     if not colon:
         return {"good": "none", "lastbit": "last bit, at the sender only"}.get(kind, kind.replace("-", " "))
@@ -236,12 +239,12 @@ def verdict_words(verdict: str, names: Sequence[str]) -> str:
 
 
 def counts_by_kind(run: Replay) -> dict[str, int]:
-    """How many steps of each kind there are."""
+    """Returns the number of steps of each kind."""
     return {kind: run.steps.count_of(number) for number, kind in enumerate(KINDS)}
 
 
 def facts_of(run: Replay) -> str:
-    """The parts of the run, in numbers."""
+    """Returns the run in numbers."""
     counts = counts_by_kind(run)
     outcomes = [f"{counts[kind]:,} {words}" for kind, words in OUTCOMES.items() if counts[kind]]
     facts = [f"{times(run.attempts, 'attempt')}: {joined(outcomes)}"] if outcomes else []
@@ -253,7 +256,7 @@ def facts_of(run: Replay) -> str:
 
 
 def heading_of(run: Replay, names: Sequence[str], events: Sequence[Event]) -> tuple[str, int]:
-    """The run in one line: how large it is, and the worst that happened; and the step in which it did."""
+    """Returns the size and the worst event of the run on one line, and the step of that event."""
     size = f"{times(len(names), 'node')}, {times(run.attempts, 'attempt')}"
     if not run.attempts:
         return f"{size}: no frame was tried", 0
@@ -262,7 +265,7 @@ def heading_of(run: Replay, names: Sequence[str], events: Sequence[Event]) -> tu
 
 
 def worst_of(run: Replay, names: Sequence[str], events: Sequence[Event]) -> tuple[str, int]:
-    """The worst that happened, and the first step in which it did."""
+    """Returns the worst event, and the first step in which it occurred."""
     firsts = {event.kind: event for event in reversed(events)}
     if "bus off" in firsts:
         offs = [(names[event.iface], run.steps.attempts[event.step]) for event in events if event.kind == "bus off"]

@@ -1,4 +1,4 @@
-"""A bus in a few lines: its events, the end of its log, and a table of its interfaces."""
+"""A summary of a bus in a few lines: its events, the end of its log, and a table of its interfaces."""
 
 import os
 import re
@@ -16,7 +16,7 @@ from canbusd.signals import Database
 
 HEADINGS = ("interface", "state", "TEC", "REC", "sent", "done", "waiting", "lost", "refused")
 LAST_LINES = 10
-# More than these lines have, and the one before them.
+# The last lines of a log, with the line before them, have fewer bytes than this.
 LAST_BYTES = 4096
 MOST_EVENTS = 10
 
@@ -25,7 +25,7 @@ Row = tuple[object, ...]
 
 
 def interfaces(record: Record) -> list[Row]:
-    """Returns the rows of the interfaces as they are at the end of a run."""
+    """Returns the rows of the interfaces at the end of a run."""
     rows: list[Row] = []
     for name, one in zip(record.names, record.replay.ifaces):
         counts = (one.sent, one.done, len(one.waiting), one.lost, one.refused)
@@ -34,7 +34,7 @@ def interfaces(record: Record) -> list[Row]:
 
 
 def story(record: Record, most: int = MOST_EVENTS) -> list[str]:
-    """Returns the run in one line, and its last events."""
+    """Returns the run on one line, and its last events."""
     replay, names = record.replay, record.names
     events = events_of(replay, names)
     lines = [heading_of(replay, names, events)[0]]
@@ -47,12 +47,12 @@ def story(record: Record, most: int = MOST_EVENTS) -> list[str]:
 
 
 def load_words(permille: int) -> str:
-    """Returns the load of a bus, of 1000 if it is full, with a small bar: ` 43.2 % ####......`."""
+    """Returns the load of a bus in thousandths, as text with a small bar: ` 43.2 % ####......`."""
     return f"{permille / 10:5.1f} % {'#' * min(round(permille / 100), 10):.<10}"
 
 
 def table(rows: Iterable[Row], headings: Sequence[str] = HEADINGS) -> list[str]:
-    """Returns the lines of a table: texts at the left, numbers at the right of their columns."""
+    """Returns the lines of a table, with texts at the left of their columns and numbers at the right."""
     cells = [list(headings), *([str(cell) for cell in row] for row in rows)]
     widths = [max(len(row[place]) for row in cells) for place in range(len(headings))]
     return [
@@ -65,7 +65,7 @@ def table(rows: Iterable[Row], headings: Sequence[str] = HEADINGS) -> list[str]:
 
 
 def end_of_log(path: Path) -> list[str]:
-    """Returns the last lines of a log, after its path; error message frames with what they say in words."""
+    """Returns the path and the last lines of a log, with the meaning of error message frames in words."""
     try:
         with open(path, "rb") as file:
             file.seek(max(0, os.fstat(file.fileno()).st_size - LAST_BYTES))
@@ -77,7 +77,7 @@ def end_of_log(path: Path) -> list[str]:
 
 
 def with_meaning(line: str) -> str:
-    """Returns the line of a log, which may be cut off; that of an error message frame with what it says."""
+    """Returns the line of a log, which may be cut off; for an error message frame, with its meaning."""
     words = line.split()
     if len(words) == 3 and re.fullmatch(ERROR_FRAME, words[2]):
         return f"{line}  {meaning(words[2])}"
@@ -91,8 +91,8 @@ def write_page(
     rates: Optional[Rates] = None,
     database: Optional[Database] = None,
 ) -> Path:
-    """Writes the page of a run, with the rule of each attempt, the bus load, and messages with their signals, if these are
-    given; returns its path."""
+    """Writes the page of a run, and returns its path. The caller may give the rule of each attempt, the bus load, and
+    messages with their signals."""
     from canbusd._page.report import page
 
     target = Path(path)

@@ -1,4 +1,4 @@
-"""The address of a server: those that are read, a socket that is connected there, and why there is none."""
+"""The address of a server: parsing, connecting, and the reason if there is no address."""
 
 import os
 import re
@@ -6,16 +6,16 @@ import socket
 from typing import Optional
 
 DEFAULT_ADDRESS = "127.0.0.1:29536"
-# The errors of an address at which no server listens: of TCP, and a Unix path that is not there.
+# The errors if no server listens at an address: for TCP, and for a Unix path that does not exist.
 NO_SERVER = (ConnectionRefusedError, FileNotFoundError)
-# HOST:PORT or [V6]:PORT.
+# Matches HOST:PORT or [V6]:PORT.
 HOST_PORT = re.compile(r"(?:\[([^][]+)\]|([^][:]+)):([0-9]{1,5})")
 
 
 def parse_address(
     text: str, what: str = "address", least_port: int = 1
 ) -> tuple[Optional[str], Optional[tuple[str, int]]]:
-    """Returns the Unix path, or the host and the port, that an address names; ValueError if it names neither."""
+    """Returns the Unix path, or the host and the port, in an address; raises ValueError for any other text."""
     if text.startswith(("/", ".")):
         return text, None
     words = HOST_PORT.fullmatch(text)
@@ -26,31 +26,32 @@ def parse_address(
 
 
 def meant(text: str) -> str:
-    """Returns the address that a text with a part of one may mean, as a question; nothing if it may mean none."""
+    """Returns the address that an incomplete address may mean, as a question; the empty text if there is none."""
     if re.fullmatch(":?[0-9]{1,5}", text):
         return f" (127.0.0.1:{text.lstrip(':')}?)"
     return f" (./{text}?)" if re.fullmatch("[^:]*[.][^:]*", text) else ""
 
 
 def server_address(given: Optional[str] = None) -> str:
-    """Returns the address of the server: this one, else that of $CANBUSD_ADDRESS, else the default; ValueError if it is none."""
+    """Returns the address of the server: this argument, else $CANBUSD_ADDRESS, else the default; raises ValueError if
+    it is malformed."""
     address = str(given or os.environ.get("CANBUSD_ADDRESS") or DEFAULT_ADDRESS)
     parse_address(address)
     return address
 
 
 def reason_of(fault: Exception) -> str:
-    """Returns why there is no session, in words."""
+    """Returns the reason why there is no session, in words."""
     hint = " (is `canbusd serve` running there?)" if isinstance(fault, NO_SERVER) else ""
     return f"{getattr(fault, 'strerror', None) or fault}{hint}"
 
 
 def connect(address: str, timeout: float) -> socket.socket:
-    """Returns a socket that is connected to this address, and on which nothing waits."""
+    """Returns a socket that is connected to this address, and that sends small writes at once."""
     path, host_port = parse_address(address)
     if host_port is not None:
         connected = socket.create_connection(host_port, timeout)
-        # A command that waited for the acknowledgement of the one before it would wait for 40 milliseconds.
+        # Without this option, a command waits up to 40 milliseconds for the acknowledgement of the command before.
         connected.setsockopt(socket.IPPROTO_TCP, socket.TCP_NODELAY, 1)
     else:
         assert path is not None

@@ -1,4 +1,4 @@
-"""The arguments of a bus: each may be a text, as in can.conf and on a command line. And those of other calls."""
+"""The arguments of a bus, which may be texts as in can.conf and on a command line, and arguments of other calls."""
 
 from numbers import Real
 from typing import TypeVar, Union
@@ -10,7 +10,7 @@ TRUTHS = {"1": True, "true": True, "yes": True, "on": True, "0": False, "false":
 
 
 def truth(name: str, value: object) -> bool:
-    """Returns a truth value, which may be given as a text."""
+    """Returns a truth value, which the caller may give as a text."""
     found = TRUTHS.get(str(value).lower())
     if found is None:
         raise ValueError(f"{name} is true or false, not {value!r}")
@@ -18,7 +18,7 @@ def truth(name: str, value: object) -> bool:
 
 
 def mask_or_truth(name: str, value: object) -> Union[bool, int]:
-    """Returns a mask of error classes, or whether to receive all; 0 and 1 are truth values."""
+    """Returns a mask of error classes, or whether to receive all classes; 0 and 1 are truth values."""
     if str(value).lower() in TRUTHS:
         return truth(name, value)
     try:
@@ -31,7 +31,7 @@ def mask_or_truth(name: str, value: object) -> Union[bool, int]:
 
 
 def seconds(name: str, value: object) -> float:
-    """Returns a number of seconds above 0, which may be given as a text."""
+    """Returns a number of seconds above 0, which the caller may give as a text."""
     try:
         found = float(str(value))
     except ValueError:
@@ -42,7 +42,7 @@ def seconds(name: str, value: object) -> float:
 
 
 def bit_rates(**rates: object) -> dict[str, int]:
-    """Returns those of these bit rates that are given; each may be a text."""
+    """Returns the given bit rates without missing ones; each may be a text."""
     try:
         return {name: int(str(rate)) for name, rate in rates.items() if rate is not None}
     except ValueError:
@@ -50,7 +50,7 @@ def bit_rates(**rates: object) -> dict[str, int]:
 
 
 def interface_name(channel: object) -> str:
-    """Returns the name of an interface; ValueError for a channel that is none."""
+    """Returns the name of an interface; raises ValueError for an invalid channel."""
     name = str(channel)
     if not NAME.fullmatch(name):
         raise ValueError(f"channel is the name of an interface, such as can0, not {channel!r}")
@@ -58,13 +58,13 @@ def interface_name(channel: object) -> str:
 
 
 def check_within(seconds: object, what: str = "within") -> None:
-    """ValueError if nobody can wait for so many seconds."""
+    """Raises ValueError if this is not a valid number of seconds to wait."""
     if not isinstance(seconds, Real) or not float(seconds) >= 0:
         raise ValueError(f"{what} is a number of seconds, 0 or more, not {seconds!r}")
 
 
 def one_data_rate(data_bitrate: Rate, dbitrate: Rate) -> Rate:
-    """Returns the bit rate for data, which has two names: that of python-can and that of the program."""
+    """Returns the data bit rate, which has two names: one from python-can, and one from the program."""
     if data_bitrate is not None and dbitrate is not None and data_bitrate != dbitrate:
         raise ValueError(f"data_bitrate and dbitrate are one argument, not {data_bitrate!r} and {dbitrate!r}")
     return dbitrate if data_bitrate is None else data_bitrate

@@ -48,27 +48,27 @@ class PeriodicSend:
         self._end = None if duration is None else session._bench._now + round(duration * 1e6)
 
     def modify_data(self, message: MessageLike) -> None:
-        """Sends this frame from now on, at the same moments; it has the same identifier."""
+        """Sends this frame from now on, at the same times; it must have the same identifier."""
         frame = frame_like(message)
         if identifier_word(frame) != identifier_word(self._frame):
             raise ValueError(f"a periodic frame keeps its identifier: {self._frame} can't become {frame}")
         self._frame = frame
 
     def start(self) -> None:
-        """Begins anew, if it was ended."""
+        """Starts the task again, if it has ended."""
         if self._next is None:
             self._next = self._session._bench._now
 
     def stop(self) -> None:
-        """Ends it."""
+        """Ends the task."""
         self._next = None
 
     def first_due(self) -> Optional[int]:
-        """When the next is due, in microseconds; None if it has ended."""
+        """Returns the time when the next frame is due, in microseconds; None if the task has ended."""
         return self._next
 
     def put_due(self, moment: int) -> None:
-        """Sends what is due at this moment."""
+        """Sends the frame if it is due at this time."""
         while self._next is not None and self._next <= moment:
             if self._session._closed or (self._end is not None and self._next >= self._end):
                 self.stop()
@@ -87,11 +87,11 @@ class Session(InjectsFaults, NamesWhatThereIs):
     def __init__(self, bench: "Bench", number: int, channel: str) -> None:
         self._bench, self._number = bench, number
         self._closed = False
-        # The numbers at its interface of the frames that it has sent.
+        # The numbers of the session's sent frames at its interface.
         self._own: set[int] = set()
-        # Frames that were taken from the socket, and not from here.
+        # Frames that were read from the socket, but not yet returned.
         self._received: deque[Frame] = deque()
-        #: The name of its interface.
+        #: The name of the session's interface.
         self.channel = channel
 
     _INSTEAD = {
@@ -116,8 +116,8 @@ class Session(InjectsFaults, NamesWhatThereIs):
         """Puts a frame into the transmit queue of the interface, or raises Refused.
 
         `frame` is a Frame, a message of python-can, or an identifier, which has 11 bits up to 7FF unless
-        `is_extended_id` says otherwise. `dlc` is the length that a remote frame asks for. With a `timeout` time passes for up
-        to so many seconds, until a full queue has room.
+        `is_extended_id` says otherwise. `dlc` is the length that a remote frame asks for. With a `timeout`, up to this
+        many seconds pass on the bus until a full queue has room.
         """
         if isinstance(frame, int):
             sent = frame_to_send(
@@ -152,7 +152,7 @@ class Session(InjectsFaults, NamesWhatThereIs):
             self._own.add(len(accepted) - 1)
 
     def _was_accepted(self, frame: Frame) -> bool:
-        """Puts a frame into the transmit queue, if that has room; returns whether it had."""
+        """Puts a frame into the transmit queue if that has room; returns whether it had."""
         try:
             self._put(frame)
             return True
@@ -162,16 +162,17 @@ class Session(InjectsFaults, NamesWhatThereIs):
             return False
 
     def receive(self) -> list[Frame]:
-        """Takes what the socket has received, oldest first; error message frames too, if they were asked for."""
+        """Returns the frames that the socket has received, oldest first, with error message frames if the session asked
+        for them."""
         self._gather()
         frames = list(self._received)
         self._received.clear()
         return frames
 
     def recv(self, timeout: Optional[float] = None) -> Optional[Frame]:
-        """Returns the next frame, once time has passed until there is one: seconds of the bus.
+        """Returns the next frame; time passes on the bus until there is one.
 
-        None if none comes within these seconds, and without a timeout where nothing is left that could come.
+        Returns None if no frame comes within these seconds, or, without a timeout, if no further frame can come.
         """
 
         def first() -> Optional[Frame]:
@@ -181,8 +182,8 @@ class Session(InjectsFaults, NamesWhatThereIs):
         return first() or self._bench.pass_time(first, timeout)
 
     def send_periodic(self, msgs: MessageLike, period: float, duration: Optional[float] = None) -> "PeriodicSend":
-        """Sends a frame each `period` seconds of the bus, while time passes, from now on and for the `duration`, until `stop()`
-        of what is returned. A full queue, bus off, or an interface that is down does not end it."""
+        """Sends a frame every `period` seconds of bus time, from now on and for the `duration`, or until the returned
+        task's `stop()`. A full queue, bus off, or an interface that is down does not end the task."""
         check_within(period, "period")
         if not period > 0:
             raise ValueError(f"period is a number of seconds above 0, not {period!r}")
@@ -191,17 +192,17 @@ class Session(InjectsFaults, NamesWhatThereIs):
         return task
 
     def handed_over(self) -> list[str]:
-        """Takes what the socket has received, as messages of the protocol."""
+        """Returns the items that the socket has received, as messages of the protocol."""
         number = self._live()
         return self._bench._ask(f"drain {number}\nfeed {number} < echo >")
 
     def _gather(self) -> None:
-        """Takes what the socket has received, for calls that return it."""
+        """Takes the items that the socket has received, for calls that return them."""
         frames = map(self._frame, self.handed_over())
         self._received.extend(frame for frame in frames if frame is not None)
 
     def error_counters(self) -> ErrorCounters:
-        """Returns the state of the interface and its error counts, as `status` does."""
+        """Returns the state of the interface and its error counts, like `status`."""
         return self.status()
 
     def status(self) -> ErrorCounters:
@@ -213,7 +214,7 @@ class Session(InjectsFaults, NamesWhatThereIs):
         return self._parsed(self._answer("stats"), stats_of)
 
     def load(self) -> Load:
-        """Returns how busy the wire was, in the last whole second before the moment that is set, and in all."""
+        """Returns the bus load, in the last whole second before the bench's time, and in all."""
         return self._parsed(self._answer("load"), load_of)
 
     def set_filters(self, filters: Optional[Filters] = None) -> None:
@@ -224,7 +225,7 @@ class Session(InjectsFaults, NamesWhatThereIs):
         self.call(message)
 
     def restart(self, at: Union[str, float, None] = None) -> None:
-        """Brings the interface back from bus off, at this moment if one is given."""
+        """Brings the interface back from bus off, at this time if one is given."""
         number = self._live()
         try:
             self._bench._ask(f"feed {number} < restart >< echo >", at)
@@ -232,10 +233,10 @@ class Session(InjectsFaults, NamesWhatThereIs):
             raise Refused(f"{self.channel}: {fault}, but {self.status().state}") from None
 
     def down(self, at: Union[str, float, None] = None) -> None:
-        """Takes the interface off the bus, at this moment if one is given; the frames in its transmit queue are lost.
+        """Takes the interface off the bus, at this time if one is given; the frames in its transmit queue are lost.
 
-        It sends, accepts and acknowledges nothing until `up`, and a send is refused as `interface down`. It may be down
-        already.
+        The interface sends, accepts and acknowledges nothing until `up`, and a send is refused as `interface down`. The
+        interface may already be down.
         """
         try:
             self._bench._ask(f"feed {self._live()} < down >< echo >", at)
@@ -243,8 +244,8 @@ class Session(InjectsFaults, NamesWhatThereIs):
             raise Refused(f"{self.channel}: {NO_DOWN if str(fault) == UNKNOWN_COMMAND else fault}") from None
 
     def up(self, at: Union[str, float, None] = None) -> None:
-        """Brings the interface up, at this moment if one is given, or back from bus off; both error counts are 0 then. It
-        may be up already."""
+        """Brings the interface up, or back from bus off, at this time if one is given. Both error counts are then 0.
+        The interface may already be up."""
         try:
             self._bench._ask(f"feed {self._live()} < restart >< echo >", at)
         except Refused as fault:
@@ -252,12 +253,12 @@ class Session(InjectsFaults, NamesWhatThereIs):
                 raise
 
     def call(self, message: str) -> list[str]:
-        """Feeds a message of the protocol, such as `recvown 1`, and returns the answers to it; a refusal is raised."""
+        """Sends a message of the protocol, such as `recvown 1`, and returns its answers; raises a refusal."""
         if re.search(r"[<>\n]|^\s*close\b", message):
             raise ValueError(f"message is one message without < and >, and not close: {message!r}")
         text = f" {message} "
         if len(text.encode()) > LONGEST_MESSAGE:
-            # As the session says of one that is not too long for a line of the bench.
+            # The session itself gives this refusal if a message is too long for it, but fits into a line of the bench.
             raise Refused("message too long")
         with self._bench._turn:
             answers = self._bench._ask(f"feed {self._live()} <{text}>< echo >")
@@ -265,7 +266,7 @@ class Session(InjectsFaults, NamesWhatThereIs):
         return answers
 
     def shutdown(self) -> None:
-        """Closes its socket, if that is open, and the bench still runs."""
+        """Closes the socket if it is open and the bench still runs."""
         if not self._closed and self._bench._child.stdin is not None:
             self.close()
 
@@ -278,7 +279,7 @@ class Session(InjectsFaults, NamesWhatThereIs):
         self.shutdown()
 
     def close(self) -> tuple[int, int]:
-        """Closes the socket; returns how many frames it had not read, and how many it dropped."""
+        """Closes the socket; returns the number of unread frames, and the number of dropped frames."""
         line = self._bench._line_after(f"feed {self._live()} < close >")
         counts = CLOSED.fullmatch(line)
         if not counts:
@@ -287,7 +288,7 @@ class Session(InjectsFaults, NamesWhatThereIs):
         return int(counts[1]), int(counts[2])
 
     def _frame(self, message: str) -> Optional[Frame]:
-        """The frame that a message hands over; None for an answer."""
+        """Returns the frame that a message hands over; None for an answer."""
         text, number = without_origin(message)
         frame = frame_of(text)
         return replace(frame, is_rx=False) if frame is not None and number in self._own else frame

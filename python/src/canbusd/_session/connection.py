@@ -1,13 +1,13 @@
 """A connection to a server, for any number of threads.
 
-Whoever waits, for a frame or for an answer, reads the socket unless another thread does so already; the reader sorts
-what comes into frames and answers, and wakes the others. So there is no thread of its own, and nothing is read before
-its time.
+A thread that waits for a frame or an answer reads the socket, unless another thread already does. The reader sorts
+incoming messages into frames and answers, and wakes the other threads. So the connection needs no thread of its own,
+and reads nothing too early.
 
-At any moment the handler of a signal may raise an exception, as at Ctrl-C. So a lock is taken by `with` only, or its
-taking is noted as it happens, nobody waits with a lock that others need, and what was sent or received is never
-forgotten: `noted.extend(map(call, (word,)))` is one call in C, and the list has what `call` returned before a handler is
-called. threading.Condition, which gives its lock back to wait and then takes it again, would be left locked.
+At any time a signal handler may raise an exception, as at Ctrl-C. So the code takes a lock only by `with`, or notes the
+taking as it happens. No thread waits while it holds a lock that others need. The code never forgets sent or received
+bytes: `noted.extend(map(call, (word,)))` is one call in C, and the list has what `call` returned before a handler is
+called. A threading.Condition releases its lock to wait and then takes it again, so an exception would leave it locked.
 """
 
 import contextlib
@@ -27,16 +27,17 @@ from canbusd._session.readiness import PIECE, Readiness
 from canbusd._session.waits import seconds_until, wait_for_ready
 from canbusd._text import seconds_words
 
-# Seconds that a server is given to end a session.
+# A server may take this many seconds to end a session.
 CLOSE_TIMEOUT = 1.0
-# Seconds between two looks at what a server has no news of, such as a full transmit queue: at first, and at most.
+# Seconds between two checks of a state that the server does not announce, such as a full transmit queue: first and
+# longest.
 POLL, LONGEST_POLL = 0.0002, 0.01
-# Seconds after which a thread looks for what another one has read, if that was interrupted before it woke it.
+# A waiting thread checks after this many seconds for input that another thread has read, in case that was interrupted.
 LONGEST_NAP = 1.0
-# Seconds for which another thread has its turn to read.
+# Another thread has its turn to read for this many seconds.
 A_TURN = 0.001
-# Anybody may listen at an address, and terminals carry out what they take for a command: other characters than those
-# that messages have are `?`, and all kinds of space one.
+# Any program may listen at an address, and terminals execute control characters. So characters that no message has
+# become `?`, and all kinds of whitespace become one space.
 PRINTED = bytes(32 if byte in b"\t\n\v\f\r" else byte if 32 <= byte < 127 else ord("?") for byte in range(256))
 
 T = TypeVar("T")
@@ -47,34 +48,35 @@ class NoAnswer(TimeoutError):
 
 
 class SessionRefused(Exception):
-    """The server refused the session; the text is its own."""
+    """The server refused the session; the text is the server's."""
 
 
 class Connection:
-    """A session with the server at this address, which has greeted.
+    """A session with the server at this address, after its greeting.
 
-    `timeout` is the number of seconds in which the server has to answer. Calls raise ConnectionError once the
-    connection has ended, and NoAnswer.
+    `timeout` is the number of seconds in which the server must answer, else calls raise NoAnswer. After the connection
+    has ended calls raise ConnectionError.
     """
 
     def __init__(self, address: str, timeout: float) -> None:
         self._timeout = timeout
-        # One question at a time, one reader at a time, and for a moment one look at the state below.
+        # These locks allow one question at a time, one reader at a time, and brief access to the state below.
         self._asking = threading.Lock()
         self._reading = threading.Lock()
         self._lock = threading.Lock()
-        # Threads wait for this while another one reads: it is locked until there is news.
+        # Threads wait for this lock while another thread reads: it is locked until there is news.
         self._news: Optional[threading.Lock] = None
-        # The bytes that were read and are not sorted yet, and the beginning of a message.
+        # The bytes that were read but not sorted, and the beginning of an incomplete message.
         self._pieces: list[bytes] = []
         self._rest = ""
         self._frames: deque[str] = deque()
-        # Whether the server accepts each frame by its number, and the numbers of one's own, if they are noted.
+        # Whether the server accepts each frame by its number, and the numbers of this session's frames, if they are
+        # noted.
         self._has_acks = False
         self._own: Optional[OwnNumbers] = None
-        # The length of the question at hand, and the bytes of it that were sent.
+        # The length of the present question, and the number of its bytes that were sent.
         self._length, self._sent = 0, [0]
-        # At first what is still to come is the greeting.
+        # The first expected answer is the greeting.
         self._asked = Asked(VERDICT)
         self._end: Optional[str] = None
         self._is_closing = self._is_closed = False
@@ -89,8 +91,8 @@ class Connection:
             raise
 
     def ask(self, messages: Sequence[str]) -> list[str]:
-        """Writes these messages at once, and returns the answer to each; the empty text if it had none, or accepts a
-        frame."""
+        """Writes these messages at once, and returns the answer to each; the empty text stands for no answer or an
+        accepted frame."""
         written: list[str] = []
         ends = ""
         for message in messages:
@@ -112,19 +114,20 @@ class Connection:
             return answers
 
     def ask_acks(self, notes_own: bool = False) -> None:
-        """Has the server accept each frame by its number, in place of an echo, and notes these for `is_own` if asked to;
-        an older server goes on with echoes."""
+        """Asks the server to accept each frame by its number instead of an echo, and notes these numbers for `is_own`
+        if asked to. An older server continues with echoes."""
         self._own = OwnNumbers() if notes_own else None
         self._has_acks = self.ask(["ack 1"]) == ["ok"]
 
     def is_own(self, number: int) -> bool:
-        """Whether this is the number that a frame of this session got at its interface."""
+        """Returns whether this is the number of a frame of this session at its interface."""
         return self._own is not None and number in self._own
 
     def frame(self, timeout: Optional[float]) -> Optional[str]:
-        """Returns the next message that hands over a frame, from `<` on; None if none came in this time, in seconds."""
+        """Returns the next message that hands over a frame, from `<` on; None if no frame comes within these
+        seconds."""
         if self._frames and self._readiness is None:
-            # The usual case in a burst.
+            # This is the usual case in a burst.
             try:
                 return self._frames.popleft()
             except IndexError:
@@ -133,16 +136,17 @@ class Connection:
             return self._wait(self._next_frame, None if timeout is None else time.monotonic() + timeout)
         except ConnectionError:
             with self._lock:
-                # A thread that waits for the file descriptor learns of the end once.
+                # A thread that waits for the file descriptor learns once of the connection's end.
                 if self._readiness is not None and not self._is_closing:
                     self._readiness.show(False)
             raise
 
     def take_frames(self, to: deque[str]) -> int:
-        """Reads once what the socket has, without waiting, and moves the frames that were read to the end of `to`.
+        """Reads the socket once, without waiting, and appends the frames to `to`.
 
-        Returns how many there were. One call for many: an exception of a signal's handler finds them here or there. If another
-        thread reads, it has its turn first: who calls this again and again would keep it from that.
+        Returns the number of frames. One call moves all of them, so an exception from a signal handler leaves each
+        frame in one of the two lists. If another thread reads, it has its turn first: otherwise repeated calls would
+        keep it from reading.
         """
         before = len(to)
         try:
@@ -155,15 +159,16 @@ class Connection:
         return len(to) - before
 
     def frames_at_hand(self) -> int:
-        """Returns how many frames were read already, and wait to be taken."""
+        """Returns the number of frames that were read already, and wait to be taken."""
         return len(self._frames)
 
     def socket_fileno(self) -> int:
-        """Returns the file descriptor of the socket. It is readable where the server has sent something, if only an answer."""
+        """Returns the file descriptor of the socket. It is readable if the server has sent something, even if only an
+        answer."""
         return self._number
 
     def fileno(self) -> int:
-        """Returns a file descriptor that is readable where `frame` would return at once; NotImplementedError if
+        """Returns a file descriptor that is readable if `frame` would return at once; raises NotImplementedError if
         there is none."""
         if not hasattr(select, "epoll"):
             raise NotImplementedError("a file descriptor needs epoll, which this system does not have")
@@ -176,12 +181,12 @@ class Connection:
             return self._readiness.fileno()
 
     def close(self) -> None:
-        """Ends the session, and all that wait for it. It may be called again."""
+        """Ends the session, and all calls that wait for it. This may be called again."""
         with self._lock:
             if self._is_closed:
                 return
             self._is_closing = True
-        # A process that was forked leaves the session to its parent.
+        # A forked process leaves the session to its parent.
         is_own = os.getpid() == self._process
         if is_own:
             self._part()
@@ -195,7 +200,8 @@ class Connection:
         self._release()
 
     def _part(self) -> None:
-        """Ends what the server reads, which ends the session: then it closes the connection. It may be gone, or busy."""
+        """Closes the server's input, which ends the session: the server then closes the connection. The server may be
+        gone, or busy."""
         taken: list[bool] = []
         try:
             taken.extend(map(self._asking.acquire, (True,), (CLOSE_TIMEOUT,)))
@@ -209,7 +215,7 @@ class Connection:
                 self._asking.release()
 
     def _release(self) -> None:
-        """Closes the file descriptors, once nobody reads any more."""
+        """Closes the file descriptors, after all threads have stopped reading."""
         taken: list[bool] = []
         try:
             taken.extend(map(self._reading.acquire, (True,), (CLOSE_TIMEOUT,)))
@@ -245,26 +251,26 @@ class Connection:
         return None
 
     def _settle(self) -> None:
-        """Forgets the question at hand. If it was given up, the rest of its answers is still to come."""
+        """Forgets the present question. If the question was given up, its remaining answers are still to come."""
         sent = sum(self._sent)
         if 0 < sent < self._length:
             self._stop("half a command was written")
         self._asked = self._asked.given_up(was_sent=sent > 0)
 
     def _write(self, left: memoryview, deadline: float) -> None:
-        """Writes the rest of a question. Meanwhile frames are read: a server that waits for its reader takes no
+        """Writes the rest of a question, and reads frames meanwhile: a server that waits for its reader takes no
         commands."""
         while left:
             sent = self._wait(lambda: self._send(left), deadline, select.POLLIN | select.POLLOUT)
             if sent is None:
                 with self._lock:
-                    # Half a command was written perhaps.
+                    # Perhaps only a part of a command was written.
                     self._stop(f"the server took no commands within {seconds_words(self._timeout)}")
                 raise NoAnswer(self._end)
             left = left[sent:]
 
     def _send(self, data: Union[bytes, memoryview]) -> Optional[int]:
-        """Writes what the socket takes of this, and notes how much that is."""
+        """Writes as much of this as the socket takes, and notes the number of bytes."""
         if self._end is not None:
             self._raise_end()
         try:
@@ -279,9 +285,10 @@ class Connection:
     def _wait(
         self, ready: Callable[[], Optional[T]], deadline: Optional[float], events: int = select.POLLIN
     ) -> Optional[T]:
-        """Returns what `ready` returns once that is not None; None if that does not happen until the deadline.
+        """Returns the first result of `ready` that is not None; None if there is none until the deadline.
 
-        `ready` is called again after each change. What came before the end of the connection is still returned.
+        `ready` is called again after each change. Messages that came before the end of the connection are still
+        returned.
         """
         while True:
             left = None if deadline is None else seconds_until(deadline)
@@ -292,15 +299,15 @@ class Connection:
                 return found
 
     def _await_reader(self, ready: Callable[[], Optional[T]], left: Optional[float], events: int) -> Optional[T]:
-        """Waits until the thread that reads has done so, if it still does, and returns what is ready then."""
+        """Waits until the reading thread has read, if it still does, and returns the result of `ready` then."""
         with self._lock:
             found = self._look(ready)
             if found is not None or left == 0:
                 return found
             news = self._next_news()
-        # A thread that reads from now on sees that another waits to be woken.
+        # A thread that starts to read now sees that another thread waits to be woken.
         if self._reading.locked():
-            # Whether the socket takes more is nothing that its reader sees.
+            # The reader does not notice when the socket can take more.
             most = 0.01 if events & select.POLLOUT else LONGEST_NAP
             if news.acquire(timeout=most if left is None else min(left, most)):
                 news.release()
@@ -314,7 +321,7 @@ class Connection:
         return found
 
     def _next_news(self) -> threading.Lock:
-        """A lock that can be taken once somebody has read."""
+        """Returns a lock that can be taken after another thread has read."""
         if self._news is None:
             news = threading.Lock()
             news.acquire()
@@ -322,7 +329,7 @@ class Connection:
         return self._news
 
     def _wake(self) -> None:
-        """Wakes those that wait while another thread reads."""
+        """Wakes the threads that wait while another thread reads."""
         if self._news is not None:
             with self._lock:
                 news, self._news = self._news, None
@@ -332,9 +339,10 @@ class Connection:
     def _read(
         self, ready: Callable[[], Optional[T]], seconds: Optional[float], events: int
     ) -> tuple[bool, Optional[T]]:
-        """Reads what there is, or what comes within these seconds, unless another thread reads, or something is ready.
+        """Reads the available input, or input that comes within these seconds, unless another thread reads or a result
+        is ready.
 
-        Returns whether no other thread reads, and what is ready then.
+        Returns whether no other thread reads, and the result of `ready`.
         """
         taken: list[bool] = []
         try:
@@ -367,12 +375,12 @@ class Connection:
                 self._stop(f"the connection broke: {fault.strerror}")
 
     def _sort(self) -> None:
-        """Sorts what was read, messages which may be cut anywhere, into frames and answers."""
+        """Sorts the input, messages which may be cut anywhere, into frames and answers."""
         is_end = b"" in self._pieces
         messages = (self._rest + b"".join(self._pieces).translate(PRINTED).decode("ascii")).split(">")
         rest = messages.pop()
         asked, frames, unasked = self._asked.sorted(messages, self._note)
-        # All of it or nothing: no handler of a signal is called before the frames are there.
+        # This changes everything or nothing: no signal handler runs before the frames are in their list.
         self._pieces, self._rest, self._asked = [], rest, asked
         self._frames.extend(frames)
         if unasked and not self._is_closing:
@@ -389,7 +397,7 @@ class Connection:
             self._own.note(number)
 
     def _stop(self, reason: str) -> None:
-        """The connection is of no use any more. The first reason is the one that counts."""
+        """Marks the connection as unusable. The first reason counts."""
         if self._end is not None:
             return
         self._end = "the bus was shut down" if self._is_closing else reason

@@ -1,4 +1,5 @@
-"""A session of a server's own that receives what an interface does, and the thread that reads several of them."""
+"""A session of a server's own that receives the frames of an interface, and a thread that reads several such
+sessions."""
 
 import os
 import select
@@ -14,45 +15,46 @@ from canbusd._session.raw_session import RawSession, fault, with_cure
 from canbusd._session.waits import wait_for_ready
 from canbusd.virtual import is_virtual
 
-# Seconds for which what comes is left to come, so that much of it is read at once, if nobody waits for it. A Unix socket holds
-# some 4,000 frames. In virtual time a bus of 1 Mbit/s carries half of that meanwhile, else a server without a pace.
+# While nobody waits, messages collect for these seconds, so that one read takes many. A Unix socket holds some 4,000
+# frames. In virtual time a bus of
+# 1 Mbit/s carries half of that in these seconds; else a server without a pace does.
 NAP = 0.1 if is_virtual() else 0.02
-# As many frames as were read at once may not be all that had come.
+# If a read returned this many frames, there may be more.
 MANY = 256
-# Seconds after which who waits looks for what another thread has read.
+# A waiting thread checks after this many seconds for input that another thread has read.
 LONGEST_NAP = 0.05
 
 
 class ObservingSession(RawSession):
-    """A session on an interface that receives frames, or error message frames only."""
+    """A session on an interface that receives frames, or only error message frames."""
 
     _queries = ("status",)
 
     def __init__(self, address: str, name: str, has_frames: bool) -> None:
-        #: The number of frames that were taken here.
+        #: The number of frames taken from this session.
         self.taken = 0
-        # The frames that were read, and are not handed on yet.
+        # The frames that were read, but not handed on.
         self._texts: deque[str] = deque()
         words = [] if has_frames else ["filter 0"]
         try:
             super().__init__(address, name, [*words, *options(fd=True), "origin 1"], TIMEOUT)
         except (OSError, SessionRefused) as reason:
             raise fault("CanInitializationError", f"{name}: no session to observe it: {reason_of(reason)}") from None
-        #: The state of the interface at first, and its error counts.
+        #: The first known state of the interface, and its error counts.
         self.first = self._parsed(self._queried[0], counters_of)
 
     @property
     def unread(self) -> int:
-        """The number of frames that were read, and are not handed on."""
+        """The number of frames that were read, but not handed on."""
         return len(self._texts)
 
     def read(self) -> None:
-        """Reads what has come, without waiting."""
+        """Reads the available messages, without waiting."""
         while self.take_frames(self._texts) >= MANY:
             pass
 
     def hand_on(self, add: Callable[[str, str], None]) -> None:
-        """Hands on what has come, as messages of the protocol, without waiting; what came before the end of the session too."""
+        """Hands on the available messages without waiting, including those that came before the end of the session."""
         try:
             self.read()
         except Exception:
@@ -61,14 +63,14 @@ class ObservingSession(RawSession):
         self.hand_on_read(add, self.unread)
 
     def hand_on_read(self, add: Callable[[str, str], None], count: int) -> None:
-        """Hands on so many of those that were read, the oldest."""
+        """Hands on the oldest of the messages that were read, up to this number."""
         for _ in range(count):
             add(self.channel, self._texts[0])
             self._texts.popleft()
             self.taken += 1
 
     def fileno(self) -> int:
-        """The file descriptor by which something comes."""
+        """Returns the file descriptor that becomes readable when a message comes."""
         return self._connection.socket_fileno()
 
     def _refusal(self, text: str) -> Exception:
@@ -79,12 +81,13 @@ class ObservingSession(RawSession):
 
 
 def wait_for_input(sessions: Sequence[ObservingSession], seconds: float) -> None:
-    """Waits until something comes to one of these, or for these seconds; not for long, since another thread may read it."""
+    """Waits until a message comes to one of these sessions, or for these seconds; but not for long, because another
+    thread may read the message."""
     wait_for_ready([session.fileno() for session in sessions], select.POLLIN, min(seconds, LONGEST_NAP))
 
 
 class Reader:
-    """A thread that calls `read` while something comes to these sessions, at most each `NAP`."""
+    """A thread that calls `read` when messages come to these sessions, at most once in each `NAP`."""
 
     def __init__(self, sessions: Sequence[ObservingSession], read: Callable[[], None]) -> None:
         self._has_ended = False
@@ -102,7 +105,7 @@ class Reader:
                 return
             try:
                 read()
-            except Exception:  # The connection has ended, as who expects something next finds.
+            except Exception:  # The connection has ended; the next expectation will find this out.
                 return
 
     def end(self) -> None:

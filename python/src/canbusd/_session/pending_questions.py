@@ -1,28 +1,30 @@
-"""Sorts what a server writes into frames and answers, and notes which frames a session has sent itself."""
+"""Sorts the output of a server into frames and answers, and notes the frames that a session has sent."""
 
 from collections.abc import Callable, Iterable
 from typing import NamedTuple
 
 from canbusd.frames import HANDED_OVER, MESSAGE
 
-# The end of an answer: an echo, or the verdict on a frame, which is one message.
+# Matches the end of an answer: an echo, or the verdict on a frame, which is one message.
 ECHO, VERDICT = "e", "v"
-# The verdict that accepts a frame, with its number. A bus has fewer than 2**32 entries, so it has ten digits at most.
+# Matches the verdict that accepts a frame, with its number. A bus has fewer than 2**32 entries, so the number has at
+# most ten digits.
 ACK, LONGEST_ACK = "ack ", len("ack ") + 10
-# The number of numbers that are noted together, and how many such pages are kept: a frame that is older than all of them would be
-# received 16 million numbers late.
+# The numbers in a page, and the number of kept pages. A frame older than all pages would arrive 16 million numbers
+# late.
 PAGE, MOST_PAGES = 4096, 4096
 
 
 class Asked(NamedTuple):
-    """The questions and their answers so far. It is replaced as a whole, so that no exception leaves half of it."""
+    """The questions and their answers so far. This object is always replaced as a whole, so that an exception leaves no
+    partial state."""
 
-    #: How each answer that was asked for ends.
+    #: The end of each expected answer.
     ends: str
-    #: How many of them have come, and how many are of questions that were given up.
+    #: The number of answers that came, and the number that belong to questions that were given up.
     came: int = 0
     owed: int = 0
-    #: The answers to the question at hand, and what has come of the next.
+    #: The answers to the present question, and the beginning of the next answer.
     answers: tuple[str, ...] = ()
     answer: str = ""
 
@@ -32,18 +34,19 @@ class Asked(NamedTuple):
         return self.came == len(self.ends)
 
     def given_up(self, was_sent: bool) -> "Asked":
-        """The question at hand is given up. If it was sent, the rest of its answers is still to come."""
+        """Returns the state after the present question is given up. If it was sent, its remaining answers are still to
+        come."""
         ends = self.ends[self.came :] if was_sent else self.ends[self.came : self.owed]
         return Asked(ends, 0, len(ends))
 
     def and_then(self, ends: str) -> "Asked":
-        """A question whose answers end like this."""
+        """Returns the state with a further question, whose answers end like this."""
         return Asked(self.ends + ends, *self[1:])
 
     def sorted(self, messages: Iterable[str], note: Callable[[int], None]) -> tuple["Asked", list[str], str]:
-        """Returns what is left to come after these messages, the frames among them, and the first that nobody asked for.
+        """Returns the state after these messages, the frames among them, and the first unexpected message.
 
-        `note` gets the number of each frame that was accepted.
+        `note` gets the number of each accepted frame.
         """
         frames: list[str] = []
         ends, came, owed, answers, answer = self.ends, self.came, self.owed, [*self.answers], self.answer
@@ -69,7 +72,7 @@ class Asked(NamedTuple):
 
 
 def verdict(message: str, note: Callable[[int], None]) -> str:
-    """The answer that a verdict on a frame is: the empty text for `ack 17`, whose number is noted."""
+    """Returns the answer for a verdict on a frame: the empty text for `ack 17`, whose number is noted."""
     number = message[len(ACK) :]
     if not message.startswith(ACK) or not number.isdecimal() or len(message) > LONGEST_ACK:
         return message
@@ -78,7 +81,7 @@ def verdict(message: str, note: Callable[[int], None]) -> str:
 
 
 class OwnNumbers:
-    """The numbers that the frames of a session got at its interface: pages with a place for each."""
+    """The numbers of a session's frames at its interface, in pages with a place for each number."""
 
     def __init__(self) -> None:
         self._pages: dict[int, bytearray] = {}
@@ -88,7 +91,7 @@ class OwnNumbers:
         return page is not None and page[number % PAGE] != 0
 
     def note(self, number: int) -> None:
-        """Adds a number; the oldest are forgotten."""
+        """Adds a number; forgets the oldest numbers."""
         page = self._pages.get(number // PAGE)
         if page is None:
             page = self._pages[number // PAGE] = bytearray(PAGE)

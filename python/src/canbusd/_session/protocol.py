@@ -1,4 +1,4 @@
-"""The words of a session: its options, its filters and its answers, as the bench and the server read and write them.
+"""The protocol of a session: its options, its filters and its answers, as the bench and the server read and write them.
 
 Frames are in canbusd.frames: `command_of` and `frame_of`. Nothing here needs python-can.
 """
@@ -9,18 +9,18 @@ from typing import Any, Literal, NamedTuple, Optional, Union
 from canbusd._words import BUS_OFF, INTERFACE_DOWN, LONGEST_MESSAGE, NO_BUFFERS
 from canbusd.frames import EXTENDED, INVERTED
 
-# The longest answer: the names of 256 interfaces.
+# The length of the longest answer: the names of 256 interfaces.
 LONGEST_ANSWER = 4120
 ALL_CLASSES = 0x1FFFFFFF
-# The states of an interface: the states of its error counts, the best first, and `down`.
+# The states of an interface: the states from its error counts, best first, and `down`.
 State = Literal["active", "warning", "passive", "off", "down"]
 STATES: tuple[State, ...] = ("active", "warning", "passive", "off", "down")
-# Filters that no frame passes: everything, inverted.
+# Filters that no frame passes: an inverted filter for everything.
 NO_FRAMES = [{"can_id": INVERTED, "can_mask": 0}]
 
-# Refusals after which a cyclic message goes on: a full transmit queue, and an interface that is off the bus.
+# Refusals after which a cyclic message continues: a full transmit queue, or an interface that is off the bus.
 PASSING = (NO_BUFFERS, BUS_OFF, INTERFACE_DOWN)
-# The text for users in place of UNKNOWN_COMMAND, with which an older program refuses a newer message.
+# The text for users in place of UNKNOWN_COMMAND, which an older program returns for a newer message.
 NO_DOWN = "the program is older, and has no interfaces that go down"
 
 Filters = Sequence[Mapping[str, Any]]
@@ -28,9 +28,9 @@ A_FILTER = "{'can_id': 0x123, 'can_mask': 0x7FF}"
 
 
 class ErrorCounters(NamedTuple):
-    """How an interface is: its state and its error counts."""
+    """The state of an interface, and its error counts."""
 
-    #: `active`, `warning`, `passive` or `off`, or `down` of an interface that was taken off the bus.
+    #: One of `active`, `warning`, `passive` and `off`, or `down` for an interface that was taken off the bus.
     state: State
     #: The transmit error count.
     tec: int
@@ -39,7 +39,7 @@ class ErrorCounters(NamedTuple):
 
 
 def in_words(name: str, counters: ErrorCounters) -> str:
-    """Returns how an interface is: `ecu is off (transmit count 256, receive count 0)`."""
+    """Returns the state of an interface in words: `ecu is off (transmit count 256, receive count 0)`."""
     return f"{name} is {counters.state} (transmit count {counters.tec}, receive count {counters.rec})"
 
 
@@ -48,9 +48,9 @@ class Stats(NamedTuple):
 
     #: Of the socket: frames and error message frames that found room in its receive queue.
     queued: int
-    #: Of the socket: those that found no room.
+    #: Of the socket: items that found no room.
     dropped: int
-    #: Of the socket: those that were received.
+    #: Of the socket: items that were received.
     taken: int
     #: Of the interface: frames that were accepted for sending; `sent = done + waiting + lost`.
     sent: int
@@ -65,37 +65,37 @@ class Stats(NamedTuple):
 
 
 class Load(NamedTuple):
-    """How busy a bus of a server with a bit rate is, and its bit rates; of any other bus all are 0."""
+    """The load of a bus with a bit rate, and its bit rates; for any other bus all values are 0."""
 
-    #: How long the wire was busy in the last whole second, in thousandths of it: 1000 is a full bus.
+    #: The busy time of the wire in the last whole second, in thousandths: 1000 is a full bus.
     permille: int
-    #: How long it was busy since the server began, in microseconds.
+    #: The busy time of the wire since the server began, in microseconds.
     micros: int
-    #: The nominal bit rate, in bits a second.
+    #: The nominal bit rate, in bit/s.
     bitrate: int
-    #: That of the data of FD frames with the bit rate switch; the nominal one where the server has no other.
+    #: The bit rate for the data of FD frames with the bit rate switch; the nominal bit rate if the server has no other.
     data_bitrate: int
 
 
 def refusal_in(answer: str) -> str:
-    """Returns the text of a refusal, the empty text for `ok`, and any other answer as it is."""
+    """Returns the text of a refusal, the empty text for `ok`, and any other answer unchanged."""
     return "" if answer == "ok" else answer.removeprefix("error ")
 
 
 def numbers(words: Sequence[str], count: int) -> Optional[list[int]]:
-    """Returns the numbers that these words write in decimal digits; None if they are not that, or not so many."""
+    """Returns the numbers in these words of decimal digits; None for other words, or another count."""
     is_right = len(words) == count and all(word.isascii() and word.isdigit() for word in words)
     return [int(word) for word in words] if is_right else None
 
 
 def numbers_after(first: str, answer: str, count: int) -> Optional[list[int]]:
-    """Returns so many numbers after the first word of an answer; None for another message."""
+    """Returns this many numbers after the first word of an answer; None for another message."""
     words = answer.split()
     return numbers(words[1:], count) if words[:1] == [first] else None
 
 
 def counters_of(answer: str) -> Optional[ErrorCounters]:
-    """Returns what the answer `status passive 128 0` says; None for another message."""
+    """Returns the counters in the answer `status passive 128 0`; None for another message."""
     words = answer.split()
     counts = numbers(words[2:], 2)
     state = next((state for state in STATES if words[1:2] == [state]), None)
@@ -105,19 +105,19 @@ def counters_of(answer: str) -> Optional[ErrorCounters]:
 
 
 def stats_of(answer: str) -> Optional[Stats]:
-    """Returns what the answer `stats 1 0 1 0 0 0 0 0` says; None for another message."""
+    """Returns the counts in the answer `stats 1 0 1 0 0 0 0 0`; None for another message."""
     counts = numbers_after("stats", answer, 8)
     return None if counts is None else Stats(*counts)
 
 
 def load_of(answer: str) -> Optional[Load]:
-    """Returns what the answer `load 432 1080000 500000 2000000` says; None for another message."""
+    """Returns the load in the answer `load 432 1080000 500000 2000000`; None for another message."""
     counts = numbers_after("load", answer, 4)
     return None if counts is None else Load(*counts)
 
 
 def rules_left_of(answer: str) -> Optional[int]:
-    """Returns how many rules of faults are left, as the answer `faults 3` says; None for another message."""
+    """Returns the number of remaining fault rules in the answer `faults 3`; None for another message."""
     counts = numbers_after("faults", answer, 1)
     return None if counts is None else counts[0]
 
@@ -136,9 +136,10 @@ def options(
     error_frames: Union[bool, int] = True,
     join_filters: bool = False,
 ) -> list[str]:
-    """Returns the messages that give a new session these options.
+    """Returns the messages that set these options of a new session.
 
-    `error_frames` is whether error message frames are received, or the mask of their classes; 0 and 1 are truth values.
+    `error_frames` is whether the session receives error message frames, or the mask of their classes; 0 and 1 are truth
+    values.
     """
     if error_frames == 1:
         error_frames = ALL_CLASSES
@@ -154,9 +155,9 @@ def options(
 
 
 def filter_words(one: Mapping[str, Any]) -> tuple[int, int]:
-    """Returns the identifier word and the mask of a filter of python-can, in the words of linux/can.h.
+    """Returns the identifier and the mask of a python-can filter, with the flags of linux/can.h.
 
-    If the filter says `extended`, only frames of that kind pass; data and remote frames pass alike.
+    If the filter has `extended`, only frames of that length pass; data and remote frames pass alike.
     """
     if not isinstance(one, Mapping):
         raise ValueError(f"a filter is a dict with can_id and can_mask, not {one!r}")
@@ -170,12 +171,13 @@ def filter_words(one: Mapping[str, Any]) -> tuple[int, int]:
     if "extended" in one:
         mask |= EXTENDED
         identifier = identifier | EXTENDED if one["extended"] else identifier & ~EXTENDED
-    # As candump does: bit 29 is no part of a mask.
+    # As in candump, bit 29 is not part of a mask.
     return identifier, mask & ~INVERTED
 
 
 def filter_message(filters: Optional[Filters]) -> Optional[str]:
-    """Returns the message that sets these filters, None if they don't fit into one. Without any, everything passes."""
+    """Returns the message that sets these filters; None if they don't fit into one message. Without filters, everything
+    passes."""
     if filters is not None and (isinstance(filters, (str, Mapping)) or not isinstance(filters, Iterable)):
         raise ValueError(f"filters are a list of dicts, such as [{A_FILTER}], not {filters!r}")
     pairs = [filter_words(one) for one in filters] if filters else [(0, 0)]

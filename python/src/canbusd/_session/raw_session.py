@@ -1,7 +1,7 @@
-"""A session with a raw socket on an interface of a server: what it sends and receives, and how its interface is.
+"""A session with a raw socket on an interface of a server: sending, receiving, and the state of the interface.
 
-The interface of python-can is made of it, and what a server sees by itself. Nothing here needs python-can; if it is
-installed, faults are its exceptions.
+The interface of python-can builds on this module, and so do a server's own sessions. Nothing here needs python-can; if
+it is installed, faults are its exceptions.
 """
 
 import errno
@@ -26,9 +26,9 @@ from canbusd._words import (
     UNKNOWN_COMMAND,
 )
 
-# The error of the system's own CAN sockets.
+# The errno of the system's own CAN sockets.
 ERROR_CODES = {NO_BUFFERS: errno.ENOBUFS, BUS_OFF: errno.ENETDOWN, INTERFACE_DOWN: errno.ENETDOWN}
-# The cure, if it can be said in a few words.
+# The remedy, if a few words describe it.
 CURES = {
     NO_BUFFERS: ": the transmit queue is full; send(msg, timeout=1) waits for room, and a server's txqueue= makes more",
     BUS_OFF: ": restart() brings the interface back, as the server's auto_restart= does",
@@ -38,7 +38,7 @@ CURES = {
 
 
 def fault(kind: str, text: str, code: Optional[int] = None) -> Exception:
-    """The exception of python-can of this kind, if there is python-can, else a RuntimeError."""
+    """Returns an exception of python-can of this kind, or a RuntimeError without python-can."""
     try:
         from can import exceptions
     except ImportError:
@@ -48,37 +48,37 @@ def fault(kind: str, text: str, code: Optional[int] = None) -> Exception:
 
 
 def refusal(text: str, after: str = "") -> Exception:
-    """The exception for what the server refused; its `error_code` is that of the system's own CAN sockets."""
+    """Returns the exception for a refusal by the server; its `error_code` is that of the system's own CAN sockets."""
     return fault("CanOperationError", f"{text}{after}{CURES.get(text, '')}", ERROR_CODES.get(text))
 
 
 def stayed_full(after: str = "") -> Exception:
-    """The exception for a transmit queue that made no room in time."""
+    """Returns the exception for a transmit queue that made no room in time."""
     return fault("CanTimeoutError", f"{NO_BUFFERS}{after}: the transmit queue stayed full", errno.ENOBUFS)
 
 
 def with_cure(text: str) -> str:
-    """Returns a text with what to do, if it ends as a full record's does."""
+    """Returns a text with a remedy, if the text ends like that of a full record."""
     return f"{text}{CURES[RECORD_FULL]}" if text.endswith(RECORD_FULL) else text
 
 
 class RawSession(InjectsFaults):
-    """A session in raw mode, whose socket has the options that these messages set.
+    """A session in raw mode; these messages set the options of its socket.
 
-    Unless `notes_own` is None, each send is answered by the number of its frame, and these are noted for `is_own` if it is
-    true; an older server can do neither. OSError if there is no server, SessionRefused if it does not take the
-    session, the interface or an option.
+    Unless `notes_own` is None, the server answers each send with the number of its frame. If `notes_own` is true, these
+    numbers are noted for `is_own`. An older server can do neither. OSError if there is no server, SessionRefused if the
+    server refuses the session, the interface or an option.
     """
 
-    # Questions in the same write as the session is opened, so that nothing comes between.
+    # These questions are in the same write as the session's first messages, so that nothing comes between.
     _queries: Sequence[str] = ()
 
     def __init__(
         self, address: str, channel: str, messages: Sequence[str], timeout: float, notes_own: Optional[bool] = None
     ) -> None:
-        #: The interface.
+        #: The name of the interface.
         self.channel = channel
-        #: The fault of a sweep at its socket.
+        #: The fault of a sweep at this session's socket.
         self.planted: Optional[AtSockets] = None
         self._timeout = timeout
         self._connection = Connection(address, timeout)
@@ -100,11 +100,12 @@ class RawSession(InjectsFaults):
             raise
 
     def is_own(self, number: int) -> bool:
-        """Whether a frame that this interface has sent, with this number there, is one's own."""
+        """Returns whether the frame with this number at the interface is one of this session's frames."""
         return self._connection.is_own(number)
 
     def answers(self, messages: Sequence[str]) -> list[str]:
-        """Gives these messages at once, and returns what each gets: nothing for `ok`, the text of a refusal, or an answer."""
+        """Sends these messages at once, and returns the reply to each: the empty text for `ok`, the text of a refusal,
+        or an answer."""
         planted = self.planted
         place = next((place for place, one in enumerate(messages) if planted.is_sent(one)), None) if planted else None
         if place is not None:
@@ -120,11 +121,12 @@ class RawSession(InjectsFaults):
             raise self._failed("CanOperationError", str(reason)) from None
 
     def answer(self, message: str) -> str:
-        """Gives one message, as `answers` does."""
+        """Sends one message, as `answers` does."""
         return self.answers([message])[0]
 
     def frame(self, timeout: Optional[float]) -> Optional[str]:
-        """Returns the next message that hands over a frame, from `<` on; None if none came in this time, in seconds."""
+        """Returns the next message that hands over a frame, from `<` on; None if no frame comes within these
+        seconds."""
         try:
             began = time.monotonic()
             found = self._connection.frame(timeout)
@@ -138,25 +140,25 @@ class RawSession(InjectsFaults):
             raise self._failed("CanOperationError", str(reason)) from None
 
     def take_frames(self, to: deque[str]) -> int:
-        """Reads once what has come, without waiting, and moves the frames to the end of `to`; returns how many there were."""
+        """Reads the socket once, without waiting, and appends the frames to `to`; returns the number of frames."""
         try:
             return self._connection.take_frames(to)
         except ConnectionError as reason:
             raise self._failed("CanOperationError", str(reason)) from None
 
     def frames_at_hand(self) -> int:
-        """Returns how many frames were read already, and wait to be taken."""
+        """Returns the number of frames that were read already, and wait to be taken."""
         return self._connection.frames_at_hand()
 
     def fileno(self) -> int:
-        """Returns a file descriptor that is readable where `frame` would return at once, or raise."""
+        """Returns a file descriptor that is readable if `frame` would return or raise at once."""
         try:
             return self._connection.fileno()
         except ConnectionError as reason:
             raise self._failed("CanOperationError", str(reason)) from None
 
     def send(self, command: str, timeout: Optional[float] = None) -> None:
-        """Puts a frame into the transmit queue by this message; a full queue may make room within these seconds."""
+        """Puts a frame into the transmit queue with this message; a full queue may make room within these seconds."""
         answer = self.answer(command)
         if answer == NO_BUFFERS and timeout is not None and timeout > 0:
             deadline = time.monotonic() + timeout
@@ -171,9 +173,9 @@ class RawSession(InjectsFaults):
             raise refusal(answer)
 
     def send_many(self, commands: Sequence[str], most: int, timeout: Optional[float] = None) -> None:
-        """Puts frames into the transmit queue in their order, of which `most` wait there at once, or as many as have room.
+        """Puts frames into the transmit queue in order; at most `most` of them, or as many as fit, wait there at once.
 
-        Without a timeout some have to be accepted within that of the session.
+        Without a timeout, some frames must be accepted within the timeout of the session.
         """
         rest = [*commands]
         total, window = len(rest), most
@@ -199,20 +201,21 @@ class RawSession(InjectsFaults):
             window = max(1, stats.waiting) if refused else min(most, window + 1)
 
     def restart(self, is_needed: bool = True) -> None:
-        """Brings the interface back from bus off; that it is not bus off is a fault unless it is not `is_needed`."""
+        """Brings the interface back from bus off; raises a fault if the interface is not bus off, unless `is_needed` is
+        false."""
         answer = self.answer("restart")
         if answer and (is_needed or answer != NOT_BUS_OFF):
             state = f", but {self.error_counters().state}" if answer == NOT_BUS_OFF else ""
             raise refusal(f"{self.channel}: {answer}{state}")
 
     def down(self) -> None:
-        """Takes the interface off the bus; one that is down stays so."""
+        """Takes the interface off the bus; an interface that is down stays down."""
         answer = self.answer("down")
         if answer:
             raise refusal(f"{self.channel}: {NO_DOWN if answer == UNKNOWN_COMMAND else answer}")
 
     def up(self) -> None:
-        """Brings the interface up; one that is up stays so."""
+        """Brings the interface up; an interface that is up stays up."""
         self.restart(is_needed=False)
 
     def error_counters(self) -> ErrorCounters:
@@ -224,11 +227,11 @@ class RawSession(InjectsFaults):
         return self._parsed(self.answer("stats"), stats_of)
 
     def load(self) -> Load:
-        """Returns how busy the bus was, and its bit rates; without them `Load(0, 0, 0, 0)`."""
+        """Returns the bus load and the bit rates; `Load(0, 0, 0, 0)` without bit rates."""
         return self._parsed(self.answer("load"), load_of)
 
     def close(self) -> None:
-        """Ends the session, and all that wait for it. It may be called again."""
+        """Ends the session, and all calls that wait for it. This may be called again."""
         self._connection.close()
 
     def _answer(self, message: str) -> str:
@@ -238,14 +241,15 @@ class RawSession(InjectsFaults):
         return refusal(text)
 
     def _failed(self, kind: str, text: str) -> Exception:
-        """The exception of python-can of this kind."""
+        """Returns the exception of python-can of this kind."""
         return fault(kind, with_cure(text))
 
     def _departure(self, before: Optional[Stats], deadline: float) -> tuple[Stats, bool]:
         """Waits until a frame has left the transmit queue since these counts, or until the deadline.
 
-        Returns the counts then, and whether the deadline is over. The counts don't say whether a frame can still leave: a
-        last send does, which reports a full record. A refused send is an entry of the record; looking at the counts is none.
+        Returns the new counts, and whether the deadline is over. The counts don't show whether a frame can still leave,
+        but a last send does, because it reports a full record. A refused send is an entry of the record; a request for
+        the counts is not.
         """
         pause = POLL
         while True:

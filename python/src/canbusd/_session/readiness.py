@@ -1,4 +1,4 @@
-"""A file descriptor that shows when a connection has something for its reader."""
+"""A file descriptor that becomes readable when a connection has something for its reader."""
 
 import contextlib
 import os
@@ -10,7 +10,7 @@ PIECE = 65536
 
 
 class Readiness:
-    """A file descriptor that is readable where the socket is, or where frames are at hand that were read already."""
+    """A file descriptor that is readable if the socket is readable, or if frames that were read already are waiting."""
 
     def __init__(self, connected: socket.socket) -> None:
         self._reader, self._writer = os.pipe()
@@ -25,18 +25,18 @@ class Readiness:
         return self._epoll.fileno()
 
     def show(self, is_ready: bool) -> None:
-        """Makes it readable, or readable only if the socket is."""
+        """Makes the descriptor readable, or readable only if the socket is."""
         if is_ready and not self._is_shown:
             os.write(self._writer, b"!")
             self._is_shown = True
         elif not is_ready:
-            # Also where it is not known to be shown: an interrupted call is made good.
+            # This also runs if the present state is unknown, and so repairs an interrupted call.
             self._is_shown = False
             with contextlib.suppress(BlockingIOError):
                 os.read(self._reader, PIECE)
 
     def forget(self, connected: socket.socket) -> None:
-        """Looks no more at the socket, which has ended and would be readable for ever."""
+        """Stops watching the socket, which has ended and would be readable for ever."""
         self._epoll.unregister(connected)
 
     def close(self) -> None:

@@ -1,1 +1,1 @@
-"""UDS: the words of requests and answers, what a simulated ECU keeps and does, and memory that is loaded."""
+"""UDS: the words of requests and answers, the data and functions of a simulated ECU, and its memory for transfers."""

@@ -1,4 +1,4 @@
-"""How a simulated ECU answers the requests of each service, by what it has."""
+"""The answers of a simulated ECU to the requests of each service, from its data and functions."""
 
 import inspect
 import time
@@ -11,12 +11,12 @@ from canbusd._uds.codes import NegativeResponse, check_length
 from canbusd._uds.memory import Memory
 from canbusd.frames import data_bytes
 
-#: Wrong keys in a row, after which no seed is given for so many seconds.
+#: After this many wrong keys in a row, the ECU gives no seed for this many seconds.
 MOST_KEYS, KEY_DELAY = 3, 10.0
 
 
 def bytes_of_did(number: int, data: object) -> bytes:
-    """Returns the bytes of a DID; ValueError names one that has others."""
+    """Returns the bytes of a DID; ValueError names a DID whose value is not bytes."""
     try:
         return data_bytes(data)
     except ValueError as fault:
@@ -25,8 +25,8 @@ def bytes_of_did(number: int, data: object) -> bytes:
 
 @dataclass
 class Guarded:
-    """A function of a DID or of a routine, and when it may be called: in which sessions, if not in all, and with which level of
-    security unlocked, if with one."""
+    """A function of a DID or of a routine, with the sessions that allow calls, and the security level that must be
+    unlocked. An empty list of sessions allows all, and level 0 needs no unlocking."""
 
     function: Callable[..., Optional[bytes]]
     sessions: Sequence[int]
@@ -35,11 +35,11 @@ class Guarded:
 
 @dataclass
 class Lock:
-    """A level of security: its seed, the function that makes the key of a seed, and how it stands."""
+    """A security level: its seed, the function that computes the key for a seed, and its present state."""
 
     seed: Union[bytes, Callable[[], bytes]]
     key: Callable[[bytes], bytes]
-    #: The seed that was given last, and how many wrong keys came.
+    #: The last seed, and the number of wrong keys.
     given: Optional[bytes] = None
     wrong: int = 0
     closed_until: float = 0.0
@@ -50,22 +50,23 @@ class Answers:
 
     def __init__(self, p2: float, p2_star: float) -> None:
         self._p2, self._p2_star = p2, p2_star
-        #: The session: 1, the default one, 2 for programming, 3, the extended one, or another; which there are.
+        #: The present session: 1 default, 2 programming, 3 extended, or another; and the sessions that exist.
         self.session, self.sessions = 1, {1, 2, 3}
-        #: The level of security that is unlocked; 0 is none.
+        #: The unlocked security level; 0 for none.
         self.level = 0
-        #: Bytes by DID: ``ecu.dids[0xF190] = b"WVW.."``. A function, for one, is the decorator `did`.
+        #: Bytes by DID: ``ecu.dids[0xF190] = b"WVW.."``. The decorator `did` sets a function instead of bytes.
         self.dids: dict[int, bytes] = {}
-        #: Which of these may be written; what a function takes has the decorator `write`.
+        #: The DIDs that may be written; the decorator `write` sets a function for written bytes.
         self.writable: set[int] = set()
-        #: The status of each trouble code, by its number: ``ecu.dtcs[0x123456] = 0x09``; and which bits of it there are.
+        #: The status of each trouble code, by its number: ``ecu.dtcs[0x123456] = 0x09``; and the status bits that the
+        #: ECU supports.
         self.dtcs: dict[int, int] = {}
         self.status_mask = 0xFF
-        #: Whether trouble codes are to be set, and the last communication control, 0 for all.
+        #: Whether the ECU records trouble codes, and the last communication control, 0 for all messages.
         self.sets_dtcs, self.communication = True, 0
-        #: The level of security that downloads and uploads need; 0 is none.
+        #: The security level for downloads and uploads; 0 for none.
         self.load_level = 0
-        #: Services that the default session does not have.
+        #: The services that the default session does not offer.
         self.not_in_default = {codes.SECURITY, codes.COMMUNICATION, codes.DTC_SETTING} | set(range(0x34, 0x38))
         self._memory = Memory()
         self._readers: dict[int, Guarded] = {}
@@ -101,7 +102,7 @@ class Answers:
         return function(request)
 
     def _enter(self, session: int) -> None:
-        """Enters a session: security is locked, and a transfer ends."""
+        """Enters a session: locks security and ends a transfer."""
         self.session, self.level = session, 0
         self._memory.forget()
         if session == 1:
@@ -113,7 +114,7 @@ class Answers:
         return not one.sessions or self.session in one.sessions
 
     def _check_level(self, level: int) -> None:
-        """Refuses what is locked."""
+        """Refuses a request while its security level is locked."""
         if level and self.level != level:
             raise NegativeResponse(0x33)
 
@@ -122,7 +123,7 @@ class Answers:
         if request[1] not in self.sessions:
             raise NegativeResponse(0x12)
         self._enter(request[1])
-        # In milliseconds, and in 10 milliseconds.
+        # The times are in milliseconds, and in units of 10 milliseconds.
         times = [min(round(self._p2 * 1000), 0xFFFF), min(round(self._p2_star * 100), 0xFFFF)]
         return bytes([0x50, request[1]]) + b"".join(one.to_bytes(2, "big") for one in times)
 
@@ -155,7 +156,7 @@ class Answers:
         ]
         head = bytes([0x59, kind, self.status_mask])
         if kind == codes.COUNT_DTCS:
-            # In the format of ISO 14229-1.
+            # The format is that of ISO 14229-1.
             return head + b"\x01" + len(found).to_bytes(2, "big")
         return head + b"".join(code.to_bytes(3, "big") + bytes([status]) for code, status in found)
 

@@ -1,4 +1,4 @@
-"""A client of UDS for tests: a request, its answer, and the usual services in a call each."""
+"""A UDS client for tests: requests, their answers, and a method for each usual service."""
 
 import importlib
 import time
@@ -24,9 +24,9 @@ if TYPE_CHECKING:
 class Client(NamesWhatThereIs):
     """A tester on an interface of a server, which asks an ECU by UDS (ISO 14229-1) over ISO-TP.
 
-    The arguments are those of Server.isotp; `p2` and `p2_star` are the seconds in which an answer has to begin, and the one after
-    a pending response. A negative response is raised as NegativeResponse, none as a TimeoutError, and a transfer that fails
-    as an IsoTpError.
+    The arguments are those of Server.isotp. An answer must begin within `p2` seconds, and after a pending response
+    within `p2_star` seconds. A negative response raises NegativeResponse, a missing one TimeoutError, and a failed
+    transfer IsoTpError.
     """
 
     _INSTEAD = {
@@ -57,18 +57,18 @@ class Client(NamesWhatThereIs):
         for name, seconds in (("p2", p2), ("p2_star", p2_star)):
             check_within(seconds, name)
         self._p2, self._p2_star = p2, p2_star
-        #: Its end of ISO-TP, such as `connection` takes for udsoncan.
+        #: The client's end of ISO-TP, which `connection` accepts for udsoncan.
         self.end = server.isotp(channel, tx=tx, rx=rx, functional=functional, library="canbusd", **options)
         self._python_end = cast(PythonIsoTp, self.end)
-        #: The number of pending responses that came before the last answer.
+        #: The number of pending responses before the last answer.
         self.pending = 0
 
     @explained()
     def request(self, data: bytes, *, functional: bool = False) -> bytes:
-        """Sends a request, and returns the positive response to it, all of its bytes.
+        """Sends a request, and returns all bytes of the positive response.
 
-        With `functional` it goes to all, and the first answer counts. NegativeResponse where it is refused, TimeoutError if
-        no answer comes within P2, or P2* after a pending response.
+        With `functional` the request goes to all ECUs, and the first answer counts. NegativeResponse if the request is
+        refused, TimeoutError if no answer comes within P2, or P2* after a pending response.
         """
         __tracebackhide__ = True
         request = data_bytes(data)
@@ -79,7 +79,7 @@ class Client(NamesWhatThereIs):
         while True:
             answer = self.end.recv(seconds_until(deadline))
             while answer is None and self._python_end.is_receiving:
-                # P2 is for its beginning.
+                # P2 is the limit for the beginning of the answer.
                 answer = self.end.recv(LONGEST_GAP)
             if answer is None:
                 after = " after the last pending response" if self.pending else ""
@@ -95,11 +95,11 @@ class Client(NamesWhatThereIs):
                 deadline = time.monotonic() + seconds
 
     def session(self, kind: Union[int, str]) -> None:
-        """Changes the session: 1, ``"default"``, 2, ``"programming"``, 3, ``"extended"``, or another by its number."""
+        """Changes the session: 1 or ``"default"``, 2 or ``"programming"``, 3 or ``"extended"``, or another number."""
         self.request(bytes([codes.SESSION, session_of(kind)]))
 
     def reset(self, kind: int = 1) -> None:
-        """Resets the ECU: 1 hard, 2 as by its key, 3 soft."""
+        """Resets the ECU: 1 hard reset, 2 key off and on, 3 soft reset."""
         self.request(bytes([codes.RESET, byte_of("kind", kind)]))
 
     def read(self, did: int) -> bytes:
@@ -111,32 +111,33 @@ class Client(NamesWhatThereIs):
         self.request(bytes([codes.WRITE]) + _number("did", did) + data_bytes(data))
 
     def unlock(self, level: int, key: Callable[[bytes], bytes]) -> None:
-        """Unlocks a level of security: asks for its seed, and sends what `key` returns for it."""
+        """Unlocks a security level: requests its seed, and sends the result of `key` for the seed."""
         seed = self.request(bytes([codes.SECURITY, byte_of("level", level)]))[2:]
         if any(seed):
             self.request(bytes([codes.SECURITY, level + 1]) + data_bytes(key(seed)))
 
     def routine(self, number: int, data: bytes = b"", kind: int = 1) -> bytes:
-        """Starts a routine (1), stops it (2) or asks for its results (3); returns what follows its number in the answer."""
+        """Starts a routine (1), stops it (2) or requests its results (3); returns the bytes after the routine's number
+        in the answer."""
         request = bytes([codes.ROUTINE, byte_of("kind", kind)]) + _number("number", number) + data_bytes(data)
         return self.request(request)[4:]
 
     def dtcs(self, mask: int = 0xFF) -> dict[int, int]:
-        """Returns the status of each trouble code that has a bit of this mask."""
+        """Returns the status of each trouble code whose status has a bit of this mask."""
         found = self.request(bytes([codes.READ_DTCS, codes.DTCS_BY_STATUS, byte_of("mask", mask)]))[3:]
         rows = [found[place : place + 4] for place in range(0, len(found) - 3, 4)]
         return {int.from_bytes(row[:3], "big"): row[3] for row in rows}
 
     def clear_dtcs(self, group: int = codes.ALL_DTCS) -> None:
-        """Clears trouble codes, without a group all."""
+        """Clears the trouble codes of a group, or all."""
         self.request(bytes([codes.CLEAR_DTCS]) + group.to_bytes(3, "big"))
 
     def tester_present(self, *, functional: bool = False) -> None:
-        """Keeps the session, without an answer."""
+        """Keeps the session open, without an answer."""
         self.end.send(bytes([codes.TESTER_PRESENT, codes.SUPPRESSED]), functional=functional)
 
     def download(self, address: int, data: bytes) -> None:
-        """Loads bytes into memory: RequestDownload, TransferData until all are there, RequestTransferExit."""
+        """Loads bytes into memory: RequestDownload, TransferData for all bytes, RequestTransferExit."""
         content = data_bytes(data)
         size = self._begin(codes.DOWNLOAD, address, len(content))
         for number, start in enumerate(range(0, len(content), size), 1):
@@ -144,7 +145,7 @@ class Client(NamesWhatThereIs):
         self.request(bytes([codes.TRANSFER_EXIT]))
 
     def upload(self, address: int, size: int) -> bytes:
-        """Returns bytes of memory: RequestUpload, TransferData until all are there, RequestTransferExit."""
+        """Returns bytes of memory: RequestUpload, TransferData for all bytes, RequestTransferExit."""
         self._begin(codes.UPLOAD, address, size)
         content, number = b"", 1
         while len(content) < size:
@@ -154,15 +155,16 @@ class Client(NamesWhatThereIs):
         return content
 
     def inject(self, fault: SegmentFault) -> None:
-        """Has a segment of a request, or a flow control, go wrong: ``inject(uds.fault("flow control", "lost"))``."""
+        """Adds a fault to a segment of a request, or to a flow control: ``inject(uds.fault("flow control",
+        "lost"))``."""
         self.end.inject(fault)
 
     def close(self) -> None:
-        """Ends it."""
+        """Closes the client."""
         self.end.close()
 
     def _begin(self, service: int, address: int, size: int) -> int:
-        """Begins a download or an upload; returns how many bytes of data each TransferData has at most."""
+        """Begins a download or an upload; returns the most data bytes of a TransferData."""
         numbers = address.to_bytes(4, "big") + size.to_bytes(4, "big")
         answer = self.request(bytes([service, 0x00, 0x44]) + numbers)
         return int.from_bytes(answer[2 : 2 + (answer[1] >> 4)], "big") - 2
@@ -177,7 +179,7 @@ class Client(NamesWhatThereIs):
 
 
 def _number(what: str, number: object) -> bytes:
-    """The two bytes of a DID or of a routine."""
+    """Returns the two bytes of the number of a DID or a routine."""
     if isinstance(number, bool) or not isinstance(number, int) or not 0 <= number <= 0xFFFF:
         raise ValueError(f"{what} is a number from 0 to 0xFFFF, not {number!r}")
     return number.to_bytes(2, "big")
@@ -195,7 +197,7 @@ def connection(end: IsoTp) -> Any:
         raise ImportError("connection needs udsoncan, which is not installed: `pip install udsoncan`") from None
 
     class Connection(base):  # type: ignore[misc]
-        """An end of ISO-TP as udsoncan has it; it is closed by who opened it."""
+        """An end of ISO-TP as a connection of udsoncan; the end's owner closes the end."""
 
         _is_open = False
 

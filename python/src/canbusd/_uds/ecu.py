@@ -1,4 +1,4 @@
-"""A simulated ECU: what it keeps, and how it answers each request."""
+"""A simulated ECU: its data, and its answers to requests."""
 
 import contextlib
 import threading
@@ -23,16 +23,16 @@ if TYPE_CHECKING:
     from canbusd.server import Server
 
 F = TypeVar("F", bound=Callable[..., Any])
-#: The part of P2* that passes before the next pending response.
+#: The fraction of P2* after which the next pending response is sent.
 PART = 0.9
 
 
-#: Sessions in which something is there: one or several, by their numbers or names; without any, all.
+#: The sessions that offer a function: one or several, by number or name; all sessions if none is given.
 Sessions = Union[int, str, Iterable[Union[int, str]]]
 
 
 def _keeper(table: dict[int, Guarded], number: int, sessions: Sessions, level: int) -> Callable[[F], F]:
-    """Returns the decorator that keeps a function for this number."""
+    """Returns the decorator that stores a function under this number."""
     if isinstance(number, bool) or not isinstance(number, int) or not 0 <= number <= 0xFFFF:
         raise ValueError(f"number is one from 0 to 0xFFFF, not {number!r}")
     allowed = tuple(map(session_of, [sessions] if isinstance(sessions, (int, str)) else sessions))
@@ -45,19 +45,19 @@ def _keeper(table: dict[int, Guarded], number: int, sessions: Sessions, level: i
 
 
 class OnDemand:
-    """A change of the answers of a service, for so many requests."""
+    """Changes to the answers of services, each for a number of requests."""
 
     def __init__(self) -> None:
         self._left: dict[int, list[list[Any]]] = {}
 
     def add(self, service: int, what: Any, count: int) -> None:
-        """Adds a change for the next `count` requests, after those that are there."""
+        """Adds a change for the next `count` requests, after the earlier changes."""
         if isinstance(count, bool) or not isinstance(count, int) or count < 1:
             raise ValueError(f"count is a number of requests, 1 or more, not {count!r}")
         self._left.setdefault(byte_of("service", service), []).append([what, count])
 
     def take(self, service: int) -> Any:
-        """Returns the change of this request; None for none."""
+        """Returns the change for this request; None if there is none."""
         there = self._left.get(service)
         if not there:
             return None
@@ -68,10 +68,11 @@ class OnDemand:
 class Ecu(Answers, NamesWhatThereIs):
     """A simulated ECU on an interface of a server, which answers requests of UDS (ISO 14229-1) over ISO-TP in a thread.
 
-    The arguments are those of Server.isotp; `p2` and `p2_star` are the seconds in which it answers, and in which it does after
-    a pending response, and `s3` those after which it goes back to the default session. Its data are in `dids`, `dtcs` and
-    `memory`, and what it does in functions with the decorators `did`, `write`, `routine`, `security` and `service`. A function
-    that takes longer than P2 has pending responses (78) sent meanwhile, and one that raises NegativeResponse has that sent.
+    The arguments are those of Server.isotp. The ECU answers within `p2` seconds, and after a pending response within
+    `p2_star` seconds. After `s3` seconds it returns to the default session. Its data are in `dids`, `dtcs` and
+    `memory`, and its behaviour is in functions with the decorators `did`, `write`, `routine`, `security` and `service`.
+    If a function takes longer than P2, the ECU sends pending responses (78) meanwhile. If a function raises
+    NegativeResponse, the ECU sends that response.
     """
 
     _INSTEAD = {
@@ -100,7 +101,7 @@ class Ecu(Answers, NamesWhatThereIs):
             raise ValueError(f"p2_star is a number of seconds above 0, not {p2_star!r}")
         super().__init__(p2, p2_star)
         self._s3 = s3
-        #: The requests that came, oldest first.
+        #: The received requests, oldest first.
         self.requests: list[bytes] = []
         self._refused, self._delayed = OnDemand(), OnDemand()
         self._last = time.monotonic()
@@ -111,29 +112,30 @@ class Ecu(Answers, NamesWhatThereIs):
         self._thread = threading.Thread(target=self._serve, name="canbusd ECU", daemon=True)
         self._thread.start()
 
-    # Its data and services.
+    # The ECU's data and services.
 
     @explained("bytes are ecu.dids[0xF190] = b'..', and a function has the decorator @ecu.did(0xF190)")
     def did(self, number: int, *, sessions: Sessions = (), level: int = 0) -> Callable[[F], F]:
-        """Makes a function return the bytes of a DID, ``def f()``; with `sessions` only in these, with a `level` only while that
-        level of security is unlocked."""
+        """Makes a function, ``def f()``, return the bytes of a DID. With `sessions` only these sessions allow reads;
+        with a `level` reads need this security level."""
         return _keeper(self._readers, number, sessions, level)
 
     @explained("a function that takes what is written has the decorator @ecu.write(0xF190)")
     def write(self, number: int, *, sessions: Sessions = (), level: int = 0) -> Callable[[F], F]:
-        """Makes a function take the bytes that are written to a DID, ``def f(data)``."""
+        """Makes a function receive the bytes that are written to a DID, ``def f(data)``."""
         return _keeper(self._writers, number, sessions, level)
 
     @explained("a function has the decorator @ecu.routine(0x0203)")
     def routine(self, number: int, *, sessions: Sessions = (), level: int = 0) -> Callable[[F], F]:
-        """Makes a function carry out a routine, ``def f(data)``; what it returns follows in the answer.
+        """Makes a function carry out a routine, ``def f(data)``; the returned bytes follow in the answer.
 
-        With a second parameter it is also called to stop it (2) and for its results (3): ``def f(data, kind)``.
+        A function with a second parameter is also called to stop the routine (2) and for its results (3): ``def f(data,
+        kind)``.
         """
         return _keeper(self._routines, number, sessions, level)
 
     def security(self, level: int, *, seed: Union[bytes, Callable[[], bytes]]) -> Callable[[F], F]:
-        """Makes a function return the key of a seed, ``def f(seed)``, of this level of security, which is odd."""
+        """Makes a function return the key for a seed, ``def f(seed)``, of this security level, which is odd."""
         if isinstance(level, bool) or not isinstance(level, int) or not 0 < level < 0x7F or level % 2 == 0:
             raise ValueError(f"level is odd, from 1 to 0x7D, as a request for its seed has it, not {level!r}")
 
@@ -144,7 +146,8 @@ class Ecu(Answers, NamesWhatThereIs):
         return taken
 
     def service(self, number: int) -> Callable[[F], F]:
-        """Makes a function answer a service, ``def f(request)``, with the bytes of the answer, or None for none."""
+        """Makes a function answer a service, ``def f(request)``; it returns the bytes of the answer, or None for no
+        answer."""
         byte_of("service", number)
 
         def taken(function: F) -> F:
@@ -154,20 +157,22 @@ class Ecu(Answers, NamesWhatThereIs):
         return taken
 
     def refuse(self, service: int, code: Union[int, str], count: int = 1) -> None:
-        """Has the next `count` requests of a service refused with this code, a number or a name."""
+        """Refuses the next `count` requests of a service with this code, a number or a name."""
         self._refused.add(service, code_of(code), count)
 
     def delay(self, service: int, seconds: float, count: int = 1) -> None:
-        """Has the next `count` requests of a service answered these seconds later, with pending responses from P2 on."""
+        """Delays the answers to the next `count` requests of a service by these seconds, with pending responses from P2
+        on."""
         check_within(seconds, "seconds")
         self._delayed.add(service, seconds, count)
 
     def inject(self, fault: SegmentFault) -> None:
-        """Has a segment of an answer, or a flow control, go wrong: ``ecu.inject(uds.fault("consecutive frame 3", "lost"))``."""
+        """Adds a fault to a segment of an answer, or to a flow control: ``ecu.inject(uds.fault("consecutive frame 3",
+        "lost"))``."""
         self._end.inject(fault)
 
     def close(self) -> None:
-        """Ends it; what a function of it raised, other than NegativeResponse, is raised."""
+        """Closes the ECU; raises the exception of one of its functions, if it is not NegativeResponse."""
         self._end.close()
         self._thread.join()
         self._worker.shutdown()
@@ -183,7 +188,7 @@ class Ecu(Answers, NamesWhatThereIs):
     ) -> None:
         close_at_exit(self.close, kind)
 
-    # Its thread.
+    # The ECU's thread.
 
     def _serve(self) -> None:
         while True:
@@ -192,7 +197,7 @@ class Ecu(Answers, NamesWhatThereIs):
             except IsoTpError:
                 if self._end.is_over:
                     return
-                # A request of which a segment is missing is none.
+                # A request with a missing segment does not count as a request.
                 continue
             if found is None:
                 self._enter(1)
@@ -202,11 +207,11 @@ class Ecu(Answers, NamesWhatThereIs):
                 self._last = time.monotonic()
 
     def _until_default(self) -> Optional[float]:
-        """Seconds until it goes back to the default session; None in that."""
+        """Returns the seconds until the return to the default session; None if this is the present session."""
         return None if self.session == 1 else seconds_until(self._last + self._s3)
 
     def _handle(self, request: bytes, is_to_all: bool) -> None:
-        """Answers a request, with pending responses where that takes longer than P2."""
+        """Answers a request, with pending responses if the answer takes longer than P2."""
         future = self._worker.submit(self._answer, request, is_to_all)
         seconds, is_pending = self._p2, False
         while True:
@@ -216,17 +221,17 @@ class Ecu(Answers, NamesWhatThereIs):
             except NotYet:
                 self._send(bytes([codes.NEGATIVE, request[0], codes.PENDING]))
                 seconds, is_pending = self._p2_star * PART, True
-        # After a pending response there is another in any case.
+        # After one pending response, further ones follow in any case.
         if answer and (is_pending or not codes.is_suppressed(request, answer)):
             self._send(answer)
 
     def _send(self, answer: bytes) -> None:
-        # If the other end has given up, or the interface is bus off, the test sees it there.
+        # If the other end has given up, or the interface is bus off, the test notices it at the other end.
         with contextlib.suppress(IsoTpError):
             self._end.send(answer)
 
     def _answer(self, request: bytes, is_to_all: bool) -> Optional[bytes]:
-        """Returns the answer to a request; None for none."""
+        """Returns the answer to a request; None if there is no answer."""
         service = request[0]
         time.sleep(self._delayed.take(service) or 0.0)
         try:

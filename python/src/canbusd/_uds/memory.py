@@ -1,29 +1,29 @@
-"""The memory of a simulated ECU, and how it is loaded and read: RequestDownload, RequestUpload, TransferData."""
+"""The memory of a simulated ECU, with downloads and uploads: RequestDownload, RequestUpload, TransferData."""
 
 from dataclasses import dataclass
 from typing import Optional
 
 from canbusd._uds.codes import DOWNLOAD, TRANSFER, TRANSFER_EXIT, NegativeResponse, check_length
 
-#: The number of bytes that a TransferData has at most: its service, its counter and data.
+#: The most bytes of a TransferData: its service, its counter and data.
 BLOCK = 0x402
 
 
 @dataclass
 class Transfer:
-    """A download or an upload that goes on."""
+    """A download or an upload that has not ended."""
 
     region: bytearray
     start: int
     size: int
     is_download: bool
-    #: The number of bytes that are done, and the number of the next block.
+    #: The number of bytes transferred, and the number of the next block.
     done: int = 0
     counter: int = 1
 
 
 class Memory:
-    """Memory by its addresses: the first address of each region, and its bytes."""
+    """Memory by address: the first address of each region, and its bytes."""
 
     def __init__(self) -> None:
         self.regions: dict[int, bytearray] = {}
@@ -50,11 +50,11 @@ class Memory:
         return bytes([request[0] + 0x40, 0x20]) + BLOCK.to_bytes(2, "big")
 
     def transfer(self, request: bytes) -> bytes:
-        """Carries a block of data; returns the positive response."""
+        """Transfers a block of data; returns the positive response."""
         check_length(request, 2, BLOCK)
         going = self._going()
         if going.is_download and going.done and request[1] == (going.counter - 1) % 256:
-            # The answer to it was lost, and it comes again: it is answered again, and not written.
+            # The client repeats a block if the answer was lost: the block is answered again, but not written again.
             return bytes([TRANSFER + 0x40, request[1]])
         if request[1] != going.counter % 256:
             raise NegativeResponse(0x73)
@@ -83,7 +83,7 @@ class Memory:
         return bytes([TRANSFER_EXIT + 0x40])
 
     def forget(self) -> None:
-        """Ends what goes on, as a change of session does."""
+        """Ends the present transfer, for example at a change of session."""
         self._transfer = None
 
     def _going(self) -> Transfer:

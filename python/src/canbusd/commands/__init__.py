@@ -10,7 +10,7 @@ from canbusd.signals import Database, load_database
 
 
 def add_address(parser: argparse.ArgumentParser) -> None:
-    """Adds the words that name a server."""
+    """Adds the options that name a server."""
     parser.add_argument(
         "-a",
         "--address",
@@ -21,7 +21,7 @@ def add_address(parser: argparse.ArgumentParser) -> None:
 
 
 def add_database(parser: argparse.ArgumentParser) -> None:
-    """Adds the words that name the files with the names of signals."""
+    """Adds the options for the database files with the names of signals."""
     parser.add_argument(
         "--dbc",
         action="append",
@@ -32,12 +32,12 @@ def add_database(parser: argparse.ArgumentParser) -> None:
 
 
 def database_of(options: argparse.Namespace) -> Optional[Database]:
-    """The messages of the files that were given, if any were."""
+    """Returns the messages of the given files; None if there are none."""
     return load_database(*options.dbc) if options.dbc else None
 
 
 def add_rates(parser: argparse.ArgumentParser, what: str) -> None:
-    """Adds the words that name bit rates; `what` says what they give."""
+    """Adds the options for bit rates; `what` describes their use."""
     parser.add_argument(
         "--bitrate",
         type=digits,
@@ -54,14 +54,14 @@ def add_rates(parser: argparse.ArgumentParser, what: str) -> None:
 
 
 def digits(text: str) -> int:
-    """Returns the number that a word writes in decimal digits."""
+    """Returns the number in a word of decimal digits."""
     if not (text.isascii() and text.isdigit()):
         raise argparse.ArgumentTypeError(f"not a number in decimal digits: {text!r}")
     return int(text)
 
 
 def least_zero(text: str) -> float:
-    """Returns the number of at least 0 that a word writes."""
+    """Returns the number in a word, which must be at least 0."""
     try:
         found = float(text)
     except ValueError:
@@ -72,7 +72,7 @@ def least_zero(text: str) -> float:
 
 
 def above_zero(text: str) -> float:
-    """Returns the number above 0 that a word writes."""
+    """Returns the number in a word, which must be above 0."""
     found = least_zero(text)
     if not found:
         raise argparse.ArgumentTypeError(f"not a number above 0: {text!r}")
@@ -80,7 +80,7 @@ def above_zero(text: str) -> float:
 
 
 def address_of(text: str) -> str:
-    """Returns an address that is one."""
+    """Returns an address after a check of its form."""
     try:
         parse_address(text)
     except ValueError as fault:
@@ -89,7 +89,7 @@ def address_of(text: str) -> str:
 
 
 def rates_of(options: argparse.Namespace) -> Optional[Rates]:
-    """The bit rates that were given, if any were."""
+    """Returns the given bit rates; None if there are none."""
     if options.bitrate is None:
         if options.dbitrate is not None:
             raise BadWords("--dbitrate needs --bitrate")

@@ -1,4 +1,4 @@
-"""What the commands share: how a fault is reported, and the words that name a record and its interfaces."""
+"""The common parts of the commands: error reports, and the options that name a record and its interfaces."""
 
 import argparse
 import gc
@@ -13,16 +13,16 @@ from canbusd.record import BadRecord, Record, is_named, read_run
 
 
 class BadWords(ValueError):
-    """Why the words of a command are refused: the exit status is 2 then, as with those that argparse refuses."""
+    """The words of a command are wrong: the exit status is 2, as for words that argparse refuses."""
 
 
 def run_command(work: Callable[[], Optional[int]], name: str) -> NoReturn:
-    """Calls a command's work, and exits. A fault is reported in one line on standard error, with status 1.
+    """Runs a command's work, and exits. A fault is reported on one line of standard error, with status 1.
 
-    If the reader of standard output goes, as `head` does, and at Ctrl-C the command ends silently, as others do.
+    The command ends silently at Ctrl-C, and if the reader of standard output ends, as `head` does.
     """
     signal.signal(signal.SIGINT, signal.SIG_DFL)
-    # A long run is many objects and no cycles.
+    # A long run makes many objects but no reference cycles.
     gc.disable()
     try:
         status = status_of(work)
@@ -46,7 +46,7 @@ def run_command(work: Callable[[], Optional[int]], name: str) -> NoReturn:
 
 
 def status_of(work: Callable[[], Optional[int]]) -> Optional[int]:
-    """The status of a command's work, also if the parser of its words ends it, which may have written help."""
+    """Returns the status of a command's work, even if the parser of its words ends it, for example after the help."""
     try:
         return work()
     except SystemExit as end:
@@ -56,18 +56,18 @@ def status_of(work: Callable[[], Optional[int]]) -> Optional[int]:
 
 
 def forget_output() -> None:
-    """What could not be written is not tried again."""
+    """Discards output that could not be written, so that it is not tried again."""
     os.dup2(os.open(os.devnull, os.O_WRONLY), sys.stdout.fileno())
 
 
 def is_can_error(fault: Exception) -> bool:
-    """Whether this is a fault of python-can, which is imported only if a command needs it."""
+    """Returns whether this is a fault of python-can, which is imported only if a command needs it."""
     can = sys.modules.get("can")
     return can is not None and isinstance(fault, can.CanError)
 
 
 def add_record(parser: argparse.ArgumentParser) -> None:
-    """Adds the words that name a record and its interfaces."""
+    """Adds the options that name a record and its interfaces."""
     parser.add_argument("record", metavar="RECORD", help="what `canbusd bench --record` or `canbusd serve --out` wrote")
     parser.add_argument(
         "--names",
@@ -81,7 +81,7 @@ def add_record(parser: argparse.ArgumentParser) -> None:
 
 
 def replayed(path: str, names: Optional[str], cut: bool = False, rates: Optional[Rates] = None) -> Record:
-    """The record in this file, without its text, with what happened in its run."""
+    """Returns the record in this file, without its text, with the events of its run."""
     try:
         return read_run(path, names, cut, rates)
     except BadRecord as fault:
@@ -89,7 +89,7 @@ def replayed(path: str, names: Optional[str], cut: bool = False, rates: Optional
 
 
 def note_of_names(command: str, *runs: tuple[str, Record]) -> None:
-    """Says on standard error which interfaces have no name, in the first record in which some have none, and what helps."""
+    """Prints on standard error which interfaces of the first incompletely named record have no name, and the remedy."""
     for path, record in runs:
         nameless = [name for name in record.names if not is_named(name)]
         if nameless:

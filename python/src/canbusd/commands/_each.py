@@ -1,4 +1,4 @@
-"""Commands that do the same with each of some interfaces of a server."""
+"""Commands that treat each of several interfaces of a server in the same way."""
 
 import argparse
 from collections.abc import Callable
@@ -13,13 +13,13 @@ from canbusd.commands import add_address
 
 
 def add_arguments(parser: argparse.ArgumentParser) -> None:
-    """Adds the words of the command."""
+    """Adds the arguments of the command."""
     parser.add_argument("interfaces", nargs="+", metavar="INTERFACE", help="an interface of the server")
     add_address(parser)
 
 
 def do_with_each(options: argparse.Namespace, do: Callable[[CanbusdBus], None]) -> None:
-    """Calls this with each interface; ValueError with what was refused, after all of them."""
+    """Calls this function with each interface; raises ValueError with the refusals after all of them."""
     faults: list[str] = []
     for bus in [
         CanbusdBus(name, NO_FRAMES, address=options.address, error_frames=False) for name in options.interfaces

@@ -1,4 +1,4 @@
-"""Makes a log for another tool: candump's (.log), ASC (.asc), BLF (.blf) or, for Wireshark, pcapng, of another that it reads."""
+"""Converts a log into the format of another tool: candump (.log), ASC (.asc), BLF (.blf) or, for Wireshark, pcapng."""
 
 import argparse
 import sys
@@ -21,14 +21,14 @@ those of a bench, begin with 0.
 
 
 def add_arguments(parser: argparse.ArgumentParser) -> None:
-    """Adds the words of the command."""
+    """Adds the arguments of the command."""
     parser.add_argument("source", metavar="FROM", help="the log that is read")
     parser.add_argument("target", metavar="TO", help="the log that is written")
     parser.add_argument("--names", metavar="NAME,..", help="the interfaces of the channels, the first one's first")
 
 
 def run(options: argparse.Namespace) -> None:
-    """Converts the log, and says which channel is which interface where the log does not."""
+    """Converts the log, and prints the interface of each channel if the log has no names."""
     names: Sequence[str] = options.names.split(",") if options.names else ()
     count, known = write_entries(options.target, read_entries(options.source, names), names)
     if not count:

@@ -1,4 +1,4 @@
-"""Prints the frames that interfaces of a server receive, as candump does, until Ctrl-C."""
+"""Prints the frames that interfaces of a server receive, like candump, until Ctrl-C."""
 
 import argparse
 import contextlib
@@ -33,7 +33,7 @@ Bus = TypeVar("Bus", bound=CanbusdBus)
 
 
 class View:
-    """How frames are written."""
+    """The format in which frames are written."""
 
     def __init__(self, options: argparse.Namespace, width: int, database: Optional[Database] = None) -> None:
         self.is_log, self.explains = options.log, options.explain
@@ -54,12 +54,13 @@ class View:
         return lines
 
     def long(self, frame: Frame) -> str:
-        """A frame as candump writes it on a screen."""
+        """Returns a frame as candump writes it on a screen."""
         if frame.is_error_frame:
             digits = f"{frame.arbitration_id | ERROR:08X}"
         elif frame.is_extended_id:
             digits = f"{frame.arbitration_id:08X}"
-            # As candump does: once there was one, those of 11 bits are written below their low digits.
+            # As in candump, after the first frame with 29 bits, identifiers with 11 bits are aligned at their low
+            # digits.
             self.has_seen_extended = True
         else:
             digits = f"{frame.arbitration_id:03X}".rjust(8 if self.has_seen_extended else 3)
@@ -71,17 +72,17 @@ class View:
 
 
 def no_stamp(_: str) -> Callable[[float], str]:
-    """Without timestamps."""
+    """Returns no timestamp."""
     return lambda moment: ""
 
 
 def absolute(_: str) -> Callable[[float], str]:
-    """Seconds since 1970."""
+    """Returns the seconds since 1970."""
     return lambda moment: f"({moment:017.6f}) "
 
 
 def dated(_: str) -> Callable[[float], str]:
-    """Date and time of day."""
+    """Returns the date and time of day."""
 
     def stamp(moment: float) -> str:
         seconds, micros = divmod(round(moment * 1e6), 1000000)
@@ -91,7 +92,7 @@ def dated(_: str) -> Callable[[float], str]:
 
 
 def since(kind: str) -> Callable[[float], str]:
-    """Seconds since the last frame, or since the first."""
+    """Returns a function that shows the seconds since the last frame, or since the first."""
     start: list[float] = []
 
     def stamp(moment: float) -> str:
@@ -114,7 +115,7 @@ STAMPS: dict[Optional[str], Callable[[str], Callable[[float], str]]] = {
 
 
 def add_arguments(parser: argparse.ArgumentParser) -> None:
-    """Adds the words of the command."""
+    """Adds the arguments of the command."""
     parser.add_argument("interfaces", nargs="+", metavar="INTERFACE[,FILTER..]", help="an interface of the server")
     parser.add_argument("-e", dest="explain", action="store_true", help="error message frames too, explained in words")
     parser.add_argument("-L", dest="log", action="store_true", help="write the format of log files")
@@ -134,7 +135,7 @@ def add_arguments(parser: argparse.ArgumentParser) -> None:
 
 
 def opened(text: str, options: argparse.Namespace, kind: "type[Bus]", errors: int, **more: bool) -> "tuple[str, Bus]":
-    """Opens an interface with its filters, and these classes of error message frames; its name, and the bus."""
+    """Opens an interface with its filters, and these classes of error message frames; returns its name, and the bus."""
     name, *parts = text.split(",")
     filters: list[dict[str, Any]] = []
     join = False
@@ -156,7 +157,7 @@ def opened(text: str, options: argparse.Namespace, kind: "type[Bus]", errors: in
 
 
 class Drops:
-    """Reports what found no room in the receive queues of the sessions, at most once in this time."""
+    """Reports the items without room in the receive queues of the sessions, at most once in this time."""
 
     INTERVAL = 1.0
 
@@ -165,7 +166,7 @@ class Drops:
         self.next_look, self.has_received = time.monotonic() + self.INTERVAL, False
 
     def look(self, has_received: bool) -> None:
-        """Asks the server, if there were frames since it was asked."""
+        """Asks the server, if frames came since the last request."""
         self.has_received |= has_received
         if not self.has_received or time.monotonic() < self.next_look:
             return
@@ -182,7 +183,7 @@ class Drops:
 
 
 class Printed:
-    """Frames of interfaces as they come, on standard output."""
+    """Prints the frames of interfaces on standard output as they come."""
 
     has_more = False
 
@@ -190,7 +191,7 @@ class Printed:
         self.buses, self.view = buses, view
 
     def take(self, ready: Sequence[CanbusdBus], most: int) -> int:
-        """Prints the frames that are at hand, up to a number of them; returns how many there were."""
+        """Prints the waiting frames, up to a maximum number; returns their number."""
         left = most
         for name, bus in self.buses:
             if bus in ready:
@@ -233,7 +234,7 @@ def follow(
     count: Optional[int] = None,
     timeout: Optional[float] = None,
 ) -> None:
-    """Hands frames to the output as they come, up to this number, until none comes for so many milliseconds."""
+    """Hands frames to the output as they come, up to this number, until no frame comes for this many milliseconds."""
     drops = Drops(buses)
     left = sys.maxsize if count is None else count
     most = float("inf") if timeout is None else timeout / 1000
@@ -252,7 +253,7 @@ def follow(
 
 
 def print_frames(name: str, bus: CanbusdBus, view: View, most: int) -> int:
-    """Prints the frames that are at hand, up to a number of them; how many there were."""
+    """Prints the waiting frames, up to a maximum number; returns their number."""
     for count in range(min(most, BATCH)):
         message = bus.recv(0)
         if message is None:

@@ -1,4 +1,4 @@
-"""Gives the bus of an interface a rule of faults, while its server runs."""
+"""Adds a fault rule to the bus of an interface, while its server runs."""
 
 import argparse
 
@@ -26,7 +26,7 @@ for 29; with a mask both are words as of a filter.
 
 
 def add_arguments(parser: argparse.ArgumentParser) -> None:
-    """Adds the words of the command."""
+    """Adds the arguments of the command."""
     parser.add_argument("interface", metavar="INTERFACE", help="an interface of the bus")
     parser.add_argument("rule", nargs="*", metavar="RULE", help="a rule, as one word or several")
     parser.add_argument("--left", action="store_true", help="print how many rules the bus has that are not used up")
@@ -35,7 +35,7 @@ def add_arguments(parser: argparse.ArgumentParser) -> None:
 
 
 def run(options: argparse.Namespace) -> None:
-    """Ends rules, gives one, and prints how many are left."""
+    """Ends rules, adds a rule, and prints the number of remaining rules."""
     rule = " ".join(options.rule)
     if not (rule or options.left or options.end):
         raise BadWords("a rule is missing, such as 'next 32 from ecu global bit', or --left or --end")
@@ -45,7 +45,7 @@ def run(options: argparse.Namespace) -> None:
             if options.end:
                 session.end_rules()
             if rule:
-                # A text with a line feed is a script, whatever its words are.
+                # A text with a newline is a script, whatever its words are.
                 session.inject(f"{rule}\n")
             if options.left:
                 print(session.rules_left())

@@ -1,4 +1,4 @@
-"""Replays a record, and lists its attempts and restarts, and which interfaces went down."""
+"""Replays a record, and lists its attempts and restarts, and the interfaces that went down."""
 
 import argparse
 import itertools
@@ -32,12 +32,12 @@ bits after them. With --json it is the last line, with its times in seconds.
   canbusd replay --quiet --bitrate 500000 run.rec
   canbusd replay --json run.rec | jq 'select(.outcome == "destroyed")'
 """
-# The most attempts that overlap and are reported.
+# The most overlapping attempts that are reported.
 MOST_OVERLAPS = 10
 
 
 def add_arguments(parser: argparse.ArgumentParser) -> None:
-    """Adds the words of the command."""
+    """Adds the arguments of the command."""
     add_record(parser)
     add_rates(parser, "no attempt may begin before the one before it is over, and the bus load is written")
     form = parser.add_mutually_exclusive_group()
@@ -46,7 +46,7 @@ def add_arguments(parser: argparse.ArgumentParser) -> None:
 
 
 def run(options: argparse.Namespace) -> int:
-    """Writes a line for each attempt, restart and down, a summary of their times, and the verdict."""
+    """Writes a line for each attempt, restart and down, then a summary of their times, and the verdict."""
     rates = rates_of(options)
     record = replayed(options.record, options.names, options.cut, rates)
     slots = slots_of(record.replay) if rates else []
@@ -72,7 +72,7 @@ def run(options: argparse.Namespace) -> int:
 
 
 def report(overlaps: Sequence[str]) -> None:
-    """Reports the first attempts that overlap, and how many others do."""
+    """Reports the first overlapping attempts, and the number of the others."""
     for line in overlaps[:MOST_OVERLAPS]:
         print(f"canbusd replay: {line}", file=sys.stderr)
     if len(overlaps) > MOST_OVERLAPS:
@@ -80,12 +80,12 @@ def report(overlaps: Sequence[str]) -> None:
 
 
 def load_object(load: Load) -> dict[str, object]:
-    """The bus load: times in seconds, and a share of 1."""
+    """Returns the bus load: times in seconds, and the share between 0 and 1."""
     return {"type": "load", "busy": load.busy / 1e9, "time": load.whole / 1e9, "share": load.share}
 
 
 def objects_of(record: Record) -> Iterator[dict[str, object]]:
-    """Yields the fields of each attempt, and then of each item."""
+    """Yields the fields of each attempt, then the fields of each item."""
     numbers = itertools.count()
     for attempt in record.attempts:
         number = None if attempt.outcome == "idle" else next(numbers)
@@ -98,7 +98,7 @@ def objects_of(record: Record) -> Iterator[dict[str, object]]:
 
 
 def lines_of(record: Record) -> Iterator[str]:
-    """Yields a line for each step, with the state of who sent or came back where that changed."""
+    """Yields a line for each step, with the state of the interface that sent or came back if that changed."""
     run, names, steps = record.replay, record.names, record.replay.steps
     for place, (kind, moment, iface) in enumerate(zip(steps.kinds, steps.moments, steps.ifaces)):
         tec, rec = steps.counts_after(place)[iface]
@@ -112,7 +112,7 @@ def lines_of(record: Record) -> Iterator[str]:
 
 
 def words_of(attempt: Attempt) -> str:
-    """The outcome of an attempt, in words."""
+    """Returns the outcome of an attempt in words."""
     words: list[str] = [attempt.outcome]
     if attempt.fault not in ("good", attempt.outcome):
         words.append(f"({attempt.fault})")

@@ -1,4 +1,4 @@
-"""Shows the run of a record: as a page for a browser, or drawn as text for a terminal."""
+"""Shows the run in a record: as a page for a browser, or as a text drawing for a terminal."""
 
 import argparse
 import io
@@ -41,7 +41,7 @@ MOST_EVENTS = 1000
 
 
 def add_arguments(parser: argparse.ArgumentParser) -> None:
-    """Adds the words of the command."""
+    """Adds the arguments of the command."""
     add_record(parser)
     parser.add_argument(
         "other", nargs="?", metavar="OTHER", help="a second record: how the runs differ, and both on one axis"
@@ -79,10 +79,10 @@ def add_arguments(parser: argparse.ArgumentParser) -> None:
 
 
 def run(options: argparse.Namespace) -> int:
-    """Writes the page, or the drawings, on standard output. Returns the status."""
+    """Writes the page, or the drawings, to standard output. Returns the status."""
     rates = rates_of(options)
     check_words(options)
-    # Opened first: a server that ends meanwhile renames both.
+    # These files are opened first, because a server that ends meanwhile renames both.
     faults = None if has_drawings(options) else faults_of(options)
     record, named, rules = with_rules(faults, rates, options)
     other = None if options.other is None else replayed(options.other, options.names, options.cut)
@@ -97,12 +97,12 @@ def run(options: argparse.Namespace) -> int:
 
 
 def has_drawings(options: argparse.Namespace) -> bool:
-    """Whether text is asked for, in place of a page."""
+    """Returns whether the options ask for text in place of a page."""
     return bool(options.text or options.counters or options.arbitration)
 
 
 def check_words(options: argparse.Namespace) -> None:
-    """Refuses options that have no effect together."""
+    """Refuses combinations of options without an effect."""
     if options.exit_code and options.other is None:
         raise BadWords("--exit-code needs a second record")
     given = [f"--{name}" for name in ("first", "last") if vars(options)[name] is not None]
@@ -115,7 +115,7 @@ def check_words(options: argparse.Namespace) -> None:
 def write_drawings(
     record: Record, comparison: Optional[Comparison], options: argparse.Namespace, rates: Optional[Rates]
 ) -> None:
-    """Writes events as text, and drawings."""
+    """Writes events and drawings as text."""
     first = options.first or 0
     last = record.replay.attempts if options.last is None else options.last
     if options.text:
@@ -145,7 +145,7 @@ def write_page(
 
 
 def faults_of(options: argparse.Namespace) -> Optional[FaultsFile]:
-    """The faults that are named, else those that a server left beside the record, if there are any."""
+    """Returns the named faults, else the faults that a server left next to the record, if there are any."""
     if options.faults is not None:
         return FaultsFile(options.faults, options.record)
     try:
@@ -158,9 +158,10 @@ def faults_of(options: argparse.Namespace) -> Optional[FaultsFile]:
 def with_rules(
     faults: Optional[FaultsFile], rates: Optional[Rates], options: argparse.Namespace
 ) -> tuple[Record, Record, list[str]]:
-    """The record, the same with the name that its faults say, and the rule of each attempt. Faults beside the record may be wrong.
+    """Returns the record, the record with a name from its faults, and the rule of each attempt. Faults next to the
+    record may be wrong.
 
-    Two runs have the names that their logs say, since they are compared. Where all names are given the record is read once.
+    For a comparison, two runs use the names in their logs. If the user gives all names, the record is read once.
     """
     if faults is None:
         return as_it_is(rates, options)
@@ -188,7 +189,7 @@ def with_rules(
 
 
 def as_it_is(rates: Optional[Rates], options: argparse.Namespace) -> tuple[Record, Record, list[str]]:
-    """The same without faults."""
+    """Returns the same values without faults."""
     record = replayed(options.record, options.names, options.cut, rates)
     return record, record, []
 
@@ -199,11 +200,11 @@ def note(words: str) -> None:
 
 
 def title_beside(path: str, other: str) -> str:
-    """How the second of two records is called: by its folder, too, if both files have one name."""
+    """Returns the name of the second of two records, with its folder if both files have the same name."""
     name = os.path.basename(other)
     return other if name == os.path.basename(path) else name
 
 
 def write(lines: Iterable[str]) -> None:
-    """Writes lines on standard output."""
+    """Writes lines to standard output."""
     sys.stdout.writelines(f"{line}\n" for line in lines)

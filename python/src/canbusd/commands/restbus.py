@@ -1,4 +1,5 @@
-"""Sends what the nodes of a database send, but for those that are left out, each message at its cycle time, until Ctrl-C."""
+"""Sends the messages of a database's nodes, except for nodes that are left out, each at its cycle time, until
+Ctrl-C."""
 
 import argparse
 import contextlib
@@ -29,7 +30,7 @@ set with --set is as the file says it starts. With --log the frames of these nod
 
 
 def add_arguments(parser: argparse.ArgumentParser) -> None:
-    """Adds the words of the command."""
+    """Adds the arguments of the command."""
     parser.add_argument("files", nargs="+", metavar="FILE", help="a DBC, ARXML, KCD or SYM file")
     parser.add_argument(
         "--without",
@@ -48,7 +49,7 @@ def add_arguments(parser: argparse.ArgumentParser) -> None:
 
 
 def run(options: argparse.Namespace) -> None:
-    """Sends until the end, and says what became of the frames."""
+    """Sends until the end, and prints the numbers of frames by outcome."""
     nodes = dict(pairs_of(options.node, "--node", "NODE=NAME"))
     values = list(pairs_of(options.set, "--set", "NODE.SIGNAL=VALUE"))
     database = load_database(*options.files)
@@ -77,7 +78,7 @@ def run(options: argparse.Namespace) -> None:
 def chosen_of(
     database: Database, options: argparse.Namespace, nodes: Mapping[str, str], known: Sequence[str]
 ) -> dict[str, str]:
-    """The interface of each node; if one has none, a fault says which options help."""
+    """Returns the interface of each node; if a node has none, raises a fault that names helpful options."""
     without = [name for names in options.without for name in names.split(",")]
     try:
         return interfaces_of(database, without, nodes, options.interface, known)
@@ -88,7 +89,7 @@ def chosen_of(
 
 
 def pairs_of(words: Sequence[str], option: str, form: str) -> Iterator[tuple[str, str]]:
-    """The words of an option, each of which is a name and a value."""
+    """Returns the words of an option, each split into a name and a value."""
     for word in words:
         name, equals, value = word.partition("=")
         if not (name and equals and value):
@@ -97,7 +98,7 @@ def pairs_of(words: Sequence[str], option: str, form: str) -> Iterator[tuple[str
 
 
 def table_of(database: Database, rest: RestBus) -> Iterator[str]:
-    """A line for each message: by which interface it is sent, or that it is not."""
+    """Returns a line for each message, with its interface, or with a note that it is not sent."""
     sent = {message.format.name: message for message in rest.messages}
     for message in database.messages:
         interface = sent[message.name].interface if message.name in sent else "-"
@@ -108,9 +109,9 @@ def table_of(database: Database, rest: RestBus) -> Iterator[str]:
 
 
 def send_until(rest: LiveRestBus, duration: Optional[float]) -> None:
-    """Waits for the end or for Ctrl-C, and says what became of the frames."""
+    """Waits for the end or for Ctrl-C, and prints the numbers of frames by outcome."""
     end = time.monotonic() + (float("inf") if duration is None else duration)
-    # Ctrl-C is the end that most runs have.
+    # Most runs end with Ctrl-C.
     signal.signal(signal.SIGINT, signal.default_int_handler)
     with contextlib.suppress(KeyboardInterrupt):
         while (left := end - time.monotonic()) > 0:

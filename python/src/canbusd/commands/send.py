@@ -35,7 +35,7 @@ SIGNAL = re.compile(r"([A-Za-z_]\w*)\.([A-Za-z_]\w*)=(.+)")
 
 
 def add_arguments(parser: argparse.ArgumentParser) -> None:
-    """Adds the words of the command."""
+    """Adds the arguments of the command."""
     parser.add_argument("interface", metavar="INTERFACE", help="an interface of the server")
     parser.add_argument("frames", nargs="+", metavar="FRAME", help="frames to send, in their order")
     parser.add_argument(
@@ -46,7 +46,7 @@ def add_arguments(parser: argparse.ArgumentParser) -> None:
 
 
 def frames_of_words(words: Iterable[str], database: Optional[Database]) -> Iterator[Frame]:
-    """Yields the frames that the words of the command line name."""
+    """Yields the frames that the words of the command line describe."""
     message, values = "", dict[str, Value]()
     for text in words:
         signal = SIGNAL.fullmatch(text)
@@ -62,14 +62,14 @@ def frames_of_words(words: Iterable[str], database: Optional[Database]) -> Itera
 
 
 def frame_of_signals(message: str, values: Mapping[str, Value], database: Optional[Database]) -> Frame:
-    """The frame of a message with these values."""
+    """Returns the frame of a message with these values."""
     if database is None:
         raise ValueError(f"{message}.{next(iter(values))}: the names of signals need --dbc FILE")
     return database.encode(message, values)
 
 
 def frame_of_word(text: str) -> Frame:
-    """The frame that a word of the command line names."""
+    """Returns the frame that a word of the command line describes."""
     frame = Frame.parse(text)
     if frame.is_error_frame:
         raise BadFrame(f"{text}: an error message frame, which nobody sends")

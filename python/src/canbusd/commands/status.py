@@ -23,7 +23,7 @@ HOME, CLEAR_LINE, CLEAR_BELOW = "\x1b[H", "\x1b[K", "\x1b[J"
 
 
 def add_arguments(parser: argparse.ArgumentParser) -> None:
-    """Adds the words of the command."""
+    """Adds the arguments of the command."""
     parser.add_argument(
         "interfaces", nargs="*", metavar="INTERFACE", help="an interface of the server (default: all of them)"
     )
@@ -39,7 +39,7 @@ def add_arguments(parser: argparse.ArgumentParser) -> None:
 
 
 def run(options: argparse.Namespace) -> None:
-    """Prints the table, once or again and again."""
+    """Prints the table, once or repeatedly."""
     names = options.interfaces or interfaces(options.address)
     buses = [CanbusdBus(name, NO_FRAMES, address=options.address, error_frames=False) for name in names]
     on_screen = options.watch and sys.stdout.isatty()
@@ -60,7 +60,7 @@ def run(options: argparse.Namespace) -> None:
 
 
 def table_of(rows: Sequence[Row], loads: Sequence[Load]) -> list[str]:
-    """The lines of the table, which has the load of each interface's bus where a bus has a bit rate."""
+    """Returns the lines of the table; they include the bus load of each interface if a bus has a bit rate."""
     if not any(load.bitrate for load in loads):
         return table(rows)
     words = [load_words(load.permille) if load.bitrate else "-" for load in loads]
@@ -68,7 +68,7 @@ def table_of(rows: Sequence[Row], loads: Sequence[Load]) -> list[str]:
 
 
 def row_of(name: str, bus: CanbusdBus) -> Row:
-    """The row of an interface."""
+    """Returns the row of the interface."""
     counters, stats = bus.error_counters(), bus.stats()
     counts: list[int] = [stats.sent, stats.done, stats.waiting, stats.lost, stats.refused]
     return (name, counters.state, counters.tec, counters.rec, *counts)

@@ -33,7 +33,7 @@ placement fails.
 
 
 def add_arguments(parser: argparse.ArgumentParser) -> None:
-    """Adds the words of the command."""
+    """Adds the arguments of the command."""
     parser.usage = "canbusd sweep [options] BUS [BUS ..] -- COMMAND .. | canbusd sweep --join FILE .."
     parser.add_argument(
         "words",
@@ -103,7 +103,7 @@ def add_arguments(parser: argparse.ArgumentParser) -> None:
 
 
 def run(options: argparse.Namespace) -> int:
-    """Carries out the sweep, or joins its parts. Returns the status."""
+    """Runs the sweep, or joins its parts. Returns the status."""
     if options.join:
         return join_parts(options.words)
     buses, words = parted(options.words)
@@ -114,7 +114,7 @@ def run(options: argparse.Namespace) -> int:
     task = CommandTask(words, buses, server_options(options), given_words(options))
     test = Test(task, kinds, named(options.senders), named(options.ids.upper()), options.known)
     found = sweep_options(options)
-    # Last, so that wrong words are reported at once.
+    # This import comes last, so that wrong words are reported at once.
     if not worker.is_ready():
         worker.start_anew(())
     page = "" if found.given is not None else os.path.join(OUT, "index.html")
@@ -125,7 +125,7 @@ def run(options: argparse.Namespace) -> int:
 
 
 def join_parts(names: "list[str]") -> int:
-    """Joins the parts of a sweep, and writes what they found. Returns the status."""
+    """Joins the parts of a sweep, and writes their findings. Returns the status."""
     if not names:
         raise BadWords("canbusd sweep --join FILE ..: it takes the files sweep.json of the parts")
     tests = joined.join([Path(name) for name in names], Path(OUT))
@@ -147,7 +147,7 @@ def parted(words: "list[str]") -> "tuple[list[str], list[str]]":
 
 
 def named(text: str) -> "list[str]":
-    """Returns the names in a text that joins them by commas."""
+    """Returns the names in a text, which commas separate."""
     return [name for name in text.split(",") if name]
 
 
@@ -157,7 +157,7 @@ def server_options(options: argparse.Namespace) -> "dict[str, Any]":
 
 
 def given_words(options: argparse.Namespace) -> "list[str]":
-    """Returns the words by which the options of the server were given."""
+    """Returns the words for the server's options, as the user gave them."""
     pairs = {
         "--bitrate": options.bitrate,
         "--dbitrate": options.dbitrate,

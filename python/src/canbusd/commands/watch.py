@@ -51,15 +51,15 @@ class Watcher:
     def __init__(self, names: Sequence[str], address: Optional[str], database: Optional[Database] = None) -> None:
         self.database = database
         self.buses = [Watched(name, address=address, fd=True, receive_own_messages=True) for name in names]
-        # When the counts were asked for last.
+        # The time of the last request for the counts.
         self.asked = 0.0
-        # The times of frames on the bus of each interface: the same for those with the same bit rates.
+        # The times of frames on the bus of each interface; buses with the same bit rates share them.
         rates = [rates_of(bus.load()) for bus in self.buses]
         times = {one: times_of(one) for one in rates if one}
         self.wires = [times[one] if one else None for one in rates]
 
     def tick(self, seconds: float) -> tuple[Json, list[Row]]:
-        """Returns how the interfaces are after these seconds, and the frames that came in them."""
+        """Returns the state of the interfaces after these seconds, and the frames that came meanwhile."""
         rows: dict[tuple[float, str, int], Row] = {}
         faults = [[0, 0, 0] for _ in self.buses]
         deadline = time.monotonic() + seconds
@@ -72,11 +72,11 @@ class Watcher:
                 break
         began, asked = self.asked, time.monotonic()
         stats, self.asked = [bus.stats() for bus in self.buses], asked
-        # Of what is counted between two looks, none was before the first one was asked for.
+        # All events counted between two requests came after the first request was sent.
         span, now = time.monotonic() - began if began else 0.0, time.time()
         loads = [bus.load().permille for bus in self.buses]
         for number in range(len(self.buses)):
-            # The frames that came before the counts.
+            # These frames came before the counts.
             self.take(number, rows, faults[number])
         ifaces = [[*bus.error_counters(), *one[3:]] for bus, one in zip(self.buses, stats)]
         missed = sum(one.dropped for one in stats)
@@ -85,10 +85,10 @@ class Watcher:
         return tick, list(rows.values())
 
     def take(self, number: int, rows: dict[tuple[float, str, int], Row], faults: list[int]) -> None:
-        """Takes what an interface has received.
+        """Takes the frames that an interface has received.
 
-        A row is moment, frame, interfaces, what it says, sender, how many nanoseconds it took the wire, and its message with
-        its signals, if a file knows it.
+        A row has the time, the frame, the interfaces, the meaning, the sender, the nanoseconds on the wire, and the
+        message with its signals, if a file knows it.
         """
         for _ in range(MOST_FRAMES):
             message = self.buses[number].recv(0)
@@ -98,7 +98,7 @@ class Watcher:
             kind = fault_of(frame)
             if kind is not None:
                 faults[kind] += 1
-            # An error frame is the interface's own; a frame that several have received is one row.
+            # An error message frame belongs to one interface; a frame that several interfaces received is one row.
             key = frame.timestamp, str(frame), number if frame.is_error_frame else -1
             if key not in rows:
                 decoded = self.decoded(frame)
@@ -109,18 +109,19 @@ class Watcher:
             row[4] = row[4] if frame.is_rx else number
 
     def decoded(self, frame: Frame) -> Optional[Decoded]:
-        """The message and the signals of a frame, if there is a file that knows it."""
+        """Returns the message and the signals of a frame, if a file knows the frame."""
         return self.database.decode(frame) if self.database is not None else None
 
     def meaning(self, frame: Frame) -> str:
-        """The text of an error message frame, or of one that a file knows."""
+        """Returns the text of an error message frame, or of a frame that a file knows."""
         return says(frame, self.decoded(frame))
 
     def note_times(self, rows: Iterable[Row]) -> None:
-        """Adds how many nanoseconds each frame took the wire, with the bits that follow it, if there is a bit rate."""
+        """Adds the nanoseconds that each frame took on the wire, with the bits that follow it, if there is a bit
+        rate."""
         by_wire: dict[FrameTimes, list[Row]] = {}
         for row in filter(is_frame, rows):
-            # Those that have the frame are of one bus.
+            # All interfaces of a frame are on the same bus.
             wire = self.wires[(row[2] & -row[2]).bit_length() - 1]
             if wire is not None:
                 by_wire.setdefault(wire, []).append(row)
@@ -130,12 +131,12 @@ class Watcher:
 
 
 def rates_of(load: Load) -> Optional[Rates]:
-    """The bit rates of a bus, if it has any."""
+    """Returns the bit rates of a bus, if it has any."""
     return Rates(load.bitrate, load.data_bitrate) if load.bitrate else None
 
 
 def times_of(rates: Rates) -> Optional[FrameTimes]:
-    """How long frames take at these bit rates; None, and a note, if there is no program that says it."""
+    """Returns the times of frames at these bit rates; None, with a note, if the program for them is missing."""
     try:
         return FrameTimes(rates)
     except ProgramNotFound as fault:
@@ -144,12 +145,12 @@ def times_of(rates: Rates) -> Optional[FrameTimes]:
 
 
 def says(frame: Frame, decoded: Optional[Decoded]) -> str:
-    """The text of an error message frame, or of one that was decoded."""
+    """Returns the text of an error message frame, or of a decoded frame."""
     return frame.meaning if decoded is None else str(decoded)
 
 
 def fault_of(frame: Frame) -> Optional[int]:
-    """Which fault of the interface's own frame is reported: 0 last bit, 1 destroyed, 2 not acknowledged; else None."""
+    """Returns the fault of an interface's own frame: 0 last bit, 1 destroyed, 2 not acknowledged; else None."""
     kind, place = frame.data.ljust(4, b"\0")[2:4]
     if not frame.is_error_frame or not frame.arbitration_id & BUS_ERROR or not kind & SENDING:
         return None
@@ -159,7 +160,7 @@ def fault_of(frame: Frame) -> Optional[int]:
 
 
 def add_arguments(parser: argparse.ArgumentParser) -> None:
-    """Adds the words of the command."""
+    """Adds the arguments of the command."""
     parser.add_argument(
         "interfaces", nargs="*", metavar="INTERFACE", help="an interface of the server (default: all of them)"
     )
