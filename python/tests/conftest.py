@@ -13,6 +13,7 @@ from browser import Browser
 from canbusd._process.program import find_program
 from canbusd.server import Server
 from common import PYTHON
+from few_at_a_time import pytest_xdist_make_scheduler  # noqa: F401
 from made_once import made_once
 
 # Programs that the tests start have the package of the tests, and the program that fits the sources.

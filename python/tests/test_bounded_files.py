@@ -48,9 +48,19 @@ def sparse(path, head=""):
     return path
 
 
+@pytest.fixture(scope="module")
+def compressed(tmp_path_factory):
+    """100 MB of zero bytes, compressed."""
+    path = tmp_path_factory.mktemp("compressed") / "zeros.gz"
+    with gzip.open(path, "wb", compresslevel=1) as file:
+        for _ in range(100):
+            file.write(bytes(1_000_000))
+    return path
+
+
 @pytest.mark.parametrize("name", ["x.log", "x.asc", "x.csv", "x.trc"])
 @pytest.mark.parametrize("words", [["convert"], ["candump2bench"]], ids=lambda words: words[0])
-def test_a_line_without_end(tmp_path, words, name):
+def test_a_line_without_end(compressed, tmp_path, words, name):
     """of zeros, as /dev/zero, a file, and compressed; also after right lines"""
     out = [tmp_path / "out.log"] if words == ["convert"] else []
     path = sparse(tmp_path / name)
@@ -62,9 +72,7 @@ def test_a_line_without_end(tmp_path, words, name):
     if name == "x.log":
         head, number = 3 * FRAME, 4
     else:
-        with gzip.open(f"{path}.gz", "wb", compresslevel=1) as file:
-            for _ in range(100):
-                file.write(bytes(1_000_000))
+        os.link(compressed, f"{path}.gz")
         assert call(*words, f"{path}.gz", *out) == (1, "", f"{prefix(words)}: {path}.gz:1: {NO_LINE}\n")
         head, number = ASC, 4
     sparse(path, head)
@@ -84,7 +92,8 @@ def test_standard_input_without_a_line():
 
 def test_a_log_without_end(tmp_path):
     """makes no input of the bench, however long it would be"""
-    with subprocess.Popen(["yes", FRAME.strip()], stdout=subprocess.PIPE) as endless:
+    # The longest frames: their lines are fewer.
+    with subprocess.Popen(["yes", f"(1795910922.000000) ecu 123##1{128 * '1'}"], stdout=subprocess.PIPE) as endless:
         said = "candump2bench: the input would have more than the 16777216 bytes that canbusd reads: cut the log\n"
         assert call("candump2bench", stdin=endless.stdout) == (1, "", said)
         endless.kill()
@@ -137,20 +146,32 @@ def test_faults_without_lines(run):
     assert said.splitlines()[-1] == "canbusd report: /dev/zero: no line of faults has 4,096 bytes, as its first one has"
 
 
-#: The lines of 40 MB of faults after the first, by a number: rules that were refused, since 64 have no end, some that were given
-#: and ended at once, comments, and lines of a script.
+RULES = "".join(f"at 50 next 1 from can0 id {number:03X} local crc can1\n" for number in range(0x7FF))
+#: The blocks of lines of 40 MB of faults after the first, by a number: rules that were refused, since 64 have no end, some that
+#: were given and ended at once, comments, and lines of a script.
 MANY = {
-    "refused": lambda number: f"at {1 + number // 30000} next 1 from can0 id {number % 0x7FF:03X} local crc can1\n",
-    "ended": lambda number: f"at 50 next 1 from can0 id {number % 0x7FF:03X} local crc can1\nat 50 nofaults\n",
-    "comments": lambda number: f"# From can{number} to can0, at any time.\n",
-    "lines": lambda number: f"{number + 200} local crc can1\n",
+    "refused": lambda number: RULES.replace("at 50 ", f"at {1 + number // 15} "),
+    "ended": lambda _: RULES.replace("can1\n", "can1\nat 50 nofaults\n"),
+    "comments": lambda _: "".join(f"# From can{number} to can0, at any time.\n" for number in range(0x7FF)),
+    "lines": lambda number: "".join(f"{2000 * number + place} local crc can1\n" for place in range(200, 2200)),
 }
+SPLITS = "import sys\nfor line in open(sys.argv[1], 'rb'): line.split()"
 
 
-@pytest.mark.quiet
+def processor_seconds(*words):
+    """Those that Python takes with these words, and what it writes."""
+    before = resource.getrusage(resource.RUSAGE_CHILDREN)
+    done = subprocess.run(
+        [sys.executable, *words], env=environment(), capture_output=True, text=True, timeout=2 * WAIT, check=True
+    )
+    after = resource.getrusage(resource.RUSAGE_CHILDREN)
+    return after.ru_utime + after.ru_stime - before.ru_utime - before.ru_stime, done
+
+
 @pytest.mark.parametrize("kind", [*MANY])
 def test_forty_megabytes_of_faults(run, tmp_path, kind):
-    """take 3 seconds of a processor at most"""
+    """take seven times as long as to split their lines, at most: 3 seconds of a processor that does nothing else. One of three
+    tries is beside even work"""
     for path in (run, run.with_suffix(".log")):
         os.link(path, tmp_path / path.name)
     first = "next 1 id 123 global bit\n"
@@ -162,15 +183,14 @@ def test_forty_megabytes_of_faults(run, tmp_path, kind):
     while size < 40_000_000:
         lines.append(MANY[kind](number))
         size, number = size + len(lines[-1]), number + 1
-    (tmp_path / "can0.rec.faults").write_text("".join(lines))
-    before = resource.getrusage(resource.RUSAGE_CHILDREN)
-    done = subprocess.run(
-        [sys.executable, "-m", "canbusd", "report", tmp_path / "can0.rec"], env=environment(), capture_output=True,
-        text=True, timeout=WAIT, check=True,
-    )  # fmt: skip
-    after = resource.getrusage(resource.RUSAGE_CHILDREN)
-    assert "without rules" not in done.stderr and done.stdout.startswith("<!DOCTYPE html>")
-    assert after.ru_utime + after.ru_stime - before.ru_utime - before.ru_stime < 3
+    faults = tmp_path / "can0.rec.faults"
+    faults.write_text("".join(lines))
+    for _ in range(3):
+        used, done = processor_seconds("-m", "canbusd", "report", tmp_path / "can0.rec")
+        assert "without rules" not in done.stderr and done.stdout.startswith("<!DOCTYPE html>")
+        if used < 7 * processor_seconds("-c", SPLITS, faults)[0]:
+            return
+    raise AssertionError(f"{used} seconds of a processor")
 
 
 def test_a_record_is_read_from_its_first_byte(run):

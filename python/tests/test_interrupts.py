@@ -31,7 +31,7 @@ def reads_on(bus):
     except can.CanOperationError:
         pass
 
-faulthandler.dump_traceback_later(20, exit=True)
+faulthandler.dump_traceback_later(200, exit=True)
 signal.signal(signal.SIGALRM, interrupt)
 _, address, call, reader = sys.argv
 rng = random.Random(1)
@@ -66,20 +66,19 @@ for _ in range(20):
     except Interrupt:
         bus.shutdown()
 for thread in threads:
-    thread.join(5)
+    thread.join(60)
     assert not thread.is_alive()
 print("in step")
 """
 
 
-@pytest.mark.quiet
 @pytest.mark.parametrize("reader", ["read by nobody else", "read by another thread"])
 @pytest.mark.parametrize("call", ["send", "recv", "send_many"])
 def test_an_interrupt_leaves_the_bus_in_step(call, reader):
     environment = {**os.environ, "PYTHONPATH": str(Path(canbusd.__file__).parents[1]), "PYTHONWARNINGS": "ignore"}
     with Server("can0,can1", pace_ms=0, txqueue=64) as server:
         words = [sys.executable, "-c", CLIENT, server.address, call, reader]
-        done = subprocess.run(words, env=environment, capture_output=True, text=True, timeout=2 * WAIT, check=False)
+        done = subprocess.run(words, env=environment, capture_output=True, text=True, timeout=240, check=False)
     assert (done.returncode, done.stdout, done.stderr) == (0, "in step\n", "")
 
 

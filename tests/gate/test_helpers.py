@@ -1,4 +1,4 @@
-"""The helpers of these tests: a run without a program, waits with an end, threads at rest."""
+"""The helpers of these tests: a run without a program, waits with an end, threads at rest, tests for several processes."""
 
 import os
 import shutil
@@ -6,9 +6,11 @@ import subprocess
 import sys
 import threading
 import time
+import types
 
 import pytest
 
+from few_at_a_time import MOST, pytest_xdist_make_scheduler
 from serving import ROOT, all_sleep, come_true, join, line_of, turns
 
 
@@ -113,3 +115,41 @@ def test_all_sleep():
         counting.kill()
         counting.communicate()
         waiting.communicate()
+
+
+class Process:
+    """One that runs tests, as pytest-xdist sees it."""
+
+    def __init__(self):
+        self.given, self.shutting_down, self.gateway = [], False, types.SimpleNamespace(id="")
+
+    def send_runtest_some(self, places):
+        self.given.append(places)
+
+    def shutdown(self):
+        self.shutting_down = True
+
+
+@pytest.mark.parametrize("sizes", [[1], [3, 1, 1], [100, 1, 60], [1] * 50, [16], [500, 2, 500]])
+def test_few_at_a_time(sizes):
+    """each test goes to one process, at most so many of a file at once, and each process is ended"""
+    pytest.importorskip("xdist", reason="no pytest-xdist (python3-pytest-xdist)")
+    values = {"dist": "load", "tx": ["popen"] * 3}
+    scheduler = pytest_xdist_make_scheduler(types.SimpleNamespace(getvalue=values.get), None)
+    tests = [f"{file}.py::{number}" for file, size in enumerate(sizes) for number in range(size)]
+    processes = [Process() for _ in range(3)]
+    for process in processes:
+        scheduler.add_node(process)
+    for process in processes:
+        scheduler.add_node_collection(process, tests)
+    scheduler.schedule()
+    for _ in range(len(tests)):
+        for process, places in scheduler.node2pending.items():
+            # One that knows no next test runs its last one when it is to end.
+            assert len(places) > 1 or process.shutting_down
+            if places:
+                scheduler.mark_test_complete(process, places[0], 1)
+    given = [places for process in processes for places in process.given]
+    assert sorted(place for places in given for place in places) == [*range(len(tests))]
+    assert all(len(places) <= MOST and len({tests[place].split("::")[0] for place in places}) == 1 for places in given)
+    assert all(process.shutting_down for process in processes)

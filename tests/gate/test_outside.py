@@ -101,7 +101,7 @@ def test_nothing_runs(outside, tmp_path, monkeypatch):
     monkeypatch.setattr(outside, "JOBS", "2")
     empty = suite(outside, tmp_path, "")
     assert outside.side_by_side(empty, ["bench"], "") == {"pytest": "failed"}
-    assert outside.one_by_one(empty, ["bench"], "") == {}
+    assert outside.on_a_quiet_machine(empty, ["bench"], "") == {}
 
 
 def test_without_what_may_be_missing(outside, tmp_path, monkeypatch):
@@ -134,8 +134,9 @@ def test_a_test_that_hangs(outside, tmp_path):
 def test_what_fails_is_tried_again(outside, tmp_path, monkeypatch, capsys):
     """alone, and each try is shown"""
     monkeypatch.setitem(outside.ROOMS, "bench", ("test_some.py",))
-    results = outside.one_by_one(suite(outside, tmp_path, TRIED), ["bench"], "")
-    assert [*results.values()] == ["passed", "passed", "failed"]
+    results = outside.on_a_quiet_machine(suite(outside, tmp_path, TRIED), ["bench"], "")
+    wanted = {"test_at_once": "passed", "test_late": "passed", "test_never": "failed"}
+    assert {name.partition("::")[2]: result for name, result in results.items()} == wanted
     assert {path.stem: len(path.read_text()) for path in tmp_path.glob("*.tries")} == {
         "at_once": 1,
         "late": 3,

@@ -14,6 +14,7 @@ import pytest
 import commands
 import kept_bytecode  # noqa: F401
 import serving
+from few_at_a_time import pytest_xdist_make_scheduler  # noqa: F401
 
 # Programs that the tests start have the package of the tests.
 os.environ["PYTHONPATH"] = os.path.dirname(importlib.util.find_spec("canbusd").submodule_search_locations[0])

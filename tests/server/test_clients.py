@@ -235,7 +235,7 @@ def test_several_buses():
 
 
 def candump_log(path, count):
-    """Writes a log of frames, a millisecond apart; returns them as identifiers and data."""
+    """Writes a log of frames, of which 4,000 take a second; returns them as identifiers and data."""
     frames = []
     with open(path, "w", encoding="ascii") as file:
         for number in range(count):
@@ -243,7 +243,7 @@ def candump_log(path, count):
             text = f"{identifier:08X}" if identifier > 0x7FF else f"{identifier:03X}"
             data = number.to_bytes(4, "big") + bytes(range(number % 5))
             file.write(
-                f"({1700000000 + number // 1000:010d}.{number % 1000:03d}000) can0 {text}#{data.hex().upper()}\n"
+                f"({1700000000 + number // 4000}.{number % 4000 * 250:06d}) can0 {text}#{data.hex().upper()}\n"
             )
             frames.append((text, data))
     return frames
@@ -361,30 +361,10 @@ def test_player_and_logger():
         assert written == f"bus can0 entries {entries}\n", written
 
 
-@pytest.mark.quiet
-def test_the_examples_of_python(tmp_path):
-    """examples/python: the first session, and the tests with the package's fixtures"""
-    folder = os.path.join(ROOT, "examples", "python")
+def test_the_first_session():
+    """that of examples/python, whose tests run beside those of the package"""
     with serving("can0,can1") as server:
-        subprocess.run([os.path.join(ROOT, "scripts", "python-package"), "install", tmp_path], check=True)
-        environment = {**os.environ, "CANBUSD": program(), "PYTHONPATH": tmp_path, "PYTHONDONTWRITEBYTECODE": "1"}
-        # The folders of other runs, which may be large, are not for this pytest to remove.
-        environment["PYTEST_DEBUG_TEMPROOT"] = str(tmp_path)
-        done = subprocess.run(
-            [sys.executable, os.path.join(folder, "first_session.py"), server.address],
-            env=environment,
-            capture_output=True,
-            text=True,
-            timeout=3 * WAIT,
-            check=False,
-        )
-        assert done.returncode == 0, done.stderr
-        tested = subprocess.run(
-            [sys.executable, "-m", "pytest", "-q", "-p", "no:cacheprovider", folder],
-            env=environment,
-            capture_output=True,
-            text=True,
-            timeout=6 * WAIT,
-            check=False,
-        )
-    assert tested.returncode == 0, tested.stdout + tested.stderr
+        words = [sys.executable, os.path.join(ROOT, "examples", "python", "first_session.py"), server.address]
+        environment = {**os.environ, "CANBUSD": program()}
+        done = subprocess.run(words, env=environment, capture_output=True, text=True, timeout=3 * WAIT, check=False)
+    assert done.returncode == 0, done.stderr

@@ -313,7 +313,6 @@ def visit(server, count):
     assert not failed, f"{len(failed)} of {count}: {failed[:1]}"
 
 
-@pytest.mark.quiet
 def test_too_few_descriptors():
     """more clients than the server may have files, for five seconds; then the sessions that are left come in"""
 

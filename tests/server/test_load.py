@@ -1,6 +1,6 @@
 """`canbusd serve` with faults: 64 sessions on 4 buses, and in the end nothing is lost that is not counted.
 
-On each bus of two interfaces 14 sessions send a quarter of the frames (100,000; --frames in the slow test), each
+On each bus of two interfaces 14 sessions send a quarter of the frames (40,000; --frames in the slow test), each
 receives those of three others, and two more break in the middle of what they say, or are reset or half closed, and
 come back. A script gives the attempts every kind of fault, and bursts that take an interface bus off, from which a
 session restarts it. Then:
@@ -323,8 +323,7 @@ class Counted:
                     self.ends.append((taken[int(words[1])], int(replied[2])))
 
 
-@pytest.mark.quiet
-@pytest.mark.parametrize("frames", [100_000, pytest.param(None, marks=pytest.mark.slow, id="--frames")])
+@pytest.mark.parametrize("frames", [40_000, pytest.param(None, marks=pytest.mark.slow, id="--frames")])
 def test_load_with_faults(request, tmp_path, frames):
     """64 sessions, 4 buses, faults of every kind, sessions that break and come back"""
     frames, seed = frames or request.config.getoption("frames"), request.config.getoption("seed")

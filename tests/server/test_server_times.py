@@ -22,7 +22,6 @@ from timed_benches import MICRO, bench, moment, random_frame, rate_options, send
 from wire_model import Frame
 from wire_times import IDLE, SECOND, Ending, Rates
 
-pytestmark = pytest.mark.quiet
 # By how much a client's clock may differ from the server's, in seconds: both are the system's at the start.
 CLOCKS = 0.001
 EIGHT_BYTES = Frame.read("123#1122334455667788")
@@ -149,6 +148,7 @@ def test_each_bus_has_bit_rates_of_its_own(rng: random.Random) -> None:
         assert all(abs(step) <= MICRO for step in steps), (name, steps)
 
 
+@pytest.mark.quiet
 @patiently
 def test_a_bus_without_bit_rate_is_beside_one_with_it() -> None:
     """It goes on by --pace, and its load is 0."""
@@ -205,6 +205,7 @@ def test_nobody_gets_a_frame_before_its_end(nominal: int) -> None:
         replayed(server.path("can0.rec"), rates)
 
 
+@pytest.mark.quiet
 @patiently
 def test_sender_gets_its_frame_at_its_end() -> None:
     """Also what is looped back, and the reply to a send comes at once."""
@@ -291,6 +292,7 @@ def test_a_clock_that_is_set(words: Sequence[str], later: int, tmp_path: pathlib
     assert again - had - CLOCKS <= passed - later <= over - begun + CLOCKS, (again - had, passed, over - begun)
 
 
+@pytest.mark.quiet
 @patiently
 def test_end_waits_for_no_frame() -> None:
     """What waits is tried at the end with the moments that it would have had, and the server ends at once."""
@@ -308,6 +310,7 @@ def test_end_waits_for_no_frame() -> None:
     assert abs(moments[-1] - moments[0] - 499 * rates.attempt_nanos(EIGHT_BYTES) // MICRO) <= 1
 
 
+@pytest.mark.quiet
 @patiently
 @pytest.mark.parametrize("words", [[], ["--record", "none"]])
 def test_nothing_spins(words: Sequence[str]) -> None:
@@ -363,6 +366,7 @@ def least_late(arrivals: list[tuple[float, float]]) -> tuple[float, float]:
     return came, late
 
 
+@pytest.mark.quiet
 @patiently
 @pytest.mark.parametrize(
     "nominal", [500_000, *(pytest.param(rate, marks=pytest.mark.slow) for rate in (125_000, 1_000_000))]
