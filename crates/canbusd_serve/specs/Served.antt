@@ -45,7 +45,7 @@ AreBenches o buses benches = AllZip (λ bus b. IsBenchOf o bus b) buses benches
 abbrev pub AreAllBenches : ServeOptions → List (Bench Perfect Open) → Type 0
 AreAllBenches o benches = AreBenches o o.buses.items benches
 
--- the bit rates of each are those that the options have at its place
+-- the bit rates of each bus are those that the options have at its place
 abbrev pub AreBusesTimed : ServeOptions → List (Bench Perfect Open) → Type 0
 AreBusesTimed o benches =
     (k : ℕ) (d : Bench Perfect Open)
@@ -136,7 +136,7 @@ abbrev pub AreConfigured : ServeOptions → List BusWord → List Journal → Ty
 AreConfigured o buses ends =
     AllZip (λ bus j. j.config ≡ config_of o.settings (length (names_in bus.names.now))) buses ends
 
--- the rest of buses is of these
+-- the journals that settled buses leave
 abbrev pub journals : {L : Type 0} → (L → Journal) → List (Settled L) → List Journal
 journals journal settled = map (λ s. journal s.history) settled
 

@@ -96,7 +96,7 @@ pub fn run_serve<'a, H: ServerRuntime, R: Read + Drop + Send + 'static, W: Write
     outcome
 }
 
-// The results of serving: the passes of each bus, and its files with the scroll of their entries.
+// The results of serving: the passes, the files and the scroll of each bus.
 #[derive(Drop)]
 struct Run<N: RollName> {
     passes: Vec<Vec<Pass<N>>>,
@@ -110,7 +110,7 @@ struct ServerRun<'r, 'a, H: ServerRuntime> {
     rt: &'r H,
     alloc: Global,
     options: &'r ServeOptions<'a>,
-    // Whether a bus has lost its driver, which was reported.
+    // Whether a bus has lost its driver. The loss was reported.
     has_lost: AtomicBool,
     // The folder, locked until the last file is written.
     lock: OnceLock<LockFile>,
@@ -255,7 +255,7 @@ impl<'r, 'a, H: ServerRuntime> ServerRun<'r, 'a, H> {
     ) -> Result<bool, Report<'a>>
         requires named { NamedFrom N.roll N.meter 0 benches.items }
         requires each { length benches.items ≡ length self.now.options.now.buses.items }
-        ensures served { IfOk result (λ told. told ≡ false
+        ensures served { IfOk result (λ reported. reported ≡ false
             → Serves W.contents self.now.options.now benches.items output.old output.new) }
         ensures fault { IfErr result (λ failure. IsOfHub IsConfig benches.items failure.error) }
     {
@@ -538,7 +538,7 @@ impl<'r, 'a, H: ServerRuntime> ServerRun<'r, 'a, H> {
             files: Vec::with_capacity(self.alloc, hub.count())?,
             scrolls: Vec::with_capacity(self.alloc, hub.count())?,
         };
-        // With room for those that come back at the end.
+        // With capacity for the faults that come back at the end.
         let room = Vec::with_capacity(self.alloc, hub.count())?;
         let faults = mem::replace(&mut *self.faults.lock(self.rt), room);
         if faults.is_empty() {
