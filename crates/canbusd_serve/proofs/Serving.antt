@@ -22,7 +22,7 @@ use Rattle.canbusd_options.specs.declared.bus_word.BusWord.{BusWord}
 use Rattle.can_fault.specs.declared.fault_source.Perfect.{Perfect}
 use Rattle.canbusd_options.specs.declared.serve_options.ServeOptions.{ServeOptions}
 use Rattle.canbusd_options.specs.Options.{timing_at}
-use Rattle.canbusd_serve.specs.Served.{AreAllBenches, AreBenches, AreConfigured, AreEnds, AreBusesTimed, IsBenchOf, IsLegalEnd, IsOfBus, IsOfBuses, IsOfServer, IsServed, MakeBenches, Serves, end_lines, journals}
+use Rattle.canbusd_serve.specs.Served.{AreAllBenches, AreBenches, AreConfigured, AreEnds, AreBusesTimed, IsBenchOf, IsDescribedHub, IsLegalEnd, IsOfBus, IsOfBuses, IsOfServer, IsServed, MakeBenches, Serves, end_lines, journals}
 
 -- The buses of a server, one after the other.
 
@@ -84,6 +84,10 @@ benches-named o (x ∷ xs) [] are = absurd are
 pub buses-length : {F G : Type 0} (n : ℕ) (bs : List (Bench F G)) → length (buses_from n bs) ≡ length bs
 buses-length n [] = refl
 buses-length n (b ∷ more) = ap suc (buses-length (suc n) more)
+
+-- a hub of the buses that options describe has one for each word
+pub described_length : (o : ServeOptions) (hub : List BusSeen) → IsDescribedHub o hub → length hub ≡ length o.buses.items
+described_length o hub (benches, described, made) = ap length made ∙ buses-length 0 benches ∙ benches-length o o.buses.items benches described.0
 
 -- one bus is settled for each list of passes
 settles-length : {A L : Type 0} (left : L → Journal) (passes : List (Vec PassSeen A)) (ends : List (Settled L)) → AllSettleIn left passes ends → length (journals left ends) ≡ length passes

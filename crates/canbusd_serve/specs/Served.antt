@@ -11,7 +11,8 @@ use Rattle.can_record.specs.Journal.{Journal}
 use Rattle.can_station.specs.declared.pass.Settled.{Settled}
 use Rattle.can_bus.specs.declared.bus.BusFault.TheVariants.{BadConfig, NoMemory}
 use Rattle.can_hub.specs.declared.bench.Bench.{Bench}
-use Rattle.can_hub.specs.Benches.{MakeHubWithin}
+use Rattle.can_hub.specs.Benches.{MakeHubWithin, buses_from}
+use Rattle.can_hub.specs.Buses.{BusSeen}
 use Rattle.can_hub.specs.HubBuses.{IsOfLongRuns}
 use Rattle.canbusd_options.specs.declared.bus_word.BusWord.{BusWord}
 use Rattle.can_fault.specs.declared.fault_source.Perfect.{Perfect}
@@ -51,6 +52,14 @@ AreBusesTimed o benches =
     (k : ℕ) (d : Bench Perfect Open)
     → k < length benches
     → (slice_index_or benches k d).timing ≡ timing_at o.timings.items k
+
+-- each bus of a server is what its options describe, with its bit rates
+abbrev pub AreDescribed : ServeOptions → List (Bench Perfect Open) → Type 0
+AreDescribed o benches = AreAllBenches o benches × AreBusesTimed o benches
+
+-- a hub is made of the buses that the options of a server describe
+abbrev pub IsDescribedHub : ServeOptions → List BusSeen → Type 0
+IsDescribedHub o hub = (benches : List (Bench Perfect Open)) × AreDescribed o benches × (hub ≡ buses_from 0 benches)
 
 -- there can be buses that are what these words describe
 abbrev pub MakeBenches : ServeOptions → List BusWord → Type 0
