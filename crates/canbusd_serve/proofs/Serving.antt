@@ -22,7 +22,7 @@ use Rattle.canbusd_options.specs.declared.bus_word.BusWord.{BusWord}
 use Rattle.can_fault.specs.declared.fault_source.Perfect.{Perfect}
 use Rattle.canbusd_options.specs.declared.serve_options.ServeOptions.{ServeOptions}
 use Rattle.canbusd_options.specs.Options.{timing_at}
-use Rattle.canbusd_serve.specs.Served.{AreAllBenches, AreBenches, AreConfigured, AreEnds, AreBusesTimed, IsBenchOf, IsLegalEnd, IsOfBus, IsOfBuses, IsOfServer, IsServed, MakeBenches, Serves, end_lines, journals}
+use Rattle.canbusd_serve.specs.Served.{AreAllBenches, AreBenches, AreConfigured, AreEnds, AreBusesTimed, IsBenchOf, IsDescribedHub, IsLegalEnd, IsOfBus, IsOfBuses, IsOfServer, IsServed, MakeBenches, Serves, end_lines, journals}
 
 -- The buses of a server, one after the other.
 
@@ -44,21 +44,21 @@ of-next o buses bs i d why same below are is =
     subst (λ (l : List BusWord). (k : ℕ) × MakeBenches o (take k l) × IsSomeAnd (slice_get l k) (λ bus. IsOfBus bus why)) same
     (i, (bs, are), subst (λ (b : Option BusWord). IsSomeAnd b (λ bus. IsOfBus bus why)) (sym (slice_get-get_or buses i d below)) is)
 
--- and its fault is passed on
+-- its fault is passed on
 pub next-fails : {T : Type 0} (o : ServeOptions) (buses : List BusWord) (bs : List (Bench Perfect Open)) (i : ℕ) (d : BusWord) (failure : Report) (r : Result T Report) → buses ≡ o.buses.items → i < length buses → AreBenches o (take i buses) bs
     → IsOfBus (get_or buses i d) failure.error → IsErrAnd r (λ x. x ≡ failure) → IfErr r (λ x. IsOfServer o x.error)
 next-fails o buses bs i d failure (Ok t) same below are is passed = tt
 next-fails o buses bs i d failure (Err x) same below are is passed =
     inl (of-next o buses bs i d x.error same below are (subst (λ (f : Report). IsOfBus (get_or buses i d) f.error) (sym passed) is))
 
--- there is one for each word
+-- there is a bus for each word
 pub benches-length : (o : ServeOptions) (buses : List BusWord) (bs : List (Bench Perfect Open)) → AreBenches o buses bs → length bs ≡ length buses
 benches-length o [] [] are = refl
 benches-length o (x ∷ xs) (y ∷ ys) are = ap suc (benches-length o xs ys are.1)
 benches-length o [] (y ∷ ys) are = absurd are
 benches-length o (x ∷ xs) [] are = absurd are
 
--- one more has its bit rates
+-- one more bus has its bit rates
 timed-push : (o : ServeOptions) (bs : List (Bench Perfect Open)) (b : Bench Perfect Open) → AreBusesTimed o bs → b.timing ≡ timing_at o.timings.items (length bs) → AreBusesTimed o (bs ++ b ∷ [])
 timed-push o bs b are here k d low =
     let longer : length (bs ++ b ∷ []) ≡ length bs + 1 = length-append bs (b ∷ []) in
@@ -85,6 +85,10 @@ pub buses-length : {F G : Type 0} (n : ℕ) (bs : List (Bench F G)) → length (
 buses-length n [] = refl
 buses-length n (b ∷ more) = ap suc (buses-length (suc n) more)
 
+-- a hub of the buses that options describe has one for each word
+pub described_length : (o : ServeOptions) (hub : List BusSeen) → IsDescribedHub o hub → length hub ≡ length o.buses.items
+described_length o hub (benches, described, made) = ap length made ∙ buses-length 0 benches ∙ benches-length o o.buses.items benches described.0
+
 -- one bus is settled for each list of passes
 settles-length : {A L : Type 0} (left : L → Journal) (passes : List (Vec PassSeen A)) (ends : List (Settled L)) → AllSettleIn left passes ends → length (journals left ends) ≡ length passes
 settles-length left [] [] all = refl
@@ -92,21 +96,21 @@ settles-length left (p ∷ ps) (s ∷ ss) all = ap suc (settles-length left ps s
 settles-length left [] (s ∷ ss) all = absurd all
 settles-length left (p ∷ ps) [] all = absurd all
 
--- and its histories are legal
+-- the histories of settled buses are legal
 settles-legal : {A L : Type 0} (left : L → Journal) (passes : List (Vec PassSeen A)) (ends : List (Settled L)) → AllSettleIn left passes ends → All (λ j. IsLegalEnd j) (journals left ends)
 settles-legal left [] [] all = λ k d low. absurd (omega arith)
 settles-legal left (p ∷ ps) (s ∷ ss) all = All-cons (λ j. IsLegalEnd j) (left s.history) (journals left ss) all.0.legal (settles-legal left ps ss all.1)
 settles-legal left [] (s ∷ ss) all = absurd all
 settles-legal left (p ∷ ps) [] all = absurd all
 
--- and have the configurations of the benches
+-- they have the configurations of the benches
 settles-configured : {F G L : Type 0} (left : L → Journal) (n : ℕ) (benches : List (Bench F G)) (ends : List (Settled L)) → AllConfigured left (buses_from n benches) ends → AllZip (λ b j. j.config ≡ b.config) benches (journals left ends)
 settles-configured left n [] [] all = tt
 settles-configured left n (b ∷ bs) (s ∷ ss) all = (all.0, settles-configured left (suc n) bs ss all.1)
 settles-configured left n [] (s ∷ ss) all = absurd all
 settles-configured left n (b ∷ bs) [] all = absurd all
 
--- so they are what the buses of a hub leave
+-- so they are the ends of a hub's buses
 pub settles-ends : {A L : Type 0} (left : L → Journal) (benches : List (Bench Perfect Open)) (hub : List BusSeen) (passes : List (Vec PassSeen A)) (ends : List (Settled L)) → hub ≡ buses_from 0 benches → length passes ≡ length hub → AllSettleIn left passes ends → AllConfigured left hub ends → AreEnds benches (journals left ends)
 settles-ends left benches hub passes ends made each settled configured = record {
   each = settles-length left passes ends settled ∙ each ∙ ap length made ∙ buses-length 0 benches;
@@ -114,14 +118,14 @@ settles-ends left benches hub passes ends made each settled configured = record 
   configured = settles-configured left 0 benches ends (subst (λ (buses : List BusSeen). AllConfigured left buses ends) made configured);
 }
 
--- their output, if no fault was reported
+-- the lines that were put out, if no fault was reported
 pub put-lines : {W L T E : Type 0} (contents : W → Option (List ℕ)) (left : L → Journal) (old new : W) (r : Result T E) (a b : Bool) (lent buses : List BusWord) (own ends : List (Settled L)) → IfErr r (λ _. IsTrue a) → (IsTrue a → IsTrue b) → b ≡ false
     → lent ≡ buses → own ≡ ends → OnOk r (Took contents old new (end_lines lent (journals left own))) → Took contents old new (end_lines buses (journals left ends))
 put-lines {L = L} contents left old new (Ok t) a b lent buses own ends told kept quiet same_buses same_ends put =
     subst (λ (s : List (Settled L)). Took contents old new (end_lines buses (journals left s))) same_ends (subst (λ (w : List BusWord). Took contents old new (end_lines w (journals left own))) same_buses put)
 put-lines contents left old new (Err e) a b lent buses own ends told kept quiet same_buses same_ends put = let yes : IsTrue b = kept told in cc
 
--- which are of the configurations that the words and the options give
+-- the ends have the configurations that the words and the options give
 served-configured : (o : ServeOptions) (buses : List BusWord) (benches : List (Bench Perfect Open)) (ends : List Journal) → AreBenches o buses benches → AllZip (λ b j. j.config ≡ b.config) benches ends → AreConfigured o buses ends
 served-configured o [] [] [] are all = tt
 served-configured o (x ∷ xs) (b ∷ bs) (j ∷ js) are all =

@@ -115,7 +115,7 @@ pub record AreThere {F : Type 0} (o : ServeOptions) (files : LiveFiles F) : Type
   pub logged : IsSome o.folder → IsSome files.log
   pub recorded : IsSome o.folder → o.recording ≡ recording.Live → IsSome files.record
 
--- so are those of each bus
+-- the files of each bus are there, and no fault is noted
 abbrev pub AreAllThere : {F : Type 0} → ServeOptions → List (LiveFiles F) → List (Settled LongJournal) → Type 0
 AreAllThere o files settled = AllZip (λ f s. AreThere o f) files settled
 

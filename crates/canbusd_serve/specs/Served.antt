@@ -11,7 +11,8 @@ use Rattle.can_record.specs.Journal.{Journal}
 use Rattle.can_station.specs.declared.pass.Settled.{Settled}
 use Rattle.can_bus.specs.declared.bus.BusFault.TheVariants.{BadConfig, NoMemory}
 use Rattle.can_hub.specs.declared.bench.Bench.{Bench}
-use Rattle.can_hub.specs.Benches.{MakeHubWithin}
+use Rattle.can_hub.specs.Benches.{MakeHubWithin, buses_from}
+use Rattle.can_hub.specs.Buses.{BusSeen}
 use Rattle.can_hub.specs.HubBuses.{IsOfLongRuns}
 use Rattle.canbusd_options.specs.declared.bus_word.BusWord.{BusWord}
 use Rattle.can_fault.specs.declared.fault_source.Perfect.{Perfect}
@@ -45,12 +46,20 @@ AreBenches o buses benches = AllZip (λ bus b. IsBenchOf o bus b) buses benches
 abbrev pub AreAllBenches : ServeOptions → List (Bench Perfect Open) → Type 0
 AreAllBenches o benches = AreBenches o o.buses.items benches
 
--- the bit rates of each are those that the options have at its place
+-- the bit rates of each bus are those that the options have at its place
 abbrev pub AreBusesTimed : ServeOptions → List (Bench Perfect Open) → Type 0
 AreBusesTimed o benches =
     (k : ℕ) (d : Bench Perfect Open)
     → k < length benches
     → (slice_index_or benches k d).timing ≡ timing_at o.timings.items k
+
+-- each bus of a server is what its options describe, with its bit rates
+abbrev pub AreDescribed : ServeOptions → List (Bench Perfect Open) → Type 0
+AreDescribed o benches = AreAllBenches o benches × AreBusesTimed o benches
+
+-- a hub is made of the buses that the options of a server describe
+abbrev pub IsDescribedHub : ServeOptions → List BusSeen → Type 0
+IsDescribedHub o hub = (benches : List (Bench Perfect Open)) × AreDescribed o benches × (hub ≡ buses_from 0 benches)
 
 -- there can be buses that are what these words describe
 abbrev pub MakeBenches : ServeOptions → List BusWord → Type 0
@@ -136,7 +145,7 @@ abbrev pub AreConfigured : ServeOptions → List BusWord → List Journal → Ty
 AreConfigured o buses ends =
     AllZip (λ bus j. j.config ≡ config_of o.settings (length (names_in bus.names.now))) buses ends
 
--- the rest of buses is of these
+-- the journals that settled buses leave
 abbrev pub journals : {L : Type 0} → (L → Journal) → List (Settled L) → List Journal
 journals journal settled = map (λ s. journal s.history) settled
 

@@ -21,7 +21,7 @@ use std::{io, time};
 /// The most seconds that a write may take before a report that the bus waits for the file.
 const PATIENCE: u64 = 1;
 
-/// The least number of seconds before that is reported again.
+/// The least number of seconds between two such reports.
 const PAUSE: u64 = 60;
 
 /// The files of a bus, which have the lines of the entries that they were given, as far as they are not over. Contracts see
@@ -73,7 +73,7 @@ pub struct FileKeeper<'o, 'h, 'a, 'l, F: Write + OpenFile + Drop, H, E: Write> {
     pub kept: KeptFiles<F>,
     /// The faults of the bus, if its record is wanted.
     pub faults: Option<LiveFaults>,
-    /// When it was reported last that the bus waits for a file.
+    /// The time of the last report that the bus waits for a file.
     pub reported: Option<Instant>,
 }
 
@@ -171,8 +171,8 @@ fn keep_log<F: Write + OpenFile + Drop, H: Wait + time::Clock, E: Write>(
     host.report(kept);
 }
 
-// Returns whether it is to be reported that a write which began then took long. If so, it counts as
-// reported now.
+// Returns whether a report is due that a write which began at this time took long. If so, the time
+// of the last report becomes now.
 fn is_late<R: time::Clock>(
     rt: &R,
     begun: io::Result<Instant>,

@@ -21,7 +21,7 @@ const LAST: u128 = 9_999_999_999_999_999;
 const NEARLY_FULL: &str =
     "the record is nine tenths full; serve --record live or --record none has no such end";
 
-/// The start of a server with bit rates: its moments go on from there by a clock that cannot be
+/// The start of a server with bit rates. Its moments go on from the start by a clock that cannot be
 /// set.
 #[derive(Debug, Clone, Copy)]
 pub struct Start {

@@ -8,7 +8,7 @@ use canbusd_options::BusWord;
 use std::alloc::{AllocError, Global};
 use std::net::SocketAddr;
 
-/// A line about a notice: the moment, as in a log, then whose it is and what happened.
+/// A line about a notice: the moment, as in a log, then the session or the bus, and the event.
 pub fn notice_line(
     alloc: Global,
     moment: Moment,

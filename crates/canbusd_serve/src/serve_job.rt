@@ -7,7 +7,7 @@ ghost use Rattle.canbusd_io.specs.Files.{Took};
 ghost use Rattle.canbusd_options.specs.Options.{timing_at};
 ghost use Rattle.can_hub.specs.Settling.{AreNewScrolls};
 ghost use Rattle.canbusd_serve.specs.LongRuns.{AllGivenFirst, AreBegun, HasFiles, HasNewScrolls, IsRunOf, ServesFiles};
-ghost use Rattle.canbusd_serve.specs.Served.{AreAllBenches, AreEnds, AreBusesTimed, IsBenchOf, IsHeardAt, IsListening, IsOfBus, IsOfHub, IsOfServer, IsOfServing, IsServed, Serves, journals, listening_line};
+ghost use Rattle.canbusd_serve.specs.Served.{AreAllBenches, AreBusesTimed, AreDescribed, AreEnds, IsBenchOf, IsDescribedHub, IsHeardAt, IsListening, IsOfBus, IsOfHub, IsOfServer, IsOfServing, IsServed, Serves, journals, listening_line};
 
 use crate::buses_notes::buses_note;
 use crate::ends::put_ends;
@@ -96,7 +96,7 @@ pub fn run_serve<'a, H: ServerRuntime, R: Read + Drop + Send + 'static, W: Write
     outcome
 }
 
-// The results of serving: the passes of each bus, and its files with the scroll of their entries.
+// The results of serving: the passes, the files and the scroll of each bus.
 #[derive(Drop)]
 struct Run<N: RollName> {
     passes: Vec<Vec<Pass<N>>>,
@@ -110,7 +110,7 @@ struct ServerRun<'r, 'a, H: ServerRuntime> {
     rt: &'r H,
     alloc: Global,
     options: &'r ServeOptions<'a>,
-    // Whether a bus has lost its driver, which was reported.
+    // Whether a bus has lost its driver. The loss was reported.
     has_lost: AtomicBool,
     // The folder, locked until the last file is written.
     lock: OnceLock<LockFile>,
@@ -255,7 +255,8 @@ impl<'r, 'a, H: ServerRuntime> ServerRun<'r, 'a, H> {
     ) -> Result<bool, Report<'a>>
         requires named { NamedFrom N.roll N.meter 0 benches.items }
         requires each { length benches.items ≡ length self.now.options.now.buses.items }
-        ensures served { IfOk result (λ told. told ≡ false
+        requires made { AreDescribed self.now.options.now benches.items }
+        ensures served { IfOk result (λ reported. reported ≡ false
             → Serves W.contents self.now.options.now benches.items output.old output.new) }
         ensures fault { IfErr result (λ failure. IsOfHub IsConfig benches.items failure.error) }
     {
@@ -295,6 +296,7 @@ impl<'r, 'a, H: ServerRuntime> ServerRun<'r, 'a, H> {
     ) -> Result<(bool, Vec<LiveFiles<File>>), Report<'a>>
         requires named { NamedFrom N.roll N.meter 0 benches.items }
         requires each { length benches.items ≡ length self.now.options.now.buses.items }
+        requires made { AreDescribed self.now.options.now benches.items }
         ensures served { IfOk result (λ end. end.0 ≡ false
             → ServesFiles W.contents ⟦<File as Write>⟧.contents self.now.options.now benches.items
             output.old output.new end.1.items) }
@@ -342,7 +344,7 @@ impl<'r, 'a, H: ServerRuntime> ServerRun<'r, 'a, H> {
         errors: &mut E,
     ) -> Result<(Vec<Settled<L>>, Vec<LiveFiles<File>>), Report<'a>>
         requires named { NamedFrom N.roll N.meter 0 benches.items }
-        requires each { length benches.items ≡ length self.now.options.now.buses.items }
+        requires made { AreDescribed self.now.options.now benches.items }
         ensures ends { IfOk result (λ end.
             AreEnds benches.items (journals L.journal end.0.items)) }
         ensures handed { IfOk result (λ end.
@@ -400,6 +402,7 @@ impl<'r, 'a, H: ServerRuntime> ServerRun<'r, 'a, H> {
         errors: &mut E,
     ) -> Result<Run<N>, Report<'a>>
         requires each { length hub.now ≡ length self.now.options.now.buses.items }
+        requires made { IsDescribedHub self.now.options.now hub.now }
         requires scrolls { HasNewScrolls hub.now scrolls.items }
         ensures run { IfOk result (IsRunOf ⟦<File as Write>⟧.contents hub.now) }
         ensures listening { OnOk result
@@ -437,6 +440,7 @@ impl<'r, 'a, H: ServerRuntime> ServerRun<'r, 'a, H> {
         errors: &mut E,
     ) -> Result<Run<N>, Report<'a>>
         requires each { length hub.now ≡ length self.now.options.now.buses.items }
+        requires made { IsDescribedHub self.now.options.now hub.now }
         requires scrolls { HasNewScrolls hub.now scrolls.items }
         requires heard { IsHeardAt self.now.options.now.address.now heard.now }
         ensures run { IfOk result (IsRunOf ⟦<File as Write>⟧.contents hub.now) }
@@ -538,7 +542,7 @@ impl<'r, 'a, H: ServerRuntime> ServerRun<'r, 'a, H> {
             files: Vec::with_capacity(self.alloc, hub.count())?,
             scrolls: Vec::with_capacity(self.alloc, hub.count())?,
         };
-        // With room for those that come back at the end.
+        // With capacity for the faults that come back at the end.
         let room = Vec::with_capacity(self.alloc, hub.count())?;
         let faults = mem::replace(&mut *self.faults.lock(self.rt), room);
         if faults.is_empty() {

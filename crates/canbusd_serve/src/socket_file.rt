@@ -19,13 +19,13 @@ use std::{fs, io};
 pub struct SocketFile {
     path: String,
     lock: LockFile,
-    /// Which file of which device the socket is. As long as the socket is open no other file is the same.
+    /// The device and the number of the socket's file. No other file has both while the socket is open.
     device: u64,
     file: u64,
 }
 
 impl SocketFile {
-    /// Listens at a path. A socket at which no server listens any more is removed, whoever left it.
+    /// Listens at a path. A socket at which no server listens any more is removed, even if another program left it.
     /// `AddrInUse` if another server has the path, or another file is there.
     pub fn listen<H: Files<File = File> + Net>(
         rt: &H,

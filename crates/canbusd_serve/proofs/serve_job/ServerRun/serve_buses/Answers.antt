@@ -11,11 +11,17 @@ run_whole-requires-clause-named g c κs within = named c.in_ok-benches.benches.i
 pub run_whole-requires-clause-each : goal.run_whole-requires-clause-each
 run_whole-requires-clause-each g c κs within = benches-length c.args.self.now.options.now _ _ c.in_ok-benches.ensures.made
 
+pub run_whole-requires-clause-made : goal.run_whole-requires-clause-made
+run_whole-requires-clause-made g c κs within = (c.in_ok-benches.ensures.made, c.in_ok-benches.ensures.timed)
+
 pub run_live-requires-clause-named : goal.run_live-requires-clause-named
 run_live-requires-clause-named g c κs within = named c.in_ok-benches.benches.items
 
 pub run_live-requires-clause-each : goal.run_live-requires-clause-each
 run_live-requires-clause-each g c κs within = benches-length c.args.self.now.options.now _ _ c.in_ok-benches.ensures.made
+
+pub run_live-requires-clause-made : goal.run_live-requires-clause-made
+run_live-requires-clause-made g c κs within = (c.in_ok-benches.ensures.made, c.in_ok-benches.ensures.timed)
 
 -- nothing was reported
 untold : (b : Bool) → not b ≡ true → b ≡ false
