@@ -1,6 +1,7 @@
-/* Between a C program and the proved exports of crates/canbusd_c: it tests pointers, and has the texts of the codes.
+/* The layer between a C program and the proved exports of crates/canbusd_c: it checks pointers, and contains the texts
+ * of the codes.
  *
- * A bus is the pointer that canbusd_c_new gave. Each export takes it in a struct of its own, by reference. */
+ * A bus is the pointer from canbusd_c_new. Each export takes this pointer in a struct, by reference. */
 #include "canbusd.h"
 
 #include <string.h>

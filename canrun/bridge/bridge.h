@@ -81,8 +81,7 @@ struct session {
     int64_t pause;          /* and the pause before the look after that */
     bool is_stuck;          /* a short wait for room failed, and the server has accepted no frame since */
     uint64_t sent_end;      /* 1 + the highest number of a frame of this session */
-    uint8_t sent[NUMBERS_KEPT /
-                 8]; /* a bit for each of the last numbers below `sent_end`: whether it is a frame of this session */
+    uint8_t sent[NUMBERS_KEPT / 8]; /* a bit for each of the last numbers: whether a frame of this session has it */
 };
 
 /* Connects to the server. NULL and the refusal if there is no server. */

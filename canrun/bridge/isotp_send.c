@@ -17,11 +17,10 @@ static struct {
     enum { IDLE, WAITS_FIRST, WAITS, SENDING, PAUSES } state;
     char data[ISOTP_LONGEST];
     size_t at, length;
-    unsigned number, block,
-        in_block;             /* the next number; frames until the next flow control frame, and since the last */
-    uint64_t frame;           /* the number of the frame whose echo is due */
-    uint64_t gap, next;       /* the pause before a frame, and its end */
-    struct isotp_timer timer; /* for the echo or for flow control */
+    unsigned number, block, in_block; /* the next number; frames until flow control, and since the last one */
+    uint64_t frame;                   /* the number of the frame whose echo is due */
+    uint64_t gap, next;               /* the pause before a frame, and its end */
+    struct isotp_timer timer;         /* for the echo or for flow control */
 } tx;
 
 bool isotp_is_sending(void) {

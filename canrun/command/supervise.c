@@ -288,8 +288,7 @@ static void call_of_descriptor(struct call *call) {
     if (is_here) {
         value = make_call(call);
     } else if (number == SYS_close && is_can) {
-        wait_for(call, POLLOUT,
-                 &(struct timeval){CLOSE_TIME, 0}); /* The message is sent before its socket is closed. */
+        wait_for(call, POLLOUT, &(struct timeval){CLOSE_TIME, 0}); /* Its message is sent before the close. */
     }
     drop(call->fd);
     if (is_here) {

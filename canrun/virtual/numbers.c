@@ -181,8 +181,7 @@ static long call_of_process(long number, const long of[6], bool *is_known) {
     switch (number) {
     case SYS_wait4:
         if (of[2] & __WCLONE) {
-            return answer(
-                RAW(SYS_wait4, of[0], of[1], of[2], of[3])); /* A helper of canbusd-run, which is about to end. */
+            return answer(RAW(SYS_wait4, of[0], of[1], of[2], of[3])); /* A helper of canbusd-run that ends now. */
         }
         return wait4((pid_t)of[0], P(1), INT(2), P(3));
     case SYS_waitid: return waitid((idtype_t)of[0], (id_t)of[1], P(2), INT(3));

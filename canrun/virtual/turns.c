@@ -358,8 +358,7 @@ void await_turn(void) {
         if (result == -ETIMEDOUT) {
             check_coordinator();
         } else if (result == -EINTR && !has_turn()) {
-            my.slot->flags |=
-                IS_INTERRUPTED; /* A signal that the C library itself uses, such as that of pthread_cancel. */
+            my.slot->flags |= IS_INTERRUPTED; /* The C library's own signal, such as that of pthread_cancel. */
             ring();
         }
     }
