@@ -1,4 +1,4 @@
-"""canbusd COMMAND: dump, send, status, report and replay, each as a process: a fork, or a program of its own."""
+"""canbusd COMMAND: dump, send, status, report and replay, each as a process: a fork, or a new program."""
 
 import contextlib
 import json
@@ -28,7 +28,7 @@ READY, END = 0x7FF, 0x7FE
 
 
 def environment(server=None):
-    """The environment of a command, which imports the same package as this test."""
+    """Returns the environment of a command, which imports the same package as this test."""
     address = {"CANBUSD_ADDRESS": server.address} if server else {}
     places = [str(Path(canbusd.__file__).parents[1]), *filter(None, [os.environ.get("PYTHONPATH")])]
     return {**os.environ, "PYTHONPATH": os.pathsep.join(places), "PYTHONDONTWRITEBYTECODE": "1", "TZ": "UTC", **address}
@@ -39,7 +39,7 @@ def words_of(*words):
 
 
 def call(*words, server=None, **more):
-    """Runs a command to its end; its status, what it wrote, and its faults."""
+    """Runs a command to its end; returns its status, its output, and its error output."""
     return forked(*words, env=environment(server), **more)
 
 
@@ -49,7 +49,7 @@ def message(identifier, data=b"", **more):
 
 @contextlib.contextmanager
 def dumping(server, sender, *words, names=("can1",)):
-    """A dump that receives from these interfaces; `sender` sends until it has written a frame of each."""
+    """Runs a dump that receives from these interfaces; `sender` sends until the dump has written a frame of each."""
     child = subprocess.Popen(
         words_of("dump", *words), env=environment(server), stdout=subprocess.PIPE, stderr=subprocess.PIPE, bufsize=0
     )
@@ -70,10 +70,10 @@ def dumping(server, sender, *words, names=("can1",)):
 
 
 def dumped(child, sender, names=1):
-    """What a dump writes up to the last frame, without the frames that showed that it is ready."""
+    """Returns a dump's output up to the last frame, without the frames that showed that it is ready."""
     written = b""
     for _ in range(10 * WAIT):
-        # Again, since the frame may be one that finds no room.
+        # The frame is sent again, because it may find no room.
         sender.send(message(END), timeout=5)
         while select.select([child.stdout], [], [], 0.1)[0]:
             piece = os.read(child.stdout.fileno(), 65536)
@@ -100,7 +100,7 @@ def dumped(child, sender, names=1):
     ],
 )
 def test_frames_on_the_screen_are_those_of_candump(text, line):
-    """Lines as candump of can-utils writes them."""
+    """lines have the format of candump of can-utils"""
     import argparse
 
     view = View(argparse.Namespace(log=False, explain=False, timestamps=None), 4)
@@ -108,7 +108,7 @@ def test_frames_on_the_screen_are_those_of_candump(text, line):
 
 
 def test_identifiers_of_11_bits_after_one_of_29():
-    """As candump does: they are written below its low digits."""
+    """identifiers of 11 bits are then aligned at the low digits, as in candump"""
     import argparse
 
     view = View(argparse.Namespace(log=False, explain=False, timestamps=None), 4)
@@ -146,7 +146,7 @@ def test_dump_of_several_interfaces():
                 )  # fmt: skip
             lines = dumped(child, sender, names=2)
     for name in ("can1", "can2"):
-        # The width of an identifier depends on which interface's frames came first.
+        # The width of an identifier depends on the interface whose frames came first.
         assert [" ".join(line.split()) for line in lines if name in line] == [
             f"{name} 123 [1] 11",
             f"{name} 00000123 [0]",
@@ -212,7 +212,7 @@ def test_dump_that_counts_and_dump_that_waits():
 
 
 def test_dump_says_what_found_no_room():
-    """The receive queue has room for one frame; each of a burst is written, or is one of those that were dropped."""
+    """the receive queue has room for one frame; each frame of a burst is written, or counts as dropped"""
     frames = 20000
     with Server("can0,can1", pace_ms=0, txqueue=1024, rxqueue=1) as server, server.bus("can0") as sender:
         with dumping(server, sender, "-L", "can1") as child:
@@ -354,7 +354,7 @@ def test_status_has_the_load_of_buses_with_a_bit_rate():
 @pytest.mark.quiet
 def test_status_of_a_busy_bus():
     with Server("can0,can1", bitrate=5_000, txqueue=1_000) as server, server.bus("can0") as sender:
-        # 26 seconds of frames.
+        # The frames of 26 seconds.
         sender.send_many([message(1, bytes(8))] * 1_000)
         server.wait_for(lambda: sender.load().permille >= 990, timeout=WAIT)
         status, written, said = call("status", server=server)
@@ -441,7 +441,7 @@ def test_fault_refuses_in_one_line(words, fault):
 
 @pytest.fixture
 def record(tmp_path):
-    """The record of a frame that is destroyed once, and of one that loses arbitration."""
+    """Returns the record of a frame that is destroyed once, and of a frame that loses arbitration."""
     with Bench("can0,can1", faults=Faults().destroyed(0), out=tmp_path) as bench:
         for name, identifier in (("can0", 0x124), ("can1", 0x123)):
             bench.open(name).send(identifier)
@@ -467,7 +467,7 @@ def test_replay_of_a_record(record):
 
 
 def test_a_record_that_is_cut_off(record):
-    """As a server leaves it that was killed; its interfaces have the names in the log beside it."""
+    """the record of a killed server is shown; its interfaces have the names in the log next to it"""
     whole, cut = call("replay", record)[1], record.with_name("can0.rec.new")
     cut.write_bytes(record.read_bytes()[:-4])
     for command in ("replay", "report"):
@@ -487,7 +487,7 @@ def test_report_of_a_record(record):
     drawn = call("report", "--text", record)[1]
     story = "2 nodes, 3 attempts: 1 failed\n"
     assert drawn == story + call("report", "--arbitration", record)[1] + call("report", "--counters", record)[1]
-    # 124 has a recessive bit where 123 has a dominant one.
+    # 124 has a recessive bit where 123 has a dominant bit.
     assert "attempt 1: can1 wins with 123#, done\n  can0 001001001<- loses here\n  can1 00100100011 00\n" in drawn
     assert "can1: transmit count #, receive count o, over 3 steps\n" in drawn
     assert call("report", record.with_name("none"))[::2] == (
@@ -554,7 +554,7 @@ def test_first_words_that_are_wrong(words, said):
     ],
 )
 def test_options_that_are_wrong(words, said):
-    """the status is 2, as of a fault of the program's command line, before a server or a file is looked for"""
+    """the status is 2, as for the program's own wrong command lines, before a server or a file is searched"""
     status, written, errors = call(*words.split())
     assert (status, written) == (2, "") and errors.endswith(f": {said}\n"), errors
 
