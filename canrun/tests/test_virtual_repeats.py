@@ -1,4 +1,4 @@
-"""Virtual time: a run is the same each time, by its seed, and each test of pytest is so by its name."""
+"""Virtual time: a run with the same seed is the same each time, and so is each test of pytest with the same name."""
 
 import os
 import re
@@ -14,7 +14,7 @@ from virtual_runs import case, needs_can, needs_tools, nodes, virtual
 
 __all__ = ["nodes"]
 
-#: How often a case is run in the suite.
+#: The number of runs of a case in the suite.
 RUNS = 5
 SEED = ("--seed", "5", "--jitter", "300")
 
@@ -27,7 +27,7 @@ SAME = [
 
 
 def all_same(name, kind, folder, nodes, runs, options=()):
-    """Runs a case so often in one folder, whose name may be part of what it writes, and compares what each run left."""
+    """Runs a case several times in one folder, whose name may be in its output, and compares the outputs and files."""
     first = case(name, folder / "run", nodes, options, KIND=kind)
     (folder / "run").rename(folder / "first")
     for number in range(1, runs):
@@ -50,7 +50,7 @@ def test_same_bytes(tmp_path, nodes, name, kind, runs):
 @needs_tools
 @pytest.mark.parametrize("name, kind", SAME)
 def test_same_bytes_of_a_seed(tmp_path, nodes, name, kind):
-    """the same with a seed and jitter"""
+    """the bytes are the same with a seed and jitter"""
     all_same(name, kind, tmp_path, nodes, 2, SEED)
 
 
@@ -60,7 +60,7 @@ def test_same_bytes_of_a_seed(tmp_path, nodes, name, kind):
 @pytest.mark.parametrize("options", [(), SEED])
 @pytest.mark.parametrize("name, kind", SAME)
 def test_same_bytes_beside_others(tmp_path, nodes, name, kind, options):
-    """the same beside four processes that burn the processors"""
+    """the bytes are the same while four processes occupy the processors"""
     burners = [subprocess.Popen(["nice", "-n", "19", "sh", "-c", "while :; do :; done"]) for _ in range(4)]
     try:
         all_same(name, kind, tmp_path, nodes, 100, options)
@@ -73,14 +73,14 @@ def test_same_bytes_beside_others(tmp_path, nodes, name, kind, options):
 @needs_gcc
 @needs_tools
 def test_seeds(tmp_path, nodes):
-    """another seed has runs of its own, which are the same each time"""
+    """another seed gives other runs, which are the same each time"""
     left = [case("nodes", tmp_path / name, nodes, words, FRAMES="20") for name, words in zip("abc", (SEED, SEED, ()))]
     assert left[0] == left[1] != left[2]
 
 
 @needs_gcc
 def test_race(nodes):
-    """a race that the usual order never shows is found by a seed, and repeated by it"""
+    """a seed finds a race that the usual order never shows, and repeats the race"""
     assert virtual(nodes / "race").stdout == "all are unique\n"
     found = [virtual(nodes / "race", options=("--seed", str(seed), "--jitter", "500")).stdout for seed in range(12)]
     assert 1 <= sum("given out twice" in text for text in found) <= 11, found
@@ -91,7 +91,7 @@ def test_race(nodes):
 @needs_gcc
 @pytest.mark.parametrize("options", [(), ("--seed", "7")])
 def test_what_is_random(nodes, options):
-    """bytes that are random, addresses, and who leaves a barrier first are those of the seed"""
+    """random bytes, addresses, and the first thread to leave a barrier depend on the seed"""
     runs = [virtual(nodes / "drawn", options=options) for _ in range(5)]
     assert {(run.returncode, run.stderr) for run in runs} == {(0, "")}
     assert len({run.stdout for run in runs}) == 1, [run.stdout for run in runs]
@@ -102,14 +102,15 @@ def test_what_is_random(nodes, options):
 
 
 def test_what_is_random_of_a_shell():
-    """a device may be the input of a program"""
+    """a random device may be the input of a program"""
     text = "head -c 8 /dev/urandom; head -c 8 </dev/urandom"
     line = [command(), "--virtual", "sh", "-c", text]
     first, second = (subprocess.run(line, stdout=subprocess.PIPE, check=True).stdout for _ in range(2))
     assert len(first) == 16 and first == second and first[:8] != first[8:]
 
 
-#: A server and a client of TCP that write twice before they read, beside a thread that sleeps: when each reply came.
+#: A server and a client of TCP that write twice before they read, next to a sleeping thread: prints the time of each
+#: reply.
 WRITES = """
 import socket, threading, time
 
@@ -139,14 +140,14 @@ with socket.create_connection(server.getsockname()) as client:
 
 
 def test_writes_to_tcp():
-    """no byte waits for the kernel's timers of TCP, which run by the real clock"""
+    """no byte waits for the kernel's timers of TCP, which use the real clock"""
     ended = virtual(sys.executable, "-c", WRITES)
     assert ended.returncode == 0, ended
     assert ended.stdout.split() == [f"{1000 + number * 0.05:.3f}" for number in range(50)]
 
 
 def test_seed_of_a_failed_script():
-    """a script that fails says by which seed it does so again"""
+    """a script that fails prints the seed that repeats the failure"""
     for words, options in ((("--seed", "7"), "--seed 7 --jitter 0"), (("--jitter", "50"), "--seed 0 --jitter 50")):
         ended = virtual("sh", "-c", "sleep 1; exit 3", options=words)
         line = f"canbusd-run: virtual time: at 1.000000 s status 3; {options} repeats it\n"
@@ -154,7 +155,7 @@ def test_seed_of_a_failed_script():
     assert virtual("sh", "-c", "exit 3").stderr == virtual("true", options=SEED).stderr == ""
 
 
-#: Tests of which seeds make some fail: what each says hangs on waits, threads, a server of several tests, and numbers.
+#: Tests that some seeds make fail: their results depend on waits, threads, a server of several tests, and numbers.
 RACES = """
 import random
 import threading
@@ -207,7 +208,7 @@ def test_shared(shared, number):
 
 
 def reasons(text):
-    """The messages of pytest for each test that failed: the lines with E."""
+    """Returns the messages of pytest for each failed test: the lines with E."""
     parts = re.findall(r"^_+ (test_\S+) _+$(.*?)(?=^_+ test_|^=+ short)", text, re.M | re.S)
     return {name: re.findall("^E .*$", body, re.M) for name, body in parts}
 
@@ -215,7 +216,8 @@ def reasons(text):
 @needs_can
 @pytest.mark.parametrize("seeds", [2, pytest.param(50, marks=pytest.mark.slow)])
 def test_repeated_tests(tmp_path, seeds):
-    """the command that a failed test of a file prints fails as it did, though it runs that test without the others"""
+    """the command that a failed test of a file prints repeats the failure, though it runs that test without the
+    others"""
     (tmp_path / "test_it.py").write_text(RACES, encoding="utf-8")
     env = {**os.environ, "CANBUSD_RUN": command(), "CANBUSD": program(), "PYTHONPATH": os.path.join(ROOT, "python/src")}
     env["PYTEST_ADDOPTS"] = "-p canbusd.pytest_plugin -p no:cacheprovider --tb=short"
@@ -232,11 +234,11 @@ def test_repeated_tests(tmp_path, seeds):
             again = subprocess.run(f"{sys.executable} {line}", shell=True, **how).stdout
             (name,) = reasons(again)
             assert reasons(again)[name] == failed[name], (seed, whole, again)
-    # Of five turns of two there are 32.
+    # Five turns of two threads have 32 orders.
     assert len(orders) > min(seeds, 16), orders
 
 
-#: Each wait of the package that comes to nothing, of several lengths and begun at several moments: those that are not exact.
+#: Each wait of the package that times out, with several lengths and starts: prints waits that are not exact.
 WAITS = """
 import contextlib, time
 import canbusd
@@ -264,14 +266,14 @@ with canbusd.Server("ecu,tester", bitrate=500000) as server:
 
 @needs_can
 def test_waits_of_the_package():
-    """they are as long as they say, at whatever moment they begin"""
+    """they take exactly their time, whenever they begin"""
     env = {**os.environ, "CANBUSD": program(), "PYTHONPATH": os.path.join(ROOT, "python", "src")}
     ended = virtual(sys.executable, "-c", WAITS, env=env)
     assert (ended.returncode, set(ended.stdout.split("\n"))) == (0, {""}), ended
 
 
 def test_start_of_python(tmp_path):
-    """a test begins at the moment at which the run does, however much Python has to read and to translate before"""
+    """a test begins at the start of the run, however much Python must read and compile before"""
     (tmp_path / "test_it.py").write_text("import time\ndef test_it():\n    print(time.monotonic())\n", encoding="utf-8")
     words = [sys.executable, "-m", "pytest", "-q", "-s", "-p", "no:cacheprovider", "test_it.py"]
     for env in ({}, {"PYTHONPYCACHEPREFIX": str(tmp_path / "new")}, {"PYTHONDONTWRITEBYTECODE": "1"}):

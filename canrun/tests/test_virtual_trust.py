@@ -1,4 +1,4 @@
-"""Virtual time: a run is closed to what it has not started, and gives no program rights that it does not have."""
+"""Virtual time: a run is closed to programs that it has not started, and gives no program additional rights."""
 
 import signal
 import subprocess
@@ -12,7 +12,8 @@ from virtual_runs import nodes, virtual
 
 __all__ = ["nodes"]
 
-#: A stranger that connects to a coordinator as this user, until the run is over: how many descriptors it gets.
+#: A stranger that connects to a coordinator as this user, until the run is over: prints the number of received
+#: descriptors.
 STRANGER = textwrap.dedent(
     """
     import contextlib, os, socket, sys
@@ -34,7 +35,7 @@ STRANGER = textwrap.dedent(
     """
 )
 
-#: A program of the run that has a server of pipes and ticks, and says when all is over.
+#: A program of the run that has a server of pipes and ticks, and reports the end.
 TICKS = textwrap.dedent(
     """
     import os, sys, threading, time
@@ -57,7 +58,7 @@ TICKS = textwrap.dedent(
     "user", [pytest.param("nobody", marks=pytest.mark.root), pytest.param("same", id="of the same user")]
 )
 def test_stranger(user):
-    """who connects to the coordinator and is not of the run gets nothing, and changes nothing"""
+    """a program outside the run that connects to the coordinator gets nothing, and changes nothing"""
     line = [command(), "--virtual", sys.executable, "-c", TICKS]
     with subprocess.Popen(line, stdin=subprocess.PIPE, stdout=subprocess.PIPE, text=True) as run:
         coordinator = run.stdout.readline().strip()
@@ -71,7 +72,7 @@ def test_stranger(user):
 
 @needs_gcc
 def test_alarms_of_others(nodes):
-    """what a program that gave up its rights writes into the memory of the run signals nobody outside of the run"""
+    """data that a program without rights writes into the memory of the run cause no signal outside the run"""
     with subprocess.Popen(["sleep", "1000"]) as victim:
         try:
             ended = virtual(nodes / "forger", "alarm", victim.pid)
@@ -83,7 +84,7 @@ def test_alarms_of_others(nodes):
 
 @needs_gcc
 def test_alarms_of_the_run(nodes):
-    """nor another program of the run, which has more rights; its own alarms do"""
+    """such data cause no signal to a program of the run with more rights either; a program's own alarms do"""
     script = 'sleep 100 & victim=$!; "$0" alarm $victim; kill -0 $victim && echo lives; kill $victim'
     ended = virtual("bash", "-c", script, nodes / "forger")
     assert (ended.returncode, ended.stdout) == (0, "written\nlives\n"), ended
@@ -93,12 +94,12 @@ def test_alarms_of_the_run(nodes):
 
 @needs_gcc
 def test_slots_that_are_not_there(nodes):
-    """a number of slots for which there is no room ends no coordinator"""
+    """a slot number that is too large does not end a coordinator"""
     ended = virtual("sh", "-c", 'sleep 5 & "$0" used; wait; date +%s', nodes / "forger")
     assert (ended.returncode, ended.stdout) == (0, "written\n1767225605\n"), ended
 
 
-#: Puts ends of pipes that are always ready into the epoll of the run, and lets time go on.
+#: Puts ends of pipes that are always ready into the epoll of the run, and lets time pass.
 READY = textwrap.dedent(
     """
     import os, select, time
@@ -119,14 +120,14 @@ READY = textwrap.dedent(
 
 
 def test_epoll_that_is_always_ready():
-    """the run goes on though a program has put into its epoll what is always ready"""
+    """the run continues although a program has put descriptors into its epoll that are always ready"""
     ended = virtual(sys.executable, "-c", READY)
     assert (ended.returncode, ended.stdout) == (0, "1020.0\n"), ended
 
 
 @pytest.mark.root
 def test_user_given_up():
-    """a program that gave up root goes on, and so does what it forks; its end is seen"""
+    """a program that gave up root continues, and so do its children; the run notices its end"""
     text = """
     import os, time
     os.setgid(65534)
@@ -142,6 +143,6 @@ def test_user_given_up():
 
 @needs_gcc
 def test_orphans(nodes):
-    """a process of the run is known to be one also where its parent ends as it says that it is there"""
+    """a process of the run is recognised even if its parent ends while the process reports itself"""
     ended = virtual(nodes / "orphans", "1000")
     assert (ended.returncode, ended.stdout, ended.stderr) == (0, "over\n", ""), ended

@@ -1,4 +1,5 @@
-"""Virtual time beside the real: each kind of wait, in eight languages, is as long as it says and returns what it does."""
+"""Virtual time compared with real time: each kind of wait, in eight languages, takes exactly its time and returns the
+same result."""
 
 import os
 import re
@@ -19,12 +20,12 @@ TOPICS = (
     *("sleeps", "polls", "signals", "awaited", "signalfds", "cancels", "locks", "conditions", "threads", "timers"),
     *("timerfds", "files", "queues", "sockets", "processes", "by_number"),
 )
-#: How much longer a wait of the real time may be, in seconds, and how often all of them are tried on a busy machine.
+#: The seconds by which a wait in real time may be longer, and the number of tries for all waits on a busy machine.
 LATE, TRIES = 2.0, 4
 
 
 class Wait(NamedTuple):
-    """How long a wait had to be, and was, in microseconds; what it returned."""
+    """The intended and the measured length of a wait, in microseconds, and its result."""
 
     wanted: float
     took: int
@@ -48,7 +49,7 @@ def real(*words) -> Dict[str, Wait]:
 
 
 def compare(count: int, *words) -> None:
-    """Makes waits in both, and compares them."""
+    """Makes waits in virtual and in real time, and compares them."""
     ended = virtual(*words, options=("--stall", "10"))
     assert ended.returncode == 0, ended
     found = waits_in(ended.stdout)
@@ -68,7 +69,7 @@ def compare(count: int, *words) -> None:
 
 
 def skip_without(tool: str) -> None:
-    """Skips a test where a language is not installed."""
+    """Skips a test if a language is not installed."""
     if shutil.which(tool) is None:
         pytest.skip(f"no {tool}")
 
@@ -82,14 +83,14 @@ def make_program_of_c(request):
 
 
 def names_of(topic):
-    """The waits of a table."""
+    """Returns the names of the waits in a table."""
     with open(os.path.join(FOLDER, f"{topic}.c"), encoding="ascii") as file:
         return re.findall(rf'\{{"({topic}_\w+)",', file.read())
 
 
 @needs_gcc
 def test_c(program_of_c):
-    """300 waits of C, all at once"""
+    """300 waits of C all take their time, all at once"""
     count = sum(len(names_of(topic)) for topic in TOPICS)
     assert count > 300
     compare(count, program_of_c)
@@ -99,7 +100,7 @@ def test_c(program_of_c):
 @pytest.mark.slow
 @pytest.mark.parametrize("topic", TOPICS)
 def test_often(program_of_c, topic):
-    """none of them hangs in a thousand runs, and each run is the same"""
+    """no wait hangs in a thousand runs, and each run is the same"""
     first = None
     for _ in range(1000):
         ended = virtual(program_of_c, *names_of(topic), options=("--stall", "20"))
@@ -120,13 +121,13 @@ SCRIPTS = [
 
 @pytest.mark.parametrize("script, command, count", SCRIPTS, ids=[script for script, _, _ in SCRIPTS])
 def test_script(script, command, count):
-    """waits of Python, Perl, bash, Tcl and JavaScript"""
+    """waits of Python, Perl, bash, Tcl and JavaScript take their time"""
     skip_without(command[0])
     compare(count, *command, os.path.join(FOLDER, "languages", script))
 
 
 def test_cpp(tmp_path):
-    """waits of C++"""
+    """waits of C++ take their time"""
     skip_without("g++")
     source = os.path.join(FOLDER, "languages", "waits.cpp")
     subprocess.run(
@@ -136,7 +137,7 @@ def test_cpp(tmp_path):
 
 
 def test_java(tmp_path):
-    """waits of Java"""
+    """waits of Java take their time"""
     skip_without("javac")
     subprocess.run(["javac", "-d", str(tmp_path), os.path.join(FOLDER, "languages", "Waits.java")], check=True)
     compare(13, "java", "-cp", str(tmp_path), "Waits")

@@ -18,13 +18,13 @@ CASES = os.path.join(ROOT, "canrun", "tests", "virtual_cases")
 needs_can = pytest.mark.skipif(not importlib.util.find_spec("can"), reason="no python-can")
 needs_tools = needs("candump", "cangen", "canplayer")
 
-#: The C programs of virtual_c/.
+#: The names of the C programs in virtual_c/.
 NODES = "bcm cyclic drawn forger full isotp j1939 late lent many orphans race respond slow_end unseen waits".split()
 
 
 @pytest.fixture(scope="module")
 def nodes(request):
-    """The folder of the C programs."""
+    """Returns the folder of the C programs."""
 
     def compile_all(folder):
         for name in NODES:
@@ -35,13 +35,13 @@ def nodes(request):
 
 
 def virtual(*words, options=(), patience=300, **how):
-    """Runs a program in virtual time; how it ended, and what it wrote."""
+    """Runs a program in virtual time; returns its status and its output."""
     line = [command(), "--virtual", *options, "--", *map(str, words)]
     return subprocess.run(line, capture_output=True, text=True, timeout=patience, check=False, **how)
 
 
 def files_below(folder):
-    """The contents of the files of a folder, by their names."""
+    """Returns the contents of the files in a folder, by name."""
     return {
         str(path.relative_to(folder)): path.read_bytes()
         for path in sorted(folder.rglob("*"))
@@ -50,7 +50,7 @@ def files_below(folder):
 
 
 def case(name, folder, nodes, options=(), **settings):
-    """Runs a case of virtual_cases/; what it wrote, and the files that it left."""
+    """Runs a case of virtual_cases/; returns its output, and the files that it left."""
     env = {
         **os.environ,
         "RUN": command(),
@@ -68,5 +68,5 @@ def case(name, folder, nodes, options=(), **settings):
 
 
 def fails(ended, pattern):
-    """Whether a run has ended with status 125 and a line that names program and reason."""
+    """Checks that a run has ended with status 125 and a line that names program and reason."""
     assert ended.returncode == 125 and re.search(pattern, ended.stderr), ended

@@ -15,15 +15,15 @@ from canbusd import Faults
 
 @pytest.fixture
 def heartbeat(tmp_path):
-    """The path of the program, as gcc builds it."""
+    """Returns the path of the program, which gcc builds."""
     program = tmp_path / "heartbeat"
     source = Path(__file__).with_name("heartbeat.c")
     subprocess.run(["gcc", "-Wall", "-Wextra", "-Werror", "-o", program, source], check=True)
     return str(program)
 
 
-# Attempts 0 and 1 send two heartbeats. The third is destroyed 32 times, which makes 256 and bus off. The controller
-# restarts 50 attempts later, of which there is one each millisecond.
+# Attempts 0 and 1 send two heartbeats. The third is destroyed 32 times, which raises the count to 256, bus off. The
+# controller restarts 50 attempts later, with one attempt each millisecond.
 @pytest.mark.canbusd("node,tester", faults=Faults().destroyed(range(2, 34)), auto_restart=50)
 def test_a_node_that_goes_bus_off(canbusd, heartbeat):
     with canbusd.bus("tester") as tester:

@@ -16,7 +16,7 @@ import time
 
 ENGINE, COMFORT, STATE = 0x100, 0x200, 0x300
 REQUEST, ANSWER = 0x7E0, 0x7E8
-# Of linux/can/error.h and raw.h.
+# These constants are from linux/can/error.h and raw.h.
 BUS_OFF, RESTARTED, ERROR_FILTER = 0x040, 0x100, 2
 PERIOD, LOST, STUCK = 0.05, 0.25, 0.4
 NAME = b"CLUSTER-000000001"
@@ -24,7 +24,7 @@ FRAME = struct.Struct("=IB3x8s")
 
 
 class Cluster:
-    """What it shows, without a bus."""
+    """The state of the cluster, without a bus."""
 
     def __init__(self, now):
         self.heard = self.counted = now
@@ -46,7 +46,7 @@ class Cluster:
             self.is_ice = data[1] / 2 - 40 <= 3
 
     def state(self, now):
-        """Returns the data of the frame that says what it shows."""
+        """Returns the data of the frame that carries the state."""
         lamp = 1 if now - self.heard > LOST else 2 if now - self.counted > STUCK else 0
         data = bytes([lamp | self.is_ice << 3 | self.alive << 4, self.speed & 255, self.speed >> 8])
         self.alive = (self.alive + 1) & 15
@@ -54,7 +54,7 @@ class Cluster:
 
 
 def answer(request):
-    """The answer to a request of a tester."""
+    """Returns the answer to a request of a tester."""
     if request == b"\x22\xf1\x90":
         return b"\x62\xf1\x90" + NAME
     return bytes([0x7F, request[0], 0x31])
@@ -83,7 +83,7 @@ def main(interface):
                 try:
                     node.send(FRAME.pack(STATE, len(data), data))
                 except OSError as fault:
-                    # Bus off, or a full queue: the next one may go.
+                    # The interface is bus off, or its queue is full: the next frame may pass.
                     print(fault, flush=True)
 
 

@@ -23,7 +23,7 @@ pytestmark = pytest.mark.canbusd("engine,gateway,cluster,tester", bitrate=500_00
 
 @pytest.fixture(scope="session")
 def built(tmp_path_factory):
-    """The words that start each cluster."""
+    """Returns the words that start each cluster."""
     program = tmp_path_factory.mktemp("cluster") / "cluster"
     source = HERE / "cluster.c"
     subprocess.run(
@@ -34,7 +34,7 @@ def built(tmp_path_factory):
 
 @pytest.fixture(params=["C", "Python"])
 def rest(canbusd, built, request):
-    """All nodes but the cluster, which runs beside them; the engine counts its messages."""
+    """All nodes except the cluster, which runs as a program; the engine counts its messages."""
     nodes = {"Engine": "engine", "Gateway": "gateway"}
     with canbusd.rest_bus(CAR, without="Cluster", nodes=nodes) as rest:
         rest.on_send("EngineData", lambda message: message.__setitem__("Counter", message.count % 16))
@@ -44,13 +44,13 @@ def rest(canbusd, built, request):
 
 
 def restart(canbusd, name):
-    """A node comes back from bus off."""
+    """Brings a node back from bus off."""
     with canbusd.bus(name) as bus:
         bus.restart()
 
 
 def test_start_up(canbusd, rest):
-    """it counts its messages from the first on, which shows no lamp"""
+    """it counts its messages from the first on, and that message shows no lamp"""
     canbusd.expect_sequence(*({"signal": "Alive", "equals": number} for number in (1, 2, 3)), within=1)
     canbusd.expect_no_frame(signal="Lamp", above=0, within=0)
 
@@ -83,7 +83,7 @@ def test_an_engine_that_falls_silent(canbusd, rest):
 
 
 def test_an_engine_that_is_stuck(canbusd, rest):
-    """its messages come, but their counter stays the same"""
+    """a lamp shows that the engine's counter stays the same, though its messages come"""
     rest.on_send("EngineData", lambda message: message.__setitem__("Counter", 7))
     canbusd.expect(signal="Lamp", equals="EngineStuck", within=1)
 
@@ -109,9 +109,9 @@ def test_the_engine_goes_bus_off(canbusd, rest):
 
 
 def test_the_cluster_goes_bus_off(canbusd, rest):
-    """others go on without it, and after its restart it counts from 0"""
+    """the others continue without it, and after its restart it counts from 0"""
     canbusd.bus_off("cluster")
-    # Frames that it has sent before are on the bus.
+    # These frames of the cluster are on the bus already.
     canbusd.expect_from_now()
     canbusd.expect_no_frame("ClusterState", within=0.12)
     canbusd.expect_state("engine", "active")
@@ -120,7 +120,7 @@ def test_the_cluster_goes_bus_off(canbusd, rest):
 
 
 def test_diagnostics_under_faults(canbusd, rest):
-    """frames of the answer are destroyed, and the answer is whole"""
+    """frames of the answer are destroyed, and the answer is complete nevertheless"""
     with canbusd.isotp("tester", tx=0x7E0, rx=0x7E8) as tester:
         canbusd.inject(Faults().next(2, id=0x7E8, skip=1).destroyed())
         tester.send(b"\x22\xf1\x90")
@@ -130,7 +130,7 @@ def test_diagnostics_under_faults(canbusd, rest):
 
 
 def test_load(canbusd, rest):
-    """a babbling node with the best identifier leaves a third of the bus, which is enough"""
+    """a babbling node with the highest priority leaves a third of the bus, which is enough"""
     with canbusd.bus("tester") as tester:
         message = can.Message(arbitration_id=0x001, data=bytes(8), is_extended_id=False)
         task = tester.send_periodic([message], period=0.00035)

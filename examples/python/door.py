@@ -7,17 +7,17 @@ A command, 100, is a number and whether to open; the door obeys those with the n
 import can
 
 COMMAND, REQUEST, REPORT = 0x100, 0x101, 0x200
-# In the class of an error message frame (linux/can/error.h).
+# The bit for bus off in the class of an error message frame (linux/can/error.h).
 BUS_OFF = 0x040
 
 
 def message(identifier, *data):
-    """A message with an 11-bit identifier."""
+    """Returns a message with an 11-bit identifier."""
     return can.Message(arbitration_id=identifier, data=data, is_extended_id=False)
 
 
 class Door:
-    """What the door does, without a bus."""
+    """The behaviour of the door, without a bus."""
 
     def __init__(self):
         self.is_open = False
@@ -26,7 +26,7 @@ class Door:
         self.number = 0
 
     def report(self):
-        """Which command it has obeyed last, and whether it is open."""
+        """Returns the report on the last obeyed command, and on whether the door is open."""
         return message(REPORT, (self.number - 1) % 256, self.is_open)
 
     def handle(self, received):
@@ -36,7 +36,7 @@ class Door:
         number, is_open = received.data
         ahead = (number - self.number) % 256
         if ahead >= 128:
-            # A command that it has obeyed: CAN may deliver a frame twice.
+            # The door has obeyed this command: CAN may deliver a frame twice.
             return []
         if ahead > 0:
             return [message(REQUEST, self.number)]
@@ -48,7 +48,7 @@ class Door:
 
 
 def step(door, bus):
-    """Waits for the next message, and does what it says. After bus off the door comes back, and says where it is."""
+    """Waits for the next message, and obeys it. After bus off the door restarts, and reports its state."""
     received = bus.recv(timeout=5)
     assert received is not None, "nothing came"
     if received.is_error_frame and received.arbitration_id & BUS_OFF:

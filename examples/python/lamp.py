@@ -4,13 +4,13 @@ TOGGLE = 0x100
 
 
 class Lamp:
-    """The node; `receive` is called with each frame that it gets."""
+    """The node; `receive` is called with each received frame."""
 
     def __init__(self, counts=False):
         self.is_on, self.counts, self.last = False, counts, None
 
     def receive(self, frame):
-        """Turns it on or off; one that counts does not obey the same frame twice."""
+        """Turns the lamp on or off; a lamp that counts does not obey the same frame twice."""
         if frame.arbitration_id != TOGGLE or (self.counts and frame.data[0] == self.last):
             return
         self.is_on, self.last = not self.is_on, frame.data[0]

@@ -29,7 +29,7 @@ def door_bus(canbusd):
 
 
 def expect(bus, identifier, *data):
-    """The next message has to be this one."""
+    """Fails unless the next message is this one."""
     received = bus.recv(timeout=5)
     assert (received.arbitration_id, tuple(received.data)) == (identifier, data)
 
@@ -44,7 +44,7 @@ def test_it_opens(tester, door_bus):
     assert door.is_open
 
 
-# The tester's first frame fails in its last bit: the door has it, the tester sends it again.
+# The tester's first frame fails in its last bit: the door accepts the frame, and the tester sends it again.
 @pytest.mark.canbusd("tester,door", faults=Faults().last_bit(0))
 @pytest.mark.canbusd_sweep()
 def test_a_command_that_arrives_twice_is_obeyed_once(tester, door_bus):
@@ -53,12 +53,13 @@ def test_a_command_that_arrives_twice_is_obeyed_once(tester, door_bus):
     step(door, door_bus)
     step(door, door_bus)
     expect(tester, REPORT, 0, OPEN)
-    # One report, and no more.
+    # The door sends one report, and no more.
     assert door_bus.stats().sent == 1
     assert door.moves == 1
 
 
-# 17 failed attempts make the door error passive. So it can't destroy the command that it sees wrongly, and misses it.
+# 17 failed attempts make the door error passive. So it can't destroy the command that it receives with a fault, and
+# misses it.
 @pytest.mark.canbusd("tester,door", faults=Faults().destroyed(range(17)).local("crc", ["door"], 18))
 def test_a_missed_command_is_asked_for(canbusd, tester, door_bus):
     door = Door()
@@ -66,7 +67,7 @@ def test_a_missed_command_is_asked_for(canbusd, tester, door_bus):
     expect(tester, REPORT, 255, CLOSED)
     for number, wanted in enumerate([OPEN, CLOSED]):
         tester.send(message(COMMAND, number, wanted))
-    # It hears of warning and passive, and then the second command.
+    # The door receives the notices of warning and passive, and then the second command.
     for _ in range(3):
         step(door, door_bus)
     expect(tester, REQUEST, 0)
@@ -82,7 +83,7 @@ def test_a_missed_command_is_asked_for(canbusd, tester, door_bus):
 def test_it_comes_back_from_bus_off(canbusd, tester, door_bus):
     door = Door()
     tester.send(message(COMMAND, 0, OPEN))
-    # The command; then error warning, error passive and bus off; then its restart.
+    # The events are the command, error warning, error passive and bus off, and then the restart.
     for _ in range(5):
         step(door, door_bus)
     expect(tester, REPORT, 0, OPEN)
@@ -103,7 +104,7 @@ def test_a_report_that_loses_arbitration_is_sent_in_the_end(canbusd_bench):
     for received in door_session.receive():
         for answer in door.handle(received):
             door_session.send(answer)
-    # While the report waits others have more urgent things to say.
+    # While the report waits, other nodes send frames with lower identifiers.
     for number in range(3):
         other.send(0x0FF, bytes([number]))
     assert [attempt.winner for attempt in canbusd_bench.run()] == ["other", "other", "other", "door"]

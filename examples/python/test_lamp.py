@@ -18,7 +18,7 @@ search = hypothesis.settings(deadline=None, derandomize=True, database=None, max
 
 
 def ends_on(lamp, plan):
-    """Whether the lamp is on after it was switched once."""
+    """Returns whether the lamp is on after it was switched once."""
     with Bench(BUS, faults=plan) as bench:
         switch, node = bench.open("switch"), bench.open("lamp", error_frames=False)
         switch.send(TOGGLE, b"\x07")
@@ -39,7 +39,7 @@ def test_what_the_search_found():
     assert ends_on(Lamp(counts=True), FOUND)
 
 
-# Without faults that put the switch bus off, 32 of which there would have to be.
+# The plans don't put the switch bus off, which takes 32 faults.
 @search
 @hypothesis.given(plan=strategies.fault_plans(BUS, attempts=8))
 def test_a_lamp_that_counts(plan):

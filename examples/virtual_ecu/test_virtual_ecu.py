@@ -16,13 +16,13 @@ import pytest
 from canbusd import Faults, Server
 
 FOLDER = Path(__file__).parent
-#: Seconds in which a guest starts without KVM on a busy machine, and in which it replies.
+#: The limits in seconds for the start of a guest without KVM on a busy machine, and for its reply.
 START, REPLY = 300, 30
 
 
 @pytest.fixture(scope="module")
 def machine(tmp_path_factory):
-    """The words that start a guest whose CAN card is on the interface ecu."""
+    """Returns the words that start a guest whose CAN card is on the interface ecu."""
     if not shutil.which("qemu-system-x86_64"):
         pytest.skip("no qemu-system-x86_64: apt-get install qemu-system-x86")
     initrd = tmp_path_factory.mktemp("guest") / "initrd"
@@ -48,7 +48,7 @@ def server(machine, tmp_path_factory):
 
 @pytest.fixture
 def tester(server):
-    """Receives replies of the ECU."""
+    """Receives replies from the ECU."""
     replies = [{"can_id": 0x200, "can_mask": 0x7FF, "extended": False}]
     with server.bus("tester", can_filters=replies, error_frames=False) as bus:
         yield bus
@@ -59,7 +59,7 @@ def ask(tester, value):
 
 
 def test_sigterm_where_nobody_acknowledges(machine, tmp_path):
-    """The second heartbeat waits for room, and with it the machine, for a second."""
+    """The second heartbeat waits for room, and the machine waits with it, for a second."""
     with Server("ecu", ack="peers", txqueue=1, out=tmp_path) as server:
         guest = server.start(machine, wait=True)
         guest.expect("heartbeat 2", within=START)

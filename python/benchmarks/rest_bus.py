@@ -20,7 +20,7 @@ MICROS = 1_000_000
 
 
 def database(folder):
-    """A file with these messages, of 8 bytes; and the cycle time of each by its identifier."""
+    """Writes a file with these messages, of 8 bytes; returns the cycle time of each by its identifier."""
     lines, cycles = ['VERSION ""\n\nBU_: Others ECU\n'], {}
     for cycle, count in CYCLES.items():
         for _ in range(count):

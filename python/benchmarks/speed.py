@@ -22,7 +22,7 @@ import can
 from canbusd.server import Server
 
 RUNS = 3
-# As many as python-can's client of socketcand loses none of, and more.
+# Bursts of as many frames as python-can's socketcand client handles without a loss, and more.
 FEW, SOME = 15, 1000
 
 
@@ -58,7 +58,7 @@ def canbusd():
 
 
 def round_trips(one, other, count):
-    """How long each of these round trips takes."""
+    """Returns the duration of each of these round trips."""
     took = []
     for number in range(count):
         begun = time.perf_counter()
@@ -79,7 +79,7 @@ def send_together(bus, frames):
 
 
 def burst(one, other, count, part, send):
-    """How many frames a second arrived, and how many were lost."""
+    """Returns the number of frames that arrived each second, and the number of lost frames."""
     frames = [frame(number) for number in range(count)]
     got = sent = 0
     arrived = threading.Semaphore(0)
@@ -105,7 +105,8 @@ def burst(one, other, count, part, send):
 
 
 def measured(interface, count, part, send):
-    """The best of several runs: round trips a second, latencies, frames a second, and the frames lost in all."""
+    """Returns the best of several runs: round trips a second, latencies, frames a second, and the total of lost
+    frames."""
     rows, lost = [], 0
     for _ in range(RUNS):
         with interface() as (one, other):

@@ -8,15 +8,15 @@ import time
 
 PROGRAM = shutil.which("chromium") or shutil.which("chromium-browser") or shutil.which("google-chrome")
 WAIT = 60
-# By the names of keys: their codes, and the text that they type.
+# The codes of keys and the text that they type, by the names of the keys.
 CODES = {"ArrowLeft": 37, "ArrowRight": 39, "ArrowDown": 40, "Home": 36, "End": 35, "Enter": 13}
 TEXTS = {"Enter": "\r"}
-# Python's side of the browser's file descriptors 3 and 4, from which it reads commands and to which it writes replies.
+# Python's ends of the browser's file descriptors 3 and 4: the browser reads commands from 3 and writes replies to 4.
 LAUNCH = 'exec "$0" "$@" 3<&{} 4>&{}'
 
 
 class Browser:
-    """One page of a browser."""
+    """A page of a browser."""
 
     def __init__(self, folder, *words):
         read, self.writer = os.pipe()
@@ -37,7 +37,7 @@ class Browser:
             self.ask(f"{domain}.enable")
 
     def ask(self, method, **params):
-        """Has the browser do something; its reply."""
+        """Sends a command to the browser; returns its reply."""
         self.number += 1
         data = json.dumps({"id": self.number, "method": method, "params": params, **self.page}).encode() + b"\0"
         while data:
@@ -51,7 +51,7 @@ class Browser:
                 return message["result"]
 
     def message(self):
-        """The next message of the browser."""
+        """Returns the next message of the browser."""
         while b"\0" not in self.rest:
             data = os.read(self.reader, 1 << 16)
             assert data, "the browser has ended"
@@ -60,14 +60,14 @@ class Browser:
         return json.loads(message)
 
     def size(self, width, height=900, dark=False):
-        """Sets the size of the window, and whether colours are dark."""
+        """Sets the size of the window, and the dark or light colours."""
         self.ask("Emulation.setDeviceMetricsOverride", width=width, height=height, deviceScaleFactor=1, mobile=False)
         scheme = {"name": "prefers-color-scheme", "value": "dark" if dark else "light"}
         self.ask("Emulation.setEmulatedMedia", features=[scheme])
         self.settle()
 
     def open(self, address):
-        """Opens a page, and waits until it has drawn itself."""
+        """Opens a page, and waits until it is drawn."""
         self.ask("Page.navigate", url="about:blank")
         self.ask("Page.navigate", url=address)
         self.until("document.body?.dataset.drawn !== undefined")
@@ -79,13 +79,13 @@ class Browser:
             assert time.monotonic() < deadline, condition
 
     def run(self, script):
-        """The value of an expression, which may be a promise."""
+        """Returns the value of an expression, which may be a promise."""
         done = self.ask("Runtime.evaluate", expression=script, returnByValue=True, awaitPromise=True)
         assert "exceptionDetails" not in done, done
         return done["result"].get("value")
 
     def settle(self):
-        """Waits for two frames, after which what was due is drawn."""
+        """Waits for two frames of the browser, so that all changes are drawn."""
         self.run("new Promise(done => requestAnimationFrame(() => requestAnimationFrame(done)))")
 
     def key(self, key):
@@ -97,7 +97,7 @@ class Browser:
         self.settle()
 
     def mouse(self, kind, x, y, **more):
-        """Does something with the mouse."""
+        """Sends a mouse event."""
         self.ask("Input.dispatchMouseEvent", type=kind, x=x, y=y, **more)
         self.settle()
 

@@ -12,7 +12,7 @@ from canbusd.server import Server
 
 PYTHON = Path(__file__).resolve().parents[1]
 WAIT = 20
-#: A database of two nodes, of which one sends each 10 ms.
+#: A database of two nodes, one of which sends every 10 ms.
 DBC = """VERSION ""
 BU_: Engine ECU
 BO_ 256 EngineData: 4 Engine
@@ -24,14 +24,14 @@ BA_DEF_DEF_ "GenMsgCycleTime" 0;
 BA_ "GenMsgCycleTime" BO_ 256 10;
 """
 
-#: Makes a fixture of a function: a test runs with each kind of bus, which is a class and a bit rate.
+#: Makes a fixture from a function: a test runs with each kind of bus, which has a class and a bit rate.
 on_each_kind = pytest.fixture(
     params=[(Server, 500_000), (Bench, 500_000), (Bench, None)], ids=["server", "bench", "bench without a bit rate"]
 )
 
 
 def writes_live():
-    """Whether the program writes records while it runs."""
+    """Returns whether the program writes records while it runs."""
     words = [find_program(), "serve", "--help"]
     return b"--record" in subprocess.run(words, stdout=subprocess.PIPE, check=True).stdout
 
@@ -40,11 +40,11 @@ needs_live = pytest.mark.skipif(not writes_live(), reason="the program is older 
 
 
 def message(identifier, data=b"", extended=False, **more):
-    """A message of python-can, of 11 bits unless asked otherwise."""
+    """Returns a python-can message, with 11 bits unless the caller asks otherwise."""
     return can.Message(arbitration_id=identifier, data=data, is_extended_id=extended, **more)
 
 
 def shape(received):
-    """The facts by which two messages are the same, apart from their moments."""
+    """Returns the facts that equal messages share, without the timestamp."""
     kinds = received.is_extended_id, received.is_remote_frame, received.is_error_frame, received.is_fd
     return received.arbitration_id, bytes(received.data), received.dlc, *kinds

@@ -16,7 +16,7 @@ from common import PYTHON
 from few_at_a_time import pytest_xdist_make_scheduler  # noqa: F401
 from made_once import made_once
 
-# Programs that the tests start have the package of the tests, and the program that fits the sources.
+# Programs that the tests start use the package of the tests, and the program that fits the sources.
 os.environ["PYTHONPATH"] = os.path.dirname(importlib.util.find_spec("canbusd").submodule_search_locations[0])
 if "CANBUSD" not in os.environ:
     fitting = [PYTHON.parent / "scripts" / "program", "fitting"]
@@ -25,13 +25,13 @@ if "CANBUSD" not in os.environ:
 
 
 def pytest_addoption(pluginmanager):
-    """Where the package is not installed, pytest has not found its plugin."""
+    """Adds the plugin's options if the package is not installed, because pytest has then not found the plugin."""
     pluginmanager.import_plugin("canbusd.pytest_plugin")
 
 
 @pytest.fixture(scope="session")
 def browser(tmp_path_factory):
-    """A browser that opens one page after the other."""
+    """A browser that opens pages one after the other."""
     browser = Browser(tmp_path_factory.mktemp("browser"))
     yield browser
     browser.close()
@@ -52,8 +52,8 @@ def pair(server):
 
 
 def install(folder):
-    """Installs the package by pip."""
-    # Not where it is: setuptools builds in the folder that it is given.
+    """Installs the package with pip."""
+    # This installs a copy, because setuptools builds in the folder of the sources.
     source = folder / "clone" / "python"
     shutil.copytree(PYTHON, source, ignore=shutil.ignore_patterns("build", "*.egg-info", "__pycache__", ".*"))
     (source.parent / "scripts").symlink_to(PYTHON.parent / "scripts")

@@ -1,4 +1,5 @@
-"""How long frames take the wire, by the model of the clone's tests: tests/helpers/wire_model.py and wire_times.py."""
+"""The time of frames on the wire, from the model of the repository's tests: tests/helpers/wire_model.py and
+wire_times.py."""
 
 import sys
 from pathlib import Path
@@ -10,6 +11,6 @@ from wire_times import Rates  # noqa: E402
 
 
 def nanos_of(text, bitrate, dbitrate=None):
-    """The nanoseconds of a frame, and of an attempt in which it is done, which ends when the next one may begin."""
+    """Returns the nanoseconds of a frame, and of its successful attempt, which ends when the next attempt may begin."""
     rates, frame = Rates(bitrate, dbitrate), Frame.read(text)
     return rates.frame_nanos(frame), rates.attempt_nanos(frame)

@@ -1,4 +1,5 @@
-"""A file that a command reads may be no log and no record: its first bytes say so, and no more is read. And faults may be many."""
+"""Files that are no log and no record: their first bytes show this, and a command reads no more. Faults may also be
+many."""
 
 import gzip
 import os
@@ -14,7 +15,7 @@ from canbusd import Bench, Faults, Server
 from canbusd.record import read_record
 
 WAIT = 60
-# The memory that a command may take, which is less than a line of 100 MB takes.
+# The memory limit of a command, which is less than the memory for a line of 100 MB.
 MOST_MEMORY = 400_000_000
 FRAME = "(1795910922.000000) ecu 123#11\n"
 ASC = "date Sat Sep 30 15:06:13.191 2017\nbase hex  timestamps absolute\nno internal events logged\n"
@@ -22,13 +23,13 @@ NO_LINE = "no line of a log has 16,384 characters, so this is none, or it is dam
 
 
 def limited():
-    """Ends a command that takes more memory or time."""
+    """Ends a command that takes too much memory or time."""
     resource.setrlimit(resource.RLIMIT_AS, (MOST_MEMORY, MOST_MEMORY))
     resource.setrlimit(resource.RLIMIT_CPU, (30, 30))
 
 
 def call(*words, **more):
-    """Runs a command; its status and what it wrote."""
+    """Runs a command; returns its status and its output."""
     if words[0] == "candump2bench":
         words = ["-c", "from canbusd.candump2bench import main; main()", *words[1:]]
     else:
@@ -41,7 +42,7 @@ def call(*words, **more):
 
 
 def sparse(path, head=""):
-    """Makes a file of 100 MB of zero bytes after a head; its path."""
+    """Makes a file of 100 MB of zero bytes after a head; returns its path."""
     with open(path, "w", encoding="ascii") as file:
         file.write(head)
         file.truncate(len(head) + 100_000_000)
@@ -60,8 +61,13 @@ def compressed(tmp_path_factory):
 
 @pytest.mark.parametrize("name", ["x.log", "x.asc", "x.csv", "x.trc"])
 @pytest.mark.parametrize("words", [["convert"], ["candump2bench"]], ids=lambda words: words[0])
+<<<<<<< HEAD
 def test_a_line_without_end(compressed, tmp_path, words, name):
     """of zeros, as /dev/zero, a file, and compressed; also after right lines"""
+=======
+def test_a_line_without_end(tmp_path, words, name):
+    """a line without end is refused: zeros as from /dev/zero, in a file, and compressed; also after correct lines"""
+>>>>>>> com5
     out = [tmp_path / "out.log"] if words == ["convert"] else []
     path = sparse(tmp_path / name)
     assert call(*words, path, *out) == (1, "", f"{prefix(words)}: {path}:1: {NO_LINE}\n")
@@ -81,7 +87,7 @@ def test_a_line_without_end(compressed, tmp_path, words, name):
 
 
 def prefix(words):
-    """The name of a command in its messages."""
+    """Returns the name of a command in its messages."""
     return "canbusd convert" if words == ["convert"] else words[0]
 
 
@@ -91,9 +97,14 @@ def test_standard_input_without_a_line():
 
 
 def test_a_log_without_end(tmp_path):
+<<<<<<< HEAD
     """makes no input of the bench, however long it would be"""
     # The longest frames: their lines are fewer.
     with subprocess.Popen(["yes", f"(1795910922.000000) ecu 123##1{128 * '1'}"], stdout=subprocess.PIPE) as endless:
+=======
+    """a log without end makes no input of the bench, however long it would be"""
+    with subprocess.Popen(["yes", FRAME.strip()], stdout=subprocess.PIPE) as endless:
+>>>>>>> com5
         said = "candump2bench: the input would have more than the 16777216 bytes that canbusd reads: cut the log\n"
         assert call("candump2bench", stdin=endless.stdout) == (1, "", said)
         endless.kill()
@@ -108,7 +119,7 @@ def test_no_blf_file(tmp_path):
 @pytest.mark.parametrize("command", ["report", "replay"])
 @pytest.mark.parametrize("options", [[], ["--cut"]])
 def test_no_record(tmp_path, command, options):
-    """as the program says it of a short one"""
+    """a file that is no record is refused in the program's words for a short one"""
     for place in (sparse(tmp_path / "x.rec"), "/dev/zero"):
         status, written, said = call(command, *options, place)
         assert (status, written) == (1, "") and said.startswith(f"canbusd {command}: {place}: bad version: `????")
@@ -119,7 +130,7 @@ def test_no_record(tmp_path, command, options):
 
 
 def test_a_log_beside_a_record_without_lines(tmp_path):
-    """It is one of another run."""
+    """the log of another run gives no names"""
     with Bench("can0", out=tmp_path):
         pass
     (tmp_path / "can0.log").unlink()
@@ -130,7 +141,7 @@ def test_a_log_beside_a_record_without_lines(tmp_path):
 
 @pytest.fixture(scope="module")
 def run(tmp_path_factory):
-    """The record of 100 attempts, of which a rule destroys the first."""
+    """Returns the record of 100 attempts, of which a rule destroys the first."""
     out = tmp_path_factory.mktemp("run")
     with Server("can0,can1", out=out, faults=Faults().next(1, id=0x123).destroyed()) as server, server.bus(
         "can0"
@@ -146,9 +157,14 @@ def test_faults_without_lines(run):
     assert said.splitlines()[-1] == "canbusd report: /dev/zero: no line of faults has 4,096 bytes, as its first one has"
 
 
+<<<<<<< HEAD
 RULES = "".join(f"at 50 next 1 from can0 id {number:03X} local crc can1\n" for number in range(0x7FF))
 #: The blocks of lines of 40 MB of faults after the first, by a number: rules that were refused, since 64 have no end, some that
 #: were given and ended at once, comments, and lines of a script.
+=======
+#: The lines of 40 MB of faults after the first, by a number: refused rules, since 64 have no end; rules that were given
+#: and ended at once; comments; and lines of a script.
+>>>>>>> com5
 MANY = {
     "refused": lambda number: RULES.replace("at 50 ", f"at {1 + number // 15} "),
     "ended": lambda _: RULES.replace("can1\n", "can1\nat 50 nofaults\n"),
@@ -170,8 +186,12 @@ def processor_seconds(*words):
 
 @pytest.mark.parametrize("kind", [*MANY])
 def test_forty_megabytes_of_faults(run, tmp_path, kind):
+<<<<<<< HEAD
     """take seven times as long as to split their lines, at most: 3 seconds of a processor that does nothing else. One of three
     tries is beside even work"""
+=======
+    """forty megabytes of faults take at most 3 seconds of a processor"""
+>>>>>>> com5
     for path in (run, run.with_suffix(".log")):
         os.link(path, tmp_path / path.name)
     first = "next 1 id 123 global bit\n"
@@ -194,7 +214,7 @@ def test_forty_megabytes_of_faults(run, tmp_path, kind):
 
 
 def test_a_record_is_read_from_its_first_byte(run):
-    """though its beginning is looked at"""
+    """a record is read from its first byte, though its beginning is checked before"""
     assert len(read_record(run).attempts) == 100
     words = [sys.executable, "-m", "canbusd", "replay", "--quiet", "/dev/stdin"]
     done = subprocess.run(

@@ -1,5 +1,5 @@
-"""CanbusdBus on a server: what a user of python-can tries. Classes and bytes of error message frames are those of
-linux/can/error.h, the limits of the counts those of Bosch's specification."""
+"""CanbusdBus on a server: the calls that a user of python-can makes. The classes and bytes of error message frames
+follow linux/can/error.h, and the limits of the counts follow Bosch's specification."""
 
 import errno
 import os
@@ -18,7 +18,7 @@ from canbusd.server import Server
 
 
 def all_of(bus):
-    """What the bus has received, until nothing comes."""
+    """Returns the messages that the bus receives, until no more come."""
     return list(iter(lambda: bus.recv(0.2), None))
 
 
@@ -98,7 +98,7 @@ def test_flags_of_fd_frames_are_kept(server, caplog, brs, esi):
 
 
 def error(class_, data):
-    """An error message frame in the form of `shape`."""
+    """Returns an error message frame in the form of `shape`."""
     return class_, bytes.fromhex(data), 8, False, False, True, False
 
 
@@ -108,7 +108,7 @@ def test_error_frames_and_state_to_bus_off_and_back():
             assert can0.state is can.BusState.ACTIVE
             can0.send(message(0x123))
             shapes = [shape(can0.recv(WAIT)) for _ in range(3)]
-            # Transmit count 96 and 128 (CRTL with the counts), then bus off.
+            # The transmit count reaches 96 and 128 (CRTL with the counts), and then bus off.
             assert shapes == [
                 error(0x204, "0008000000006000"), error(0x204, "0020000000008000"), error(0x040, "0000000000000000")
             ]  # fmt: skip
@@ -123,7 +123,7 @@ def test_error_frames_and_state_to_bus_off_and_back():
             assert shape(can0.recv(WAIT)) == error(0x100, "0000000000000000")
             assert can0.state is can.BusState.ACTIVE
             assert can0.error_counters() == ("active", 0, 0)
-            # A frame that was queued at bus off is lost; the bus works again.
+            # A frame that was in the queue at bus off is lost; the bus then works again.
             can0.send(message(0x124))
             assert can1.recv(WAIT).arbitration_id == 0x124
             assert can0.stats().lost == 1
@@ -138,7 +138,7 @@ def test_error_frames_and_state_to_bus_off_and_back():
     ],
 )
 def test_the_state_is_that_of_the_counts(destroyed, counters, state):
-    # Each destroyed frame adds 8 to the sender's count and 1 to the receiver's; the good one takes 1 off both.
+    # Each destroyed frame adds 8 to the sender's count and 1 to the receiver's; the successful frame takes 1 off both.
     with Server("can0,can1", faults=Faults().destroyed(range(destroyed))) as server:
         with server.bus("can0") as can0, server.bus("can1") as can1:
             can0.send(message(0x123))
@@ -181,7 +181,7 @@ def test_reported_faults():
     with Server("can0,can1", faults=Faults().destroyed(0), report=True) as server:
         with server.bus("can0") as can0, server.bus("can1") as can1:
             can0.send(message(0x123))
-            # PROT and BUSERROR: a bit error while sending, in the data section; a stuff error at the other.
+            # PROT and BUSERROR: a bit error in the data section at the sender, and a stuff error at the receiver.
             assert shape(can0.recv(WAIT)) == error(0x088, "0000810A00000000")
             assert shape(can1.recv(WAIT)) == error(0x088, "0000040000000000")
 
@@ -211,7 +211,7 @@ def test_a_full_transmit_queue(full):
 
 
 def test_a_burst_waits_for_room():
-    # The receiver has room for all, however late it reads.
+    # The receiver has room for all frames, however late it reads.
     with Server("can0,can1", rxqueue=300) as server, server.bus("can0") as can0, server.bus("can1") as can1:
         for number in range(300):
             can0.send(message(number), timeout=WAIT)
@@ -247,7 +247,7 @@ def test_many_messages_while_others_send_by_the_interface(pair, server):
 
 
 FILTERS = [
-    # Filters, and which of the frames below pass: 11 bits 123, 29 bits 123, remote 123, 11 bits 124.
+    # The filters, and the frames below that pass: 11 bits 123, 29 bits 123, remote 123, 11 bits 124.
     (None, "abcd"),
     ([{"can_id": 0x123, "can_mask": 0x7FF}], "abc"),
     ([{"can_id": 0x123, "can_mask": 0x1FFFFFFF}], "abc"),
@@ -259,7 +259,7 @@ FILTERS = [
     ([{"can_id": 0x124, "can_mask": 0x7FF}, {"can_id": 0x123, "can_mask": 0x7FF, "extended": True}], "bd"),
     ([{"can_id": 0, "can_mask": 0}], "abcd"),
 ]
-# Too many for one message of 1,024 bytes, and none of them matches.
+# These filters do not fit into one message of 1,024 bytes, and none matches.
 FAR = [{"can_id": 0x700 + number, "can_mask": 0x7FF, "extended": False} for number in range(100)]
 FRAMES = {
     "a": message(0x123),
@@ -289,7 +289,7 @@ def test_filters(pair, server, filters, passing):
     can1.set_filters(wanted)
     assert can1.filters == wanted
     assert until_end(can1, can0) == passing
-    # Also from the start.
+    # This also works from the start.
     with server.bus("can1", can_filters=wanted) as other:
         assert until_end(other, can0) == passing
     # None receives everything again.
@@ -335,7 +335,7 @@ def test_error_frames_are_not_filtered():
 
 @pytest.mark.parametrize("count", [1, 100])
 def test_joined_filters(server, count):
-    # All must match: not 123, and for each of the others not its identifier.
+    # All filters must match: not 123, and for each other filter not its identifier.
     others = [{**one, "can_id": one["can_id"] | 0x20000000} for one in FAR[: count - 1]]
     filters = [{"can_id": 0x20000123, "can_mask": 0x7FF}, *others]
     with server.bus("can0") as can0, server.bus("can1", can_filters=filters, join_filters=True) as can1:
@@ -363,7 +363,7 @@ def test_whose_a_message_is(server):
             assert shape(got) == shape(message(7, b"7")) and got.is_rx == (sender is not own)
         own.send(message(8, dlc=2, is_remote_frame=True))
         assert own.recv(WAIT).is_rx is False
-    # A frame that the same interface sent before is not one's own.
+    # A frame that another bus of the same interface sent earlier is not this bus's own.
     with server.bus("can0", receive_own_messages=True, fd=True) as own, server.bus("can0") as beside:
         beside.send(message(9))
         own.send(message(9, bytes(12), is_fd=True))
@@ -556,7 +556,7 @@ def test_the_file_descriptor_is_readable_while_there_are_frames(pair):
         seen += [got.arbitration_id] if got else []
     assert seen == list(range(5))
     assert not select.select([can1], [], [], 0)[0]
-    # Also of frames that were read while an answer was awaited.
+    # This also holds for frames that were read while an answer was awaited.
     can0.send(message(6))
     while can1.stats().taken < 6:
         pass

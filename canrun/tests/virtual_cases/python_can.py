@@ -1,4 +1,5 @@
-"""python_can.py INTERFACE A B SECONDS: a Notifier, periodic senders, receives with a timeout; prints what happened when."""
+"""python_can.py INTERFACE A B SECONDS: a Notifier, periodic senders, receives with a timeout; prints each event with
+its time."""
 
 import sys
 import time

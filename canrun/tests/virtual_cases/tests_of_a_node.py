@@ -1,4 +1,4 @@
-"""Nothing here knows of virtual time."""
+"""These tests know nothing about virtual time."""
 
 import time
 

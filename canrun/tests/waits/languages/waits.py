@@ -1,4 +1,4 @@
-"""Waits of Python: prints of each `NAME MILLISECONDS MICROSECONDS RESULT`. See ../main.c."""
+"""Waits of Python: prints `NAME MILLISECONDS MICROSECONDS RESULT` for each wait. See ../main.c."""
 
 import asyncio
 import concurrent.futures
@@ -24,7 +24,7 @@ CASES = []
 
 
 def case(milliseconds=30):
-    """Notes a wait, and how long it is."""
+    """Registers a wait, and its length."""
 
     def note(call):
         CASES.append((call.__name__, milliseconds, call))
@@ -34,7 +34,7 @@ def case(milliseconds=30):
 
 
 class Rung(Exception):
-    """An alarm has come."""
+    """The exception of an alarm."""
 
 
 def ring(*_):
@@ -43,18 +43,18 @@ def ring(*_):
 
 
 def alarm():
-    """SIGALRM comes soon, and raises."""
+    """Makes SIGALRM come soon, and raise an exception."""
     signal.signal(signal.SIGALRM, ring)
     signal.setitimer(signal.ITIMER_REAL, SOON)
 
 
 def late(call, *words):
-    """A thread calls this soon."""
+    """Makes a thread call this function soon."""
     threading.Timer(SOON, call, words).start()
 
 
 def raises(kind, call, *words, **options):
-    """The name of what a call raises."""
+    """Returns the name of the exception that a call raises."""
     try:
         return call(*words, **options)
     except kind as error:
@@ -261,7 +261,7 @@ def multiprocessing_queue():
     return result
 
 
-#: It looks at the clock until no time is left, which passes in steps.
+#: This wait reads the clock until no time is left, and each step takes time.
 @case(30.01)
 def multiprocessing_join():
     child = multiprocessing.get_context("fork").Process(target=time.sleep, args=(LONG,))
@@ -363,7 +363,7 @@ def asyncio_signal():
 
 
 def main():
-    """Makes each wait in a process of its own, all at once."""
+    """Makes each wait in a separate process, all at once."""
     children = []
     for name, milliseconds, call in CASES:
         reader, writer = os.pipe()
