@@ -1,3 +1,4 @@
 pub mod FilterLists
 pub mod Frames
 pub mod Runs
+pub mod Benches
