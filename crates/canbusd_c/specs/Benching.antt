@@ -21,7 +21,7 @@ use Rattle.canbusd_c.specs.declared.shapes.CConfig.{CConfig}
 
 -- The bench of a process of its own: that of can_session, line by line (own choice).
 
--- a bench, and what the lines of the last call put out
+-- a bench, and the output of the last call's lines
 pub record KeptBench : Type 0 where
   pub bench : BenchState
   pub output : List ℕ
@@ -31,7 +31,7 @@ abbrev pub kept_at_start : Bool → PlanSeen → Option BusTiming → List (List
 kept_at_start shows plan timing names config capacity =
     record { bench = at_start_with shows plan timing names config capacity; output = [] }
 
--- lines are carried out, and what they put out is kept
+-- lines are carried out, and their output is kept
 abbrev pub KeepsLines : List ℕ → KeptBench → Result (Unit {0}) BenchFault → KeptBench → Type 0
 KeepsLines lines old outcome new = TakesLines no_verdicts lines old.bench [] outcome new.bench new.output
 
@@ -44,12 +44,12 @@ fault_code fault.Read = 27
 fault_code fault.Write = 10
 fault_code fault.NoMemory = 10
 
--- the number of the line of a fault, where it has one
+-- the number of the line of a fault, if it has one
 abbrev pub fault_line : ℕ → BenchFault → ℕ
 fault_line before (fault.BadLine n) = n
 fault_line before _ = before
 
--- what became of lines is told: the code of a fault, and the number of its line
+-- the result of lines: the code of a fault, and the number of its line
 abbrev pub IsLineTold : Result (Unit {0}) BenchFault → ℕ → ℕ → ℕ → Type 0
 IsLineTold (Ok done) before code line = (code ≡ 0) × (line ≡ before)
 IsLineTold (Err why) before code line = (code ≡ fault_code why) × (line ≡ fault_line before why)
@@ -58,7 +58,7 @@ IsLineTold (Err why) before code line = (code ≡ fault_code why) × (line ≡ f
 abbrev pub IsTextOut : List ℕ → List ℕ → ℕ → List ℕ → Type 0
 IsTextOut text before len after = (len ≡ length text) × IsFront text before after
 
--- lines are carried out, and what they put out is written
+-- lines are carried out, and their output is written
 abbrev pub IsTakeCall : List ℕ → KeptBench → List ℕ → ℕ → ℕ → ℕ → ℕ → List ℕ → KeptBench → Type 0
 IsTakeCall lines old before line_before code len line after new =
     (outcome : Result (Unit {0}) BenchFault)
@@ -92,7 +92,7 @@ plan_line before (plan.Script (script.RepeatedAttempt n)) = n
 plan_line before (plan.Script script.NoMemory) = before
 plan_line before (plan.TooManyRules n) = n
 
--- why a text spells no faults of a bus with these names: it is no UTF-8, or what is wrong with its first wrong line; or
+-- a text spells no faults of a bus with these names: it is no UTF-8, or this is the fault of its first wrong line; or
 -- memory was refused
 abbrev pub IsNoPlan : List (List ℕ) → List ℕ → ℕ → ℕ → ℕ → Type 0
 IsNoPlan names faults before code line =

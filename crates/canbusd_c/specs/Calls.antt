@@ -36,7 +36,7 @@ use Rattle.canbusd_c.specs.declared.shapes.CStatus.{CStatus}
 use Rattle.canbusd_c.specs.declared.shapes.CStats.{CStats}
 use Rattle.canbusd_c.specs.declared.shapes.CLoad.{CLoad}
 
--- What each call of C does and returns, by its code.
+-- The effect of each call of C, and its code.
 
 -- the socket of a number
 abbrev pub socket : ℕ → SocketId
@@ -46,7 +46,7 @@ socket s = record { 0 = s }
 abbrev pub IsBadCall : ℕ → Local → ℕ → Local → Type 0
 IsBadCall bad old code new = (code ≡ bad) × (new ≡ old)
 
--- one event of the bus; what it came to is told, and its value written
+-- one event of the bus; its code is returned, and its value written
 abbrev pub IsToldEvent : {A : Type 0} → (A → Reply) → Local → Event → ℕ → A → Local → Type 0
 IsToldEvent {A} reply_of old event code value new =
     (outcome : Result A Refusal)
@@ -78,7 +78,7 @@ abbrev pub filter_before : CFilter → Bool → Option (List CanFilter) → Opti
 filter_before f true (Some filters) = Some (record { id = f.id; mask = f.mask } ∷ filters)
 filter_before f _ _ = None
 
--- each filter, or none where one is invalid: bit 29 is in no mask
+-- each filter, or none if one is invalid: bit 29 is in no mask
 unfoldable pub filters_of_structs : List CFilter → Option (List CanFilter)
 filters_of_structs [] = Some []
 filters_of_structs (f ∷ fs) = filter_before f (bit_and f.mask (2 ^ 29) == 0) (filters_of_structs fs)
@@ -113,7 +113,7 @@ IsReceiveCall s old code item new =
     × IsLocalEvent (taken_reply room) old (event.Receive (socket s)) outcome new
     × IsItemTold room outcome code item
 
--- what an attempt came to is written, or why there was none is the code
+-- the result of an attempt is written, or the code is that of its refusal
 abbrev pub IsAttemptTold : Result Attempt Refusal → ℕ → CTried → Type 0
 IsAttemptTold (Ok attempt) code tried = (code ≡ 0) × (tried ≡ tried_out attempt)
 IsAttemptTold (Err why) code tried = code ≡ refusal_code why
@@ -149,7 +149,7 @@ IsInjectCall rule old code new =
     × (new ≡ local_with_plan old new.bus.plan)
     × IsTold rule_code outcome code tt
 
--- what is read of an interface or a socket, if there is one: else its code is this, and nothing is written
+-- the counts of an interface or a socket are written, if there is one; else the code is this, and nothing is written
 abbrev pub IsCountsCall : {A B : Type 0} → ℕ → (A → B) → Option A → B → ℕ → B → Type 0
 IsCountsCall missing out None before code after = (code ≡ missing) × (after ≡ before)
 IsCountsCall missing out (Some a) before code after = (code ≡ 0) × (after ≡ out a)
@@ -163,7 +163,7 @@ iface_counts b (Some iface) = iface_stats_of b.bus.journal.config b.bus.journal.
 abbrev pub socket_counts : Local → ℕ → Option SocketStats
 socket_counts b s = socket_stats_of b.bus.journal.config b.bus.journal.history s
 
--- as much of a text as there is room for; the room behind it is as before
+-- as much of a text as there is room for; the room after it is as before
 abbrev pub IsFront : List ℕ → List ℕ → List ℕ → Type 0
 IsFront text before after = after ≡ take (length before) text ++ drop (length text) before
 

@@ -34,7 +34,7 @@ abbrev pub run_code : RunFault → ℕ
 run_code run.RecordFull = 1
 run_code run.BadRun = 23
 
--- what a call came to is told: it was done, and its value written; or why it was refused is the code
+-- the result of a call: it was done, and its value written; or the code is that of its refusal
 abbrev pub IsTold : {A E : Type 0} → (E → ℕ) → Result A E → ℕ → A → Type 0
 IsTold code_of (Ok a) code value = (code ≡ 0) × (value ≡ a)
 IsTold code_of (Err why) code value = code ≡ code_of why

@@ -10,13 +10,13 @@ use Rattle.canbusd_c.specs.declared.bench_handle.BenchHandle.{BenchHandle}
 use Rattle.canbusd_c.specs.contracts.bench_handle.BenchHandle.{the_row as bench_handle_row}
 use Rattle.canbusd_c.specs.contracts.local_bench.LocalBench.{the_row as bench_row}
 
--- A handle and the bus behind it.
+-- A handle and its bus.
 
--- the handle with this bus behind it
+-- the handle with this bus
 abbrev pub with_value : Handle → Local → Handle
 with_value h b = record { at = h.at; value = b }
 
--- once the borrow r ends, the handle behind h has the bus that was last written through r
+-- once the borrow r ends, the handle of the borrow h has the bus that was last written through r
 abbrev pub handle_follows : MutBor Handle → MutBor Local → Fml
 handle_follows h r = follows handle_row bus_row h.ghost_name r.ghost_name (with_value h.now)
 

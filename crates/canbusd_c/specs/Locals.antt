@@ -99,7 +99,7 @@ AreDueMade moment b (Err fault) after =
 abbrev pub can_run_to : ℕ → Local → Bool
 can_run_to moment b = is_some b.bus.schedule && nat_le b.moment moment
 
--- a run to this moment: attempts as long as one is due, how many, then the moment is set. It ends early where one that
+-- a run to this moment: attempts as long as one is due, their number, then the moment is set. It ends early if one that
 -- is due is refused, since the record is full
 abbrev pub IsLocalRun : ℕ → Local → Result ℕ RunFault → Local → Type 0
 IsLocalRun moment b (Ok n) after =

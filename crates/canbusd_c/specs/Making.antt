@@ -10,9 +10,9 @@ use Rattle.can_wire.specs.Times.{AreBitRates}
 use Rattle.canbusd_c.specs.Locals.{Local, local_at_start}
 use Rattle.canbusd_c.specs.declared.shapes.CConfig.{CConfig}
 
--- What a bus is made with.
+-- The parts that a bus is made with.
 
--- who acknowledges
+-- whether frames are always acknowledged, or only by receivers
 abbrev pub ack_of_number : ℕ → Option AckMode
 ack_of_number n = if n == 0 then Some ack.Always else if n == 1 then Some ack.Peers else None
 

@@ -85,12 +85,12 @@ frame_out f = record {
 abbrev pub error_out : ErrorMessage → CFrame
 error_out e = record { id = e.class + 2 ^ 29; len = 8; flags = 0; unused = 0; bytes = padded_to_64 e.bytes }
 
--- what a socket received, as a struct
+-- a received item as a struct
 abbrev pub item_frame : Item → CFrame
 item_frame (item.Data f) = frame_out f
 item_frame (item.Error e) = error_out e
 
--- the same with where it is from
+-- the same with its origin
 abbrev pub item_out : Received → CItem
 item_out r = record { frame = item_frame r.item; iface = r.from; number = r.number; moment = r.moment }
 
@@ -105,7 +105,7 @@ class_out class.LastBit = 2
 class_out class.Destroyed = 3
 class_out class.NoAck = 4
 
--- what an attempt came to, as a struct
+-- the result of an attempt as a struct
 abbrev pub tried_out : Attempt → CTried
 tried_out (attempt.Idle restarted) = record {
   frame = no_frame_struct;

@@ -5,7 +5,7 @@ ghost use Rattle.canbusd_c.specs.contracts.local_bench.LocalBench.{the_row};
 
 use std::marker::Model;
 
-/// What C has of a bench: a pointer to the box that the bench is in.
+/// A bench in the hands of C: a pointer to the box that the bench is in.
 #[repr(C)]
 #[derive(Drop)]
 pub struct BenchHandle {

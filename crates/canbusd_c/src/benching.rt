@@ -1,4 +1,4 @@
-//! What each export does with the bench of its handle.
+//! The work of each export on the bench of its handle.
 ghost use Rattle.std.specs.Prelude.{◌≡◌, ◌≢◌, IfErr, IfOk, Ok};
 ghost use Rattle.can_rules.specs.Plans.{ReadsPlan};
 ghost use Rattle.canbusd_c.specs.Codes.{IsUntouched};
@@ -16,7 +16,7 @@ use can_rules::Plan;
 use std::alloc::Global;
 use std::str;
 
-/// Makes a bench, or returns the code of why there is none; where a line of the faults is wrong, its number is written.
+/// Makes a bench, or returns the code of the fault. If a line of the faults is wrong, its number is written.
 pub fn make_bench(
     alloc: Global,
     names: &[u8],
@@ -63,7 +63,7 @@ fn plan_in(alloc: Global, faults: &[u8], names: &Names, line: &mut usize) -> Res
     }
 }
 
-/// Carries out lines, and writes as much of what they put out as there is room for, with its length.
+/// Carries out lines, and writes as much of their output as there is room for, with its length.
 pub fn take(
     bench: &mut LocalBench,
     lines: &[u8],
@@ -82,7 +82,7 @@ pub fn take(
     }
 }
 
-/// Writes as much of what the last lines put out as there is room for, and its length.
+/// Writes as much of the last lines' output as there is room for, and its length.
 pub fn write_output(bench: &LocalBench, to: &mut [u8], len: &mut usize)
     ensures { IsTextOut bench.now.output to.old len.new to.new }
 {

@@ -1,4 +1,4 @@
-//! What each export does with the bus behind its handle.
+//! The work of each export on the bus of its handle.
 ghost use Rattle.std.specs.Prelude.{◌≡◌};
 ghost use Rattle.can_event.specs.declared.event.Event.TheVariants as event;
 ghost use Rattle.can_rules.specs.Plans.{without_rules};
@@ -82,7 +82,7 @@ pub fn receive(bus: &mut LocalBus, socket: u32, item: &mut CItem) -> u32
     item_code(&outcome, &room, item)
 }
 
-/// The code of a receive into a room, whose item is written where one was taken.
+/// The code of a receive into a buffer. An item that was taken is written.
 fn item_code(outcome: &Result<bool, Refusal>, room: &Received, item: &mut CItem) -> u32
     ensures told { IsItemTold room.now outcome.now result item.new }
     ensures kept { IsUntouched result item.old item.new }
@@ -109,7 +109,7 @@ pub fn attempt(bus: &mut LocalBus, moment: u64, tried: &mut CTried) -> u32
     tried_code(&outcome, tried)
 }
 
-/// The code of an attempt, which is written where it was made.
+/// The code of an attempt. An attempt that was made is written.
 fn tried_code(outcome: &Result<Attempt, Refusal>, tried: &mut CTried) -> u32
     ensures told { IsAttemptTold outcome.now result tried.new }
     ensures kept { IsUntouched result tried.old tried.new }

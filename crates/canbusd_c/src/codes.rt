@@ -1,4 +1,4 @@
-//! The codes that calls return: 0 where one did what it is for, else why not.
+//! The codes that calls return: 0 for a call that was carried out, or the number of its refusal.
 ghost use Rattle.std.specs.Prelude.{◌≡◌, Err};
 ghost use Rattle.canbusd_c.specs.Codes.{IsTold, IsUntouched, refusal_code, rule_code, run_code};
 ghost use Rattle.canbusd_c.specs.Benching.{IsLineTold, plan_code, plan_line};
@@ -92,7 +92,7 @@ pub fn done_code(outcome: Result<(), Refusal>) -> u32
     }
 }
 
-/// The code of an event that returns a number, which is written where it did.
+/// The code of an event that returns a number. The number is written if the event was carried out.
 pub fn number_code(outcome: Result<u64, Refusal>, number: &mut u64) -> u32
     ensures told { IsTold refusal_code outcome result number.new }
     ensures kept { IsUntouched result number.old number.new }

@@ -1,4 +1,4 @@
-//! The functions that C calls, each a function of `calls` or `looks` on the bus behind a handle.
+//! The functions that C calls. Each is a function of `calls`, `looks` or `benching` on the bus or the bench of a handle.
 ghost use Rattle.std.specs.Prelude.{◌≡◌};
 ghost use Rattle.can_event.specs.declared.event.Event.TheVariants as event;
 ghost use Rattle.can_rules.specs.Plans.{without_rules};
@@ -41,7 +41,7 @@ pub extern "C" fn canbusd_c_free(alloc: Global, handle: Handle) {
     drop(handle.into_parts(alloc).into_box());
 }
 
-/// Opens a socket on an interface, where `capacity` items may wait.
+/// Opens a socket on an interface. `capacity` items may wait there.
 #[unsafe(no_mangle)]
 pub extern "C" fn canbusd_c_open(
     handle: &mut Handle,
@@ -257,7 +257,7 @@ pub extern "C" fn canbusd_c_bench_free(alloc: Global, handle: BenchHandle) {
     drop(handle.into_parts(alloc).into_box());
 }
 
-/// Carries out lines, and writes as much of what they put out as there is room for, with its length.
+/// Carries out lines, and writes as much of their output as there is room for, with its length.
 #[unsafe(no_mangle)]
 pub extern "C" fn canbusd_c_bench_take(
     handle: &mut BenchHandle,
@@ -272,7 +272,7 @@ pub extern "C" fn canbusd_c_bench_take(
     benching::take(handle.lend(), lines, to, len, line)
 }
 
-/// Writes as much of what the last lines put out as there is room for, and its length.
+/// Writes as much of the last lines' output as there is room for, and its length.
 #[unsafe(no_mangle)]
 pub extern "C" fn canbusd_c_bench_output(handle: &mut BenchHandle, to: &mut [u8], len: &mut usize)
     ensures written { IsTextOut handle.old.value.output to.old len.new to.new }

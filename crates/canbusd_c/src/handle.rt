@@ -5,7 +5,7 @@ ghost use Rattle.canbusd_c.specs.contracts.local_bus.LocalBus.{the_row};
 
 use std::marker::Model;
 
-/// What C has of a bus: a pointer to the box that the bus is in.
+/// A bus in the hands of C: a pointer to the box that the bus is in.
 #[repr(C)]
 #[derive(Drop)]
 pub struct Handle {

@@ -8,7 +8,7 @@ use crate::parts::Parts;
 use std::alloc::Global;
 
 impl Handle {
-    /// The bus behind it.
+    /// Lends the bus.
     pub(crate) fn lend(&mut self) -> &mut LocalBus
         ensures* writes_back { sem 𝓛 (handle_follows self.entry result) }
         ensures value { result.now ≡ self.old.value }

@@ -1,9 +1,9 @@
-//! The bus of a process of its own: what libcanbusd.so calls. `libcanbusd/canbusd.c` is between it and a C program: it tests
-//! pointers, and has the texts of the codes.
+//! A bus and a bench inside a C program, which libcanbusd.so calls. `libcanbusd/canbusd.c` is between them and the program:
+//! it tests pointers, and has the texts of the codes.
 //!
-//! Each export lends the bus behind a handle to a function of `calls`, and has that function's contract. The contracts
-//! are those of the bus and of the bench: the events of `specs/Locals.antt` are can_bus's, its attempts those of a bench.
-//! The exports named for a bench do so with can_session's, by `benching` and `specs/Benching.antt`.
+//! Each export lends the bus of its handle to a function of `calls`, and has that function's contract. The contracts are
+//! those of the bus and of the bench: the events of `specs/Locals.antt` are can_bus's, its attempts those of a bench. The
+//! exports of a bench lend can_session's to a function of `benching`, by `specs/Benching.antt`.
 #![tactic(auto)]
 
 pub mod bench_handle;

@@ -12,7 +12,7 @@ use can_wire::Timing;
 use std::alloc::Global;
 use std::marker::Model;
 
-/// A bench, and what the lines of the last call put out.
+/// A bench, and the output of the last call's lines.
 #[derive(Drop)]
 pub struct LocalBench {
     alloc: Global,
@@ -57,7 +57,7 @@ impl LocalBench {
         })
     }
 
-    /// Carries out lines, and keeps what they put out in place of what was kept.
+    /// Carries out lines, and keeps their output in place of the one before.
     pub fn take(&mut self, lines: &[u8]) -> Result<(), BenchFault>
         ensures { KeepsLines lines.now self.old result self.new }
     {
@@ -71,7 +71,7 @@ impl LocalBench {
         )
     }
 
-    /// Returns what the lines of the last call put out.
+    /// Returns the output of the last call's lines.
     pub fn output(&self) -> &[u8]
         ensures { result.now ≡ self.now.output }
     {

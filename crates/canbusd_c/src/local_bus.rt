@@ -249,7 +249,7 @@ impl LocalBus {
         self.bus.socket_stats(id)
     }
 
-    /// What became of the frames of an interface, and its error counters.
+    /// Returns the counts of the frames of an interface, and its error counters.
     pub fn iface_stats(&self, iface: Iface) -> Option<IfaceStats>
         ensures { result
             ≡ iface_stats_of self.now.bus.journal.config self.now.bus.journal.history iface }

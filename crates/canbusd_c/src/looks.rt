@@ -1,4 +1,4 @@
-//! What is read of a bus.
+//! The reads of a bus: counts, load and record.
 ghost use Rattle.std.specs.Prelude.{◌≡◌, ◌<◌, ◌≤◌, ◌+◌, length, take, drop, IfOk, Some, None, replicate, ◌∷◌, [], true};
 ghost use Rattle.can_filter.specs.Filters.{CanFilter};
 ghost use Rattle.can_event.specs.declared.event.Event.TheVariants as event;

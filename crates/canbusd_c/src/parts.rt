@@ -5,7 +5,7 @@ ghost use Rattle.std.specs.Box.Ownership.{box_owns};
 use std::alloc::Allocator;
 use std::marker::Model;
 
-/// What a box is made of.
+/// The parts of a box.
 pub(crate) struct Parts<T, A: Allocator> {
     pub(crate) ptr: *mut T,
     pub(crate) alloc: A,

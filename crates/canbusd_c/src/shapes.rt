@@ -1,4 +1,4 @@
-//! What C passes and gets: structs of numbers, as canbusd.h declares them.
+//! The structs that C passes and gets: numbers, as canbusd.h declares them.
 
 /// A frame, as struct canfd_frame of linux/can.h: the identifier with its marks, CAN_EFF_FLAG and CAN_RTR_FLAG, how many
 /// bytes there are, and the flags, CANFD_BRS, CANFD_ESI and CANFD_FDF.
@@ -23,11 +23,11 @@ pub struct CItem {
     pub moment: u64,
 }
 
-/// What a bus is made with.
+/// The configuration of a bus.
 #[repr(C)]
 #[derive(Debug, Clone, Copy, Drop)]
 pub struct CConfig {
-    /// 0: each frame is acknowledged; 1: only where a receiver has it whole.
+    /// 0: each frame is acknowledged; 1: only if a receiver has it whole.
     pub ack: u32,
     /// The interfaces whose sockets get a frame for each fault, bit by bit.
     pub reporting: u32,
@@ -48,7 +48,7 @@ pub struct CFilter {
     pub mask: u32,
 }
 
-/// What was left at a close: items that nobody took, and items that found no room.
+/// The counts of a closed socket: items that nobody took, and items that found no room.
 #[repr(C)]
 #[derive(Debug, Clone, Copy, Drop)]
 pub struct CClosed {
@@ -56,7 +56,7 @@ pub struct CClosed {
     pub dropped: u64,
 }
 
-/// What an attempt came to. Its class is 0 where no frame was tried, and all but `restarted` is 0 then.
+/// The result of an attempt. Its class is 0 if no frame was tried, and all but `restarted` is 0 then.
 #[repr(C)]
 #[derive(Debug, Clone, Copy, Drop)]
 pub struct CTried {
@@ -71,7 +71,7 @@ pub struct CTried {
     pub unused: u32,
 }
 
-/// What became of the frames of an interface, its error counts and its state.
+/// The counts of the frames of an interface, its error counts and its state.
 #[repr(C)]
 #[derive(Debug, Clone, Copy, Drop)]
 pub struct CStatus {
@@ -86,7 +86,7 @@ pub struct CStatus {
     pub refused: u64,
 }
 
-/// What became of the items offered to a socket.
+/// The counts of the items offered to a socket.
 #[repr(C)]
 #[derive(Debug, Clone, Copy, Drop)]
 pub struct CStats {

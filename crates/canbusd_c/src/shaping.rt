@@ -123,7 +123,7 @@ fn error_out(error: &ErrorFrame) -> CFrame
     }
 }
 
-/// What a socket received, as a struct.
+/// Returns a received item as a struct.
 pub fn item_out(received: &Received) -> CItem
     ensures { result ≡ item_out received.now }
 {
@@ -170,7 +170,7 @@ fn class_out(class: Class) -> u32
     }
 }
 
-/// What an attempt came to, as a struct.
+/// Returns the result of an attempt as a struct.
 pub fn tried_out(attempt: &Attempt) -> CTried
     ensures { result ≡ tried_out attempt.now }
 {

@@ -18,7 +18,7 @@ pub fn first_schedule(timing: Option<Timing>) -> Option<Schedule>
     }
 }
 
-/// The schedule where this moment is set.
+/// The schedule once this moment is set.
 pub fn set_to(mut schedule: Schedule, moment: Moment) -> Schedule
     ensures { result ≡ set_to moment schedule }
 {
@@ -38,8 +38,7 @@ pub fn moment_on(schedule: &Schedule, waits: bool, head: Option<(Iface, Frame)>)
     }
 }
 
-/// Notes in a schedule what an attempt with this verdict came to, before which an interface waited for its restart or
-/// none did.
+/// Notes an attempt with this verdict in a schedule. `waits`: before it an interface waited for its restart.
 pub fn note_attempt(schedule: &mut Schedule, waits: bool, verdict: Verdict, attempt: &Attempt)
     ensures { schedule.new ≡ schedule_after waits verdict attempt.now schedule.old }
 {
