@@ -11,7 +11,8 @@ from canbusd.bench import Bench
 from canbusd.server import Server
 
 PYTHON = Path(__file__).resolve().parents[1]
-WAIT = 20
+#: Seconds in which what has to come comes, on any machine.
+WAIT = 60
 #: A database of two nodes, of which one sends each 10 ms.
 DBC = """VERSION ""
 BU_: Engine ECU
