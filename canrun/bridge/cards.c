@@ -91,7 +91,7 @@ static void handle(struct card *card, const char *text) {
         facts->rec = (uint16_t)rec;
         set_state(card, state_of(word));
     } else if (sscanf(text, "stats %lu %*u %*u %*u %lu %*u %lu %lu", &queued, &done, &lost, &refusals) == 4) {
-        card->asked = queued;
+        card->queued = queued;
         facts->done = done;
         facts->lost = lost;
         facts->refused = refusals;
@@ -133,9 +133,9 @@ void card_read(struct card *card) {
     }
 }
 
-/* A thread of its own of the server sends items: those that had been queued belong to the replies, if later too. */
+/* Replies of the server may overtake items that had been queued before them. */
 static bool is_whole(const struct card *card) {
-    return card->is_answered && card->items >= card->asked;
+    return card->is_answered && card->items >= card->queued;
 }
 
 bool card_ask(struct card *card, const char *commands) {

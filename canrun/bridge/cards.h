@@ -13,14 +13,14 @@
 struct card {
     int fd; /* -1: the server is gone */
     struct link_facts facts;
-    uint64_t restart_at; /* by the clock, or NEVER */
-    bool is_answered;    /* what was asked last */
-    unsigned long items; /* that have come */
-    unsigned long asked; /* how many had been queued when the server was asked last */
-    uint32_t said;       /* the state by what has come, which a reply may overtake */
-    bool was_down;       /* since it was restarted last */
-    bool has_news;       /* the state has changed, and watchers are to get an event */
-    char refusal[128];   /* of the command that was given last */
+    uint64_t restart_at;  /* by the clock, or NEVER */
+    bool is_answered;     /* what was asked last */
+    unsigned long items;  /* that have come */
+    unsigned long queued; /* how many the server had for its session when it was asked last */
+    uint32_t said;        /* the state by the items that have come */
+    bool was_down;        /* since it was restarted last */
+    bool has_news;        /* the state has changed, and watchers are to get an event */
+    char refusal[128];    /* of the command that was given last */
     size_t have;
     char input[4096];
 };

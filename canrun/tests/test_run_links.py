@@ -145,7 +145,7 @@ def test_bus_off(tmp_path):
 
 
 def relay(source, target):
-    """Hands on what comes. Items of a server come after the reply that is sent last to what a keeper asks."""
+    """Hands on what comes, the items of a server after the last reply to what a keeper asks."""
     text = items = b""
     with contextlib.suppress(OSError):
         while piece := source.recv(65536):
