@@ -68,7 +68,8 @@ static void count(struct card *card, const struct canfd_frame *frame) {
     }
     if (frame->can_id & (CAN_ERR_BUSOFF | CAN_ERR_RESTARTED | CAN_ERR_CRTL)) {
         uint32_t state = state_said(frame);
-        bool is_worse = state > facts->state;
+        bool is_worse = state > card->said;
+        card->said = state;
         facts->warnings += is_worse && state == CAN_STATE_ERROR_WARNING;
         facts->passives += is_worse && state == CAN_STATE_ERROR_PASSIVE;
         facts->offs += is_worse && state == CAN_STATE_BUS_OFF;
@@ -80,15 +81,17 @@ static void handle(struct card *card, const char *text) {
     struct link_facts *facts = &card->facts;
     struct item item;
     char word[16];
-    unsigned long done, lost, refusals;
+    unsigned long queued, done, lost, refusals;
     unsigned tec, rec;
     if (message_to_item(text, &item)) {
+        card->items++;
         count(card, &item.frame);
     } else if (sscanf(text, "status %15s %u %u", word, &tec, &rec) == 3) {
         facts->tec = (uint16_t)tec;
         facts->rec = (uint16_t)rec;
         set_state(card, state_of(word));
-    } else if (sscanf(text, "stats %*u %*u %*u %*u %lu %*u %lu %lu", &done, &lost, &refusals) == 3) {
+    } else if (sscanf(text, "stats %lu %*u %*u %*u %lu %*u %lu %lu", &queued, &done, &lost, &refusals) == 4) {
+        card->queued = queued;
         facts->done = done;
         facts->lost = lost;
         facts->refused = refusals;
@@ -130,6 +133,11 @@ void card_read(struct card *card) {
     }
 }
 
+/* Replies of the server may overtake items that had been queued before them. */
+static bool is_whole(const struct card *card) {
+    return card->is_answered && card->items >= card->queued;
+}
+
 bool card_ask(struct card *card, const char *commands) {
     char text[256];
     int length = snprintf(text, sizeof text, "%s< status >< stats >< load >< echo >", commands);
@@ -139,7 +147,7 @@ bool card_ask(struct card *card, const char *commands) {
     if (card->fd >= 0 && send(card->fd, text, (size_t)length, MSG_DONTWAIT | MSG_NOSIGNAL) != length) {
         lose(card);
     }
-    while (card->fd >= 0 && !card->is_answered) {
+    while (card->fd >= 0 && !is_whole(card)) {
         uint64_t now = clock_now();
         struct timespec left = {0, 0};
         struct pollfd polled = {card->fd, POLLIN, 0};
@@ -150,7 +158,7 @@ bool card_ask(struct card *card, const char *commands) {
         }
         card_read(card);
     }
-    return card->is_answered;
+    return is_whole(card);
 }
 
 /* ---- the card's session ---- */
@@ -188,6 +196,7 @@ static struct card *open_card(const char *name, struct link_reply *why) {
         free(card);
         return refuse(why, is_full ? EUSERS : ENODEV, text);
     }
+    card->said = card->facts.state;
     card->facts.is_known = true;
     card->facts.has_counts = !had_errors(&card->facts);
     card->has_news = false;

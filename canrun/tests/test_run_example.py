@@ -33,7 +33,7 @@ def test_heartbeat():
 @needs_gcc
 @pytest.mark.parametrize("options", [pytest.param((), marks=pytest.mark.quiet), ("--canbusd-virtual",)])
 def test_car(options):
-    """12 tests of each cluster pass; in real time a frame that is due in 50 ms is late on a busy machine"""
+    """12 tests of each cluster pass, in real and in virtual time; a busy machine disturbs only the first"""
     pytest.importorskip("canmatrix", reason="no canmatrix: apt-get install python3-canmatrix")
     assert "24 passed" in run_example("examples/car", *options)
 

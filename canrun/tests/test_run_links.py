@@ -5,8 +5,11 @@ import contextlib
 import os
 import re
 import signal
+import socket
 import subprocess
+import threading
 import time
+import types
 
 import pytest
 
@@ -23,7 +26,7 @@ from running import (
     sanitized_command,
     started,
 )
-from serving import ROOT, come_true, plain, serving
+from serving import ROOT, come_true, join, plain, serving
 from test_run_kernel import KERNEL, boots, check_differences, probe, unlike
 
 LINKS = os.path.join(ROOT, "canrun", "tests", "links")
@@ -138,6 +141,59 @@ def test_bus_off(tmp_path):
         assert re.search(r"bus-off\n\s+1 +0 +0 +1 +1 +1 ", shown), shown
         assert "<NOARP,UP,LOWER_UP,ECHO>" in shown
         assert run(server, IP, "link", "set", "can0", "type", "can", "restart").returncode == 2
+
+
+def relay(source, target):
+    """Hands on what comes, the items of a server after the last reply to what a keeper asks."""
+    text = items = b""
+    with contextlib.suppress(OSError):
+        while piece := source.recv(65536):
+            *texts, text = re.split(rb"(?<=>)", text + piece)
+            for one in texts:
+                if re.search(rb"< error [0-9A-F]+ \d", one):
+                    items += one
+                    continue
+                target.sendall(one)
+                if b"< echo >" in one:
+                    target.sendall(items)
+                    items = b""
+    with contextlib.suppress(OSError):
+        target.shutdown(socket.SHUT_RDWR)
+
+
+@contextlib.contextmanager
+def overtaken(server):
+    """The same server, as it is where replies overtake items that were queued before them."""
+
+    def accept():
+        with contextlib.suppress(OSError):
+            while True:
+                ends = door.accept()[0], socket.create_connection((server.host, server.port))
+                for source, target in (ends, ends[::-1]):
+                    threading.Thread(target=relay, args=(source, target), daemon=True).start()
+
+    with socket.create_server(("127.0.0.1", 0)) as door:
+        thread = threading.Thread(target=accept)
+        thread.start()
+        yield types.SimpleNamespace(address=f"127.0.0.1:{door.getsockname()[1]}")
+        door.shutdown(socket.SHUT_RDWR)
+        join([thread])
+
+
+@needs_gcc
+@needs_ip
+def test_bus_off_that_replies_overtake(tmp_path):
+    """the counts are those of the state that is shown"""
+    writer = compiled("send_one", str(tmp_path))
+    with bus(*FAST, ATTACK) as server, overtaken(server) as late:
+        assert state_of(late) == ("ERROR-ACTIVE", "0", "0")
+        passes(late, writer, "can0")
+        comes_to(late, "BUS-OFF")
+        shown = passes(late, IP, "-details", "-statistics", "link", "show", "can0")
+        assert re.search(r"bus-off\n\s+0 +0 +0 +1 +1 +1 ", shown), shown
+        passes(late, IP, "link", "set", "can0", "type", "can", "restart")
+        shown = passes(late, IP, "-details", "-statistics", "link", "show", "can0")
+        assert re.search(r"bus-off\n\s+1 +0 +0 +1 +1 +1 ", shown), shown
 
 
 @needs_gcc

@@ -11,7 +11,8 @@ from canbusd.bench import Bench
 from canbusd.server import Server
 
 PYTHON = Path(__file__).resolve().parents[1]
-WAIT = 20
+#: Seconds in which an awaited event comes, on any machine.
+WAIT = 60
 #: A database of two nodes, one of which sends every 10 ms.
 DBC = """VERSION ""
 BU_: Engine ECU

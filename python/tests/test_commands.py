@@ -352,11 +352,10 @@ def test_status_has_the_load_of_buses_with_a_bit_rate():
 
 
 def test_status_of_a_busy_bus():
-    """It is busy all the time, but for what a server leaves out that comes too late."""
     with Server("can0,can1", bitrate=5_000, txqueue=1_000) as server, server.bus("can0") as sender:
 
         def is_full():
-            """Whether a status says so, of one of the last seconds of the frames that wait."""
+            """Whether a status says so of the last second, while frames wait. A server that is late leaves out what it missed."""
             sender.send_many([message(1, bytes(8))] * (1_000 - sender.stats().waiting))
             status, written, said = call("status", server=server)
             assert (status, said) == (0, "")

@@ -58,10 +58,14 @@ def test_a_log_that_grows(tmp_path):
     assert len(first) == 1
 
 
-@pytest.mark.parametrize("text", [LIVE, LIVE_RESTARTED], ids=["4", "restarted"])
-@pytest.mark.parametrize("size", [1, 50, 1000])
+@pytest.mark.parametrize(
+    "text, size",
+    [(LIVE, 1), (LIVE, 50), (LIVE, 1000), (LIVE_RESTARTED, 7), (LIVE_RESTARTED, 50), (LIVE_RESTARTED, 1000)],
+    ids=["1-4", "50-4", "1000-4", "7-restarted", "50-restarted", "1000-restarted"],
+)
 def test_a_record_that_grows(tmp_path, text, size):
-    """By this many bytes at a time, the last of which come with another name."""
+    """By this many bytes at a time, the last of which come with another name. Each starts the program twice, and most lines of the
+    longer one are alike, which 7 bytes cut in all places."""
     growing, path = tmp_path / "can0.rec.new", tmp_path / "can0.rec"
     growing.write_text(text[: text.index("open")])
     live = LiveRecord(path, ["a", "b"])

@@ -212,7 +212,7 @@ Server("a", pace=1)
 def test_a_type_checker_sees_words_that_are_none(tmp_path):
     pytest.importorskip("mypy")
     (tmp_path / "mistakes.py").write_text(MISTAKES)
-    words = [sys.executable, "-m", "mypy", "--strict", "--cache-dir", tmp_path / "cache", "mistakes.py"]
+    words = [sys.executable, "-m", "mypy", "--strict", "--cache-dir", os.devnull, "mistakes.py"]
     environment = {**ENVIRONMENT, "MYPYPATH": str(SOURCES)}
     done = subprocess.run(words, cwd=tmp_path, env=environment, capture_output=True, text=True, check=False)
     wrong = {int(line) for line in re.findall(r"^mistakes.py:(\d+): error: ", done.stdout, re.M)}

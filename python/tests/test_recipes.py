@@ -10,6 +10,7 @@ import sys
 from pathlib import Path
 
 import pytest
+from made_once import made_once
 
 TOP = Path(__file__).resolve().parents[2]
 RECIPES, DOCUMENT = TOP / "examples" / "recipes", TOP / "docs" / "RECIPES.md"
@@ -39,13 +40,16 @@ def run(installed, folder, names, *words, **environment):
 
 
 @pytest.fixture(scope="module")
-def written(installed, tmp_path_factory):
+def written(installed, request):
     """What pytest wrote of all recipes whose modules are installed."""
     there = [name for name in recipes() if name not in NEEDED or importlib.util.find_spec(NEEDED[name])]
-    folder = tmp_path_factory.mktemp("examples") / "recipes"
-    folder.mkdir()
-    (folder.parent / "go").symlink_to(RECIPES.parent / "go")
-    return run(installed, folder, there)
+
+    def make(folder):
+        (folder / "go").symlink_to(RECIPES.parent / "go")
+        (folder / "recipes").mkdir()
+        (folder / "written").write_text(run(installed, folder / "recipes", there))
+
+    return (made_once(request, "recipes", make) / "written").read_text()
 
 
 def test_all_recipes_are_there():

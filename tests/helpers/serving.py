@@ -20,8 +20,8 @@ import tempfile
 import time
 
 ROOT = str(pathlib.Path(__file__).resolve().parents[2])
-# Seconds in which what has to come comes, on any machine.
-WAIT = 20
+# Seconds in which what has to come comes, on any machine, also one that does much else.
+WAIT = 60
 
 
 @functools.lru_cache(maxsize=None)

@@ -1,6 +1,7 @@
 """The options and fixtures of the tests of the program and of canbusd-run: each conftest.py registers them.
 
-CANBUSD names the program; as it is, the one that fits the sources. Where there is none, no test is run.
+CANBUSD names the program; as it is, the one that fits the sources. Where there is none, no test is run. TESTS_CASES is how many
+random inputs a test tries, unless --cases says it.
 """
 
 import importlib.util
@@ -37,7 +38,10 @@ def share(pluginmanager):
 def pytest_addoption(parser):
     group = parser.getgroup("canbusd")
     group.addoption("--seed", type=int, default=random.SystemRandom().randrange(10**6), help="of all that is random")
-    group.addoption("--cases", type=int, default=1000, help="how many random inputs a test tries (1000)")
+    cases = int(os.environ.get("TESTS_CASES", 200))
+    group.addoption(
+        "--cases", type=int, default=cases, help="how many random inputs a test tries (200; 1000 in make test)"
+    )
     group.addoption(
         "--frames", type=int, default=1_000_000, help="how many frames test_load.py sends with the slow tests (1000000)"
     )

@@ -304,7 +304,7 @@ def events_with(data, names, faults, folder, *options):
 
 
 def test_random_runs(request, cases, tmp_path):
-    """a hundred of them: the rule of each attempt that has one, and no other"""
+    """the rule of each attempt that has one, and no other"""
     found = 0
     for names, data, faults in runs(RuleMaker(request.config.getoption("seed")), cases // 10, tmp_path):
         wanted = with_rules(events_of(data), RunFaults(faults, names))

@@ -127,7 +127,7 @@ def test_events_of_downs():
 
 
 def test_events_of_random_runs(request, cases, tmp_path):
-    """two thousand records, and each cut off at a random place"""
+    """the program's lines are those of the model"""
     items = 0
     for data in records(request.config.getoption("seed"), cases // 2, tmp_path):
         wanted = events_of(data)
@@ -137,7 +137,7 @@ def test_events_of_random_runs(request, cases, tmp_path):
 
 
 def test_time_on_the_wire_of_random_runs(request, rng, cases, tmp_path):
-    """hundreds of records, at random bit rates"""
+    """at random bit rates"""
     tried = 0
     for data in records(request.config.getoption("seed"), cases // 10, tmp_path):
         rates = random_rates(rng)

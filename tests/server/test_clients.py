@@ -242,9 +242,7 @@ def candump_log(path, count):
             identifier = 0x10000000 + number * 4177 if number % 3 == 0 else number * 7 % 0x800
             text = f"{identifier:08X}" if identifier > 0x7FF else f"{identifier:03X}"
             data = number.to_bytes(4, "big") + bytes(range(number % 5))
-            file.write(
-                f"({1700000000 + number // 4000}.{number % 4000 * 250:06d}) can0 {text}#{data.hex().upper()}\n"
-            )
+            file.write(f"({1700000000 + number // 4000}.{number % 4000 * 250:06d}) can0 {text}#{data.hex().upper()}\n")
             frames.append((text, data))
     return frames
 
