@@ -11,7 +11,7 @@ import time
 from collections.abc import Callable, Mapping, Sequence
 from dataclasses import dataclass, field
 from pathlib import Path
-from typing import TYPE_CHECKING, NamedTuple, Optional
+from typing import TYPE_CHECKING, NamedTuple, Optional, Union
 
 from canbusd.faults import Script, lines_of, script_bytes
 
@@ -23,7 +23,9 @@ if TYPE_CHECKING:
 BusKey = tuple[int, str]
 
 
-Keep = Callable[[BusKey, Sequence[str], int, Path, "Optional[Rates]"], None]
+#: A record: its file, or its text.
+Left = Union[Path, bytes]
+Keep = Callable[[BusKey, Sequence[str], int, Left, "Optional[Rates]"], None]
 
 
 #: Seconds by which a frame is late.
@@ -85,7 +87,7 @@ class Placement:
     #: Lines of a script for a bus, which go before its own.
     lines: Mapping[BusKey, Sequence[str]] = field(default_factory=dict)
     #: Called with each record that a run leaves: its bus, the names of its interfaces, how many of its first sockets are the
-    #: package's own, its path, and its bit rates if it has any.
+    #: package's own, its path or its text, and its bit rates if it has any.
     keep: "Keep" = lambda *_: None
     at_sockets: Sequence[AtSockets] = ()
     resets: Sequence[Reset] = ()
@@ -192,18 +194,21 @@ def sleep_until(moment: float) -> None:
     time.sleep(max(0.0, moment - time.time()))
 
 
-def keep(bus: BusKey, names: Sequence[str], own: int, record: Path, rates: "Optional[Rates]") -> None:
+def keep(bus: BusKey, names: Sequence[str], own: int, record: Left, rates: "Optional[Rates]") -> None:
     """Hands a record that is whole to the sweep, if there is one."""
-    if _current and record.exists():
+    if _current and (isinstance(record, bytes) or record.exists()):
         _current.keep(bus, names, own, record, rates)
 
 
 def copy_to(folder: Path) -> "Keep":
     """Returns a function that copies each record into this folder, with what else is known of its bus beside it."""
 
-    def copy(bus: BusKey, names: Sequence[str], own: int, record: Path, rates: "Optional[Rates]") -> None:
+    def copy(bus: BusKey, names: Sequence[str], own: int, record: Left, rates: "Optional[Rates]") -> None:
         target = folder / f"{bus[0]}-{bus[1]}.rec"
-        shutil.copyfile(record, target)
+        if isinstance(record, bytes):
+            target.write_bytes(record)
+        else:
+            shutil.copyfile(record, target)
         numbers = [] if rates is None else [one for one in (rates.bitrate, rates.dbitrate) if one is not None]
         target.with_suffix(".bus").write_text(" ".join(map(str, [own, ",".join(names), *numbers])))
 

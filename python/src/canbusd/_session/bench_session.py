@@ -36,6 +36,8 @@ from canbusd.frames import (
 if TYPE_CHECKING:
     from canbusd.bench import Bench
 
+#: What is in no message that `call` takes.
+NOT_ONE = re.compile(r"[<>\n]|^\s*close\b")
 CLOSED = re.compile(r"[0-9]+ < closed ([0-9]+) ([0-9]+) >")
 
 
@@ -141,11 +143,12 @@ class Session(InjectsFaults, NamesWhatThereIs):
 
     def _put(self, frame: Frame) -> None:
         """Puts a frame into the transmit queue."""
-        command, accepted = command_of(frame), self._bench._sent[self.channel]
-        with self._bench._turn:
+        bench, command = self._bench, command_of(frame)
+        accepted = bench._sent[self.channel]
+        with bench._turn:
             accepted.append(frame)
             try:
-                self.call(command)
+                bench._ask(f"feed {self._live()} < {command} >< echo >")
             except Refused:
                 accepted.pop()
                 raise
@@ -253,7 +256,7 @@ class Session(InjectsFaults, NamesWhatThereIs):
 
     def call(self, message: str) -> list[str]:
         """Feeds a message of the protocol, such as `recvown 1`, and returns the answers to it; a refusal is raised."""
-        if re.search(r"[<>\n]|^\s*close\b", message):
+        if NOT_ONE.search(message):
             raise ValueError(f"message is one message without < and >, and not close: {message!r}")
         text = f" {message} "
         if len(text.encode()) > LONGEST_MESSAGE:
@@ -266,7 +269,7 @@ class Session(InjectsFaults, NamesWhatThereIs):
 
     def shutdown(self) -> None:
         """Closes its socket, if that is open, and the bench still runs."""
-        if not self._closed and self._bench._child.stdin is not None:
+        if not self._closed and not self._bench._is_over:
             self.close()
 
     def __enter__(self) -> "Session":
