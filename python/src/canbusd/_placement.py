@@ -127,6 +127,12 @@ def is_there() -> bool:
     return _current is not None
 
 
+def has_faults() -> bool:
+    """Whether this process carries out a placement with faults."""
+    one = _current
+    return one is not None and bool(one.lines or one.at_sockets or one.resets or one.outages)
+
+
 def next_run() -> int:
     """Returns the number of a server or a bench that starts; 0 if there is no placement."""
     return _current.next_run() if _current else 0

@@ -289,7 +289,7 @@ class Bench(PassesTime, Dialogue, HasRestBus["BenchRestBus"], NamesWhatThereIs):
             words = TRIED.fullmatch(line)
             attempt = self._attempt_of(words) if words else None
             self._in_step = True
-            if attempt is not None:
+            if attempt is not None and len(self._sleepers):
                 self._sleepers.note(attempt)
         if not words:
             raise Refused(line)

@@ -268,7 +268,7 @@ def check_frame(message: MessageLike) -> None:
     if not 0 <= message.arbitration_id <= most:
         cure = "; is_extended_id=True has 29 bits" if 0x7FF < message.arbitration_id <= 0x1FFFFFFF else ""
         raise BadFrame(f"arbitration_id {message.arbitration_id:#x} is not in 0 to {most:X}{cure}")
-    if not message.is_fd and flag_number(message):
+    if not message.is_fd and (message.bitrate_switch or message.error_state_indicator):
         raise BadFrame("bitrate_switch and error_state_indicator are flags of FD frames")
     length = len(message.data)
     if message.is_remote_frame:
@@ -290,7 +290,7 @@ def command_of(message: MessageLike) -> str:
     digits = f"{message.arbitration_id:08X}" if message.is_extended_id else f"{message.arbitration_id:03X}"
     if message.is_remote_frame:
         return f"sendrtr {digits} {message.dlc}"
-    flags = flag_number(message)
+    flags = flag_number(message) if message.is_fd else 0
     verb = f"sendfdx {flags}" if flags else "sendfd" if message.is_fd else "send"
     words = f"{verb} {digits} {message.dlc}"
     return f"{words} {message.data.hex(' ').upper()}" if message.dlc else words

@@ -102,7 +102,7 @@ class Dialogue(Run):
         """
         with self._turn:
             self._write(lines, at)
-            messages: list[str] = []
+            messages: list[str] = MESSAGES.findall(self._line())
             while not messages or messages[-1] != "echo":
                 messages += MESSAGES.findall(self._line())
             self._in_step = True
@@ -120,7 +120,8 @@ class Dialogue(Run):
 
     def _write(self, lines: str, at: Union[str, float, None] = None) -> None:
         """Writes lines, before which the moment is set if one is given."""
-        self._check_process()
+        if os.getpid() != self._process:
+            self._check_process()
         if self._lines.is_over:
             raise ValueError("the bench has ended")
         if not self._in_step:

@@ -200,8 +200,10 @@ class Session(InjectsFaults, NamesWhatThereIs):
 
     def _gather(self) -> None:
         """Takes what the socket has received, for calls that return it."""
-        frames = map(self._frame, self.handed_over())
-        self._received.extend(frame for frame in frames if frame is not None)
+        for message in self.handed_over():
+            frame = self._frame(message)
+            if frame is not None:
+                self._received.append(frame)
 
     def error_counters(self) -> ErrorCounters:
         """Returns the state of the interface and its error counts, as `status` does."""
@@ -291,9 +293,10 @@ class Session(InjectsFaults, NamesWhatThereIs):
 
     def _frame(self, message: str) -> Optional[Frame]:
         """The frame that a message hands over; None for an answer."""
-        text, number = without_origin(message)
-        frame = frame_of(text)
-        return replace(frame, is_rx=False) if frame is not None and number in self._own else frame
+        frame = frame_of(message)
+        if frame is not None and " same " in message and without_origin(message)[1] in self._own:
+            return replace(frame, is_rx=False)
+        return frame
 
     def _answer(self, message: str) -> str:
         answer = self.call(message)[0]
