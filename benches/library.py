@@ -1,7 +1,9 @@
 #!/usr/bin/env python3
-"""Measures a frame sent, put on the bus and received, in one process: by LocalBus, by it under python-can, by python-can's own
-`virtual`, and by a Bench, which is a program at the other end of pipes. Microseconds of wall time, the least of five rounds."""
+"""Measures a frame sent, put on the bus and received: by LocalBus, by it under python-can, by python-can's own `virtual`, and by a
+Bench inside the process and as another; and a dialogue of 20 attempts with a bench of its own. Microseconds of wall time, the least
+of five rounds; with `--cpu` those of this thread."""
 
+import os
 import sys
 import time
 from functools import partial
@@ -14,15 +16,16 @@ import can
 from canbusd import Bench, LocalBus
 
 ROUNDS = 5
+CLOCK = time.thread_time if "--cpu" in sys.argv[1:] else time.perf_counter
 
 
 def least(do, count):
     best = float("inf")
     for _ in range(ROUNDS):
-        begin = time.perf_counter()
+        begin = CLOCK()
         for _ in range(count):
             do()
-        best = min(best, (time.perf_counter() - begin) / count)
+        best = min(best, (CLOCK() - begin) / count)
     return best * 1e6
 
 
@@ -42,6 +45,21 @@ def by_python_can(sender, receiver, message):
     receiver.recv(0)
 
 
+def dialogue():
+    with Bench("ecu,tester") as bench:
+        ecu, tester = bench.open("ecu"), bench.open("tester")
+        for number in range(20):
+            tester.send(0x123, bytes([number]))
+            bench.attempt()
+            ecu.receive()
+
+
+def show_bench(kind):
+    with Bench("can0,can1") as bench:
+        show(f"Bench {kind}: send, attempt, receive", 1000, over_bus, bench, bench.open("can0"), bench.open("can1"))
+    show(f"Bench {kind}: 20 attempts", 20, dialogue)
+
+
 def show(what, count, do, *arguments):
     print(f"{what:37} {least(partial(do, *arguments), count):7.2f}")
 
@@ -57,8 +75,9 @@ def main():
         show("the same by python-can", 5000, by_python_can, one, other, message)
     with can.Bus(channel="x", **virtual) as one, can.Bus(channel="x", **virtual) as other:
         show("python-can's virtual", 5000, by_python_can, one, other, message)
-    with Bench("can0,can1") as bench:
-        show("Bench: send, attempt, receive", 1000, over_bus, bench, bench.open("can0"), bench.open("can1"))
+    show_bench("inside")
+    os.environ["CANBUSD_LIBRARY"] = ""
+    show_bench("as a process")
 
 
 main()

@@ -18,10 +18,19 @@ from made_once import made_once
 
 # Programs that the tests start use the package of the tests, and the program that fits the sources.
 os.environ["PYTHONPATH"] = os.path.dirname(importlib.util.find_spec("canbusd").submodule_search_locations[0])
+
+
+def fitting(kind):
+    """The path of a file that fits the sources, if there is one: of the program, of the library."""
+    words = [PYTHON.parent / "scripts" / kind, "fitting"]
+    found = subprocess.run(words, stdout=subprocess.PIPE, text=True, check=False).stdout.strip()
+    return str(PYTHON.parent / found) if found else ""
+
+
 if "CANBUSD" not in os.environ:
-    fitting = [PYTHON.parent / "scripts" / "program", "fitting"]
-    found = subprocess.run(fitting, stdout=subprocess.PIPE, text=True, check=False).stdout.strip()
-    os.environ["CANBUSD"] = str(PYTHON.parent / found) if found else find_program()
+    os.environ["CANBUSD"] = fitting("program") or find_program()
+# Without one benches are processes.
+os.environ.setdefault("CANBUSD_LIBRARY", fitting("library"))
 
 
 def pytest_addoption(pluginmanager):

@@ -1,4 +1,5 @@
-"""The bench in a dialogue. What is expected is what the rules of the bus give (Bosch CAN 2.0, linux/can/error.h)."""
+"""The bench in a dialogue, as a process and inside this one. What is expected is what the rules of the bus give (Bosch CAN 2.0,
+linux/can/error.h)."""
 
 import os
 import threading
@@ -6,10 +7,24 @@ import threading
 import can
 import pytest
 
+from canbusd._library.bench_inside import is_used
 from canbusd._words import MOST_INPUT
 from canbusd.bench import Bench, BenchError, Refused
 from canbusd.faults import Faults
 from canbusd.frames import Frame
+
+
+@pytest.fixture(autouse=True, params=["process", "inside"])
+def kind(request, monkeypatch):
+    """The tests are of both kinds of bench."""
+    if request.param == "process":
+        monkeypatch.setenv("CANBUSD_LIBRARY", "")
+    elif not is_used():
+        pytest.skip("no libcanbusd of these sources: scripts/library build")
+    return request.param
+
+
+of_a_process = pytest.mark.parametrize("kind", ["process"], indirect=True)
 
 
 def pair(**options):
@@ -370,6 +385,7 @@ def test_threads_share_a_bench():
     assert [attempt.frame for attempt in bench.record().attempts] == frames
 
 
+@of_a_process
 def test_an_interrupted_call_ends_the_dialogue_and_keeps_the_run(monkeypatch):
     def interrupt(*_):
         """What Ctrl-C does while the bench is waited for, unless SIGINT is ignored, as in a job in the background."""
@@ -441,9 +457,10 @@ def test_spaces_between_names_are_named(names):
         Bench(names)
 
 
+@of_a_process
 def test_a_bench_that_is_killed():
     bench, sender, _ = pair()
-    bench._child.kill()
+    bench._lines._child.kill()
     with pytest.raises(BenchError):
         for _ in range(1000):
             sender.status()
@@ -468,14 +485,27 @@ def test_a_forked_process_does_not_keep_a_bench_from_its_end():
         os.close(reader)
 
 
+@of_a_process
 def test_a_bench_that_says_nothing_is_given_up(monkeypatch, tmp_path):
     program = tmp_path / "canbusd"
     program.write_text("#!/bin/sh\necho working >&2\nsleep 1000\n")
     program.chmod(0o755)
     monkeypatch.setenv("CANBUSD", str(program))
-    monkeypatch.setattr("canbusd._process.dialogue.TIMEOUT", 0.5)
+    monkeypatch.setattr("canbusd._process.bench_process.TIMEOUT", 0.5)
     with pytest.raises(BenchError, match="said nothing for .* seconds\nworking"):
         Bench("can0")
+
+
+def test_which_bench_it_is(kind, monkeypatch):
+    """The library's, but for an empty CANBUSD_LIBRARY, and for a CANBUSD without it, whose program is meant."""
+
+    def made():
+        with Bench("can0") as bench:
+            return type(bench._lines).__name__
+
+    assert made() == {"process": "BenchProcess", "inside": "BenchInside"}[kind]
+    monkeypatch.delenv("CANBUSD_LIBRARY")
+    assert made() == "BenchProcess"
 
 
 def test_a_bench_that_has_ended():

@@ -12,7 +12,7 @@ import time
 from collections.abc import Callable, Mapping, Sequence
 from dataclasses import dataclass, field
 from pathlib import Path
-from typing import TYPE_CHECKING, NamedTuple, Optional
+from typing import TYPE_CHECKING, NamedTuple, Optional, Union
 
 from canbusd.faults import Script, lines_of, script_bytes
 
@@ -24,7 +24,9 @@ if TYPE_CHECKING:
 BusKey = tuple[int, str]
 
 
-Keep = Callable[[BusKey, Sequence[str], int, Path, "Optional[Rates]"], None]
+#: A record: its file, or its text.
+Left = Union[Path, bytes]
+Keep = Callable[[BusKey, Sequence[str], int, Left, "Optional[Rates]"], None]
 
 
 #: The delay of a late frame, in seconds.
@@ -87,7 +89,7 @@ class Placement:
     #: The script lines for a bus, which come before the test's own lines.
     lines: Mapping[BusKey, Sequence[str]] = field(default_factory=dict)
     #: A function that gets each record of a run: its bus, the names of its interfaces, the number of its first sockets
-    #: that are the package's own, its path, and its bit rates if it has any.
+    #: that are the package's own, its path or its text, and its bit rates if it has any.
     keep: "Keep" = lambda *_: None
     at_sockets: Sequence[AtSockets] = ()
     resets: Sequence[Reset] = ()
@@ -125,6 +127,12 @@ def carry_out(placement: Placement) -> None:
 def is_there() -> bool:
     """Returns whether this process carries out a placement."""
     return _current is not None
+
+
+def has_faults() -> bool:
+    """Whether this process carries out a placement with faults."""
+    one = _current
+    return one is not None and bool(one.lines or one.at_sockets or one.resets or one.outages)
 
 
 def next_run() -> int:
@@ -195,18 +203,21 @@ def sleep_until(moment: float) -> None:
     time.sleep(max(0.0, moment - time.time()))
 
 
-def keep(bus: BusKey, names: Sequence[str], own: int, record: Path, rates: "Optional[Rates]") -> None:
+def keep(bus: BusKey, names: Sequence[str], own: int, record: Left, rates: "Optional[Rates]") -> None:
     """Hands a complete record to the sweep, if there is one."""
-    if _current and record.exists():
+    if _current and (isinstance(record, bytes) or record.exists()):
         _current.keep(bus, names, own, record, rates)
 
 
 def copy_to(folder: Path) -> "Keep":
     """Returns a function that copies each record into this folder, together with the other facts about its bus."""
 
-    def copy(bus: BusKey, names: Sequence[str], own: int, record: Path, rates: "Optional[Rates]") -> None:
+    def copy(bus: BusKey, names: Sequence[str], own: int, record: Left, rates: "Optional[Rates]") -> None:
         target = folder / f"{bus[0]}-{bus[1]}.rec"
-        shutil.copyfile(record, target)
+        if isinstance(record, bytes):
+            target.write_bytes(record)
+        else:
+            shutil.copyfile(record, target)
         numbers = [] if rates is None else [one for one in (rates.bitrate, rates.dbitrate) if one is not None]
         target.with_suffix(".bus").write_text(" ".join(map(str, [own, ",".join(names), *numbers])))
 

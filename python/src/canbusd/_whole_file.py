@@ -18,8 +18,9 @@ NAMES_ONLY = (errno.EOPNOTSUPP, errno.EISDIR)
 
 
 @contextlib.contextmanager
-def replaced(path: Path) -> Iterator[BinaryIO]:
-    """Yields a file for the new content of this path, which replaces the old content after the block.
+def replaced(path: Path, is_synced: bool = True) -> Iterator[BinaryIO]:
+    """Yields a file for the new content of this path, which replaces the old content after the block; the disk has it then
+    if it `is_synced`.
 
     If the block raises an exception, or the process is killed, the old file stays unchanged, and no other file is left.
     A file keeps its permissions and, if possible, its owner; a file without write permission is refused. A fifo or a
@@ -28,7 +29,7 @@ def replaced(path: Path) -> Iterator[BinaryIO]:
     """
     with named(path):
         old = checked(path)
-        with renamed(path, old) if old is None or stat.S_ISREG(old.st_mode) else copied(path) as file:
+        with renamed(path, old, is_synced) if old is None or stat.S_ISREG(old.st_mode) else copied(path) as file:
             yield file
 
 
@@ -59,7 +60,7 @@ def checked(path: Path) -> Optional[os.stat_result]:
 
 
 @contextlib.contextmanager
-def renamed(path: Path, old: Optional[os.stat_result]) -> Iterator[BinaryIO]:
+def renamed(path: Path, old: Optional[os.stat_result], is_synced: bool) -> Iterator[BinaryIO]:
     """Yields a file in the folder of this path; the file gets this name after the block."""
     name = f".canbusd-{secrets.token_hex(8)}"
     with contextlib.ExitStack() as stack:
@@ -76,7 +77,8 @@ def renamed(path: Path, old: Optional[os.stat_result]) -> Iterator[BinaryIO]:
                 with contextlib.suppress(PermissionError):
                     os.fchown(draft, old.st_uid, old.st_gid)
                 os.fchmod(draft, stat.S_IMODE(old.st_mode) & 0o777)
-            os.fsync(draft)
+            if is_synced:
+                os.fsync(draft)
             if not is_there:
                 os.link(f"{OWN_FILES}/{draft}", name, dst_dir_fd=folder)
             os.rename(name, os.path.basename(path), src_dir_fd=folder, dst_dir_fd=folder)

@@ -11,18 +11,22 @@ Nothing happens on the bus but in `attempt`. python-can is not needed. Threads m
 out whole before the next.
 """
 
+import errno
 import os
 import re
 import weakref
-from collections.abc import Mapping, Sequence
+from collections.abc import Callable, Mapping, Sequence
 from pathlib import Path
 from typing import TYPE_CHECKING, Any, Optional, Union, cast
 
 from canbusd._calls import NamesWhatThereIs, explained
 from canbusd import _placement as placement
 from canbusd._expect.bench_time import SOON, PassesTime
-from canbusd._process.dialogue import BenchError as BenchError, Dialogue, moment_text
-from canbusd._process.program import audited
+from canbusd._library.bench_inside import BenchInside, BenchRefused, is_used
+from canbusd._library.library import config_of
+from canbusd._process.bench_process import BenchProcess, fault_of
+from canbusd._process.dialogue import Dialogue, Lines, moment_text
+from canbusd._process.program import BenchError as BenchError, audited
 from canbusd._process.program_run import Ack, bus_of, option_words, rates_by_bus
 from canbusd._process.rates import BitRate, words_of
 from canbusd._restbus.node import Node
@@ -34,6 +38,7 @@ from canbusd._run.summary import write_page
 from canbusd._session.bench_session import Session as Session
 from canbusd._session.injection import Refused as Refused
 from canbusd._session.protocol import Filters, options
+from canbusd._whole_file import replaced
 from canbusd._words import MOST_RULES, MOST_SESSIONS, NO_SUCH_INTERFACE, TOO_MANY_RULES, TOO_MANY_SESSIONS
 from canbusd.faults import Script, rules_in, rules_of, script_bytes
 from canbusd.frames import Frame
@@ -46,6 +51,8 @@ if TYPE_CHECKING:
 
     from canbusd._restbus.bench_rest_bus import BenchRestBus
 
+#: The errors of a file that was opened.
+OF_WRITING = (errno.EFBIG, errno.ENOSPC, errno.EDQUOT, errno.EIO)
 TRIED = re.compile(
     r"(?:idle|tried (?P<winner>\S+) (?P<number>\d+) (?P<outcome>\w+) (?P<accepted>\S+) (?P<off>\S+))"
     r"(?: restarted (?P<restarted>\S+))?(?: at (?P<at>[0-9.]+))?"
@@ -56,6 +63,22 @@ TRIED = re.compile(
 def set_of(names: Optional[str]) -> tuple[str, ...]:
     """The interfaces that the bench names; `-` is none."""
     return tuple(names.split(",")) if names and names != "-" else ()
+
+
+def write_files(texts: Mapping[Path, Optional[bytes]]) -> None:
+    """Writes each file whole or not at all, also after a fault of another; BenchError with the first."""
+    faults: list[str] = []
+    for path, text in texts.items():
+        try:
+            if text is not None:
+                # The program follows a link, too.
+                with replaced(os.path.realpath(path), is_synced=False) as file:
+                    file.write(text)
+        except OSError as fault:
+            what = "write fault" if fault.errno in OF_WRITING else f"cannot open {path}"
+            faults.append(f"canbusd: {what}\n  {path}: {fault.strerror} (os error {fault.errno})")
+    if faults:
+        raise BenchError(faults[0])
 
 
 class Bench(PassesTime, Dialogue, HasRestBus["BenchRestBus"], NamesWhatThereIs):
@@ -77,6 +100,9 @@ class Bench(PassesTime, Dialogue, HasRestBus["BenchRestBus"], NamesWhatThereIs):
         **dict.fromkeys(("sleep", "advance"), "wait(seconds)"),
         "attempts": "record().attempts",
     }
+
+    # Whether the record and the log are in files.
+    _has_files = False
 
     @explained()
     def __init__(
@@ -112,12 +138,10 @@ class Bench(PassesTime, Dialogue, HasRestBus["BenchRestBus"], NamesWhatThereIs):
         this: Bench = weakref.proxy(self)
         self._sleepers = Sleepers(self._turn, lambda name: this.up(name))
         self._sent: dict[str, list[Frame]] = {name: [] for name in self.names}
-        words += ["--record", str(self._path("rec")), "--log", str(self._path("log")), "--"]
-        bus = ",".join(self.names)
-        if script:
-            (self._folder / "faults").write_bytes(script)
-            bus += f"@{self._folder / 'faults'}"
-        self._start("bench", "--show-faults", *words, bus)
+        self._words, self._script = words, script
+        config = config_of(len(self.names), ack, report, auto_restart, txqueue, limit, self._rates)
+        inside = self._inside(config, rxqueue, lambda given: this._why(given)) if is_used() else None
+        self._begin(inside or self._as_process())
         # Wrong words are reported before the first session is used.
         self._greet()
         self._given = GivenRules(rules_in(script.decode()))
@@ -125,6 +149,31 @@ class Bench(PassesTime, Dialogue, HasRestBus["BenchRestBus"], NamesWhatThereIs):
         self._rules: list[str] = []
         # The end of the last attempt.
         self._busy_until = 0.0
+
+    def _inside(self, config: bytes, capacity: int, why: Callable[[bytes], str]) -> Optional[Lines]:
+        """The bench inside this process; None if the library refuses it, of which the program says why."""
+        try:
+            return BenchInside(self.names, config, capacity, self._script, why)
+        except BenchRefused:
+            return None
+
+    def _why(self, given: bytes) -> str:
+        """The program's text for the fault of this input."""
+        return fault_of(self._words_of_run(), given)
+
+    def _as_process(self) -> Lines:
+        """The bench as a process."""
+        return BenchProcess(self._words_of_run(), self._folder / "stderr")
+
+    def _words_of_run(self) -> list[str]:
+        """The words of the program, for which the script is in a file."""
+        bus = ",".join(self.names)
+        if self._script:
+            path = self._folder / "faults"
+            path.write_bytes(self._script)
+            bus += f"@{path}"
+        files = ["--record", str(self._path("rec")), "--log", str(self._path("log"))]
+        return ["--show-faults", *self._words, *files, "--", bus]
 
     @explained()
     def open(
@@ -154,8 +203,9 @@ class Bench(PassesTime, Dialogue, HasRestBus["BenchRestBus"], NamesWhatThereIs):
                 raise Refused(TOO_MANY_SESSIONS)
             session = Session(self, self._sessions, channel)
             try:
-                for message in [f"open {channel}", "rawmode", *messages]:
-                    session.call(message)
+                # A message after one that is refused is refused, too, or leaves nothing.
+                words = " >< ".join([f"open {channel}", "rawmode", *messages, "echo"])
+                self._ask(f"feed {self._sessions} < {words} >")
                 if can_filters is not None:
                     session.set_filters(can_filters)
             except (Refused, ValueError):
@@ -175,6 +225,11 @@ class Bench(PassesTime, Dialogue, HasRestBus["BenchRestBus"], NamesWhatThereIs):
         """
         self._observing()
         return self.open(channel, can_filters, **options)
+
+    @property
+    def said(self) -> str:
+        """The fault with which the bench has ended, if it has."""
+        return self._lines.said
 
     @property
     def interfaces(self) -> list[str]:
@@ -234,7 +289,7 @@ class Bench(PassesTime, Dialogue, HasRestBus["BenchRestBus"], NamesWhatThereIs):
             words = TRIED.fullmatch(line)
             attempt = self._attempt_of(words) if words else None
             self._in_step = True
-            if attempt is not None:
+            if attempt is not None and len(self._sleepers):
                 self._sleepers.note(attempt)
         if not words:
             raise Refused(line)
@@ -303,13 +358,11 @@ class Bench(PassesTime, Dialogue, HasRestBus["BenchRestBus"], NamesWhatThereIs):
 
     def record(self) -> Record:
         """Ends the run and returns its record."""
-        self.stop()
-        return read_record(self._path("rec"), self.names, rates=self._rates)
+        return read_record(self._left("rec"), self.names, rates=self._rates)
 
     def log(self) -> "list[Message]":
         """Ends the run and returns what was on the bus, as messages of python-can; what failed is an error frame."""
-        self.stop()
-        return read_log(self._path("log"))
+        return read_log(self._left("log"))
 
     def report(self) -> Path:
         """Ends the run, writes its page, and returns the path of that."""
@@ -317,40 +370,53 @@ class Bench(PassesTime, Dialogue, HasRestBus["BenchRestBus"], NamesWhatThereIs):
 
     def audit(self) -> str:
         """Ends the run and has its record audited by the program; returns what that said, `ok 7 entries`."""
-        self.stop()
-        return audited(self._path("rec"))
+        return audited(self._left("rec"))
 
     def _page(self, record: Record, path: Path) -> Path:
         """Writes the page of the run there."""
         return write_page(record, path, self._rules, self._rates, self.database)
 
-    def _finish(self, fault: str = "") -> None:
-        try:
-            super()._finish(fault)
-        finally:
-            bus = self._number, self.names[0]
-            placement.keep(bus, self.names, self._own_sessions, self._path("rec"), self._rates)
+    def _ended(self) -> None:
+        if self._given_out is not None:
+            self._write_files()
+        if placement.is_there():
+            bus, record = (self._number, self.names[0]), self._lines.left("rec") or self._path("rec")
+            placement.keep(bus, self.names, self._own_sessions, record, self._rates)
+
+    def _left(self, ending: str) -> Path:
+        """Ends the run, and returns the path of the file with its record or its log."""
+        self.stop()
+        with self._turn:
+            self._write_files()
+        return self._path(ending)
+
+    def _write_files(self) -> None:
+        """Writes the record and the log, if the bench has not: in an `out` at once, else as one of them is asked for."""
+        if not self._has_files:
+            self._has_files = True
+            write_files({self._path(ending): self._lines.left(ending) for ending in ("rec", "log")})
 
     def _path(self, ending: str) -> Path:
         return self._out / f"{self.names[0]}.{ending}"
 
     def _attempt_of(self, words: "re.Match[str]") -> Optional[Attempt]:
         """The attempt that these words of a line describe."""
-        moment, restarted = float(words["at"] or self._moment), set_of(words["restarted"])
+        winner, digits, outcome, accepted, off, again, at, fault, rule = words.groups()
+        moment, restarted = float(at or self._moment), set_of(again)
         self._busy_until = moment
-        if words["winner"] is None:
+        if winner is None:
             return Attempt(moment, "", 0, "", "idle", "good", (), (), restarted) if restarted else None
-        number, winner = int(words["number"]), words["winner"]
-        self._rules.append(str(self._given.gave(int(words["rule"]))) if words["rule"] else "")
+        number = int(digits)
+        self._rules.append(str(self._given.gave(int(rule))) if rule else "")
         return Attempt(
             moment,
             winner,
             number,
             str(self._sent[winner][number]),
-            cast(Outcome, words["outcome"]),
-            words["fault"] or "good",
-            set_of(words["accepted"]),
-            set_of(words["off"]),
+            cast(Outcome, outcome),
+            fault or "good",
+            set_of(accepted),
+            set_of(off),
             restarted,
         )
 

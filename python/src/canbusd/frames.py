@@ -1,5 +1,6 @@
 """Frames: their fields, candump's spelling of them, and error message frames in words."""
 
+import functools
 import re
 from collections.abc import Callable, Iterable, Sequence
 from dataclasses import dataclass, field
@@ -48,6 +49,7 @@ MESSAGE = re.compile(
 
 
 Made = TypeVar("Made")
+NEW, SET = object.__new__, object.__setattr__
 
 
 class BadFrame(ValueError):
@@ -267,7 +269,7 @@ def check_frame(message: MessageLike) -> None:
     if not 0 <= message.arbitration_id <= most:
         cure = "; is_extended_id=True has 29 bits" if 0x7FF < message.arbitration_id <= 0x1FFFFFFF else ""
         raise BadFrame(f"arbitration_id {message.arbitration_id:#x} is not in 0 to {most:X}{cure}")
-    if not message.is_fd and flag_number(message):
+    if not message.is_fd and (message.bitrate_switch or message.error_state_indicator):
         raise BadFrame("bitrate_switch and error_state_indicator are flags of FD frames")
     length = len(message.data)
     if message.is_remote_frame:
@@ -282,13 +284,14 @@ def check_frame(message: MessageLike) -> None:
 
 def command_of(message: MessageLike) -> str:
     """Returns the message by which a session sends a frame or a python-can message, without `<` and `>`."""
-    check_frame(message)
+    if message.__class__ is not Frame:
+        check_frame(message)
     if message.is_error_frame:
         raise BadFrame("an error message frame, which nobody sends")
     digits = f"{message.arbitration_id:08X}" if message.is_extended_id else f"{message.arbitration_id:03X}"
     if message.is_remote_frame:
         return f"sendrtr {digits} {message.dlc}"
-    flags = flag_number(message)
+    flags = flag_number(message) if message.is_fd else 0
     verb = f"sendfdx {flags}" if flags else "sendfd" if message.is_fd else "send"
     words = f"{verb} {digits} {message.dlc}"
     return f"{words} {message.data.hex(' ').upper()}" if message.dlc else words
@@ -326,10 +329,35 @@ def without_origin(message: str) -> tuple[str, Optional[int]]:
     return message.partition(" other ")[0], int(number) if number else None
 
 
+@functools.lru_cache(maxsize=4096)
+def fields_of(kind: str, digits: str) -> dict[str, object]:
+    """Returns the fields that the first words of a message give a frame."""
+    return vars(frame_of_message(Frame, *kind.split(" "), digits, "0.0", "0" if kind == "remote" else ""))
+
+
+def with_fields(fields: dict[str, object]) -> Frame:
+    """Returns the frame with these fields, without a test of them. A frozen dataclass takes longer to set each."""
+    frame = NEW(Frame)
+    SET(frame, "__dict__", fields)
+    return frame
+
+
 def frame_of(message: str) -> Optional[Frame]:
     """Returns the frame in a session's message, which is given without `<` and `>`; None for an answer."""
     words = MESSAGE.fullmatch(message.strip())
-    return frame_of_message(Frame, *words[1].split(" "), *words.groups(default="")[1:]) if words else None
+    if not words:
+        return None
+    kind, digits, moment, payload = words.groups("")
+    fields = fields_of(kind, digits).copy()
+    if kind == "remote":
+        fields["dlc"] = int(payload)
+    else:
+        fields["data"] = data = bytes.fromhex(payload)
+        fields["dlc"] = len(data)
+    fields["timestamp"] = float(moment)
+    frame = with_fields(fields)
+    check_frame(frame)
+    return frame
 
 
 def is_fd(text: str) -> bool:

@@ -28,7 +28,17 @@ from canbusd._session.arguments import mask_or_truth
 from canbusd._session.injection import Refused as Refused
 from canbusd._session.protocol import ALL_CLASSES, ErrorCounters, Filters, Load, State, Stats, filter_words
 from canbusd.faults import Script, rules_of
-from canbusd.frames import ERROR, EXTENDED, REMOTE, Frame, data_bytes, flag_number, frame_to_send, identifier_word
+from canbusd.frames import (
+    ERROR,
+    EXTENDED,
+    REMOTE,
+    Frame,
+    data_bytes,
+    flag_number,
+    frame_to_send,
+    identifier_word,
+    with_fields,
+)
 from canbusd.record import Outcome
 
 Self = TypeVar("Self", bound="LocalBus")
@@ -43,7 +53,6 @@ OUTCOME_AT, MOMENT_AT = 72, 88
 MOMENT = struct.Struct("=Q")
 # The number of heads of frames that are kept.
 MOST_HEADS = 4096
-NEW, SET = object.__new__, object.__setattr__
 put_frame, item_in, tried_in = lib.FRAME.pack_into, lib.ITEM.unpack, lib.TRIED.unpack
 
 
@@ -79,13 +88,10 @@ HEADS = HeadsOfFrames()
 def frame_of(head: bytes, data: bytes, micros: int) -> Frame:
     """Returns the frame of a struct, which needs no test."""
     fields, length = HEADS[head]
-    # The fields as they are set for a frozen dataclass, all at once.
     fields = fields.copy()
     fields["data"] = data[:length]
     fields["timestamp"] = micros / 1e6
-    frame = NEW(Frame)
-    SET(frame, "__dict__", fields)
-    return frame
+    return with_fields(fields)
 
 
 class Tried:
@@ -299,15 +305,7 @@ class LocalBus(NamesWhatThereIs):
         self._news = threading.Condition(self._turn)
         # The number of threads that wait for news.
         self._waiting = 0
-        config = lib.CONFIG.pack(
-            int(ack == "peers"),
-            0xFFFF * bool(report),
-            txqueue,
-            limit,
-            auto_restart,
-            rates.bitrate if rates else 0,
-            (rates.dbitrate or 0) if rates else 0,
-        )
+        config = lib.config_of(len(self.names), ack, report, auto_restart, txqueue, limit, rates)
         # NULL once it is closed.
         self._handle = ctypes.c_void_p()
         functions = library()

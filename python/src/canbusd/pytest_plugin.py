@@ -237,6 +237,8 @@ class Runs:
     def __init__(self, request: pytest.FixtureRequest, factory: pytest.TempPathFactory) -> None:
         self._item: pytest.Item = request.node
         self._keep = str(request.config.getoption("--canbusd-keep"))
+        # Of a placement nothing is shown but its result: the sweep keeps the records of benches, and audits that without a fault.
+        self._is_bare = self._keep == "none" and placement.has_faults()
         name = re.sub(r"\W+", "-", self._item.name)[:40]
         self._folder = new_folder(factory.getbasetemp(), f"canbusd-{name}")
         self._runs: list[Union["Server", Bench]] = []
@@ -255,7 +257,7 @@ class Runs:
 
     def bench(self, names: str, **options: Any) -> Bench:
         """Starts a bench whose log and record are in a folder of the test."""
-        out = self._folder_of(options)
+        out = self._folder_of(options, is_used=not self._is_bare)
         with self._below():
             bench = Bench(names, **options)
         self._add(bench, out, [list(bench.names)])
@@ -270,11 +272,14 @@ class Runs:
         finally:
             FOLDERS.reset(before)
 
-    def _folder_of(self, options: dict[str, Any]) -> Path:
-        if options.get("out") is None:
-            options["out"] = self._folder / str(len(self._runs))
-            options["out"].mkdir()
-        return Path(options["out"])
+    def _folder_of(self, options: dict[str, Any], is_used: bool = True) -> Path:
+        if options.get("out") is not None:
+            return Path(options["out"])
+        out = self._folder / str(len(self._runs))
+        if is_used:
+            options["out"] = out
+            out.mkdir()
+        return out
 
     def _add(self, run: Union["Server", Bench], out: Path, buses: list[list[str]]) -> None:
         self._runs.append(run)
@@ -332,6 +337,8 @@ class Runs:
     def _audit(self) -> Iterator[str]:
         """Audits the records; yields their faults. Records of a killed server may end anywhere."""
         for path, (run, _) in self._records.items():
+            if self._is_bare and isinstance(run, Bench):
+                continue
             left = left_by(path, record_when(run))
             if left.exists():
                 said = audited(left, cut=left != path)

@@ -24,7 +24,7 @@ from canbusd._expect.observer import Observer, observed_of
 from canbusd import _placement as placement
 from canbusd._process import lock_file
 from canbusd._process.program import ServerError as ServerError, audited
-from canbusd._process.program_run import RUNNING, Ack, ProgramRun, option_words, rates_by_bus
+from canbusd._process.program_run import RUNNING, Ack, HasProgram, Run, option_words, rates_by_bus
 from canbusd._process.rates import BitRate, words_of
 from canbusd._process.serve_words import Recorded, bus_words, record_options
 from canbusd._restbus.node import Node
@@ -78,7 +78,7 @@ class Result(NamedTuple):
     entries: dict[str, int]
 
 
-class Server(Expectations, SimulatesNodes, RunsPrograms, ProgramRun, NamesWhatThereIs):
+class Server(Expectations, SimulatesNodes, RunsPrograms, HasProgram, Run, NamesWhatThereIs):
     """`canbusd serve` with these buses, each the names of its interfaces: ``Server("can0,can1", "car0")``.
 
     The options are those of the program. ``faults`` is a script for the only bus (:class:`canbusd.Faults`, a path or a
@@ -152,7 +152,8 @@ class Server(Expectations, SimulatesNodes, RunsPrograms, ProgramRun, NamesWhatTh
         self._prepare(record)
         self._observed = observed_of(observe, self._names(), lambda name: self._first(name, "observe"))
         words = ["--until-eof", "--listen", listen, *options, "--out", str(self._out)]
-        self._start("serve", *words, "--", *(bus[-1] for bus in self._by_bus.values()))
+        self._start(self._folder / "stderr", "serve", *words, "--", *(bus[-1] for bus in self._by_bus.values()))
+        RUNNING.add(self)
         #: The address for clients: HOST:PORT, or a Unix path.
         self.address = self._listening()
         self._sleepers = LiveSleepers(self.address, self._names())
@@ -429,6 +430,9 @@ class Server(Expectations, SimulatesNodes, RunsPrograms, ProgramRun, NamesWhatTh
         if self._record_when == "none":
             raise ServerError('there is no record: the server has record="none"')
         return self._first(name)
+
+    def _forget(self) -> None:
+        self._close_input()
 
     def _file(self, name: Optional[str], ending: str) -> Path:
         first = self._first(name)

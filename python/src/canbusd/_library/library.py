@@ -9,8 +9,10 @@ import struct
 import subprocess
 from collections.abc import Callable
 from pathlib import Path
+from typing import Optional
 
 from canbusd._process.program import SET_BY
+from canbusd._process.rates import Rates
 
 #: The version of the functions and structs that this module calls by, and the name of the library that has it.
 ABI = 0
@@ -31,6 +33,7 @@ STATS = struct.Struct("=3Q")
 LOAD = struct.Struct("=4IQ")
 
 _POINTER, _U32, _U64, _SIZE = ctypes.c_void_p, ctypes.c_uint32, ctypes.c_uint64, ctypes.c_size_t
+_TEXT = [_POINTER, _POINTER, _SIZE, _POINTER]
 _CALLS = {
     "new": [ctypes.c_char_p, _POINTER, _POINTER],
     "open": [_POINTER, _U32, _U32, _POINTER],
@@ -48,7 +51,15 @@ _CALLS = {
     "get_status": [_POINTER, _U32, _POINTER],
     "get_stats": [_POINTER, _U32, _POINTER],
     "get_load": [_POINTER, _U64, _POINTER],
-    "record": [_POINTER, _POINTER, _SIZE, _POINTER],
+    "record": _TEXT,
+}
+#: Those of a bench, which an older library has not.
+_BENCH_CALLS = {
+    "bench_new": [ctypes.c_char_p, _POINTER, _U32, _U32, ctypes.c_char_p, _SIZE, _POINTER, _POINTER],
+    "bench_take": [_POINTER, ctypes.c_char_p, _SIZE, _POINTER, _SIZE, _POINTER, _POINTER],
+    "bench_output": _TEXT,
+    "bench_record": _TEXT,
+    "bench_log": _TEXT,
 }
 
 
@@ -92,12 +103,23 @@ def quick(name: str) -> Callable[..., int]:
 def library() -> ctypes.CDLL:
     """Returns the library, loaded once."""
     loaded = ctypes.CDLL(find_library())
-    for name, arguments in _CALLS.items():
+    has_benches = hasattr(loaded, "canbusd_bench_new")
+    for name, arguments in {**_CALLS, **(_BENCH_CALLS if has_benches else {})}.items():
         function = getattr(loaded, f"canbusd_{name}")
         function.argtypes, function.restype = arguments, _U32
-    loaded.canbusd_free.argtypes, loaded.canbusd_free.restype = [_POINTER], None
+    for free in (loaded.canbusd_free, *([loaded.canbusd_bench_free] if has_benches else [])):
+        free.argtypes, free.restype = [_POINTER], None
     loaded.canbusd_strerror.argtypes, loaded.canbusd_strerror.restype = [_U32], ctypes.c_char_p
     return loaded
+
+
+def config_of(
+    ifaces: int, ack: str, report: bool, auto_restart: int, txqueue: int, limit: int, rates: Optional[Rates]
+) -> bytes:
+    """Returns the struct of a bus of so many interfaces with these options, which are right."""
+    nominal, fast = (rates.bitrate, rates.dbitrate or 0) if rates else (0, 0)
+    reporting = (1 << ifaces) - 1 if report else 0
+    return CONFIG.pack(int(ack == "peers"), reporting, txqueue, limit, auto_restart, nominal, fast)
 
 
 def text_of(code: int) -> str:

@@ -1,24 +1,18 @@
-"""A bench as a process: lines that are written to it, and lines that it writes."""
+"""A bench in a dialogue: lines that are given to it, and lines that it writes."""
 
 import os
 import re
-import select
 import threading
-from typing import Union
+from typing import Optional, Protocol, Union
 
-from canbusd._process.program_run import RUNNING, ProgramRun
+from canbusd._process.program import BenchError
+from canbusd._process.program_run import RUNNING, Run
 from canbusd._session.injection import Refused
 from canbusd._words import MOST_INPUT
 from canbusd.frames import frame_of
 
-#: Seconds after which a bench that says nothing is given up.
-TIMEOUT = 30.0
 MESSAGES = re.compile(r"< (.*?) >")
 AT = re.compile(r"[0-9]{1,10}\.[0-9]{6}")
-
-
-class BenchError(RuntimeError):
-    """The bench ended with a fault; the text is what canbusd said of it."""
 
 
 def moment_text(at: Union[str, float], what: str = "at") -> str:
@@ -32,8 +26,38 @@ def moment_text(at: Union[str, float], what: str = "at") -> str:
     return text
 
 
-class Dialogue(ProgramRun):
+class Lines(Protocol):
+    """The bench itself, a process or a part of this one: it takes lines, and writes what they bring about. BenchError if it
+    ends with a fault."""
+
+    @property
+    def is_over(self) -> bool:
+        """Whether it has ended."""
+
+    @property
+    def said(self) -> str:
+        """What it said of the fault with which it has ended."""
+
+    def write(self, data: bytes) -> None:
+        """Gives it lines."""
+
+    def read_line(self) -> str:
+        """Returns the next line that it writes, without its end."""
+
+    def end(self) -> None:
+        """Ends it; its record and its log are whole then."""
+
+    def forget(self) -> None:
+        """Lets go of it in a process that was forked."""
+
+    def left(self, ending: str) -> Optional[bytes]:
+        """Returns the record or the log of a run that came to its end, by the ending of its file; None if it has written it."""
+
+
+class Dialogue(Run):
     """A bench to which lines are written, one call at a time, each of which reads what that makes it write."""
+
+    _lines: Lines
 
     def __init__(self, out: Union[str, "os.PathLike[str]", None]) -> None:
         super().__init__(out)
@@ -42,18 +66,33 @@ class Dialogue(ProgramRun):
         self._turn = threading.RLock()
         self._in_step = True
         self._written = 0
-        self._rest = b""
+
+    def _begin(self, lines: Lines) -> None:
+        """Begins the dialogue with this bench."""
+        self._lines = lines
+        RUNNING.add(self)
+
+    @property
+    def _is_over(self) -> bool:
+        """Whether the bench has ended."""
+        return self._lines.is_over
+
+    def _forget(self) -> None:
+        self._lines.forget()
 
     def stop(self) -> None:
         """Ends the run; its record and its log are written. The sessions can't be used any more."""
         self._check_process()
         with self._turn:
-            if self._child.stdin is None:
+            if self._lines.is_over:
                 return
-            self._close_input()
-            while self._more():
-                pass
-            self._finish()
+            RUNNING.discard(self)
+            self._lines.end()
+            self._ended()
+
+    def _ended(self) -> None:
+        """Is called once after a run that came to its end."""
+        raise NotImplementedError
 
     def _ask(self, lines: str, at: Union[str, float, None] = None) -> list[str]:
         """Carries out lines whose last one ends with `< echo >`, and returns what the session writes before that echo; a
@@ -63,7 +102,7 @@ class Dialogue(ProgramRun):
         """
         with self._turn:
             self._write(lines, at)
-            messages: list[str] = []
+            messages: list[str] = MESSAGES.findall(self._line())
             while not messages or messages[-1] != "echo":
                 messages += MESSAGES.findall(self._line())
             self._in_step = True
@@ -81,8 +120,9 @@ class Dialogue(ProgramRun):
 
     def _write(self, lines: str, at: Union[str, float, None] = None) -> None:
         """Writes lines, before which the moment is set if one is given."""
-        self._check_process()
-        if self._child.stdin is None:
+        if os.getpid() != self._process:
+            self._check_process()
+        if self._lines.is_over:
             raise ValueError("the bench has ended")
         if not self._in_step:
             raise BenchError("a call was interrupted, and its answer is still to come: the bench can only be ended")
@@ -97,35 +137,14 @@ class Dialogue(ProgramRun):
         self._moment = moment
         self._written += len(data)
         try:
-            self._child.stdin.write(data)
-        except BrokenPipeError:
-            self._finish()
+            self._lines.write(data)
+        except BenchError:
+            RUNNING.discard(self)
+            raise
 
     def _line(self) -> str:
-        while b"\n" not in self._rest:
-            if not self._more():
-                self._finish()
-                raise BenchError("the bench ended")
-        line, _, self._rest = self._rest.partition(b"\n")
-        return line.decode()
-
-    def _more(self) -> bool:
-        """Reads what the bench wrote; False at its end."""
-        assert self._child.stdout is not None
-        output = self._child.stdout.fileno()
-        if not select.select([output], [], [], TIMEOUT)[0]:
-            self._signal()
-            self._finish(f"the bench said nothing for {TIMEOUT:.0f} seconds")
-        piece = os.read(output, 65536)
-        self._rest += piece
-        return bool(piece)
-
-    def _finish(self, fault: str = "") -> None:
-        """Waits for the end of the program, and raises this fault, or what the program said if it ended with one."""
-        self._close_input()
-        status = self._child.wait(TIMEOUT)
-        assert self._child.stdout is not None
-        self._child.stdout.close()
-        RUNNING.discard(self)
-        if status != 0:
-            raise BenchError("\n".join(filter(None, [fault, self.said])) or f"the bench ended with status {status}")
+        try:
+            return self._lines.read_line()
+        except BenchError:
+            RUNNING.discard(self)
+            raise

@@ -15,6 +15,10 @@ class ServerError(RuntimeError):
     """The server could not be started, or ended with a fault; the text is that of canbusd."""
 
 
+class BenchError(RuntimeError):
+    """The bench ended with a fault; the text is what canbusd said of it."""
+
+
 class ProgramNotFound(FileNotFoundError):
     """There is no program canbusd where it is looked for."""
 

@@ -1,6 +1,7 @@
-"""The common part of Server and Bench: the options of the program, a folder of its own, and an end."""
+"""The common part of Server and Bench: the options of the program, a folder of its own, an end, and the program as a child."""
 
 import _thread
+import functools
 import os
 import re
 import shutil
@@ -22,7 +23,7 @@ from canbusd._text import NAME
 from canbusd._words import MOST_NAMES, NUMBERS
 from canbusd.faults import Script
 
-Self = TypeVar("Self", bound="ProgramRun")
+Self = TypeVar("Self", bound="Run")
 
 #: The folder of all runs' folders; None is the system's place for temporary files.
 FOLDERS: "ContextVar[Optional[Path]]" = ContextVar("FOLDERS", default=None)
@@ -142,10 +143,8 @@ def remove(folder: Path, process: int) -> None:
                 _thread.start_new_thread(os.kill, (process, signal.SIGINT))
 
 
-class ProgramRun:
-    """A run of the program. Its logs and records are in `out`, else in a folder that is kept as long as it is."""
-
-    _child: "subprocess.Popen[bytes]"
+class Run:
+    """A run of buses. Its logs and records are in `out`, else in a folder that is kept as long as it is."""
 
     def __init__(self, out: Union[str, "os.PathLike[str]", None]) -> None:
         if out is not None and not os.path.isdir(out):
@@ -153,50 +152,33 @@ class ProgramRun:
         self._process = os.getpid()
         #: Which server or bench of a test it is, for a sweep.
         self._number = placement.next_run()
-        self._folder = Path(tempfile.mkdtemp(prefix="canbusd-", dir=FOLDERS.get()))
-        self._remove = weakref.finalize(self, remove, self._folder, self._process)
-        self._out = Path(out) if out is not None else self._folder
+        self._given_out = None if out is None else Path(out)
+        self._folders = FOLDERS.get()
+
+    @functools.cached_property
+    def _folder(self) -> Path:
+        """A folder of its own, which is made as it is first asked for."""
+        folder = Path(tempfile.mkdtemp(prefix="canbusd-", dir=self._folders))
+        self._remove = weakref.finalize(self, remove, folder, self._process)
+        return folder
 
     @property
-    def said(self) -> str:
-        """The standard error of the program so far, such as `note: bus can0: record full`."""
-        return (self._folder / "stderr").read_text(errors="replace").strip()
-
-    def _start(self, *words: str) -> None:
-        """Starts the program with these words; its input and its output are pipes."""
-        with open(self._folder / "stderr", "wb") as errors:
-            # Not in the terminal's foreground: Ctrl-C is this process's, which then ends the program as it should be.
-            self._child = subprocess.Popen(
-                [find_program(), *words],
-                stdin=subprocess.PIPE,
-                stdout=subprocess.PIPE,
-                stderr=errors,
-                bufsize=0,
-                start_new_session=True,
-            )
-        RUNNING.add(self)
+    def _out(self) -> Path:
+        """The folder of its logs and records."""
+        return self._folder if self._given_out is None else self._given_out
 
     def stop(self) -> object:
         """Ends the run; logs and records are written."""
         raise NotImplementedError
 
+    def _forget(self) -> None:
+        """Lets go of it in a process that was forked."""
+        raise NotImplementedError
+
     def _check_process(self) -> None:
-        """Raises RuntimeError in a process that was forked: only the one that started the program may end it."""
+        """Raises RuntimeError in a process that was forked: only the one that started the run may end it."""
         if os.getpid() != self._process:
             raise RuntimeError(f"this {type(self).__name__} belongs to process {self._process}, which was forked")
-
-    def _close_input(self) -> None:
-        """The end of its input ends the program."""
-        if self._child.stdin is not None:
-            self._child.stdin.close()
-            self._child.stdin = None
-
-    def _signal(self) -> None:
-        """Kills the program, and its launcher if it has one; both are in a session of their own."""
-        try:
-            os.killpg(self._child.pid, signal.SIGKILL)
-        except ProcessLookupError:
-            pass
 
     def __enter__(self: Self) -> Self:
         return self
@@ -214,13 +196,52 @@ class ProgramRun:
                 raise
 
 
-RUNNING: "weakref.WeakSet[ProgramRun]" = weakref.WeakSet()
+class HasProgram:
+    """The program as a child of this process: its input and its output are pipes."""
+
+    _child: "subprocess.Popen[bytes]"
+    _errors: Path
+
+    @property
+    def said(self) -> str:
+        """The standard error of the program so far, such as `note: bus can0: record full`."""
+        return self._errors.read_text(errors="replace").strip()
+
+    def _start(self, errors: Path, *words: str) -> None:
+        """Starts the program with these words; its standard error goes into a file."""
+        self._errors = errors
+        with open(errors, "wb") as file:
+            # Not in the terminal's foreground: Ctrl-C is this process's, which then ends the program as it should be.
+            self._child = subprocess.Popen(
+                [find_program(), *words],
+                stdin=subprocess.PIPE,
+                stdout=subprocess.PIPE,
+                stderr=file,
+                bufsize=0,
+                start_new_session=True,
+            )
+
+    def _close_input(self) -> None:
+        """The end of its input ends the program."""
+        if self._child.stdin is not None:
+            self._child.stdin.close()
+            self._child.stdin = None
+
+    def _signal(self) -> None:
+        """Kills the program, and its launcher if it has one; both are in a session of their own."""
+        try:
+            os.killpg(self._child.pid, signal.SIGKILL)
+        except ProcessLookupError:
+            pass
+
+
+RUNNING: "weakref.WeakSet[Run]" = weakref.WeakSet()
 
 
 def forget_runs() -> None:
     """A process that was forked holds no input of a program open, which would keep it from its end."""
     for run in list(RUNNING):
-        run._close_input()
+        run._forget()
     RUNNING.clear()
 
 

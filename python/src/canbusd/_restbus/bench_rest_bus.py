@@ -75,7 +75,7 @@ class BenchRestBus(RestBus):
     def close(self) -> None:
         """Closes the rest bus, and its sessions if the bench still runs."""
         self._is_closed = True
-        if self._bench._child.stdin is not None:
+        if not self._bench._is_over:
             for session in self._sessions.values():
                 session.close()
 

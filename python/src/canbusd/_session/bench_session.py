@@ -36,6 +36,8 @@ from canbusd.frames import (
 if TYPE_CHECKING:
     from canbusd.bench import Bench
 
+#: What is in no message that `call` takes.
+NOT_ONE = re.compile(r"[<>\n]|^\s*close\b")
 CLOSED = re.compile(r"[0-9]+ < closed ([0-9]+) ([0-9]+) >")
 
 
@@ -141,11 +143,12 @@ class Session(InjectsFaults, NamesWhatThereIs):
 
     def _put(self, frame: Frame) -> None:
         """Puts a frame into the transmit queue."""
-        command, accepted = command_of(frame), self._bench._sent[self.channel]
-        with self._bench._turn:
+        bench, command = self._bench, command_of(frame)
+        accepted = bench._sent[self.channel]
+        with bench._turn:
             accepted.append(frame)
             try:
-                self.call(command)
+                bench._ask(f"feed {self._live()} < {command} >< echo >")
             except Refused:
                 accepted.pop()
                 raise
@@ -198,8 +201,10 @@ class Session(InjectsFaults, NamesWhatThereIs):
 
     def _gather(self) -> None:
         """Takes the items that the socket has received, for calls that return them."""
-        frames = map(self._frame, self.handed_over())
-        self._received.extend(frame for frame in frames if frame is not None)
+        for message in self.handed_over():
+            frame = self._frame(message)
+            if frame is not None:
+                self._received.append(frame)
 
     def error_counters(self) -> ErrorCounters:
         """Returns the state of the interface and its error counts, like `status`."""
@@ -254,7 +259,7 @@ class Session(InjectsFaults, NamesWhatThereIs):
 
     def call(self, message: str) -> list[str]:
         """Sends a message of the protocol, such as `recvown 1`, and returns its answers; raises a refusal."""
-        if re.search(r"[<>\n]|^\s*close\b", message):
+        if NOT_ONE.search(message):
             raise ValueError(f"message is one message without < and >, and not close: {message!r}")
         text = f" {message} "
         if len(text.encode()) > LONGEST_MESSAGE:
@@ -267,7 +272,7 @@ class Session(InjectsFaults, NamesWhatThereIs):
 
     def shutdown(self) -> None:
         """Closes the socket if it is open and the bench still runs."""
-        if not self._closed and self._bench._child.stdin is not None:
+        if not self._closed and not self._bench._is_over:
             self.close()
 
     def __enter__(self) -> "Session":
@@ -289,9 +294,10 @@ class Session(InjectsFaults, NamesWhatThereIs):
 
     def _frame(self, message: str) -> Optional[Frame]:
         """Returns the frame that a message hands over; None for an answer."""
-        text, number = without_origin(message)
-        frame = frame_of(text)
-        return replace(frame, is_rx=False) if frame is not None and number in self._own else frame
+        frame = frame_of(message)
+        if frame is not None and " same " in message and without_origin(message)[1] in self._own:
+            return replace(frame, is_rx=False)
+        return frame
 
     def _answer(self, message: str) -> str:
         answer = self.call(message)[0]

@@ -48,6 +48,10 @@ class Order:
     has_page: bool
 
 
+#: That of a run without a fault.
+FIRST_ORDER = Order((), 0, 0, None, False)
+
+
 def is_ready() -> bool:
     """Whether runs in virtual time can begin in children of this process."""
     return LIBRARY in os.environ.get(PRELOAD, "")
@@ -123,7 +127,8 @@ def start(task: Task, order: Order, room: Path, processor: int) -> int:
         if given.failure:
             result = Result("failed", f"the sweep itself failed: {given.failure}")
         result.programs, result.records = given.programs, sum_of(room)
-        write_result(room, result, modules)
+        # The others are begun with those of a run without a fault.
+        write_result(room, result, modules if order == FIRST_ORDER else [])
         status = 0
     except BaseException:  # noqa: B902  nothing of the child goes on in pytest
         write_result(room, Result("failed", "the sweep itself failed", traceback.format_exc()), [])

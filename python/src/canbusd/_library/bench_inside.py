@@ -1,0 +1,109 @@
+"""A bench inside this process, by libcanbusd: it takes the lines that the program's takes, and writes what that writes."""
+
+import ctypes
+import functools
+import os
+import weakref
+from collections.abc import Callable, Sequence
+from typing import NoReturn, Optional
+
+from canbusd._library.library import LibraryNotFound, library, text_of
+from canbusd._process.program import BenchError
+
+#: The bytes of output for which there is room at first.
+ROOM = 4096
+
+
+def is_used() -> bool:
+    """Whether benches are inside this process: if the library is there. An empty `$CANBUSD_LIBRARY` keeps them out, as does
+    `$CANBUSD` without it, which names a program that is to be the bench."""
+    given = os.environ.get("CANBUSD_LIBRARY")
+    if given is None and os.environ.get("CANBUSD"):
+        return False
+    return given != "" and has_benches(given)
+
+
+@functools.lru_cache(maxsize=None)
+def has_benches(given: Optional[str]) -> bool:
+    """Whether there is a library with benches; LibraryNotFound if it was given and is not there."""
+    try:
+        return hasattr(library(), "canbusd_bench_new")
+    except LibraryNotFound:
+        if given:
+            raise
+        return False
+
+
+class BenchRefused(RuntimeError):
+    """The library makes no such bench; the text is that of its code."""
+
+
+class BenchInside:
+    """The bench of the library."""
+
+    def __init__(
+        self, names: Sequence[str], config: bytes, capacity: int, faults: bytes, why: Callable[[bytes], str]
+    ) -> None:
+        """Makes one with these names, the struct of its bus, the capacity of sockets and the text of a script; BenchRefused if
+        there is none. `why` returns the program's text for the fault of an input."""
+        self._why = why
+        self._input: list[bytes] = []
+        self._handle = ctypes.c_void_p()
+        self._functions, joined = library(), ",".join(names).encode()
+        code = self._functions.canbusd_bench_new(
+            joined, config, capacity, 1, faults, len(faults), ctypes.byref(self._handle), None
+        )
+        if code:
+            raise BenchRefused(text_of(code))
+        weakref.finalize(self, self._functions.canbusd_bench_free, self._handle.value)
+        self._take, self._length = self._functions.canbusd_bench_take, ctypes.c_size_t()
+        self._room = ctypes.create_string_buffer(ROOM)
+        self._written = memoryview(self._room)
+        self._arguments = self._room, ROOM, ctypes.byref(self._length), None
+        self._rest = b""
+        #: Whether it has ended; and why, if by a fault.
+        self.is_over = False
+        self.said = ""
+
+    def write(self, data: bytes) -> None:
+        """Gives it lines."""
+        self._input.append(data)
+        code = self._take(self._handle, data, len(data), *self._arguments)
+        length = self._length.value
+        self._rest += self._written[:length] if length <= ROOM else self._text("output")
+        if code:
+            self._fail(code)
+
+    def read_line(self) -> str:
+        """Returns the next line that it writes, without its end."""
+        line, end, self._rest = self._rest.partition(b"\n")
+        if not end:
+            raise BenchError("the bench said nothing")
+        return line.decode()
+
+    def end(self) -> None:
+        """Ends it."""
+        self.is_over = True
+
+    def forget(self) -> None:
+        """Does nothing: a process that was forked has a copy."""
+
+    def left(self, ending: str) -> Optional[bytes]:
+        """Returns the record, or the log; None after a fault."""
+        return None if self.said else self._text("record" if ending == "rec" else ending)
+
+    def _text(self, name: str) -> bytes:
+        """The text that a call writes into a buffer."""
+        call, length = getattr(self._functions, f"canbusd_bench_{name}"), ctypes.c_size_t()
+        code = call(self._handle, None, 0, ctypes.byref(length))
+        room = ctypes.create_string_buffer(max(length.value, 1))
+        code = code or call(self._handle, room, length.value, ctypes.byref(length))
+        if code:
+            self._fail(code)
+        return room.raw[: length.value]
+
+    def _fail(self, code: int) -> NoReturn:
+        """Ends it with a fault."""
+        self.is_over = True
+        self.said = self._why(b"".join(self._input)) or f"canbusd: {text_of(code)}"
+        raise BenchError(self.said)

@@ -1,0 +1,91 @@
+"""A bench as a process: lines go to it through one pipe, and its own come through another."""
+
+import os
+import select
+import subprocess
+from collections.abc import Sequence
+from pathlib import Path
+from typing import Optional
+
+from canbusd._process.program import BenchError, ProgramNotFound, find_program
+from canbusd._process.program_run import HasProgram
+
+#: Seconds after which a bench that says nothing is given up.
+TIMEOUT = 30.0
+
+
+def fault_of(words: Sequence[str], given: bytes) -> str:
+    """Returns the text of the fault with which a bench of these words ends that is given this input; empty if it has none, or
+    if there is no program."""
+    try:
+        program = find_program()
+    except ProgramNotFound:
+        return ""
+    done = subprocess.run([program, "bench", *words], input=given, capture_output=True, check=False)
+    return done.stderr.decode(errors="replace").strip() if done.returncode else ""
+
+
+class BenchProcess(HasProgram):
+    """The bench of `canbusd bench`."""
+
+    def __init__(self, words: Sequence[str], errors: Path) -> None:
+        """Starts it with these words; its standard error goes into a file."""
+        self._start(errors, "bench", *words)
+        self._rest = b""
+
+    @property
+    def is_over(self) -> bool:
+        """Whether it has ended."""
+        return self._child.stdin is None
+
+    def write(self, data: bytes) -> None:
+        """Gives it lines."""
+        assert self._child.stdin is not None
+        try:
+            self._child.stdin.write(data)
+        except BrokenPipeError:
+            self._finish()
+
+    def read_line(self) -> str:
+        """Returns the next line that it writes, without its end."""
+        while b"\n" not in self._rest:
+            if not self._more():
+                self._finish()
+                raise BenchError("the bench ended")
+        line, _, self._rest = self._rest.partition(b"\n")
+        return line.decode()
+
+    def end(self) -> None:
+        """Ends its input, and waits for its end."""
+        self.forget()
+        while self._more():
+            pass
+        self._finish()
+
+    def forget(self) -> None:
+        """Holds its input no longer."""
+        self._close_input()
+
+    def left(self, ending: str) -> Optional[bytes]:
+        """Returns None: it has written its record and its log itself."""
+        return None
+
+    def _more(self) -> bool:
+        """Reads what it wrote; False at its end."""
+        assert self._child.stdout is not None
+        output = self._child.stdout.fileno()
+        if not select.select([output], [], [], TIMEOUT)[0]:
+            self._signal()
+            self._finish(f"the bench said nothing for {TIMEOUT:.0f} seconds")
+        piece = os.read(output, 65536)
+        self._rest += piece
+        return bool(piece)
+
+    def _finish(self, fault: str = "") -> None:
+        """Waits for the end of the program, and raises this fault, or what the program said if it ended with one."""
+        self._close_input()
+        status = self._child.wait(TIMEOUT)
+        assert self._child.stdout is not None
+        self._child.stdout.close()
+        if status != 0:
+            raise BenchError("\n".join(filter(None, [fault, self.said])) or f"the bench ended with status {status}")
