@@ -54,12 +54,12 @@ SENDERS, RECEIVERS = Senders(), Receivers()
 class Lines:
     """Lines that follow each other. A step is one line: an attempt that restarts interfaces has a line more for each."""
 
-    def __init__(self, text: str, first: int, may_restart: bool) -> None:
-        """`first` is the number of the first entry; attempts may restart interfaces, or no one does."""
+    def __init__(self, text: str, may_restart: bool) -> None:
+        """Attempts may restart interfaces, or no one does."""
         self.all = text.split("\n")
         self.kinds = bytearray("".join(map(third_letter, self.all)).encode())
-        #: The entry of each line.
-        self.entries: Sequence[int] = range(first, first + len(self.all))
+        #: The entry of each line, from 0.
+        self.entries: Sequence[int] = range(len(self.all))
         if RESTART in self.kinds or DOWN in self.kinds or may_restart and RESTARTED in text:
             for place in reversed(range(len(self.all))):
                 if self.kinds[place] in (RESTART, DOWN) or RESTARTED in self.all[place]:
@@ -107,15 +107,15 @@ class Lines:
         """The entries of the lines of a kind."""
         return itertools.compress(self.entries, self.kinds.translate(IS[kind]))
 
-    def steps_before(self, kind: int, first: int) -> Iterator[int]:
-        """The number of steps that there were before each line of a kind, with those before the first line."""
-        steps = itertools.accumulate(self.kinds.translate(IS[STEP]), initial=first)
+    def steps_before(self, kind: int) -> Iterator[int]:
+        """The number of steps before each line of a kind."""
+        steps = itertools.accumulate(self.kinds.translate(IS[STEP]), initial=0)
         return itertools.compress(steps, self.kinds.translate(IS[kind]))
 
-    def in_queues(self, units: Sequence[int], left: Iterable[int], first: int) -> list[int]:
-        """The number of frames that wait in queues before each step and after the last line, by what each send and step changes."""
+    def in_queues(self, units: Sequence[int], left: Iterable[int]) -> list[int]:
+        """How many frames more wait in queues before each step and after the last line, by what each send and step changes."""
         kinds = self.kinds.translate(None, NO_QUEUE)
-        came = [*itertools.accumulate(units, initial=first)]
+        came = [*itertools.accumulate(units, initial=0)]
         gone = [*itertools.accumulate(left, initial=0)]
         # Before each step, how many sends there were: as many as lines that are no steps.
         sends = map(operator.sub, itertools.compress(itertools.count(), kinds.translate(IS[STEP])), itertools.count())
