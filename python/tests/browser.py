@@ -9,7 +9,17 @@ import time
 PROGRAM = shutil.which("chromium") or shutil.which("chromium-browser") or shutil.which("google-chrome")
 WAIT = 60
 # By the names of keys: their codes, and the text that they type.
-CODES = {"ArrowLeft": 37, "ArrowRight": 39, "ArrowDown": 40, "Home": 36, "End": 35, "Enter": 13}
+CODES = {
+    "ArrowLeft": 37,
+    "ArrowUp": 38,
+    "ArrowRight": 39,
+    "ArrowDown": 40,
+    "Home": 36,
+    "End": 35,
+    "Enter": 13,
+    "Tab": 9,
+    "Escape": 27,
+}
 TEXTS = {"Enter": "\r"}
 # Python's side of the browser's file descriptors 3 and 4, from which it reads commands and to which it writes replies.
 LAUNCH = 'exec "$0" "$@" 3<&{} 4>&{}'
