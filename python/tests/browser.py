@@ -8,8 +8,18 @@ import time
 
 PROGRAM = shutil.which("chromium") or shutil.which("chromium-browser") or shutil.which("google-chrome")
 WAIT = 60
-# The codes of keys and the text that they type, by the names of the keys.
-CODES = {"ArrowLeft": 37, "ArrowRight": 39, "ArrowDown": 40, "Home": 36, "End": 35, "Enter": 13}
+# By the names of keys: their codes, and the text that they type.
+CODES = {
+    "ArrowLeft": 37,
+    "ArrowUp": 38,
+    "ArrowRight": 39,
+    "ArrowDown": 40,
+    "Home": 36,
+    "End": 35,
+    "Enter": 13,
+    "Tab": 9,
+    "Escape": 27,
+}
 TEXTS = {"Enter": "\r"}
 # Python's ends of the browser's file descriptors 3 and 4: the browser reads commands from 3 and writes replies to 4.
 LAUNCH = 'exec "$0" "$@" 3<&{} 4>&{}'

@@ -84,6 +84,39 @@ def test_stuff_bits_are_seen_without_colours(shown):
     assert shown.run(f"{style}.color !== getComputedStyle(document.querySelector('.bits')).color")
 
 
+def focused(shown, *keys):
+    """The field that has the focus after these keys, if it is seen that it has."""
+    for key in keys:
+        shown.key(key)
+    return shown.run(
+        """(() => {
+      const one = document.activeElement, row = one.getBoundingClientRect(), box = at('chosen').getBoundingClientRect();
+      const isSeen = getComputedStyle(one).outlineStyle === 'solid' && row.top >= box.top && row.bottom <= box.bottom;
+      return isSeen && one.closest('#bits') ? one.cells[0].textContent : null;
+    })()"""
+    )
+
+
+def test_keys_in_the_table(shown):
+    shown.run("choose(1), at('csv').focus()")
+    # Only the rows of the list and the table itself come after the last button.
+    reached = [focused(shown, "Tab") for _ in range(4)]
+    assert "SOF" in reached and reached[-1] is None
+    shown.run("at('csv').focus()")
+    before = None
+    while not focused(shown, "Tab"):
+        before = shown.run("document.activeElement.textContent")
+    assert focused(shown, "ArrowUp") == "SOF"
+    assert focused(shown, "ArrowDown") == "identifier"
+    # Left and right choose attempts, as everywhere on the page.
+    assert focused(shown, "ArrowRight") == "identifier" and shown.run("view.step") == 2
+    assert focused(shown, "End") == "intermission"
+    assert focused(shown, "ArrowDown") == "intermission"
+    assert focused(shown, "Home") == "SOF" and shown.run("view.step") == 2
+    assert focused(shown, "Escape") is None
+    assert shown.run("document.activeElement.textContent") == before
+
+
 @pytest.mark.parametrize("dark", [False, True])
 def test_they_are_legible(shown, dark):
     shown.size(1200, dark=dark)

@@ -10,7 +10,7 @@ import contextlib
 import functools
 import os
 import re
-from collections.abc import Iterable, Sequence
+from collections.abc import Callable, Iterable, Sequence
 from dataclasses import dataclass, field
 from typing import BinaryIO, Literal, Optional, Union, cast
 
@@ -19,6 +19,7 @@ from canbusd._run.events import BadRecord, Events
 from canbusd._run.log import log_beside, names_in_log
 from canbusd._run.run_parts import Bus
 from canbusd._run.steps import FATES, KINDS, RESTART, moment_of, numbers_in
+from canbusd._run.workers import take_all
 from canbusd._text import NAME, times
 from canbusd.frames import Frame
 from canbusd.replay import UNKNOWN, Replay
@@ -198,7 +199,7 @@ def read_run(path: Path, names: Optional[Sequence[str]], cut: bool, rates: Optio
     with open(path, "rb") as file:
         check_beginning(file)
         with Events(cut, rates, file) as events:
-            return record_of(events.texts_of_file(), b"", path, names, rates)
+            return record_of(events.texts_of_file(), b"", path, names, rates, take_all)
 
 
 def check_beginning(file: BinaryIO) -> None:
@@ -220,12 +221,12 @@ def record_of(
     path: Optional[Path],
     names: Optional[Sequence[str]],
     rates: Optional[Rates],
+    take: Callable[[Replay, Iterable[str]], object] = Replay.take_texts,
 ) -> Record:
-    """Returns the record with these events, each a text of several lines, and this text."""
+    """Returns the record that has these events, of which each text is some lines, and this text; by this a run takes them."""
     run = Replay(rates)
     run.text = text
-    for lines in events:
-        run.take_text(lines)
+    take(run, events)
     assert run.bus is not None
     return Record(**vars(run.bus), text=text, is_cut=not run.is_whole, names=names_of(run, path, names), replay=run)
 

@@ -5,27 +5,22 @@ effects and their consequences: the waiting frames, the participants of arbitrat
 are millions of lines, so lines of a kind are taken together, as columns of their words.
 """
 
-import itertools
-import operator
 from array import array
-from collections import deque
 from collections.abc import Callable, Iterable, Sequence
 from typing import Optional
 
 from canbusd._process.program import ProgramNotFound
 from canbusd._process.rates import Rates
-from canbusd._run.event_lines import OTHER, RECEIVE, SEND, STEP, WORDS, Lines, receivers_of, senders_of
-from canbusd._run.event_parts import Outcomes, Parts
+from canbusd._run.chunks import Chunk, Drop, Loss, Reader
+from canbusd._run.columns import Waiting, later
 from canbusd._run.run_parts import OFF, Bus, Interface, Socket, bus_of, frame_in
-from canbusd._run.steps import DONE, DOWN, RESTART, Items, Places, Rows, Steps
+from canbusd._run.steps import DOWN, Items, Places, Steps
 
 FIRST_LINE = "canbus events 1"
 #: The replies to a send that the bus did not accept.
 REFUSED = ("bus-off", "interface-down", "no-buffers")
 #: The text of an item without room, if no line has its content.
 UNKNOWN = "?"
-#: The numbers of interfaces by their digits in lines.
-IFACES = {str(number): number for number in range(16)}
 
 
 class Replay:
@@ -54,13 +49,9 @@ class Replay:
         self.entries = 0
         #: Whether the last line was taken.
         self.is_whole = False
-        self._outcomes = Outcomes(self.sockets)
-        # For each socket its interface, and the column of the steps at which its items were taken.
-        self._senders: list[Interface] = []
-        self._taken: "list[array[int]]" = []
-        # The two error counts of each interface in turn, as steps have them.
-        self._counts = array("H")
-        # The numbers of waiting frames at all interfaces, as one number.
+        # What reads lines, once the bus is known.
+        self._reader: Optional[Reader] = None
+        # The number of frames that wait, as one number.
         self._waiting = 0
         # The interfaces that are down, bit i for interface i.
         self._down = 0
@@ -77,9 +68,18 @@ class Replay:
         """The number of idle attempts since the last step."""
         return self._idle.get(len(self.steps), 0)
 
+    def socket_ifaces(self) -> list[int]:
+        """Returns the interface of each socket."""
+        return [socket.iface for socket in self.sockets]
+
     def take(self, lines: Iterable[str]) -> None:
         """Takes these lines, which follow the earlier ones."""
         self.take_text("\n".join(lines))
+
+    def take_texts(self, texts: Iterable[str]) -> None:
+        """Takes these texts of lines, one after the other."""
+        for text in texts:
+            self.take_text(text)
 
     def take_text(self, text: str) -> None:
         """Takes complete lines, which follow the earlier ones; the last line comes without its LF."""
@@ -88,12 +88,19 @@ class Replay:
             self._begin(front)
         if not text:
             return
-        assert self.bus is not None
-        lines = Lines(text, self.entries, self.bus.auto_restart > 0)
-        self.entries += lines.entries[-1] + 1 - lines.entries[0]
-        self._take_others(lines)
-        self._take_receives(lines)
-        self._take_steps(lines, self._take_sends(lines))
+        assert self._reader is not None
+        self.take_chunk(self._reader.read(text, self.socket_ifaces()))
+
+    def take_chunk(self, chunk: Chunk) -> None:
+        """Takes the lines of a chunk, which follow those before."""
+        first = self.entries
+        self.entries += chunk.entry_count
+        self._take_others(chunk, first)
+        for socket, steps in chunk.taken.items():
+            self.sockets[socket].taken_after += later(steps, len(self.steps))
+        for iface, line in zip(chunk.senders, chunk.sends.split("\n")):
+            self.ifaces[iface].queue.append(line)
+        self._take_steps(chunk, first)
 
     def _begin(self, line: str) -> None:
         """Takes a line before the entries."""
@@ -106,14 +113,13 @@ class Replay:
         self.bus = bus_of(line)
         count = self.bus.ifaces
         self.ifaces += map(Interface, range(count))
-        self._counts = array("H", [0, 0]) * count
+        self._waits = Waiting(count)
+        self._reader = Reader(self.bus)
 
     # Rare lines, each with the number of steps before the line and the number of its entry.
 
-    def _take_others(self, lines: Lines) -> None:
-        """Takes the rare lines."""
-        if not lines.has_others:
-            return
+    def _take_others(self, chunk: Chunk, first: int) -> None:
+        """Takes the lines of which there are few."""
         calls: dict[str, Callable[[str, int, int], object]] = {
             "open": self._open_socket,
             "close": self._close_socket,
@@ -123,11 +129,10 @@ class Replay:
             "end": self._end,
             "cut": self._end,
         }
-        all_of = lines.of(OTHER), lines.steps_before(OTHER, len(self.steps)), lines.entries_of(OTHER)
-        for line, steps, entry in zip(*all_of):
+        for line, steps, entry in chunk.others:
             call = calls.get(line.partition(" ")[0])
             if call:
-                call(line, steps, entry)
+                call(line, len(self.steps) + steps, first + entry)
 
     def _end(self, line: str, __: int, entry: int) -> None:
         # This line is no entry.
@@ -138,8 +143,6 @@ class Replay:
         if reply == "socket":
             socket = Socket(len(self.sockets), int(iface), int(capacity))
             self.sockets.append(socket)
-            self._senders.append(self.ifaces[socket.iface])
-            self._taken.append(socket.taken_after)
 
     def _close_socket(self, line: str, steps: int, __: int) -> None:
         number, _, reply = line.split(" ")[1:4]
@@ -169,127 +172,80 @@ class Replay:
 
     # Frequent lines, of which there are millions.
 
-    def _take_sends(self, lines: Lines) -> list[int]:
-        """Adds frames to queues. Returns the increments to the numbers of waiting frames."""
-        sends = lines.of(SEND)
-        ifaces = [*map(self._senders.__getitem__, senders_of(sends, len(self.sockets)))]
-        for iface, line in zip(ifaces, sends):
-            iface.queue.append(line)
-        return [iface.unit for iface in ifaces]
-
-    def _take_receives(self, lines: Lines) -> None:
-        """Notes that sockets hand out their items."""
-        sockets = receivers_of(lines.of(RECEIVE), len(self.sockets))
-        steps = lines.steps_before(RECEIVE, len(self.steps))
-        # Receives without an item are counted in the last place, which is not kept.
-        columns = [*self._taken, array("I")]
-        # This goes through the lines in turn; an empty deque consumes an iterator fastest.
-        deque(map(array.append, map(columns.__getitem__, sockets), steps), maxlen=0)
-
-    def _take_steps(self, lines: Lines, units: Sequence[int]) -> None:
-        """Takes attempts with frames, restarts and downs; `units` are the increments by sends to the numbers of waiting
-        frames."""
-        words = lines.words
-        if not words:
-            self._waiting += sum(units)
-            return
-        moments, verdicts, senders, numbers, frames, ends = (words[place :: WORDS + 1] for place in (1, 2, 5, 6, 7, 8))
-        ifaces = [*map(IFACES.__getitem__, senders)]
-        kinds, accepted, off, left, handed, sockets, wires, parts = zip(*map(self._outcomes.__getitem__, ends))
-        leaving = map(operator.mul, left, map([-iface.unit for iface in self.ifaces].__getitem__, ifaces))
-        *waiting, self._waiting = lines.in_queues(units, leaving, self._waiting)
-        entries = [*lines.entries_of(STEP)]
-        rows = Rows(kinds, accepted, off, entries, moments, verdicts, ifaces, numbers, frames, wires, waiting, left)
-        errors = self._take_parts(rows, parts, handed)
+    def _take_steps(self, chunk: Chunk, first_entry: int) -> None:
+        """Attempts try frames, interfaces are restarted or go down."""
+        first, first_item = len(self.steps), len(self.items)
+        for step in chunk.breaks:
+            self._set_down(chunk, step)
+        waiting = self._waits.column(chunk.waiting, self._waiting)
+        self._waiting += chunk.waiting_more
+        self.steps.extend(chunk, first_entry, waiting)
+        self.steps.note(
+            self.steps.idle, ((step, count) for step, count in self._idle.items() if step < len(self.steps))
+        )
+        self.items.extend(chunk, first)
+        self.steps.note(self.steps.hit, self._hits(chunk, first))
+        for loss in chunk.lost:
+            self._lose(chunk, loss, first)
+        self._place_texts(chunk, first_item, self._drop(chunk, first, first_item))
         for iface in self.ifaces:
             iface.leave(self._waiting)
-        first = len(self.steps)
-        self.steps.extend(rows, self._idle)
-        self.items.extend(sockets, handed, first)
-        for place, text in errors:
-            self.items.errors[place] = self.texts[text]
+            iface.is_down = bool(self._down >> iface.number & 1)
+            if self.steps:
+                iface.tec, iface.rec = self.steps.counts[2 * (iface.number - len(self.ifaces)) :][:2]
         self._idle = {len(self.steps): self.idle_since}
 
-    def _take_parts(self, rows: Rows, parts: Sequence[Optional[Parts]], handed: Sequence[int]) -> list[tuple[int, str]]:
-        """Takes the rare effects of steps, and returns the error message frames among the items, by their places."""
-        local = {verdict for verdict in {*rows.verdicts} if ":" in verdict}
-        errors: list[tuple[int, str]] = []
-        if not local and not any(parts) and not self._down and DOWN not in rows.kinds:
-            return errors
-        items = [*itertools.accumulate(handed, initial=len(self.items))]
-        firsts = self._firsts_lost(rows)
-        counts = self._counts
-        for row, (part, kind, verdict) in enumerate(zip(parts, rows.kinds, rows.verdicts)):
-            if kind >= RESTART:
-                self._set_down(rows, row)
-            if verdict in local:
-                rows.hit[row] = int(verdict[-4:], 16) & self._others_on(rows.ifaces[row])
-            if part is None:
-                continue
-            if part.counts:
-                for place, both in part.counts:
-                    counts[place] = both
-                rows.counts[row] = counts.tobytes()
-            if part.lost:
-                self._lose(rows, row, part.lost, firsts)
-            if part.errors or part.dropped:
-                found = [(items[row] + place, text) for place, text in part.errors]
-                found += self._drop(rows, row, part, items[row + 1])
-                if found:
-                    rows.errors[row] = [text for _, text in found]
-                    errors += found
-        for iface in self.ifaces:
-            iface.tec, iface.rec = self._counts[2 * iface.number : 2 * iface.number + 2]
-            iface.is_down = bool(self._down >> iface.number & 1)
-        return errors
-
-    def _set_down(self, rows: Rows, row: int) -> None:
-        """Notes that an interface is down from this step on, or no longer."""
-        bit = 1 << rows.ifaces[row]
-        down = self._down | bit if rows.kinds[row] == DOWN else self._down & ~bit
+    def _set_down(self, chunk: Chunk, step: int) -> None:
+        """An interface is down from this step on, or is no longer."""
+        bit = 1 << chunk.ifaces[step]
+        down = self._down | bit if chunk.kinds[step] == DOWN else self._down & ~bit
         if down != self._down:
-            self._down = rows.down[row] = down
+            self._down = down
+            self.steps.set_down(len(self.steps) + step, down)
 
-    def _others_on(self, sender: int) -> int:
-        """Returns the set of the other interfaces that are neither bus off nor down."""
-        on = sum(1 << iface for iface, tec in enumerate(self._counts[::2]) if tec < OFF and iface != sender)
-        return on & ~self._down
+    def _hits(self, chunk: Chunk, first: int) -> Iterable[tuple[int, int]]:
+        """Yields the steps with faults that only some see, and those that do: who is bus off or down sees none."""
+        for step, members in chunk.local:
+            place, sender = first + step, chunk.ifaces[step]
+            on = sum(1 << i for i, tec in enumerate(self.steps.counts_before(place)[::2]) if tec < OFF and i != sender)
+            yield place, members & on & ~self.steps.down[place]
 
-    def _firsts_lost(self, rows: Rows) -> dict[int, int]:
-        """Returns for each row in which an interface goes down the number of the first frame in its transmit queue."""
-        if DOWN not in rows.kinds:
-            return {}
-        gone, firsts = [iface.gone for iface in self.ifaces], {}
-        for row, (kind, iface, left) in enumerate(zip(rows.kinds, rows.ifaces, rows.left)):
-            if kind == DOWN:
-                firsts[row] = gone[iface]
-            gone[iface] += left
-        return firsts
-
-    def _lose(self, rows: Rows, row: int, count: int, firsts: dict[int, int]) -> None:
-        """Notes that an interface goes down or bus off, and loses all frames in its transmit queue.
+    def _lose(self, chunk: Chunk, loss: Loss, first: int) -> None:
+        """An interface goes down or bus off, and loses all frames in its transmit queue.
 
         At bus off the first of these frames is the step's frame.
         """
-        iface = self.ifaces[rows.ifaces[row]]
-        first = firsts[row] if row in firsts else int(rows.numbers[row])
-        place = first - iface.gone
-        lines = iface.queue[place : place + count]
-        self.lost[len(self.steps) + row] = list(enumerate(map(frame_in, lines), first))
-        iface.lost += count
+        iface = self.ifaces[chunk.ifaces[loss.step]]
+        number = chunk.numbers[loss.step] if loss.gone is None else iface.gone + loss.gone
+        place = number - iface.gone
+        lines = iface.queue[place : place + loss.frames]
+        self.lost[first + loss.step] = list(enumerate(map(frame_in, lines), number))
+        iface.lost += loss.frames
 
-    def _drop(self, rows: Rows, row: int, part: Parts, end: int) -> list[tuple[int, str]]:
-        """Notes that sockets have no room for the last items of a step. Returns those that may be error message
-        frames."""
-        # Without a change of counts there is no such frame either.
-        is_frame = rows.kinds[row] == DONE and rows.verdicts[row] == "good" and not part.counts
-        place = end - sum(count for _, count in part.dropped)
-        found: list[tuple[int, str]] = []
-        for number, count in part.dropped:
-            socket = self.sockets[number]
-            socket.dropped += count
-            self.items.drop(place, count)
-            if socket.takes_errors(len(self.steps) + row) and not is_frame:
-                found += [(one, UNKNOWN) for one in range(place, place + count)]
-            place += count
+    def _drop(self, chunk: Chunk, first: int, first_item: int) -> list[Drop]:
+        """Items find no room at sockets. Returns those that may be error message frames."""
+        found: list[Drop] = []
+        for drop in chunk.dropped:
+            socket = self.sockets[drop.socket]
+            socket.dropped += drop.items
+            self.items.drop(first_item + drop.item, drop.items)
+            if socket.takes_errors(first + drop.step) and not drop.is_frame:
+                found.append(drop)
         return found
+
+    def _place_texts(self, chunk: Chunk, first_item: int, unknown: Sequence[Drop]) -> None:
+        """Gives frames, error message frames and items of which no line says what they were their places among the texts."""
+        errors, before = self.items.errors, len(chunk.texts)
+        if unknown and UNKNOWN not in self.texts:
+            # It comes after the texts of the steps and items up to the first of them.
+            drop = unknown[0]
+            told = (text for item, text in zip(chunk.errors, chunk.error_texts) if item < drop.item)
+            before = max([*chunk.frames[: drop.step + 1], *told]) + 1
+        places = self.texts.places_of(chunk.texts[:before])
+        for drop in unknown:
+            items = slice(first_item + drop.item, first_item + drop.item + drop.items)
+            errors[items] = array("I", [self.texts[UNKNOWN]]) * drop.items
+        places += self.texts.places_of(chunk.texts[before:])
+        self.steps.frames.extend(map(places.__getitem__, chunk.frames))
+        for item, text in zip(chunk.errors, chunk.error_texts):
+            errors[first_item + item] = places[text]

@@ -121,6 +121,40 @@ function bitTable(step) {
   for (const row of rows) if (fault?.field === row.field) row.notes.push(fault.words);
   const stuff = bits.filter(one => one.isStuff).length;
   const title = `Bits on the wire: ${bits.length}, of which ${times(stuff, "stuff bit is", "stuff bits are")} underlined`;
-  return [element("h3", title), element("table", rowsOf(["field", "bits", ""], rows.map(({ field, shown, notes }) =>
-    [field, element("td", [element("code", shown, { className: "bits" })]), notes.join("; ")])))];
+  const table = element("table", rowsOf(["field", "bits", ""], rows.map(({ field, shown, notes }) =>
+    [field, element("td", [element("code", shown, { className: "bits" })]), notes.join("; ")])), { id: "bits", ariaLabel: title });
+  table.setAttribute("role", "grid");
+  listenToBits(table);
+  return [element("h3", title), table];
+}
+
+// Keys in the table: the row that has the focus keeps it when another attempt is chosen.
+const bitKeys = { row: 0, before: null };
+function markBits(rows, place) {
+  bitKeys.row = Math.min(Math.max(0, place), rows.length - 1);
+  rows.forEach((row, k) => { row.tabIndex = k === bitKeys.row ? 0 : -1; });
+  return rows[bitKeys.row];
+}
+function listenToBits(table) {
+  const rows = [...table.rows].slice(1);
+  markBits(rows, bitKeys.row);
+  table.addEventListener("focusin", event => {
+    markBits(rows, rows.indexOf(event.target));
+    if (event.relatedTarget && !table.contains(event.relatedTarget)) bitKeys.before = event.relatedTarget;
+  });
+  table.addEventListener("keydown", event => {
+    const to = { ArrowDown: bitKeys.row + 1, ArrowUp: bitKeys.row - 1, Home: 0, End: rows.length - 1 }[event.key];
+    if (to === undefined && event.key !== "Escape") return;
+    event.preventDefault();
+    event.stopPropagation();
+    if (to === undefined) leaveBits(); else markBits(rows, to).focus();
+  });
+}
+// Back to what had the focus before.
+function leaveBits() {
+  (bitKeys.before?.isConnected ? bitKeys.before : at("area")).focus();
+}
+function keepBits() {
+  const row = at("bits")?.querySelector("[tabindex='0']");
+  if (row) row.focus(); else leaveBits();
 }

@@ -114,11 +114,12 @@ function showChosen() {
   if (!axis.count) { at("chosen").replaceChildren(element("p", "No frame was tried.")); return; }
   const step = view.step, title = placeWords(step);
   const entry = momentOf(step) && `, entry ${grouped(steps.entry[step])} of the record`;
-  const more = [];
+  const more = [], isInBits = at("bits")?.contains(document.activeElement);
   happened("chosen", more);
   at("chosen").replaceChildren(element("h2", title[0].toUpperCase() + title.slice(1) + entry),
     element("p", sentence(step)), ...more, ...eventsAt(step), ...isAttempt(step) ? [fieldList(step)] : [], ...signalTable(step),
     countersAround(step),
     ...arbitration(step), ...bitTable(step), ...itemsOf(step));
+  if (isInBits) keepBits();
   if (isAttempt(step)) at("number").value = attemptOf[step];
 }

@@ -195,7 +195,7 @@ class Timeline:
 
 def items_of(items: Items, most: int, timeline: Timeline, block: Block) -> Json:
     """The first items: their sender and number are those of their step, unless they are error message frames."""
-    steps, ends = items.steps[:most], items.ends()[:most]
+    steps, ends = items.steps[:most], items.ends(most)
     if timeline.idle:
         steps = array("I", map(timeline.places.__getitem__, steps))
         ends = array("I", map([0, *map((1).__add__, timeline.places)].__getitem__, ends))

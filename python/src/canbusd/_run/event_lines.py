@@ -55,12 +55,12 @@ class Lines:
     """Consecutive lines. A step has one line: an attempt that restarts interfaces gets a further line for each of
     them."""
 
-    def __init__(self, text: str, first: int, may_restart: bool) -> None:
-        """`first` is the number of the first entry; `may_restart` is whether attempts may restart interfaces."""
+    def __init__(self, text: str, may_restart: bool) -> None:
+        """`may_restart` is whether attempts may restart interfaces."""
         self.all = text.split("\n")
         self.kinds = bytearray("".join(map(third_letter, self.all)).encode())
-        #: The entry number of each line.
-        self.entries: Sequence[int] = range(first, first + len(self.all))
+        #: The entry of each line, from 0.
+        self.entries: Sequence[int] = range(len(self.all))
         if RESTART in self.kinds or DOWN in self.kinds or may_restart and RESTARTED in text:
             for place in reversed(range(len(self.all))):
                 if self.kinds[place] in (RESTART, DOWN) or RESTARTED in self.all[place]:
@@ -108,16 +108,15 @@ class Lines:
         """Returns the entries of the lines of a kind."""
         return itertools.compress(self.entries, self.kinds.translate(IS[kind]))
 
-    def steps_before(self, kind: int, first: int) -> Iterator[int]:
-        """Returns the number of steps before each line of a kind; `before` steps come before the first line."""
-        steps = itertools.accumulate(self.kinds.translate(IS[STEP]), initial=first)
+    def steps_before(self, kind: int) -> Iterator[int]:
+        """The number of steps before each line of a kind."""
+        steps = itertools.accumulate(self.kinds.translate(IS[STEP]), initial=0)
         return itertools.compress(steps, self.kinds.translate(IS[kind]))
 
-    def in_queues(self, units: Sequence[int], left: Iterable[int], first: int) -> list[int]:
-        """Returns the number of waiting frames before each step and after the last line, from the changes by each send
-        and step."""
+    def in_queues(self, units: Sequence[int], left: Iterable[int]) -> list[int]:
+        """How many frames more wait in queues before each step and after the last line, by what each send and step changes."""
         kinds = self.kinds.translate(None, NO_QUEUE)
-        came = [*itertools.accumulate(units, initial=first)]
+        came = [*itertools.accumulate(units, initial=0)]
         gone = [*itertools.accumulate(left, initial=0)]
         # The number of sends before each step, which is the number of lines that are no steps.
         sends = map(operator.sub, itertools.compress(itertools.count(), kinds.translate(IS[STEP])), itertools.count())

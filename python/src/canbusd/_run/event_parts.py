@@ -5,7 +5,6 @@ from array import array
 from collections.abc import Iterable, Iterator, Sequence
 from typing import Any, NamedTuple, Optional
 
-from canbusd._run.run_parts import Socket
 from canbusd._run.steps import DONE, KIND_NUMBERS, RESTART
 
 #: The maximum number of kept effects, of some hundred bytes each: failing attempts make many.
@@ -46,7 +45,8 @@ class Outcome(NamedTuple):
 class Outcomes(dict[str, Outcome]):
     """Outcomes by their texts, such as `done 0002 0000; put 1`."""
 
-    def __init__(self, sockets: Sequence[Socket]) -> None:
+    def __init__(self, sockets: Sequence[int]) -> None:
+        """`sockets` are their interfaces."""
         super().__init__()
         self._sockets = sockets
 
@@ -89,7 +89,7 @@ class Outcomes(dict[str, Outcome]):
         for part in parts:
             name, *words = part.split(" ")
             if name in ("put", "dropped"):
-                words = [word for word in words if members >> self._sockets[int(word.partition(":")[0])].iface & 1]
+                words = [word for word in words if members >> self._sockets[int(word.partition(":")[0])] & 1]
             elif name == "wire":
                 words = [] if is_restart else words
             elif not members >> int(words[0]) & 1:

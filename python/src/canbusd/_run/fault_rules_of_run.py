@@ -13,6 +13,7 @@ from typing import BinaryIO, Optional, TypeVar
 
 from canbusd._process.rates import Rates
 from canbusd._run.events import BadRecord, Events
+from canbusd._run.workers import take_all
 from canbusd.record import Path as AnyPath, Record, check_beginning, check_no_log, is_named, record_of
 from canbusd.rules import NAMES, Rule, parse_rule
 
@@ -135,7 +136,7 @@ def ruled_in(
     given = names.split(",") if isinstance(names, str) else names
     with bus_with(given, text) as bus, Events(cut, rates, file, bus) as events:
         try:
-            record = record_of(taken.without(events.texts_of_file()), b"", path, names, rates)
+            record = record_of(taken.without(events.texts_of_file()), b"", path, names, rates, take_all)
         except BadRecord as fault:
             if fault.verdict != OTHER_BUS:
                 raise

@@ -3,20 +3,21 @@
 import bisect
 import functools
 import itertools
-import operator
-import sys
 from array import array
 from collections import Counter, defaultdict
 from collections.abc import Iterable, Iterator, Sequence
-from dataclasses import dataclass, field
-from typing import Optional, TypeVar, Union, overload
+from dataclasses import dataclass
+from typing import TYPE_CHECKING, Optional, TypeVar, Union, overload
 
-from canbusd._run.run_parts import WAITING_BITS, Interface, Socket
+from canbusd._run.columns import later
+from canbusd._run.run_parts import Interface, Socket
 from canbusd._words import OUTCOMES
 from canbusd.frames import EXTENDED, REMOTE, is_fd
 
-#: The kinds of steps, by their numbers in the column and on a page. Kinds before `restart` are attempts; `idle` occurs
-#: only on pages.
+if TYPE_CHECKING:
+    from canbusd._run.chunks import Chunk
+
+#: The kinds of steps, by their numbers in the column and on a page. Kinds before `restart` are attempts, `idle` is only on pages.
 KINDS = (*OUTCOMES, "restart", "down", "idle")
 DONE, LASTBIT, DESTROYED, NOACK, RESTART, DOWN, IDLE = range(7)
 #: The outcome of an item, by its number; `waiting` means at the end of the run, `unread` at the close of its socket.
@@ -125,37 +126,6 @@ class Step:
     idle: int
 
 
-@dataclass
-class Rows:
-    """Steps that are not in their columns yet. Rare facts are stored by the step's number among these."""
-
-    kinds: Sequence[int]
-    #: Values as bytes of the columns.
-    accepted: Sequence[bytes]
-    off: Sequence[bytes]
-    entries: list[int]
-    #: Values as the lines have them.
-    moments: Sequence[str]
-    verdicts: Sequence[str]
-    ifaces: Sequence[int]
-    numbers: Sequence[str]
-    frames: Sequence[str]
-    #: The times on the wire, if the lines have them.
-    wires: Sequence[Optional[tuple[int, ...]]]
-    #: The number of waiting frames.
-    waiting: Sequence[int]
-    #: The number of frames that left the queue of the interface that won, or went down.
-    left: Sequence[int]
-    #: The error message frames that the steps caused, in the order of the steps.
-    errors: dict[int, list[str]] = field(default_factory=dict)
-    #: The interfaces that a fault hit.
-    hit: dict[int, int] = field(default_factory=dict)
-    #: The error counts after the step if they changed, as bytes of the column.
-    counts: dict[int, bytes] = field(default_factory=dict)
-    #: The interfaces that are down after the step, if they changed.
-    down: dict[int, int] = field(default_factory=dict)
-
-
 class Steps(Sequence[Step]):
     """The steps of a run. A column has a number for each step; Step objects are created when needed."""
 
@@ -194,37 +164,32 @@ class Steps(Sequence[Step]):
     def __len__(self) -> int:
         return len(self.kinds)
 
-    def extend(self, rows: Rows, idle: dict[int, int]) -> None:
-        """Adds these steps, with the number of idle attempts before some of them, or after the last one."""
+    def extend(self, chunk: "Chunk", first_entry: int, waiting: "array[int]") -> None:
+        """Adds the steps of a chunk whose first entry is this one, with how many frames wait before each of them."""
         first = len(self)
-        # Numbers of one or two bytes are fast as bytes, and others as lists.
-        self.kinds.frombytes(bytes(rows.kinds))
-        self.ifaces.frombytes(bytes(rows.ifaces))
-        self.accepted.frombytes(b"".join(rows.accepted))
-        self.off.frombytes(b"".join(rows.off))
-        self.entries.fromlist(rows.entries)
-        self.moments.fromlist([*map(int, " ".join(rows.moments).replace(".", "").split(" "))])
-        self.attempts.extend(self._numbered(self.kinds[first:]))
-        self.numbers.fromlist([*map(int, rows.numbers)])
-        self.frames.fromlist(self._places_of_frames(rows))
-        self.verdicts.fromlist(self.verdict_texts.places_of(rows.verdicts))
-        self.waiting.extend(by_iface(rows.waiting, len(self._all_ifaces)))
-        self._count(rows.counts, first)
-        self._note(self.hit, rows.hit, first)
-        self._go_on(self.down, rows.down, first)
-        self._note(self.idle, {step: count for step, count in idle.items() if step < len(self)})
-        wires = {row: wire for row, wire in enumerate(rows.wires) if wire} if any(rows.wires) else {}
-        for place, column in enumerate((self.frame_nanos, self.busy_nanos, self.nominal_bits, self.fast_bits)):
-            self._note(column, {row: wire[place] for row, wire in wires.items()}, first)
+        self.kinds += chunk.kinds
+        self.ifaces += chunk.ifaces
+        self.accepted += chunk.accepted
+        self.off += chunk.off
+        self.entries += later(chunk.entries, first_entry)
+        self.moments += chunk.moments
+        self.attempts.extend(self._numbered(chunk.kinds))
+        self.numbers += chunk.numbers
+        verdicts = self.verdict_texts.places_of(chunk.verdict_texts)
+        self.verdicts.extend(map(verdicts.__getitem__, chunk.verdicts))
+        self.waiting += waiting
+        self._count(chunk, first)
+        self._go_on(self.down, len(self))
+        wires = (self.frame_nanos, self.busy_nanos, self.nominal_bits, self.fast_bits)
+        for column, found in zip(wires, chunk.wires):
+            column.extend(found)
+        for column in wires:
+            self.note(column)
 
-    def _places_of_frames(self, rows: Rows) -> list[int]:
-        """Returns the places of the frames; the error message frames of a step get their places after its frame."""
-        places, first = [], 0
-        for row, errors in rows.errors.items():
-            places += self.texts.places_of(rows.frames[first : row + 1])
-            self.texts.places_of(errors)
-            first = row + 1
-        return places + self.texts.places_of(rows.frames[first:])
+    def set_down(self, place: int, members: int) -> None:
+        """The interfaces that are down from a step on, which is the last whose interfaces are said."""
+        self._go_on(self.down, place)
+        self.down.append(members)
 
     def _numbered(self, kinds: "array[int]") -> Iterable[int]:
         """Returns the numbers of these attempts; a restart or a down has the number of the next attempt."""
@@ -234,28 +199,27 @@ class Steps(Sequence[Step]):
             return range(first, self.tried)
         return itertools.accumulate(map(RESTART.__gt__, kinds[:-1]), initial=first)
 
-    def _note(self, column: "array[int]", numbers: dict[int, int], first: int = 0) -> None:
-        """Extends a column to the length of the others: with these numbers for some steps from this one on, else with
-        0."""
+    def note(self, column: "array[int]", numbers: Iterable[tuple[int, int]] = ()) -> None:
+        """Makes a column as long as the others, with 0; and with these numbers, by the steps."""
         column.frombytes(bytes(column.itemsize * (len(self) - len(column))))
-        for row, number in numbers.items():
-            column[first + row] = number
+        for step, number in numbers:
+            column[step] = number
 
-    def _go_on(self, column: "array[int]", numbers: dict[int, int], first: int) -> None:
-        """Extends a column to the length of the others: these steps change its value, which otherwise stays the
-        same."""
-        last = column[-1] if column else 0
-        for row, number in [*numbers.items(), (len(self) - first, 0)]:
-            column.extend(array(column.typecode, [last]) * (first + row - len(column)))
-            last = number
+    @staticmethod
+    def _go_on(column: "array[int]", length: int) -> None:
+        """Makes a column so long, with its last number."""
+        column.extend((column[-1:] or array(column.typecode, [0])) * (length - len(column)))
 
-    def _count(self, counts: dict[int, bytes], first: int) -> None:
-        """Extends the column of the counts to the length of the others: these steps change the counts."""
-        lengths = map(operator.sub, [*counts, len(self) - first], [0, *counts])
-        wide = 2 * len(self._all_ifaces)
-        before = (self.counts[-wide:] or array("H", [0]) * wide).tobytes()
-        self.counts.frombytes(b"".join(map(operator.mul, [before, *counts.values()], lengths)))
-        self.changed.extend(map(first.__add__, counts))
+    def _count(self, chunk: "Chunk", first: int) -> None:
+        """Makes the column of the counts as long as the others."""
+        wide, many = 2 * len(self._all_ifaces), len(self) - first
+        before = self.counts[-wide:] or array("H", [0]) * wide
+        counts = chunk.counts or before * many
+        for place in range(wide) if chunk.counts else ():
+            said = chunk.counted_from.get(place & ~1, many)
+            counts[place : wide * said : wide] = before[place : place + 1] * said
+        self.counts += counts
+        self.changed += later(chunk.changed, first)
 
     @overload
     def __getitem__(self, place: int) -> Step:
@@ -379,14 +343,12 @@ class Items:
     def __len__(self) -> int:
         return len(self.sockets)
 
-    def extend(self, sockets: Sequence[bytes], counts: Iterable[int], first: int) -> None:
-        """Adds the items that each step from the first one on handed to sockets, and their numbers."""
-        for members, count in Counter(sockets).items():
-            for number in array("I", members):
-                self._all_sockets[number].handed += count
-        self.sockets.frombytes(b"".join(sockets))
-        steps: Iterator[Iterable[int]] = map(itertools.repeat, itertools.count(first), counts)
-        self.steps.fromlist([*itertools.chain.from_iterable(steps)])
+    def extend(self, chunk: "Chunk", first_step: int) -> None:
+        """Adds the items of a chunk whose first step is this one."""
+        for number, count in chunk.handed.items():
+            self._all_sockets[number].handed += count
+        self.sockets.frombytes(chunk.item_sockets)
+        self.steps += later(chunk.item_steps, first_step)
         self.errors.frombytes(bytes(self.errors.itemsize * (len(self.sockets) - len(self.errors))))
 
     def drop(self, first: int, count: int) -> None:
@@ -414,11 +376,11 @@ class Items:
                 many -= 1
         return fates
 
-    def ends(self) -> "array[int]":
-        """Returns the number of steps before each item was taken or its socket closed; 0 if neither happened."""
-        # A socket hands out its items in the order of their arrival.
+    def ends(self, most: Optional[int] = None) -> "array[int]":
+        """Returns the number of steps before each, or each of the first so many, was taken or its socket closed; 0 if neither."""
+        # A socket gives first the item that it got first.
         ends = [*map(ends_at, self._all_sockets), itertools.repeat(0)]
-        found: Iterator[int] = map(next, map(ends.__getitem__, self._queues()), itertools.repeat(0))
+        found: Iterator[int] = map(next, map(ends.__getitem__, self._queues()[:most]), itertools.repeat(0))
         return array("I", found)
 
     def _queues(self) -> "array[int]":
@@ -434,15 +396,6 @@ def ends_at(socket: Socket) -> Iterator[int]:
     """Yields the number of steps after which each item leaves the socket's queue; the iterator has no end."""
     last = 0 if socket.closed_after is None else socket.closed_after + 1
     return itertools.chain(socket.taken_after, itertools.repeat(last))
-
-
-def by_iface(waiting: Sequence[int], ifaces: int) -> "array[int]":
-    """Returns the number of waiting frames at each interface in turn, from these numbers for all interfaces."""
-    each = operator.methodcaller("to_bytes", ifaces * WAITING_BITS // 8, "little")
-    found = array("H", b"".join(map(each, waiting)))
-    if sys.byteorder == "big":
-        found.byteswap()
-    return found
 
 
 def moment_of(micros: int) -> str:

@@ -175,11 +175,12 @@ def change_of(steps: Steps, number: int, i: int, names: Sequence[str]) -> Iterat
 def second_copies(run: Replay, names: Sequence[str]) -> Iterator[Event]:
     """Returns the attempts in which a receiver accepted a frame a second time, after a fault in the last bit."""
     steps = run.steps
-    if not steps.count_of(LASTBIT):
-        return
-    # For each interface the last frame that must be sent again, and the number of copies that receivers have.
+    kinds, number = steps.kinds.tobytes(), -1
+    # Of each interface the last frame that has to be sent again, and how many copies receivers have.
     had: dict[int, tuple[int, Counter[int]]] = {}
-    for number, (kind, iface, accepted) in enumerate(zip(steps.kinds, steps.ifaces, steps.accepted)):
+    # Without such a frame nothing is looked at before the next fault: there may be a million attempts.
+    while 0 <= (number := number + 1 if had else kinds.find(LASTBIT, number + 1)) < len(kinds):
+        kind, iface, accepted = kinds[number], steps.ifaces[number], steps.accepted[number]
         if not accepted or (iface not in had and kind != LASTBIT):
             continue
         frame, copies = had.get(iface, (-1, Counter()))

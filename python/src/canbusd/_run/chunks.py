@@ -1,0 +1,247 @@
+"""Lines of the events of a run that follow each other, read into columns without those before them: so any process can do it.
+
+Numbers of entries, steps and items are counted from the first of the lines on. What else depends on the lines before is left
+to the reader of all of them, which is a Replay.
+"""
+
+import itertools
+import operator
+from array import array
+from collections import Counter, deque
+from collections.abc import Iterable, Iterator, Sequence
+from dataclasses import dataclass, field
+from typing import NamedTuple, Optional
+
+from canbusd._run.columns import Waiting
+from canbusd._run.event_lines import OTHER, RECEIVE, SEND, STEP, WORDS, Lines, receivers_of, senders_of
+from canbusd._run.event_parts import Outcomes, Parts
+from canbusd._run.run_parts import WAITING_BITS, Bus
+from canbusd._run.steps import DONE, DOWN, RESTART, Places
+
+#: The interfaces, as lines have them.
+IFACES = {str(number): number for number in range(16)}
+
+
+class Loss(NamedTuple):
+    """Frames that bus off or down took out of a transmit queue."""
+
+    step: int
+    frames: int
+    #: How many frames left that queue in steps before, in these lines; None at bus off, where the first is that of the step.
+    gone: Optional[int]
+
+
+class Drop(NamedTuple):
+    """Items that found no room at a socket."""
+
+    step: int
+    #: The place of the first of them among the items.
+    item: int
+    socket: int
+    items: int
+    #: Whether they can't be error message frames.
+    is_frame: bool
+
+
+def column(code: str) -> "array[int]":
+    """Returns a field that is a column of numbers, empty unless given."""
+    made: "array[int]" = field(default_factory=lambda: array(code))
+    return made
+
+
+@dataclass
+class Chunk:
+    """What the lines say. Most columns have a number for each step."""
+
+    #: The number of entries.
+    entry_count: int
+    #: The lines of which there are few, each with the number of steps before it and that of its entry.
+    others: list[tuple[str, int, int]]
+    #: The lines of sends that were accepted, without the LF of the last, and the interfaces at which they are.
+    sends: str
+    senders: bytes
+    #: By the socket, the number of steps before each of its items was taken.
+    taken: "dict[int, array[int]]"
+    kinds: "array[int]" = column("B")
+    ifaces: "array[int]" = column("B")
+    entries: "array[int]" = column("I")
+    moments: "array[int]" = column("Q")
+    numbers: "array[int]" = column("I")
+    #: Places among the texts: of frames and error message frames, and of verdicts.
+    frames: "array[int]" = column("I")
+    verdicts: "array[int]" = column("I")
+    texts: list[str] = field(default_factory=list)
+    verdict_texts: list[str] = field(default_factory=list)
+    accepted: "array[int]" = column("H")
+    off: "array[int]" = column("H")
+    #: How many frames wait at each interface more than before the first line, as `Waiting` has it.
+    waiting: bytes = b""
+    #: The same after the last line, as one number.
+    waiting_more: int = 0
+    #: Four columns of the time on the wire; none if no line has it.
+    wires: "list[array[int]]" = field(default_factory=list)
+    #: The error counts, two of each interface, from the first step on that says them; before they are 0. It is empty if none does.
+    counts: "array[int]" = column("H")
+    #: By the place of two counts, the first step that says them.
+    counted_from: dict[int, int] = field(default_factory=dict)
+    #: The steps that changed counts.
+    changed: "array[int]" = column("I")
+    #: The restarts and downs.
+    breaks: list[int] = field(default_factory=list)
+    #: The steps with faults that only some see, and the set of these interfaces.
+    local: list[tuple[int, int]] = field(default_factory=list)
+    lost: list[Loss] = field(default_factory=list)
+    #: The socket and the step of each item that was handed out; by the socket, how many.
+    item_sockets: bytes = b""
+    item_steps: "array[int]" = column("I")
+    handed: dict[int, int] = field(default_factory=dict)
+    #: The items that are error message frames, and the places of their texts.
+    errors: "array[int]" = column("I")
+    error_texts: "array[int]" = column("I")
+    dropped: list[Drop] = field(default_factory=list)
+
+
+class Reader:
+    """Reads lines of the events of a run of this bus."""
+
+    def __init__(self, bus: Bus) -> None:
+        self._count, self._may_restart = bus.ifaces, bus.auto_restart > 0
+        # The interface of each socket that was opened.
+        self._sockets: list[int] = []
+        self._outcomes = Outcomes(self._sockets)
+        # What a frame that waits at an interface adds to the number that says how many wait at each.
+        self._units = [1 << WAITING_BITS * iface for iface in range(bus.ifaces)]
+        self._waiting = Waiting(bus.ifaces)
+
+    def read(self, text: str, sockets: Sequence[int]) -> Chunk:
+        """Returns what whole lines say, without the LF of the last one; sockets of these interfaces were opened before."""
+        lines = Lines(text, self._may_restart)
+        others = [*zip(lines.of(OTHER), lines.steps_before(OTHER), lines.entries_of(OTHER))] if lines.has_others else []
+        self._sockets[:] = [*sockets, *opened_in(line for line, _, _ in others)]
+        sends = lines.of(SEND)
+        senders = bytes(map(self._sockets.__getitem__, senders_of(sends, len(self._sockets))))
+        count = lines.entries[-1] + 1 - lines.entries[0]
+        found = Chunk(count, others, "\n".join(sends), senders, taken_in(lines, len(self._sockets)))
+        self._read_steps(lines, found)
+        return found
+
+    def _read_steps(self, lines: Lines, found: Chunk) -> None:
+        """Attempts try frames, interfaces are restarted or go down."""
+        units = [*map(self._units.__getitem__, found.senders)]
+        words = lines.words
+        if not words:
+            found.waiting_more = sum(units)
+            return
+        moments, verdicts, senders, numbers, frames, ends = (words[place :: WORDS + 1] for place in (1, 2, 5, 6, 7, 8))
+        kinds, accepted, off, left, handed, sockets, wires, parts = zip(*map(self._outcomes.__getitem__, ends))
+        found.kinds, found.ifaces = array("B", bytes(kinds)), array("B", bytes(map(IFACES.__getitem__, senders)))
+        found.accepted, found.off = array("H", b"".join(accepted)), array("H", b"".join(off))
+        found.entries.fromlist([*lines.entries_of(STEP)])
+        found.moments.fromlist([*map(int, " ".join(moments).replace(".", "").split(" "))])
+        found.numbers.fromlist([*map(int, numbers)])
+        leaving = map(operator.mul, left, map([-unit for unit in self._units].__getitem__, found.ifaces))
+        *waiting, found.waiting_more = lines.in_queues(units, leaving)
+        found.waiting = self._waiting.packed(waiting)
+        if any(wires):
+            columns = zip(*(wire or (0, 0, 0, 0) for wire in wires))
+            found.wires = [array(code, column) for code, column in zip("IIHH", columns)]
+        self._read_items(found, sockets, handed)
+        self._read_verdicts(found, verdicts)
+        self._read_parts(found, frames, parts, left, handed)
+
+    @staticmethod
+    def _read_items(found: Chunk, sockets: Sequence[bytes], handed: Sequence[int]) -> None:
+        """Items are handed to sockets."""
+        found.item_sockets = b"".join(sockets)
+        steps: Iterator[Iterable[int]] = map(itertools.repeat, itertools.count(), handed)
+        found.item_steps.fromlist([*itertools.chain.from_iterable(steps)])
+        for members, count in Counter(sockets).items():
+            for number in array("I", members):
+                found.handed[number] = found.handed.get(number, 0) + count
+
+    @staticmethod
+    def _read_verdicts(found: Chunk, verdicts: Sequence[str]) -> None:
+        places: Places[str] = Places()
+        found.verdicts.fromlist(places.places_of(verdicts))
+        found.verdict_texts = places.all
+        local = {place: int(text[-4:], 16) for place, text in enumerate(places.all) if ":" in text}
+        if local:
+            found.local = [(step, local[place]) for step, place in enumerate(found.verdicts) if place in local]
+        if RESTART in found.kinds or DOWN in found.kinds:
+            found.breaks = [step for step, kind in enumerate(found.kinds) if kind >= RESTART]
+
+    def _read_parts(
+        self,
+        found: Chunk,
+        frames: Sequence[str],
+        parts: Sequence[Optional[Parts]],
+        left: Sequence[int],
+        handed: Sequence[int],
+    ) -> None:
+        """Reads the frames, and what few steps bring about: error message frames have their places after that of the step."""
+        places, first = Places[str](), 0
+        counts, seen = array("H", [0]) * (2 * self._count), [array("H", [0]) * (2 * self._count)]
+        items = [*itertools.accumulate(handed, initial=0)] if any(parts) else []
+        for step, part in itertools.compress(enumerate(parts), parts):
+            assert part is not None
+            if part.counts:
+                for both, values in part.counts:
+                    counts[both] = values
+                    found.counted_from.setdefault(both.start, step)
+                found.changed.append(step)
+                seen.append(counts[:])
+            if part.lost:
+                found.lost.append(Loss(step, part.lost, gone_before(found, left, step)))
+            if part.errors:
+                found.frames.fromlist(places.places_of(frames[first : step + 1]))
+                first = step + 1
+                found.errors.extend(items[step] + place for place, _ in part.errors)
+                found.error_texts.extend(places.places_of(text for _, text in part.errors))
+            if part.dropped:
+                # Nor is there an error message frame where no count changed.
+                is_frame = found.kinds[step] == DONE and not part.counts and is_good(found, step)
+                found.dropped += drops_of(part, step, items[step + 1], is_frame)
+        found.frames.fromlist(places.places_of(frames[first:]))
+        found.texts = places.all
+        if found.changed:
+            lengths = map(operator.sub, [*found.changed, len(frames)], [0, *found.changed])
+            found.counts = array("H", b"".join(map(operator.mul, map(array.tobytes, seen), lengths)))
+
+
+def is_good(found: Chunk, step: int) -> bool:
+    """Whether a step had no fault."""
+    return found.verdict_texts[found.verdicts[step]] == "good"
+
+
+def drops_of(part: Parts, step: int, end: int, is_frame: bool) -> Iterable[Drop]:
+    """Yields the items of a step that found no room: the last ones before this place."""
+    place = end - sum(count for _, count in part.dropped)
+    for socket, count in part.dropped:
+        yield Drop(step, place, socket, count, is_frame)
+        place += count
+
+
+def gone_before(found: Chunk, left: Sequence[int], step: int) -> Optional[int]:
+    """Of an interface that goes down in a step, the number of frames that left its queue in steps before; None of another."""
+    if found.kinds[step] != DOWN:
+        return None
+    return sum(count for iface, count in zip(found.ifaces[:step], left) if iface == found.ifaces[step])
+
+
+def opened_in(lines: Iterable[str]) -> Iterable[int]:
+    """Yields the interfaces of the sockets that lines open."""
+    for line in lines:
+        if line.startswith("open "):
+            iface, _, _, reply = line.split(" ")[1:5]
+            if reply == "socket":
+                yield int(iface)
+
+
+def taken_in(lines: Lines, sockets: int) -> "dict[int, array[int]]":
+    """By the socket, the number of steps before each of its items was taken; there are so many sockets."""
+    # Items that no socket got go into the last one, which is not kept.
+    columns = [array("I") for _ in range(sockets + 1)]
+    takers = map(columns.__getitem__, receivers_of(lines.of(RECEIVE), sockets))
+    # For each line in turn; a queue without room is the quickest that keeps nothing.
+    deque(map(array.append, takers, lines.steps_before(RECEIVE)), maxlen=0)
+    return {socket: column for socket, column in enumerate(columns[:-1]) if column}
