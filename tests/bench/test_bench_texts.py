@@ -1,7 +1,8 @@
-"""Benches as texts: what goes in, and what is written then, worked out from the rules of the bus.
+"""Benches as texts: inputs and their outputs, worked out from the rules of the bus.
 
-Each file of tests/bench has cases: `$` with the words of the command line, `@` lines of the script that they name, `<` lines of the
-input, of which one after `<~` lacks its LF, and `>` lines of the output. A line that begins with `#` is a remark."""
+Each file of tests/bench has cases: `$` with the words of the command line, `@` lines of the script that they name, `<`
+lines of the input, of which one after `<~` lacks its LF, and `>` lines of the output. A line that begins with `#` is a
+remark."""
 
 import glob
 import os
@@ -13,7 +14,7 @@ from serving import ROOT, program
 
 
 class Case:
-    """A command line with its script, its input and what is written."""
+    """A command line with its script, its input and its output."""
 
     def __init__(self, words):
         self.words, self.script, self.input, self.output = words.split(" "), "", "", ""
