@@ -32,7 +32,7 @@ def run(*words, **more):
 
 @pytest.fixture(scope="module")
 def installed(tmp_path_factory):
-    """A folder in which the library is installed."""
+    """Installs the library; returns the folder."""
     prefix = tmp_path_factory.mktemp("prefix")
     run(ROOT / "scripts" / "library", "install", prefix)
     return prefix
@@ -48,7 +48,7 @@ def environment(prefix):
 
 
 def test_calls(tmp_path):
-    """Each call, and its misuse as far as that is defined, under the sanitizers; its record is audited."""
+    """each call, and its misuse if that is defined, works under the sanitizers; the record is audited"""
     checks = ["-D_GNU_SOURCE", "-g", "-O1", "-fsanitize=address,undefined", "-fno-sanitize-recover=all"]
     run("gcc", *STRICT, *checks, "-I", HEADER.parent, HERE / "calls.c", OUT / "libcanbusd.a", "-o", tmp_path / "calls")
     run(tmp_path / "calls", tmp_path / "run.rec")
