@@ -13,7 +13,7 @@ from concurrent.futures import ThreadPoolExecutor
 from typing import Any, Callable, Dict, Iterable, List, Optional, Sequence, Tuple
 
 TOP = os.path.dirname(os.path.dirname(os.path.realpath(__file__)))
-# The most memory of a check, in bytes: so many run side by side.
+# The most memory of a check, in bytes, which limits the number of parallel checks.
 CHECK_MEMORY = 4 << 30
 
 
@@ -33,7 +33,7 @@ def load_rtlib() -> Any:
 
 
 def files_below(folder: str, parts: Iterable[str]) -> List[str]:
-    """Returns the files of these folders of a folder, in order."""
+    """Returns the files in these folders below a folder, in order."""
     found = []
     for part in parts:
         for at, _, names in os.walk(os.path.join(folder, part)):
@@ -42,7 +42,7 @@ def files_below(folder: str, parts: Iterable[str]) -> List[str]:
 
 
 def sum_of(*things: object) -> str:
-    """Returns one sum of these: a path that begins with / is that file's text."""
+    """Returns one hash of these parts: a path that begins with / contributes that file's text."""
     total = hashlib.sha256()
     for thing in things:
         if isinstance(thing, str) and thing.startswith("/") and os.path.isfile(thing):
@@ -58,8 +58,8 @@ def kit_sum(rtlib: Any) -> str:
 
 
 class Kept:
-    """Results of earlier runs on this machine, each under the sum of its parts. A verdict that is not there is
-    made anew; with `anew` all are."""
+    """Results of earlier runs on this machine, each under the hash of its parts. A missing verdict is computed anew;
+    with `anew` all are."""
 
     def __init__(self, kind: str, anew: bool):
         home = os.environ.get("CANBUSD_KEPT") or os.path.join(
@@ -88,19 +88,19 @@ class Kept:
 
 
 def lanes(wanted: Optional[int] = None) -> int:
-    """Returns how many checks run side by side: one for each processor, as far as the memory that is free goes."""
+    """Returns the number of parallel checks: one for each processor, within the free memory."""
     processors = wanted or len(os.sched_getaffinity(0))
     return max(1, min(processors, free_memory() // CHECK_MEMORY))
 
 
 def free_memory() -> int:
-    """Returns the memory that is free, in bytes."""
+    """Returns the free memory in bytes."""
     with open("/proc/meminfo", encoding="ascii") as file:
         return {line.split(":")[0]: int(line.split()[1]) << 10 for line in file}["MemAvailable"]
 
 
 def in_lanes(work: Callable[[str], Tuple[int, int]], names: Sequence[str], count: int) -> Tuple[int, int]:
-    """Does the work of each name, the first ones first, and returns the sums of what it counts: good, bad."""
+    """Does the work of each name in order, and returns the sums of the counts: good, bad."""
     with ThreadPoolExecutor(count) as pool:
         counts = list(pool.map(work, names))
     return sum(good for good, _ in counts), sum(bad for _, bad in counts)

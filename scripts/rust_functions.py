@@ -8,7 +8,7 @@ import re
 from dataclasses import dataclass
 from typing import Dict, Iterator, List, Optional, Tuple
 
-# The module of each struct and enum, and how many parameters it has.
+# The module of each struct and enum, and the number of its parameters.
 Types = Dict[str, Tuple[str, int]]
 
 
@@ -25,7 +25,7 @@ class Function:
 
 @dataclass(frozen=True)
 class Owner:
-    """An impl or a trait. One without a name has functions that a check does not name."""
+    """An impl or a trait. An impl without a name has functions that a check does not name."""
 
     start: int
     end: int
@@ -34,7 +34,7 @@ class Owner:
 
 
 def module_of(path: str) -> str:
-    """Returns a::b for src/a/b.rt, and nothing for the root."""
+    """Returns a::b for src/a/b.rt, and the empty text for the root."""
     inner = path[len("src/") : -len(".rt")].replace("/", "::")
     return "" if inner in ("lib", "main") else inner
 
@@ -51,7 +51,7 @@ def text_of(path: str) -> str:
 
 
 def types_of(folder: str) -> Types:
-    """Returns where each type of the crate is: the names of its own functions begin with that module."""
+    """Returns the module of each type in the crate: the names of the type's functions begin with the module."""
     pattern = re.compile(r"(?m)^\s*(?:pub(?:\([^)]*\))?\s+)?(?:struct|enum|union)\s+(\w+)")
     found = {}
     for path in sources_of(folder):
@@ -62,7 +62,7 @@ def types_of(folder: str) -> Types:
 
 
 def parameters_of(text: str) -> Tuple[List[str], str]:
-    """Returns the parameters in the <> that a text begins with, without lifetimes, and the rest of the text."""
+    """Returns the parameters in the <> at the beginning of a text, without lifetimes, and the rest of the text."""
     if not text.startswith("<"):
         return [], text
     depth = end = 0
@@ -90,7 +90,7 @@ def short(name: str) -> str:
 
 
 def arguments_of(name: str, parameters: List[str]) -> str:
-    """Returns what the trait of an impl adds to its name: From<AllocError> is FromAllocError."""
+    """Returns the part that the trait of an impl adds to its name: From<AllocError> is FromAllocError."""
     inside = re.search(r"<(.*)>\s*$", name.strip())
     words = re.split(r",\s*(?![^<]*>)", inside[1]) if inside else []
     words = [short(word) for word in words if not word.strip().startswith("'")]
@@ -98,7 +98,7 @@ def arguments_of(name: str, parameters: List[str]) -> str:
 
 
 def end_of(text: str, at: int, indent: str) -> int:
-    """Returns where an item ends: after the first closing brace at its indent."""
+    """Returns the place where an item ends: after the first closing brace at its indent."""
     match = re.compile(rf"(?m)^{indent}\}}").search(text, at)
     return match.end() if match else len(text)
 

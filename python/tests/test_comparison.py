@@ -1,4 +1,4 @@
-"""Two runs beside each other: where they first differ, in words and on one page."""
+"""The comparison of two runs: their first difference, in words and on one page."""
 
 import contextlib
 import random
@@ -20,7 +20,7 @@ from canbusd.record import read_record
 
 
 def run_of(tmp_path, name, faults=None, frames=6, names="can0,can1"):
-    """A run in which the first interface sends frames, with its record in a file."""
+    """Returns a run in which the first interface sends frames, with its record in a file."""
     (tmp_path / name).mkdir()
     with Bench(names, faults=faults, out=tmp_path / name) as bench:
         sender = bench.open(bench.names[0])
@@ -31,7 +31,7 @@ def run_of(tmp_path, name, faults=None, frames=6, names="can0,can1"):
 
 
 def test_a_frame_that_is_sent_again(tmp_path):
-    """it is one difference, and what follows it is the same"""
+    """a frame that is sent again is one difference, and the later frames are the same"""
     one, other = run_of(tmp_path, "a"), run_of(tmp_path, "b", Faults().destroyed(4))
     words = "can0 104#04: done against destroyed (global bit), then done"
     assert Comparison(one, other).differences == [("other outcome", 4, 4, words)]
@@ -59,7 +59,7 @@ def test_runs_that_are_alike_and_one_that_goes_on(tmp_path):
 
 
 def run_at(tmp_path, name, sent, faults=None, **more):
-    """A run of a bus at 500 kbit/s on which frames are sent: the moment, the interface and the frame."""
+    """Returns a run of a bus at 500 kbit/s; each frame has its time and its interface."""
     (tmp_path / name).mkdir()
     with Bench("a,b,c", faults=faults, bitrate=500_000, out=tmp_path / name, **more) as bench:
         sessions = {channel: bench.open(channel) for channel in bench.names}
@@ -72,12 +72,12 @@ def run_at(tmp_path, name, sent, faults=None, **more):
 
 
 def cyclic(channel, identifier, count, period=0.01, start=0.0):
-    """Frames with a counter, at a period."""
+    """Returns frames with a counter, at a period."""
     return [(start + period * k, channel, f"{identifier}#{k % 16:02X}") for k in range(count)]
 
 
 def test_a_frame_that_is_missing(tmp_path):
-    """what follows it in its counter is the same, and so are other senders' frames"""
+    """the frames after the missing counter are the same, and so are other senders' frames"""
     sent = cyclic("a", "100", 100) + cyclic("b", "200", 100, start=0.003)
     lost = [one for one in sent if one[:2] != (0.5, "a")]
     one, other = run_at(tmp_path, "a", sent), run_at(tmp_path, "b", lost)
@@ -92,7 +92,8 @@ def test_other_data_and_another_outcome(tmp_path):
     ]
     faults = Faults().next(1, id=0x100, skip=7).last_bit().next(1, id=0x100, skip=3).local("crc", ["c"])
     comparison = Comparison(run_at(tmp_path, "a", sent), run_at(tmp_path, "b", changed, faults))
-    # The second rule takes the fourth attempt, the first the eighth: a frame that is sent again is an attempt more.
+    # The second rule takes the fourth attempt, and the first rule the eighth: a frame that is sent again is an
+    # additional attempt.
     assert comparison.differences == [
         ("other outcome", 3, 3, "a 100#03: done against destroyed (local crc c), then done"),
         ("other data", 5, 6, "a 100#05 against a 100#FF"),
@@ -101,7 +102,7 @@ def test_other_data_and_another_outcome(tmp_path):
 
 
 def test_frames_that_come_later(tmp_path):
-    """by more than the tolerance, and once where all that follow are later, too"""
+    """frames that are later by more than the tolerance are reported, but only once if all later frames are late too"""
     sent = cyclic("a", "100", 100) + cyclic("b", "200", 100, start=0.003)
     late = [(moment + 0.025 * (channel == "b" and moment > 0.5), channel, text) for moment, channel, text in sent]
     one, other = run_at(tmp_path, "a", sent), run_at(tmp_path, "b", late)
@@ -116,7 +117,7 @@ def test_frames_that_come_later(tmp_path):
 
 
 def test_runs_that_differ_in_order_only(tmp_path):
-    """two nodes that send at about the same moments: they say so, and the status is 0"""
+    """two nodes that send at about the same time: the command reports this, and the status is 0"""
     sent = cyclic("a", "100", 50) + cyclic("b", "200", 50, start=0.0004)
     jittered = cyclic("a", "100", 50) + [
         (moment - 0.0008 * (k % 3 == 2), channel, text)
@@ -130,7 +131,7 @@ def test_runs_that_differ_in_order_only(tmp_path):
 
 
 def test_outages_and_restarts(tmp_path):
-    """a node that goes bus off, and one that is restarted less often"""
+    """a node goes bus off, and another node is restarted less often"""
     sent = cyclic("a", "100", 30) + cyclic("b", "200", 30, start=0.003)
     faults = Faults().next(32, sender="b", skip=10).destroyed()
     # 600 attempts of 11 bits or more bring the node back, after its next frame was refused.
@@ -148,7 +149,7 @@ def test_outages_and_restarts(tmp_path):
 
 @pytest.mark.parametrize("seed", range(20))
 def test_the_longest_part_in_common(seed):
-    """as the definition of a longest common subsequence finds it"""
+    """the result is a longest common subsequence by its definition"""
     source = random.Random(seed)
     for _ in range(50):
         one, other = (["abc"[source.randrange(3)] for _ in range(source.randrange(12))] for _ in range(2))
@@ -180,7 +181,8 @@ def test_the_command(tmp_path):
 
 
 def runs_of_two_nodes(tmp_path, *names):
-    """The records of two runs: in both the first interface sends a frame, in the second then the other one."""
+    """Returns the records of two runs: in both the first interface sends a frame, and in the second also the other
+    one."""
     records = []
     for folder, senders in (("a", [0]), ("b", [0, 1])):
         (tmp_path / folder).mkdir()
@@ -194,7 +196,7 @@ def runs_of_two_nodes(tmp_path, *names):
 
 
 def test_names_of_senders_only(tmp_path):
-    """a log names who sent: an interface without a name in one run is the one of its number in the other"""
+    """a log only names senders: an interface without a name in one run is the interface with its number in the other"""
     one, other = runs_of_two_nodes(tmp_path, "can0", "can1")
     wanted = [
         "1 difference, in attempt 1: only there: can1 123#ABCD: done",
@@ -202,7 +204,7 @@ def test_names_of_senders_only(tmp_path):
     ]
     assert Comparison(read_record(one), read_record(other)).lines() == wanted
     assert Comparison(read_record(one, "can0,can1"), read_record(other, "can0,can1")).lines() == wanted
-    # With neither log, with one of them, and as one run against itself without its log.
+    # Without both logs, with one of them, and a run compared with itself without its log.
     one.with_suffix(".log").unlink()
     assert Comparison(read_record(one), read_record(other)).lines() == wanted
     assert Comparison(read_record(one), read_record(one, "can0,can1")).differences == []
@@ -215,7 +217,7 @@ def test_names_of_senders_only(tmp_path):
 
 @pytest.mark.parametrize("names", ["can1,can0", "can1,can2", "ecu,tester"])
 def test_names_that_do_not_fit(tmp_path, names):
-    """by their names where both runs have names for all, by their numbers where one has not"""
+    """interfaces are compared by name if both runs name all of them, else by number"""
     one, other = runs_of_two_nodes(tmp_path, "can0", "can1")
     found = Comparison(read_record(other, "can0,can1"), read_record(other, names))
     if names == "can1,can0":
@@ -233,7 +235,7 @@ def test_receivers_in_another_order(tmp_path):
 
 
 def test_the_exit_status(tmp_path):
-    """0 whether or not they differ; with --exit-code 1 where they do, also with a page"""
+    """the status is 0 whether or not they differ; with --exit-code it is 1 if they differ, also with a page"""
     one, other = runs_of_two_nodes(tmp_path, "can0", "can1")
     words = ["report", "--names", "can0,can1"]
     for form in ([], ["--text"]):
@@ -244,7 +246,7 @@ def test_the_exit_status(tmp_path):
 
 
 def test_interfaces_without_a_name(tmp_path):
-    """one line says how to give names; none where there are names, or no name is written"""
+    """one line explains how to give names; there is no such line if there are names, or no name is printed"""
     one, other = runs_of_two_nodes(tmp_path, "can0", "can1")
     note = f"note: {one}: no log names interface 1: name all interfaces with --names can0,NAME\n"
     for words in (["report"], ["report", "--text"], ["replay"], ["replay", "--json"]):
@@ -258,7 +260,8 @@ def test_interfaces_without_a_name(tmp_path):
 @pytest.mark.skipif(PROGRAM is None, reason="not installed: chromium")
 @pytest.mark.parametrize("width", [500, 1200])
 def test_both_on_one_axis(opened, tmp_path, width):  # noqa: F811
-    """a lane more for each node; the page begins at the first difference, and says what the other run did there"""
+    """each node has an additional lane; the page begins at the first difference, and shows the other run's events
+    there"""
     one, other = run_of(tmp_path, "a"), run_of(tmp_path, "b", Faults().destroyed(4))
     shown = opened(one.replay, one.names, comparison=Comparison(one, other, "b.rec"))
     shown.size(width)
@@ -270,7 +273,8 @@ def test_both_on_one_axis(opened, tmp_path, width):  # noqa: F811
     assert "The same in b.rec, attempt 5: can0 104#04 done" in said
     shown.key("ArrowLeft")
     assert "The same in b.rec, attempt 3: can0 103#03 done" in shown.run("at('chosen').textContent")
-    # An attempt of the other run is where the same one is here; that which failed is at the border before its frame's last.
+    # An attempt of the other run is at the place of the same attempt here; a failed attempt is at the border before the
+    # last attempt of its frame.
     spans = "[0, 1].map(which => [...other.spans[0][which]].map(place => Math.round(100 * place)))"
     assert shown.run(spans) == [[0, 100, 200, 300, 370, 400, 500], [100, 200, 300, 400, 430, 500, 600]]
     shown.key("t")
@@ -280,7 +284,7 @@ def test_both_on_one_axis(opened, tmp_path, width):  # noqa: F811
 
 @pytest.mark.skipif(PROGRAM is None, reason="not installed: chromium")
 def test_a_run_beside_nothing(opened, tmp_path):  # noqa: F811
-    """which of both it is beside"""
+    """the title says which of the two runs has the frames"""
     one, nothing = run_of(tmp_path, "a"), run_of(tmp_path, "b", frames=0)
     shown = opened(one.replay, one.names, comparison=Comparison(one, nothing, "b.rec"))
     assert shown.run("at('title').textContent").startswith("6 differences, first in attempt 0: only here: ")
@@ -312,7 +316,7 @@ def test_from_one_difference_to_the_next_and_to_the_other_run(opened, tmp_path):
     shown.run("delete document.body.dataset.drawn")
     shown.key("o")
     shown.until("document.body?.dataset.drawn !== undefined")
-    # Its attempt of the same frame, with its own list, its own load, and the first run beside it.
+    # Its attempt of the same frame comes with its own list, its own load, and the first run for comparison.
     assert shown.run("location.hash") == "#attempt=10&run=2"
     assert shown.run("run.title") == "other.rec" and shown.run("run.other.title") == "run.rec"
     assert shown.run("attemptOf[axis.count]") == 43 and shown.run("lanes[0].name") == "bus load"
@@ -332,7 +336,7 @@ def test_bars_of_the_other_run_are_as_long_as_its_attempts(opened, tmp_path):  #
     other = run_at(tmp_path, "other", sent, faults, auto_restart=2)
     shown = opened(one.replay, one.names, comparison=Comparison(one, other, "other.rec"), rates=Rates(500_000))
     starts, ends = shown.run("[0, 1].map(which => [...other.spans[1][which]])")
-    # A frame with one byte, of which the record has the end in microseconds; 3 bits follow it.
+    # The frame has one byte, and the record has its end in microseconds; 3 bits follow the frame.
     moments = [attempt.timestamp for attempt in other.attempts if attempt.outcome == "done"]
     done = [
         k

@@ -1,4 +1,4 @@
-"""CanbusdBus against a server that is played here: messages cut anywhere, answers that come late or never, an end."""
+"""CanbusdBus against a simulated server: messages cut anywhere, answers that come late or never, and an end."""
 
 import asyncio
 import contextlib
@@ -20,9 +20,8 @@ UNKNOWN = "< error unknown command >"
 
 
 class Played:
-    """A server of one session on a Unix path, which replies to each message as `answers` says. One that is old accepts
-    frames without a word.
-    """
+    """A server of one session on a Unix path, which replies to each message as `answers` says. An old server does not
+    acknowledge frames."""
 
     def __init__(self, path, greeting=b"< hi >", cut=False, old=False):
         self.address, self._greeting, self._cut = str(path), greeting, cut
@@ -79,7 +78,7 @@ class Played:
 
 @pytest.fixture
 def play(tmp_path):
-    """Plays servers until the end of the test."""
+    """Starts simulated servers, which run until the end of the test."""
     played = []
 
     def start(**how):
@@ -114,7 +113,7 @@ def test_messages_cut_at_each_byte(play):
             whole = STREAM[:cut].count(b">")
             played.write(STREAM[:cut])
             got = [bus.recv(WAIT) for _ in range(whole)]
-            # A message that is cut off is nothing yet.
+            # An incomplete message does not count yet.
             assert bus.recv(0) is None
             played.write(STREAM[cut:])
             got += [bus.recv(WAIT) for _ in range(len(READ) - whole)]
@@ -183,7 +182,7 @@ def test_an_older_server_has_no_list_of_interfaces(play, monkeypatch):
             {"bitrate": 500_000},
             ["bitrate 500000 is left out: the server has none, and frames take no time"],
         ),
-        # Older servers do not say.
+        # Older servers do not report this.
         ("load 0 0", {"bitrate": 500_000}, []),
         ("error unknown command", {"bitrate": 500_000, "data_bitrate": 500_000}, []),
     ],
@@ -247,7 +246,7 @@ def test_what_is_no_ack_is_a_refusal(play, verdict):
 
 
 class Overtaken:
-    """A lock that was another thread's until just now, which has read something meanwhile."""
+    """A lock that another thread has just released, after it has read something."""
 
     def __init__(self, lock, reads):
         self._lock, self._reads = lock, [reads]
@@ -322,7 +321,7 @@ def test_an_answer_that_comes_too_late(play, old, end):
                 bus.send(message(1))
         played.answers.clear()
         played.answers.update(answers)
-        # It belongs to no later question.
+        # This answer belongs to no later question.
         played.write(b"< error bus off >%b< error no buffers >%b" % (end, end))
         bus.send(message(2))
         played.answers["status"] = "< status active 1 2 >"
@@ -371,7 +370,7 @@ def test_a_server_that_takes_nothing(play):
 
 
 def ends_of(bus):
-    """What a bus says once its server is gone: in a call that waits, and in later ones."""
+    """Returns the errors of a bus after its server is gone: in a waiting call, and in later calls."""
     for call in (lambda: bus.recv(WAIT), lambda: bus.recv(0), bus.recv, lambda: bus.send(message(1)), bus.stats):
         with pytest.raises(can.CanOperationError, match="the server closed the connection|the connection broke"):
             call()
@@ -431,7 +430,7 @@ def test_a_server_that_dies_is_reported_once_on_asyncio():
                 await asyncio.sleep(0.01)
                 if faults:
                     break
-            # As long again, in which a file descriptor that stayed readable would make thousands of them.
+            # In the same time again, a file descriptor that stayed readable would cause thousands of calls.
             await asyncio.sleep(0.1)
             notifier.stop()
             assert not select.select([bus], [], [], 0)[0]

@@ -1,4 +1,4 @@
-"""What a database says of messages: who sends them, when, and with which signals; and what is no database."""
+"""The content of databases: the senders of messages, their times and signals; and files that are no database."""
 
 import random
 from pathlib import Path
@@ -11,7 +11,7 @@ from canbusd.signals import HOW_TO_GET, DatabaseError, load_database
 from test_signals import LIBRARIES
 
 REST = Path(__file__).with_name("rest.dbc")
-# Read by hand from the file: 3200 * 0.25 is 800, and 0 with the offset -40 is -40.
+# These values are read by hand from the file: 3200 * 0.25 is 800, and 0 with the offset -40 is -40.
 SHOWN = """\
 EngineData 100 [8] from Engine, every 10 ms, NoMsgSendType
   EngineSpeed: 0 to 16000 rpm; starts as 800; for ECU, Gateway
@@ -49,19 +49,19 @@ SG_MUL_VAL_ 512 wide outer 2-2, 4-6;
 
 @pytest.fixture(params=LIBRARIES)
 def library(request):
-    """Each library that is installed."""
+    """Each installed library."""
     pytest.importorskip(request.param, reason=LIBRARIES[request.param])
     return request.param
 
 
 @pytest.fixture
 def rest(library):
-    """The file."""
+    """The messages of the file."""
     return load_database(REST, library=library)
 
 
 def written(folder, text, name="wrong.dbc"):
-    """A file with this text."""
+    """Returns the messages of a file with this text."""
     path = folder / name
     path.write_text(text)
     return path
@@ -89,12 +89,12 @@ def test_the_message_of_a_frame(rest):
 
 
 def random_signals(rng):
-    """Signals of a message of 8 bytes, none in another's way, each as its line of a DBC file and its raw limits."""
+    """Returns signals of a message of 8 bytes without overlaps, each with its line of a DBC file and its raw limits."""
     taken, lines, limits = set(), [], {}
     for number in range(rng.randint(1, 6)):
         size, is_little, is_signed = rng.randint(1, 20), rng.random() < 0.5, rng.random() < 0.5
         start = rng.randrange(64)
-        # The rule of DBC files, spelled out bit by bit: up from the lowest, or down from the highest and on at the next byte.
+        # The bits by the rule of DBC files: up from the lowest, or down from the highest and then on in the next byte.
         bits, bit = [], start
         for _ in range(size):
             bits.append(bit)
@@ -138,7 +138,7 @@ def test_what_is_not_given_is_as_it_starts(rest):
     assert str(rest.encode("EngineData", {})) == "100#800C000000000000"
     # Highest byte first: -1.5 / 0.5 is FFFD.
     assert str(rest.encode("EcuData", {"Torque": -1.5})) == "123#FFFD"
-    # [0|0] is no limit: -8 / 0.5 is FFF0.
+    # [0|0] means no limit: -8 / 0.5 is FFF0.
     assert str(rest.encode("GatewayPage", {"Page": 0, "Left": -8})) == "300#00F0FF"
 
 
@@ -156,7 +156,7 @@ def test_multiplexers_of_multiplexers(library, tmp_path):
 @pytest.mark.parametrize(
     "ending, line",
     [
-        # As canmatrix converts the file: KCD and SYM have no send types, SYM no nodes, and ARXML no times.
+        # The files come from canmatrix: KCD and SYM have no send types, SYM has no nodes, and ARXML has no times.
         ("kcd", "EngineStatus 200 [2] from Engine, every 100 ms"),
         ("sym", "EngineStatus 200 [2] from nobody, every 100 ms"),
         ("arxml", "FRAME_EngineStatus 200 [2] from Engine"),
@@ -231,7 +231,7 @@ def test_signals_in_each_others_way(tmp_path):
     pytest.importorskip("canmatrix", reason="cantools refuses the file")
     text = HEAD + 'BO_ 1 M: 2 ECU\n SG_ a : 0|9@1+ (1,0) [0|0] "" ECU\n SG_ b : 8|8@1+ (1,0) [0|0] "" ECU\n'
     database = load_database(written(tmp_path, text), library="canmatrix")
-    # Both can be read, but not written.
+    # Both files can be read, but not written.
     assert str(database.decode(Frame.parse("001#0003"))) == "M: a=256, b=3"
     with pytest.raises(DatabaseError, match="message M: signal b has bits that a has too"):
         database.encode("M", {"a": 1})

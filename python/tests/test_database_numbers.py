@@ -1,4 +1,4 @@
-"""DBC files with any numbers: each is read, or refused with its line, within a second and 100 MB."""
+"""DBC files with any numbers: each file is read, or refused with its line, within a second and 100 MB."""
 
 import multiprocessing
 import random
@@ -18,7 +18,7 @@ from canbusd.signals import DatabaseError, load_database
 
 HERE = Path(__file__).parent
 HEAD = 'VERSION ""\n\nBU_: ECU TESTER\n\nBO_ 291 M: 8 ECU\n'
-# A float, a multiplexer of two levels, and each attribute with a number that is read.
+# The file has a float, a multiplexer of two levels, and each attribute with a number that is read.
 MORE = """\
 VERSION ""
 
@@ -46,7 +46,7 @@ SIG_VALTYPE_ 291 speed : 1;
 SG_MUL_VAL_ 291 right left 1-1, 3-5;
 """
 NUMBER = re.compile(r"(?<![\w.])[-+]?\d+(?:\.\d+)?(?:[eE][-+]?\d+)?(?![\w.])|(?<=\bm)\d+")
-# Edges of bits, bytes, words and doubles, long ones, and what is no number.
+# Limits of bits, bytes, words and doubles, long numbers, and texts that are no number.
 EDGES = (
     *("0", "1", "-1", "7", "8", "63", "64", "65", "255", "65535", "65536", "2147483648", "4294967295", "4294967296"),
     *("18446744073709551616", "99999999999", "1000000000", "9" * 30, "9" * 400, "9" * 5000, "3.4E+38", "-3.4E+38"),
@@ -81,12 +81,12 @@ EDGES = (
 
 @pytest.fixture(autouse=True)
 def canmatrix():
-    """The library that Debian has."""
+    """Skips a test without canmatrix, the library that Debian packages."""
     pytest.importorskip("canmatrix", reason="canmatrix is not installed")
 
 
 def mutated(seed):
-    """A file of which one number, or up to three, is another one."""
+    """Returns a file of which one to three numbers are replaced."""
     lot = random.Random(seed)
     text = lot.choice([MORE, *((HERE / name).read_text() for name in ("car.dbc", "rest.dbc"))])
     for one in sorted(lot.sample([*NUMBER.finditer(text)], lot.randint(1, 3)), key=lambda found: -found.start()):
@@ -99,7 +99,7 @@ def mutated(seed):
 
 
 def used(path):
-    """Reads a file, and has it show, encode and decode its messages; DatabaseError as its functions raise it."""
+    """Reads a file, and shows, encodes and decodes its messages; raises DatabaseError like the functions."""
     database = load_database(path, library="canmatrix")
     assert str(database)
     for message in database.messages:
@@ -114,10 +114,10 @@ def used(path):
 
 
 def tried(folder, seeds, results):
-    """Tries files in a process of its own: `results` gets what is wrong, and then how much memory it took, in MB."""
+    """Tries files in a separate process: `results` gets the errors, and then the memory in MB."""
     resource.setrlimit(resource.RLIMIT_AS, (1 << 30, 1 << 30))
     path = folder / "x.dbc"
-    # A first import is not counted.
+    # The first import does not count.
     path.write_text(MORE)
     used(path)
     before = resource.getrusage(resource.RUSAGE_SELF).ru_maxrss
@@ -202,7 +202,7 @@ def test_a_fault_whose_line_the_library_does_not_say(tmp_path):
 
 
 def test_numbers_in_texts_are_none(tmp_path):
-    """also in those of several lines, and with quotes"""
+    """numbers in texts don't count, also in texts of several lines, and with quotes"""
     text = 'CM_ SG_ 291 s "1E999999 \\" 1E999999\nand 1E999999\n BO_ 1 N: 99999999999 ECU\n1E999999";\n'
     path = written(tmp_path, f'{HEAD} SG_ s : 0|8@1+ (1,0) [0|0] "1E999999" TESTER\n{text}')
     assert [one.name for one in load_database(path, library="canmatrix").messages] == ["M"]
@@ -219,7 +219,7 @@ def test_a_file_without_lines(tmp_path):
 
 
 def test_ranges_of_multiplexers(tmp_path):
-    """of which cantools makes lists"""
+    """cantools makes lists of these ranges"""
     path = written(tmp_path, f"{HEAD}SG_MUL_VAL_ 291 s t 1-1, 0-65536;\n")
     check_numbers(str(path))
     check_numbers(str(path), 65_537)

@@ -1,4 +1,5 @@
-"""Which rule of faults gave an attempt its verdict, by the file that a run had or left; the page is tried in test_report.py."""
+"""The fault rule that gave an attempt its verdict, from the file that a run had or left; test_report.py tests the
+page."""
 
 import os
 import random
@@ -15,12 +16,13 @@ SCRIPT = "0 global bit\nnext 1 from a local crc b\nnext 1 id 124 good\n"
 
 
 def ruled(record, path, *of):
-    """The rule of each attempt, by the faults in this file."""
+    """Returns the rule of each attempt, for the faults in this file."""
     return deciders(record, FaultsFile(path, *of))
 
 
 def run_of(folder, script, *injected):
-    """The record and the attempts of a run in which a sends 123 until it is done, then 124 and 125, and b as often the same."""
+    """Returns the record and the attempts of a run. a sends 123 until it succeeds, then 124 and 125, and b sends the
+    same frames as often."""
     with Bench("a,b", faults=script or None, out=folder) as bench:
         one, other = bench.open("a"), bench.open("b")
         for identifier in (0x123, 0x124, 0x125):
@@ -37,7 +39,7 @@ def run_of(folder, script, *injected):
 
 
 def test_which_rule_decided(tmp_path):
-    """a line by number is no rule, a good verdict of a rule counts, and the record says it as the bench does"""
+    """a line with a number is no rule, a good verdict from a rule counts, and the record agrees with the bench"""
     record, attempts = run_of(tmp_path, SCRIPT)
     wanted = ["", "next 1 from a local crc b", "", "next 1 id 124 good", *[""] * 4]
     assert [attempt.fault for attempt in attempts] == ["global bit", "local crc b", *["good"] * 6]
@@ -51,7 +53,8 @@ def test_which_rule_decided(tmp_path):
 
 
 def test_which_of_the_rules_that_came_later_it_was(tmp_path):
-    """two of them would give the same fault; their numbers follow those of the script, wherever its lines are"""
+    """two of the added rules would give the same fault; their numbers follow the numbers of the script's rules,
+    wherever the lines are"""
     rules = ["next 1 id 124 lastbit", "next 1 from b id 125 global form", "next 1 id 124:7FE global form"]
     record, attempts = run_of(tmp_path, SCRIPT, *rules)
     faults = [attempt.fault for attempt in attempts if attempt.winner == "b"]
@@ -67,7 +70,7 @@ def test_which_of_the_rules_that_came_later_it_was(tmp_path):
 
 @pytest.mark.parametrize("ending", [".new", ".cut"])
 def test_faults_whose_last_line_is_torn(tmp_path, ending):
-    """they lie beside a record that is cut off, as a server leaves both; what is whole without a line feed counts"""
+    """a cut off record has faults next to it, as a server leaves both; complete text without a newline counts"""
     _, _ = run_of(tmp_path, "", "next 1 lastbit")
     text = (tmp_path / "a.rec").read_text().rpartition("end ")[0]
     record = tmp_path / f"a.rec{ending}"
@@ -81,7 +84,7 @@ def test_faults_whose_last_line_is_torn(tmp_path, ending):
         assert faults.torn == left_out
     (tmp_path / f"a.rec.faults{ending}").write_text(f"{whole}\nat")
     for faults in (faults_beside(record), FaultsFile(tmp_path / f"a.rec.faults{ending}", record)):
-        # A record that is whole has whole faults, and so have those that are only called like this.
+        # A complete record has complete faults, and so have files that only have such a name.
         with pytest.raises(BadRecord, match="^script line 3: bad line: `at`"):
             deciders(read_record(record, ["a", "b"], cut=True), faults)
     record.write_text(text)
@@ -120,13 +123,13 @@ def test_a_name_that_looks_like_an_option(tmp_path):
 
 
 def test_a_script_with_a_cr(tmp_path):
-    """a line ends at its LF only"""
+    """only LF ends a line"""
     record, _ = run_of(tmp_path, "# made by hand\rnext 1 lastbit\nnext 2 global bit\n")
     assert ruled(record, tmp_path / "faults") == ["next 2 global bit"] * 2 + [""] * 6
 
 
 def test_faults_that_come_by_a_pipe(tmp_path):
-    """they are read once"""
+    """faults from a pipe are read once"""
     record, _ = run_of(tmp_path, SCRIPT)
     wanted = ruled(record, tmp_path / "faults")
     reads, writes = os.pipe()
@@ -145,7 +148,7 @@ def test_a_record_that_comes_by_a_pipe(tmp_path):
 
 
 def test_a_record_that_is_read_once(tmp_path):
-    """by a pipe too, with the time on the wire; and its faults may be wrong, or it"""
+    """a record from a pipe is read once, with the time on the wire; its faults may be wrong, or the record itself"""
     record, _ = run_of(tmp_path, SCRIPT)
     wanted = ruled(record, tmp_path / "faults")
     rates = Rates(500_000)
@@ -169,7 +172,7 @@ def test_a_record_that_is_read_once(tmp_path):
 
 
 def record_of(*identifiers, names=("a", "b")):
-    """A record in which the first of these sends a frame of each of these identifiers."""
+    """Returns a record in which the first interface sends a frame with each of these identifiers."""
     lines = ["open 0 256 = socket 0"]
     for number, identifier in enumerate(identifiers):
         frame = f"{identifier:03X}#"
@@ -187,18 +190,18 @@ USED = "".join(f"at {number} next 1 id {number:03X} good\n" for number in range(
 @pytest.mark.parametrize(
     "faults, rules",
     [
-        # None of the 64 can have been used up before the first attempt: the 65th has no number.
+        # None of the 64 rules can be used up before the first attempt: the 65th has no number.
         (f"{FULL}at 0 next 9 id 001 global form\nat 0 nofaults\nat 0 next 1 id 000 good\n", {0: "next 1 id 000 good"}),
-        # One could have been used up by attempt 0, which is good, and was not.
+        # Attempt 0, which is good, could have used up one rule, but did not.
         (f"{FULL}at 1 next 9 id 001 good\nat 1 nofaults\nat 1 next 1 id 002 good\n", {2: "next 1 id 002 good"}),
-        # Until then all are known.
+        # Until then all rules are known.
         (f"at 0 next 1 id 000 good\n{FULL[:-22]}at 1 always good\nat 2 nofaults", {0: "next 1 id 000 good", 1: "always good"}),
-        # No rule without end is used up, and none that gives more verdicts than there were attempts.
+        # A rule without end is never used up, nor is a rule with more verdicts than there were attempts.
         ("always id 7FF good\n" * 63 + "next 3 id 7FE good\nat 2 always lastbit\nat 2 nofaults\nat 2 always good", {2: "always good"}),
         ("always id 7FF good\n" * 63 + "next 2 id 7FE good\nat 2 always lastbit\nat 2 nofaults\nat 2 always good", {2: "always good"}),
-        # The end of all rules forgets the attempts before it.
+        # Ending all rules forgets the attempts before.
         ("at 1 nofaults\n" + "at 1 next 1 id 7FE good\n" * 64 + LATE, {1: "next 1 id 001 good"}),
-        # A hundred, each of which is used up at once.
+        # These are a hundred rules, each of which is used up at once.
         (USED, {number: f"next 1 id {number:03X} good" for number in range(3)}),
     ],
     ids=["refused", "maybe refused", "all known", "none used up", "one used up", "ended", "all used up"],
@@ -210,7 +213,7 @@ def test_more_rules_than_have_a_place(tmp_path, faults, rules):
 
 
 def test_an_interface_that_is_called_nofaults(tmp_path):
-    """a rule may end in its name, and ends no others"""
+    """a rule may end in this name, and it ends no other rules"""
     full = "at 0 always id 7FF local crc nofaults\n" * 63
     (tmp_path / "faults").write_text(f"{full}at 0 always good\nat 0 always local crc nofaults\n")
     record = record_of(0, names=["a", "nofaults"])
@@ -218,8 +221,8 @@ def test_an_interface_that_is_called_nofaults(tmp_path):
 
 
 def random_faults(source, attempts):
-    """More than 64 rules for these attempts, each of which has an identifier of its own: its number. Some take several, some do
-    not fit, and some are ended."""
+    """Returns more than 64 rules for these attempts, each with its number as identifier. Some take several attempts,
+    some do not fit, and some are ended."""
     lines, left = [], source.choice([50, 70, 100])
     for attempt in range(attempts):
         for _ in range(source.choice([0, 1, 1, 1, 2, 3, left])):
@@ -235,7 +238,7 @@ def random_faults(source, attempts):
 
 
 def test_the_rules_are_about_the_attempts(tmp_path):
-    """a rule that gave an attempt its verdict is about the identifier of that one"""
+    """a rule that gave an attempt its verdict has the identifier of that attempt"""
     known = 0
     record = record_of(*range(120))
     for seed in range(40):
@@ -247,7 +250,7 @@ def test_the_rules_are_about_the_attempts(tmp_path):
 
 
 def test_only_the_rules_that_are_named_are_read(monkeypatch):
-    """of a hundred thousand"""
+    """of a hundred thousand rules only the named ones are read"""
     read = []
     monkeypatch.setattr(fault_rules_of_run, "parse_rule", lambda text: read.append(text) or text)
     ended = [line for number in range(1, 100_001) for line in (f"rule {number} next 1 good", "nofaults")]

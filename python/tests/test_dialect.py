@@ -1,4 +1,4 @@
-"""One dialect: what a test says is the same on a server and on a bench, with and without a bit rate."""
+"""One dialect: a test has the same results on a server and on a bench, with and without a bit rate."""
 
 import can
 import pytest
@@ -22,13 +22,13 @@ def run(request):
 
 @pytest.fixture
 def ends(run):
-    """Buses of the ECU and of the tester."""
+    """The buses of the ECU and of the tester."""
     with run.bus("ecu") as ecu, run.bus("tester") as tester:
         yield ecu, tester
 
 
 def is_exact(run):
-    """Whether its time is: no load has anything be late."""
+    """Whether the run's times are exact: load on the machine delays nothing."""
     return isinstance(run, Bench) or is_virtual()
 
 
@@ -164,7 +164,7 @@ def test_a_periodic_frame_changes(run, ends):
     with pytest.raises(ValueError):
         task.modify_data(Frame(0x124, b"\x02"))
     task.stop()
-    # Frames that were sent before.
+    # These frames were sent before.
     while tester.recv(timeout=0.1):
         pass
     task.start()
@@ -173,7 +173,7 @@ def test_a_periodic_frame_changes(run, ends):
 
 def test_a_full_queue(run, ends):
     ecu, _ = ends
-    # More than the queue has room for.
+    # There are more frames than the queue has room for.
     for number in range(25):
         ecu.send(0x200, bytes([number]), timeout=WAIT)
     assert run.expect(0x200, bytes([24]), within=WAIT)

@@ -1,4 +1,4 @@
-"""The Python code of the documents: it runs as it is written there."""
+"""The Python code of the documents: it runs exactly as it is printed."""
 
 import importlib.util
 import re
@@ -11,17 +11,17 @@ from canbusd._library import library
 from canbusd.server import Server
 
 CLONE = Path(__file__).resolve().parents[2]
-# Those whose first test needs its faults.
+# The documents whose first test needs its faults.
 DOCUMENTS = {"readme": "README.md", "guide": "docs/GUIDE.md"}
 
 
 def blocks(path):
-    """The blocks of Python in a document."""
+    """Returns the blocks of Python in a document."""
     return re.findall(r"^```python\n(.*?)^```$", (CLONE / path).read_text(encoding="utf-8"), re.M | re.S)
 
 
 def found_library():
-    """The path of libcanbusd, or None where there is none."""
+    """Returns the path of libcanbusd, or None if there is none."""
     try:
         return library.find_library()
     except library.LibraryNotFound:

@@ -1,4 +1,5 @@
-"""End-to-end protection: the check values of AUTOSAR's SWS_CRCLibrary, the examples of PRS_E2EProtocol, and what is found wrong."""
+"""End-to-end protection: the check values of AUTOSAR's SWS_CRCLibrary, the examples of PRS_E2EProtocol, and the
+detected faults."""
 
 import pytest
 
@@ -34,7 +35,7 @@ BA_DEF_DEF_ "GenMsgCycleTime" 10;
 
 @pytest.fixture
 def dbc(tmp_path):
-    """A file with a message that has counters and checksums."""
+    """Writes a file with a message that has counters and checksums."""
     pytest.importorskip("canmatrix")
     (tmp_path / "car.dbc").write_text(DBC)
     return tmp_path / "car.dbc"
@@ -90,7 +91,7 @@ def test_examples(profile, size, counter, wanted):
     assert profile.is_right(data) and profile.counter(data) == counter
 
 
-#: Where a standard has no example: by the words of the standard, with the CRCs of another program.
+#: Cases without an example in a standard: they follow the words of the standard, with the CRCs of another program.
 def test_other_modes():
     crcmod = pytest.importorskip("crcmod")
     crc = crcmod.mkCrcFun(0x11D, initCrc=0, rev=False, xorOut=0)
@@ -115,7 +116,7 @@ def test_each_bit_counts(profile):
     for bit in range(64):
         wrong = bytearray(right)
         wrong[bit // 8] ^= 1 << bit % 8
-        # Four bits of the data ID are in the message, and not checked but by the CRC.
+        # Four bits of the data ID are in the message, and only the CRC protects them.
         assert not profile.is_right(bytes(wrong))
 
 
@@ -139,7 +140,7 @@ def test_what_is_found():
     for fault, count in (("repeated", 2), ("wrong crc", 1), ("some lost", 1)):
         protection.inject(fault, count)
     found += [checker.check(protection.applied(bytes(8))) for _ in range(6)]
-    # After a frame with a wrong checksum the counter has gone on by one more.
+    # After a frame with a wrong checksum the counter has advanced by one more.
     assert found == ["initial", "ok", "repeated", "repeated", "wrong crc", "wrong sequence", "ok", "ok"]
     protection.inject("some lost")
     assert checker.check(protection.applied(bytes(8))) == "some lost"
@@ -154,7 +155,7 @@ def test_signals(dbc):
     assert data == bytes([e2e.crc8(bytes.fromhex("57112233445566"))]) + bytes.fromhex("57112233445566")
     assert profile.is_right(data) and profile.counter(data) == 7
     other = e2e.Signals("Alive", crc="Sum", function=sum).of(message).protect(bytes([0xFF] * 8), 0)
-    # The sum has its high byte first.
+    # The checksum has its high byte first.
     assert other == bytes.fromhex("fff0ffffffff") + (0xFF * 5 + 0xF0).to_bytes(2, "big")
     assert e2e.Signals("Alive").of(message).protect(bytes(8), 17).hex() == "0001000000000000"
 

@@ -1,4 +1,4 @@
-"""Rules that are given while a bus runs: to servers, benches and buses of python-can."""
+"""Rules that are added to a running bus: to servers, benches and buses of python-can."""
 
 import itertools
 import threading
@@ -13,7 +13,7 @@ from common import WAIT, message, needs_live
 from test_report import rules_on
 
 TESTER, ECU = 0x100, 0x200
-# Everything that makes a wrong rule.
+# A rule that names an unknown interface.
 BAD_NAME = Faults().next(1, sender="ecu").local("crc", "can9")
 
 
@@ -121,7 +121,7 @@ def test_a_rule_that_names_an_interface_of_another_bus():
 @needs_live
 @pytest.mark.parametrize("when", ["end", "live", "killed"])
 def test_the_rules_on_the_page_of_a_server(tmp_path, when):
-    """those of its script, and those that came while it ran, whoever gave them"""
+    """the page shows the rules of the script, and the rules added while the server ran, whoever added them"""
     options = {"record": "end"} if when == "end" else {"record": "live", "flush": 0}
     server = Server("can0,can1", faults="next 1 lastbit\n", out=tmp_path, observe=(), **options)
     with server, server.bus("can0") as can0, server.bus("can1") as can1:
@@ -133,7 +133,7 @@ def test_the_rules_on_the_page_of_a_server(tmp_path, when):
         sent(0x123, 2)
         server.inject("next 1 id 124 lastbit")
         can1.inject("next 2 id 124:7FE lastbit\nalways good")
-        # All three of these may have been the rule of the first, and two that of the second.
+        # All three may have been the first rule, and two of them the second.
         sent(0x124, 4)
         server.end_rules()
         sent(0x125, 1)
@@ -189,7 +189,7 @@ def test_what_a_bench_does_not_take():
         bench.inject("always good\n" * 63)
         with pytest.raises(Refused, match="^too many rules$"):
             bench.inject("next 1 lastbit\nnext 1 lastbit")
-        # All of them or none.
+        # All rules are ended, or none.
         assert can0.rules_left() == 63
         can0.inject("next 1 lastbit")
         with pytest.raises(Refused, match="^too many rules: next 1 lastbit$"):
@@ -204,7 +204,7 @@ def test_what_a_bench_does_not_take():
 
 @pytest.fixture
 def traffic():
-    """A server on whose bus a tester sends each 4 ms and an ECU each 5 ms, and the bus of the ECU."""
+    """A server on whose bus a tester sends every 4 ms and an ECU every 5 ms, and the bus of the ECU."""
     with Server("ecu,tester") as server, server.bus("ecu") as ecu, server.bus("tester") as tester:
         tester.send_periodic(message(TESTER), 0.004)
         ecu.send_periodic(message(ECU), 0.005)
@@ -239,7 +239,7 @@ def test_bus_off_on_demand(traffic):
         done = ecu.stats().done
         assert server.bus_off("ecu", timeout=WAIT).state == "off"
         assert server.rules_left() == 0
-        # At once where it is off already, and nothing is left for later.
+        # The call returns at once if the interface is already off, and leaves no rule for later.
         server.bus_off("ecu", timeout=0.1)
         assert server.rules_left() == 0
         ecu.restart()
@@ -258,7 +258,7 @@ def test_bus_off_of_one_with_errors(server):
 
 
 def test_bus_off_between_two_questions(server, monkeypatch):
-    """The counts that are returned are those of an interface that is off."""
+    """the returned counts are those of an interface that is bus off"""
     with server.bus("can0") as can0:
         bus = server._observing().session("can0")
         stats = bus.stats
@@ -289,7 +289,7 @@ def test_bus_off_of_one_that_sends_nothing(server):
             "can1 is active (transmit count 0, receive count 0), and did not go bus off within 0.05 seconds: it sent "
             "nothing in that time\nno frame was seen"
         )
-        # Its rule destroys no frame of a later test on this server.
+        # The rule destroys no frame of a later test on this server.
         assert server.rules_left() == 0
         server.inject("always good")
         can0.send_periodic(message(0x123), 0.002)
@@ -303,7 +303,7 @@ def test_bus_off_of_one_that_sends_nothing(server):
 
 
 def test_bus_off_that_is_interrupted_leaves_no_rule(server, monkeypatch):
-    """As by Ctrl-C, or by the timeout of a test."""
+    """the interrupt may come from Ctrl-C, or from the timeout of a test"""
 
     def interrupted(predicate, timeout):
         assert predicate() is None and server.rules_left() == 1
@@ -316,9 +316,9 @@ def test_bus_off_that_is_interrupted_leaves_no_rule(server, monkeypatch):
 
 
 def test_bus_off_leaves_no_rule_where_a_line_of_the_script_helps():
-    """Three attempts that fail by their numbers leave three of the rule's."""
+    """three attempts that fail by number leave three verdicts of the rule"""
     with Server("can0,can1", faults=Faults().destroyed([0, 1, 2])) as server, server.bus("can0") as can0:
-        # Once the rule for 32 attempts is there.
+        # The rule for 32 attempts is present by then.
         sends = threading.Timer(0.3, can0.send, [message(0x123)])
         sends.start()
         server.bus_off("can0", timeout=WAIT)

@@ -1,4 +1,5 @@
-"""Exceptions of signal handlers, as of Ctrl-C and of pytest-timeout, at any moment of a call: the bus goes on, and ends."""
+"""Exceptions of signal handlers, as from Ctrl-C and pytest-timeout, at any time of a call: the bus continues to work,
+and ends."""
 
 import os
 import subprocess
@@ -11,8 +12,8 @@ from common import WAIT
 import canbusd
 from canbusd.server import Server
 
-# A timer interrupts a client again and again. After each interrupt the bus has to be in step, and in the end to be shut
-# down. The last line has how many calls were interrupted.
+# A timer interrupts a client again and again. After each interrupt the bus must be in step, and in the end it must shut
+# down. The last line has the number of interrupted calls.
 CLIENT = """
 import faulthandler, random, signal, sys, threading, time
 import can
@@ -82,7 +83,7 @@ def test_an_interrupt_leaves_the_bus_in_step(call, reader):
     assert (done.returncode, done.stdout, done.stderr) == (0, "in step\n", "")
 
 
-# A Ctrl-C comes while the folder of a run that nobody has any more is removed. A shell's job in the background ignores it.
+# A Ctrl-C comes while an unused run's folder is being removed. A shell's background job ignores the signal.
 FINALIZED = """
 import os, shutil, signal, time
 from canbusd import Bench

@@ -1,4 +1,4 @@
-"""Ends of ISO-TP: what they put on the bus, by ISO 15765-2, and how transfers fail."""
+"""Ends of ISO-TP: the frames that they put on the bus, by ISO 15765-2, and the failures of transfers."""
 
 import importlib.util
 import re
@@ -17,7 +17,7 @@ from common import WAIT
 
 
 def is_there(library):
-    """Whether this is installed."""
+    """Returns whether this library is installed."""
     if library == "canbusd":
         return True
     if library == "can-isotp":
@@ -30,7 +30,7 @@ def is_there(library):
 
 @pytest.fixture(params=["can-isotp", "canbusd-run", "canbusd"])
 def library(request):
-    """What does it, if it is there."""
+    """Each implementation; a test is skipped if it is not installed."""
     if not is_there(request.param):
         pytest.skip(f"no {request.param}; Debian 12 has no package of can-isotp")
     return request.param
@@ -62,8 +62,8 @@ def test_what_is_on_the_bus(car, ends):
     assert tester.recv(timeout=WAIT) == VIN
     assert ecu.recv(timeout=0) is None
     log = [(message.channel, f"{message.arbitration_id:X}", bytes(message.data)) for message in car.log()]
-    # A single frame; a first frame of 20 bytes, flow control, and the consecutive frames 1 and 2. Where a frame is filled up
-    # its bytes are not looked at.
+    # A single frame; a first frame of 20 bytes, flow control, and the consecutive frames 1 and 2. Padding bytes are not
+    # compared.
     wanted = [
         ("tester", "7E0", b"\x03\x22\xf1\x90"),
         ("ecu", "7E8", b"\x10\x14" + VIN[:6]),
@@ -95,7 +95,7 @@ def test_identifiers_of_29_bits(car, library):
 
 def test_bus_off_in_the_middle_of_a_transfer(car, ends):
     ecu, tester = ends
-    # The first frame and one consecutive frame go through.
+    # The first frame and one consecutive frame pass.
     car.inject(Faults().next(32, sender="ecu", skip=2).destroyed())
     said = "" if ecu.library == "can-isotp" else "^ecu is bus off$"
     with pytest.raises(IsoTpError, match=said):
@@ -203,7 +203,8 @@ def test_neither_is_there(car, monkeypatch):
         car.isotp("tester", tx=0x7E0, rx=0x7E8, library="can-isotp")
 
 
-#: Options, and the frames of 3 bytes to the ECU and of 20 bytes from it, by ISO 15765-2; `..` are bytes that are not looked at.
+#: Options, and the frames of 3 bytes to the ECU and of 20 bytes from it, by ISO 15765-2; `..` are bytes that are not
+#: compared.
 OPTIONS = [
     (
         {"padding": 0xAA},
@@ -254,7 +255,7 @@ def test_the_distance_of_consecutive_frames(car, stmin, seconds):
             assert ecu.recv(timeout=WAIT) == bytes(60)
     moments = [message.timestamp for message in car.log() if message.data[0] >> 4 == 2]
     assert len(moments) == 8
-    # The sender waits after it knows that the one before was on the bus, so no load makes it shorter.
+    # The sender waits after it has seen the frame before on the bus, so no load makes the pause shorter.
     assert all(after - before >= seconds - 1e-6 for before, after in zip(moments, moments[1:]))
 
 
@@ -291,7 +292,7 @@ def test_bus_off_while_a_message_comes(car):
             car.expect_state("tester", "off", within=WAIT)
             with pytest.raises(IsoTpError):
                 tester.recv(timeout=WAIT)
-            # A flow control that can't be sent ends its message only.
+            # A flow control that can't be sent ends only its message.
             with car.bus("tester") as bus:
                 bus.restart()
             ecu.send(VIN, timeout=WAIT)

@@ -1,4 +1,4 @@
-"""A program that listens at an address may be no server of canbusd: no terminal gets a control character of it."""
+"""A program at the address may not be a canbusd server: no control character from it reaches a terminal."""
 
 import contextlib
 import re
@@ -15,10 +15,10 @@ from forked import forked
 
 HERE = Path(__file__).parent
 WAIT = 60
-# Characters that colour, clear, rename and overwrite what a terminal shows, in 7 and in 8 bits.
+# Characters that colour, clear, rename and overwrite a terminal's screen, in 7 and in 8 bits.
 EVIL = "\x1b[31m\x1b[2J\x1b]0;title\x07\x9b31m\x00\x08\x7f\r"
 GREETING, OK = "< hi >", "< ok >"
-#: By the first word of a message, what is answered; `*` is any other.
+#: The answers by the first word of a message; `*` is for any other word.
 LIES = {
     "greeting": {"": f"{EVIL} SSH-2.0 {EVIL}\n"},
     "refused": {"": f"< error {EVIL} >"},
@@ -49,7 +49,7 @@ COMMANDS = {
 
 
 def answer(connection, lies):
-    """Greets, and answers each message until the other side goes away."""
+    """Sends a greeting, and answers each message until the other side disconnects."""
     connection.settimeout(WAIT)
     with contextlib.suppress(OSError), connection:
         connection.sendall(lies.get("", GREETING).encode("latin-1"))
@@ -66,7 +66,7 @@ def answer(connection, lies):
 
 @contextlib.contextmanager
 def liar(lies):
-    """The address of a server that tells these lies."""
+    """The address of a server that sends these false answers."""
     with socket.create_server(("127.0.0.1", 0)) as listening:
 
         def serve():
@@ -85,7 +85,7 @@ def liar(lies):
 
 
 def shown(address, words):
-    """Returns the output of a program on its terminal, which is ended if it goes on."""
+    """Returns the output of a program on its terminal; a program that continues is ended."""
     child = subprocess.Popen(
         words, env={**environment(), "CANBUSD_ADDRESS": address}, stdin=subprocess.DEVNULL, stdout=subprocess.PIPE,
         stderr=subprocess.STDOUT,
@@ -102,7 +102,7 @@ def shown(address, words):
 def test_no_control_characters(name, lie):
     with liar(LIES[lie]) as address:
         env = {**environment(), "CANBUSD_ADDRESS": address}
-        # One that goes on is ended.
+        # A program that continues is ended.
         _, written, errors = forked(*COMMANDS[name], env=env, longest=15)
     written += errors
     assert "Traceback" not in written
@@ -111,7 +111,7 @@ def test_no_control_characters(name, lie):
 
 @pytest.mark.parametrize("lie", ["greeting", "refused", "names", "other names"])
 def test_canbusd_run(lie):
-    """whose messages end at a NUL"""
+    """its messages end at a NUL"""
     with liar({word: said.replace("\0", "") for word, said in LIES[lie].items()}) as address:
         written = shown(address, [find_program("canbusd-run"), "--interfaces", "can1", "--", "true"])
     assert written.startswith("canbusd-run: ") and not re.findall(r"[^\n\t -~]", written), written

@@ -21,7 +21,7 @@ tomllib = pytest.importorskip("tomllib")
 CLONE = Path(__file__).resolve().parents[2]
 SOURCES = CLONE / "python" / "src"
 (INFO,) = SOURCES.glob("canbusd-*.dist-info")
-# Nothing but PYTHONPATH, as README has it.
+# The environment only has PYTHONPATH, as in README.
 ENVIRONMENT = {**os.environ, "PYTHONPATH": str(SOURCES), "PYTHONDONTWRITEBYTECODE": "1"}
 TEST = """
 import can, pytest
@@ -54,7 +54,7 @@ def test_the_metadata_of_a_clone_is_that_of_the_wheel():
 
 
 def public_names():
-    """The imports of documents, entry points and launchers, as modules and their names."""
+    """Returns the imports of documents, entry points and launchers, as modules and names."""
     texts = [*CLONE.glob("*.md"), *CLONE.glob("docs/*.md"), *CLONE.glob("examples/**/*.py"), *CLONE.glob("tools/*")]
     for path in filter(Path.is_file, texts):
         text = path.read_text(encoding="utf-8")
@@ -65,7 +65,7 @@ def public_names():
     yield from (tuple(f"{place}:".split(":")[:2]) for table in tables for place in table.values())
 
 
-#: Modules that users import, whether or not the documents do it in a line that is found above.
+#: Modules that users import, even if no document has an import that is found above.
 PUBLIC = """
     bench bus candump2bench commands e2e faults frames isotp programs pytest_plugin record replay rest_bus rules server shapes
     signals steps strategies uds virtual
@@ -85,7 +85,7 @@ def test_public_paths_can_be_imported():
         assert not name or hasattr(found, name), f"{module} has no {name}"
 
 
-#: Rooms of the package, each with the modules at the top that users have of it; one imports of itself and of those before it.
+#: Rooms of the package, each with its top modules for users; a room imports only itself and earlier rooms.
 LAYERS = """
     _text+_words+_python_can+_calls+_whole_file+_placement+_crc+virtual+frames+rules+faults+steps+_reports
     _session
@@ -108,7 +108,7 @@ LAYERS = """
 
 
 def imported(body):
-    """The names of the modules that this code imports when it is imported itself."""
+    """Returns the names of the modules that this code imports during its own import."""
     for statement in body:
         if isinstance(statement, ast.Import):
             yield from (alias.name for alias in statement.names)
@@ -120,7 +120,8 @@ def imported(body):
 
 
 def package_imports():
-    """For each module of the package, below `canbusd.`, those of the package that it imports when it is imported itself."""
+    """Returns, for each module of the package, below `canbusd.`, the package's modules that it imports during its own
+    import."""
     paths = (SOURCES / "canbusd").rglob("*.py")
     names = {str(path.relative_to(SOURCES).with_suffix("")).replace("/", "."): path for path in paths}
     trees = {name.removesuffix(".__init__"): ast.parse(path.read_bytes()) for name, path in names.items()}
@@ -141,18 +142,18 @@ def test_layers():
         number, room = rooms[name.split(".")[1]]
         for layer, other_room, other in ((*rooms[other.split(".")[1]], other) for other in others):
             assert layer < number or other_room == room, f"{name} imports {other}, which is of a layer above it"
-    # CycleError where modules import one another.
+    # CycleError means that modules import one another.
     graphlib.TopologicalSorter(found).prepare()
 
 
 def modules_after(statement):
-    """The modules that Python has after a statement."""
+    """Returns the loaded modules of Python after a statement."""
     asks = f"{statement}; import sys; print(*sys.modules)"
     return set(subprocess.check_output([sys.executable, "-c", asks], env=ENVIRONMENT, text=True).split())
 
 
 def test_imports_are_cheap():
-    """Modules that take long are imported only by those that need them: `import canbusd` takes a few milliseconds."""
+    """slow modules are imported only if needed: `import canbusd` takes a few milliseconds"""
     alone = modules_after("import canbusd") - modules_after("import importlib, typing")
     assert alone == {"canbusd"}
     most = modules_after("from canbusd import Bench, Faults, Frame, Server, load_database, read_record")
@@ -185,7 +186,7 @@ def test_a_clone_without_an_installation(tmp_path, words):
 
 
 def test_an_older_python():
-    """Python 3.8 would fail in the middle of a module."""
+    """Python 3.8 would otherwise fail in the middle of a module"""
     asks = "import sys; sys.version_info = (3, 8, 19, 'final', 0); import canbusd"
     done = subprocess.run([sys.executable, "-c", asks], env=ENVIRONMENT, capture_output=True, text=True, check=False)
     assert done.stderr.endswith("ImportError: canbusd needs Python 3.9 or later, and this is 3.8\n")

@@ -1,4 +1,5 @@
-"""Programs with CAN sockets on the buses of a server: run to their end, and started to stay."""
+"""Programs with CAN sockets on the buses of a server: programs that run to their end, and programs that keep
+running."""
 
 import contextlib
 import os
@@ -17,7 +18,7 @@ from canbusd import Server, ServerError
 from canbusd._process.output import BLOCK, MOST, Output, Search
 from canbusd.programs import Program, words_of
 
-# A node for SocketCAN, which says what it receives.
+# A node for SocketCAN, which prints received frames.
 NODE = """
 import socket, struct, sys
 with socket.socket(socket.PF_CAN, socket.SOCK_RAW, socket.CAN_RAW) as node:
@@ -27,7 +28,7 @@ with socket.socket(socket.PF_CAN, socket.SOCK_RAW, socket.CAN_RAW) as node:
         print("received %X" % struct.unpack("=I", node.recv(16)[:4]), flush=True)
 """
 STAYS = [sys.executable, "-c", NODE]
-# It goes on at SIGTERM, and says so.
+# The program survives SIGTERM, and prints a note.
 STUBBORN = [
     sys.executable,
     "-c",
@@ -37,7 +38,7 @@ STUBBORN = [
 
 
 def has_ended(pid):
-    """Whether there is no such process."""
+    """Returns whether this process has ended."""
     try:
         os.kill(pid, 0)
     except ProcessLookupError:
@@ -125,7 +126,7 @@ def test_one_that_ends_by_itself():
         "  one",
         "  two",
     ]
-    # Once is enough.
+    # One occurrence is enough.
     assert server.stop().status == 0
 
 
@@ -147,7 +148,7 @@ def test_a_server_that_is_killed():
     assert other.stop().status == -signal.SIGKILL
 
 
-# Starts a program, writes its processes, and ends, or not.
+# Starts a program, prints its process numbers, and ends, or does not.
 STARTS = """
 import os, signal, sys, threading, time
 from canbusd import Server
@@ -155,7 +156,7 @@ server = Server("can0", listen=sys.argv[1])
 program = server.start(["sh", "-c", sys.argv[2]])
 print(program.pid, program.expect("\\n"), flush=True)
 """
-# A process that ends at SIGTERM, one that does not, and one with another in its group.
+# A process that ends at SIGTERM, a process that does not, and a process with another one in its group.
 MEEK, STUBBORN_ONE, TWO = (
     "echo; exec sleep 1000",
     "trap '' TERM; echo; sleep 1000",
@@ -168,14 +169,14 @@ ENDS = {
     "exec": "os.execv('/bin/true', ['true'])",
     "SIGKILL": "os.kill(os.getpid(), signal.SIGKILL)",
     "SIGTERM": "os.kill(os.getpid(), signal.SIGTERM)",
-    # Of a process that was forked and goes on, until its input ends.
+    # The output of a forked process that continues until its input ends.
     "SIGKILL beside a child": "os.fork() or os.read(0, 1)\nos.kill(os.getpid(), signal.SIGKILL)",
     "SIGKILL in a thread": "threading.Thread(target=lambda: os.kill(os.getpid(), signal.SIGKILL)).start()\ntime.sleep(100)",
 }
 
 
 def wait_until_ended(pids, seconds=WAIT):
-    """Waits until there is none of these processes; fails where there is one after these seconds."""
+    """Waits until all these processes have ended; fails if one remains after these seconds."""
     until = time.monotonic() + seconds
     while not all(map(has_ended, pids)):
         assert time.monotonic() < until, f"{pids} go on"
@@ -190,11 +191,11 @@ def wait_until_ended(pids, seconds=WAIT):
     ],
 )
 def test_one_that_nobody_stops(program, end, tmp_path):
-    """It ends with the process that started it, however that ends, and so does what is left of its group."""
+    """the program ends with the process that started it, however that ends, and so does the rest of its group"""
     words = [sys.executable, "-c", STARTS + ENDS[end], f"{tmp_path}/socket", program]
     read, write = os.pipe()
     try:
-        # Its child may have the pipe, whose end is not waited for.
+        # The program's child may have the pipe, so the test does not wait for the pipe's end.
         with open(tmp_path / "output", "w+b") as file:
             child = subprocess.Popen(words, stdin=read, stdout=file, stderr=subprocess.STDOUT)
             child.wait(WAIT)
@@ -217,7 +218,7 @@ def test_the_end_of_the_thread_that_started_it_is_none_of_its(server):
 
 
 def children():
-    """The processes that this one has started and not waited for."""
+    """Returns the processes that this process has started and not waited for."""
     found = set()
     for task in Path("/proc/self/task").iterdir():
         found.update((task / "children").read_text().split())
@@ -225,7 +226,7 @@ def children():
 
 
 def test_nothing_is_left_of_one_that_has_ended(server):
-    """Else another process that gets its number would be ended."""
+    """otherwise another process with the same number would be ended"""
     before = children()
     for ended in (
         lambda one: one.wait(WAIT),
@@ -246,31 +247,31 @@ def test_nothing_is_left_of_one_that_did_not_start(server):
 
 
 def test_one_that_is_forgotten(server):
-    """It ends, as a server does that nobody refers to."""
+    """the program ends, like a server without references"""
     pid = Program(["sleep", "1000"], [], server._folder / "forgotten", False).pid
     until = time.monotonic() + WAIT
-    # If it is over by the time that Python forgets it, Python has waited for it.
+    # If the program is over when Python frees the object, Python has waited for it.
     with contextlib.suppress(ChildProcessError):
         while os.waitpid(pid, os.WNOHANG) == (0, 0):
             assert time.monotonic() < until
             time.sleep(0.02)
 
 
-# More than is read within the time of an expectation, but no more than a disk has.
+# The output is more than is read within the time of an expectation, but fits on a disk.
 ENDLESS = "import os, signal\nfor _ in range(3000): os.write(1, b'x' * 99_999 + b'\\n')\nsignal.pause()"
 
 
 def peak():
-    """The most memory that this process had, in bytes."""
+    """Returns the peak memory of this process, in bytes."""
     return int(re.search(r"VmHWM:\s+(\d+)", Path("/proc/self/status").read_text())[1]) * 1024
 
 
 @pytest.mark.parametrize("within", [0, 0.5, 2])
 def test_an_expectation_beside_one_that_writes_without_end(server, within):
-    """keeps its time, and takes no more memory than 10 MB"""
+    """the expectation keeps its time, and takes no more memory than 10 MB"""
     endless = server.start([sys.executable, "-c", ENDLESS])
     endless.expect("x", within=WAIT)
-    # So that the most memory is that of now.
+    # This makes the peak memory equal to the present memory.
     Path("/proc/self/clear_refs").write_text("5")
     memory, start = peak(), time.monotonic()
     with pytest.raises(
@@ -283,7 +284,8 @@ def test_an_expectation_beside_one_that_writes_without_end(server, within):
 
 
 def test_a_long_output(tmp_path):
-    """A text is found wherever it is, also between two blocks, and of what is returned the last megabyte is before its end."""
+    """a text is found anywhere, also between two blocks; the returned output is the last megabyte up to the text's
+    end"""
     path = tmp_path / "output"
     for place in (0, BLOCK - 3, 5 * MOST):
         path.write_bytes(b"." * place + b"\xc3\xa4\r\nneedle" + b"," * MOST + b"\n")
@@ -296,7 +298,7 @@ def test_a_long_output(tmp_path):
 
 
 def test_a_search_that_goes_on(tmp_path):
-    """as the output is written, which may be in the middle of a character"""
+    """the search continues while output is written, even in the middle of a character"""
     path = tmp_path / "output"
     with open(path, "wb", buffering=0) as file, Search(path, "b\u20acd\ne") as search:
         for byte in "ab\u20acd\r\ne".encode():
@@ -318,7 +320,8 @@ def test_an_expectation_that_fails(server):
 
 
 def test_a_program_that_can_not_be_started(server, tmp_path):
-    """As by subprocess, whatever the environment and the folder are; a status of its own is the caller's."""
+    """the error is that of subprocess, whatever the environment and the folder are; a status of the program itself is
+    returned"""
     (tmp_path / "plain").write_text("")
     (tmp_path / "script").write_text("#!/bin/sh\nexit 127\n")
     (tmp_path / "script").chmod(0o755)

@@ -1,4 +1,4 @@
-"""The pytest plugin, by tests that run pytest."""
+"""The pytest plugin, tested by tests that run pytest."""
 
 import os
 import re
@@ -55,7 +55,7 @@ def run(pytester, monkeypatch):
 
 
 def kept(pytester):
-    """The names of the files that are left of the runs."""
+    """Returns the names of the files that remain of the runs."""
     return sorted(path.name for path in (pytester.path / "kept").rglob("*") if path.is_file())
 
 
@@ -130,7 +130,7 @@ def test_a_failed_test_in_a_junit_file(run, pytester):
 
 
 def test_a_program_that_dies_fails_the_test(run):
-    """and its output and status are in the report, as those of one that the end of a failed test has ended"""
+    """its output and status are in the report, like those of a program that the end of a failed test has ended"""
     result = run(
         """
     def test_death(canbusd):
@@ -269,7 +269,7 @@ def test_rules_that_gave_no_verdict(run, pytester):
 
 
 def test_a_server_that_dies(run):
-    """One that a test kills is the test's own business; one that crashes fails the test."""
+    """a test may kill its server; a server that crashes fails the test"""
     result = run(
         """
     def test_it_is_killed(canbusd):
@@ -387,7 +387,7 @@ def test_what_a_marker_may_not_say(run):
     )
     result.stdout.fnmatch_lines([f"{mark}('a', database='nowhere.dbc'): *No such file*"])
     result.stdout.fnmatch_lines([f"{mark}('a', faults='next 1 lost'): *script line 1: bad line"])
-    # Only that is shown of each, and no source of the package.
+    # The output shows only this of each, and no source of the package.
     assert "def __init__" not in result.stdout.str() and "Traceback" not in result.stdout.str()
     assert result.stdout.str().count("pytest_plugin.py") == 0
 
@@ -498,7 +498,7 @@ def test_a_test_that_has_to_fail_has_not_failed(run, pytester):
 
 @pytest.mark.parametrize("fixture", ["canbusd", "canbusd_bench"])
 def test_a_test_that_is_interrupted_has_failed(run, pytester, fixture):
-    """As by Ctrl-C; what the test before it has left is gone."""
+    """the interrupt is like Ctrl-C; the files of the test before are gone"""
     result = run(
         f"""
     def test_it_passes({fixture}):
@@ -523,7 +523,7 @@ def test_no_links_that_lead_nowhere(run, pytester):
 
 @pytest.mark.parametrize("fixture", ["canbusd", "canbusd_bench"])
 def test_a_pytest_that_is_killed(run, pytester, monkeypatch, fixture):
-    """What it leaves is below its own folder, which the next one clears away."""
+    """its leftovers are below its own folder, which the next pytest removes"""
     (pytester.path / "tmp").mkdir()
     monkeypatch.setenv("TMPDIR", str(pytester.path / "tmp"))
     run(
@@ -603,7 +603,7 @@ def test_a_database_is_in_the_failure_and_on_the_page(run, pytester):
 
 
 def test_a_server_that_tests_share_is_expected_from_each_test_on(run):
-    """What the fixtures of a test do is of the test."""
+    """frames that a test's fixtures cause count for the test"""
     done = run(
         """
     @pytest.fixture(scope="module")

@@ -1,4 +1,5 @@
-"""What sessions have received, put together: each frame of a bus once, in its order, whichever session was read first."""
+"""The frames that sessions have received, merged: each frame of a bus once, in order, whichever session was read
+first."""
 
 import itertools
 
@@ -8,7 +9,7 @@ from canbusd._expect import received_frames
 from canbusd._expect.received_frames import Received, state_in
 from canbusd._session.protocol import ErrorCounters
 
-# The frames that the sessions on a and b receive of: 1 sent by a, 2 by b, 1 by a again, and 3 by a, which b misses.
+# The frames that the sessions on a and b receive: frame 1 sent by a, 2 by b, 1 by a again, and 3 by a, which b misses.
 AT_A = [
     "< frame 001 1.000001 11 same 0",
     "< frame 002 1.000002  other 0",
@@ -23,7 +24,7 @@ AT_B = [
 
 
 def mixed(*lists):
-    """All ways to put lists together that keep the order of each."""
+    """Returns all ways to merge lists that keep the order of each."""
     places = [number for number, one in enumerate(lists) for _ in one]
     for order in set(itertools.permutations(places)):
         rest = [iter(one) for one in lists]
@@ -41,7 +42,7 @@ def test_the_order_is_that_of_the_bus():
 
 
 def test_frames_of_one_microsecond():
-    """Of one sender, sent anew after a fault in the last bit: text, number and moment are the same."""
+    """frames of one sender, sent again after a fault in the last bit, have the same text, number and time"""
     received = Received([["a", "b"]], ["a", "b"])
     for name in "abab":
         received.add(name, "< frame 001 1.000001 11 other 0")
@@ -54,7 +55,7 @@ def test_frames_of_two_buses_are_two():
     received.add("a", "< frame 001 1.000001 11 other 0")
     assert [seen.channel("ab") for seen in received.untaken()] == ["a", "b"]
     received.take(next(received.untaken()))
-    # A frame that is taken on one bus is not taken on the other, whose frames have an order of their own.
+    # A frame that is taken on one bus is not taken on the other bus, whose frames have a separate order.
     assert [seen.channel("ab") for seen in received.untaken()] == ["b"]
 
 
@@ -120,7 +121,7 @@ def test_states_are_expected_one_after_another():
     received = states("warning passive off restarted warning active off restarted")
     found = [received.expected_state("a", state) for state in ("off", "active", "active", "off", "active")]
     assert [seen.moment for seen in found] == [1_000_002, 1_000_003, 1_000_005, 1_000_006, 1_000_007]
-    # It is still that, and was no other since.
+    # It still has this state, and had no other since.
     assert received.expected_state("a", "active").moment == 1_000_007
     assert received.expected_state("a", "off") is None
     assert received.states_since("a") == []

@@ -1,4 +1,4 @@
-"""The recipes: each is a file of tests in examples/recipes, which runs as it is, and has its place in the document."""
+"""The recipes: each is a file of tests in examples/recipes, which runs unchanged, and is in the document."""
 
 import ast
 import importlib.util
@@ -24,12 +24,12 @@ NEEDED = {
 
 
 def recipes():
-    """The file of each recipe, by its name."""
+    """The file of each recipe, by name."""
     return {path.stem[len("test_") :]: path for path in sorted(RECIPES.glob("test_*.py"))}
 
 
 def run(installed, folder, names, *words, **environment):
-    """Runs copies of recipes; what pytest wrote."""
+    """Runs copies of recipes; returns the output of pytest."""
     for name in names:
         shutil.copy(recipes()[name], folder)
     done = subprocess.run(
@@ -76,7 +76,7 @@ def test_a_recipe(written, name):
 
 
 def test_virtual_time(installed, tmp_path):
-    """All recipes but those whose programs use the real clock."""
+    """all recipes run, except those whose programs use the real clock"""
     others = ("a_virtual_ecu", "a_go_node")
     there = [name for name in recipes() if name not in others]
     names = [name for name in there if name not in NEEDED or importlib.util.find_spec(NEEDED[name])]
@@ -87,7 +87,7 @@ def test_virtual_time(installed, tmp_path):
 
 @pytest.mark.skipif(not shutil.which("gcc") or not shutil.which("candump"), reason="no gcc or no can-utils")
 def test_the_first_found_fault(installed, tmp_path):
-    """the commands of the recipe, one after the other in a clone"""
+    """the commands of the recipe run, one after the other in a clone"""
     text = DOCUMENT.read_text(encoding="utf-8").partition("## The first found fault\n")[2].partition("\n## ")[0]
     commands = re.findall(r"^ +\$ (.*(?:\n {9,}\S.*)*)", text, re.M)
     (test,) = re.findall(r"^```python\n(.*?)^```$", text, re.M | re.S)

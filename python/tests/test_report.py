@@ -1,4 +1,4 @@
-"""The page of a run: its words, and the data that its script draws."""
+"""The page of a run: its words, and the data for its script."""
 
 import base64
 import json
@@ -19,13 +19,14 @@ NAMES = ("can0", "can1")
 
 
 def record_of(*entries, bus="2 always 0000 10 10000", version=1):
-    """The replay of these entries."""
+    """Returns the replay of these entries."""
     text = "\n".join([f"canbus record {version}", f"bus {bus}", *entries, f"end {len(entries)}", ""])
     return parse_record(text.encode(), names=NAMES).replay
 
 
 def bus_off():
-    """can0's frame is destroyed 32 times, each of which adds 8; it is restarted in the second attempt after that."""
+    """The frame of can0 is destroyed 32 times, which adds 8 each time; can0 restarts in the second attempt after
+    that."""
     return record_of(
         "open 0 256 = socket 0",
         "send 0 123# = number 0",
@@ -45,7 +46,7 @@ def events_in(run):
 
 
 def data_of(text):
-    """The data of a page: its header, and a function that reads a column."""
+    """Returns the data of a page: its header, and a function that reads a column."""
     coded = re.search(r'<script type="text/plain" id="run">([^<]*)</script>', text)[1]
     whole = zlib.decompress(base64.b64decode(coded))
     (size,) = struct.unpack("<I", whole[-4:])
@@ -55,7 +56,7 @@ def data_of(text):
         code, place, length = one[:3]
         numbers = array(code)
         count = length * numbers.itemsize
-        # Its lowest bytes come first.
+        # The lowest byte comes first.
         numbers.frombytes(b"".join(whole[place + k : place + count : length] for k in range(length)))
         for k in range(1, length if one[3:] else 0):
             numbers[k] += numbers[k - 1]
@@ -102,7 +103,8 @@ def test_durations(micros, words):
 
 
 def test_how_long_a_node_was_off():
-    """in time and in attempts of others, from the one in which it went off to the last before it was back"""
+    """the outage is shown in time and in attempts of others, from the attempt that caused bus off to the last one
+    before the return"""
     with Bench("can0,can1", faults=Faults().destroyed(range(32))) as bench:
         can0, can1 = bench.open("can0"), bench.open("can1")
         can0.send(0x123)
@@ -112,7 +114,7 @@ def test_how_long_a_node_was_off():
             can1.send(0x124)
             bench.attempt(at=0.1 + number)
         can0.restart()
-        # A restart has the moment of the attempt before it.
+        # A restart has the time of the attempt before it.
         events = events_of(bench.record().replay, NAMES)
     (back,) = [event.words for event in events if event.kind == "restart"]
     assert back == "can0 is back on the bus, with both counts 0; it was off for 2.1 s, attempts 31 to 34"
@@ -178,13 +180,13 @@ def test_the_rule_of_an_attempt():
     header, column = data_of(page(bus_off(), NAMES, "run.rec", rules=rules))
     faults = [header["verdicts"][place] for place in column(header["steps"]["verdict"])]
     assert faults[:32] == ["global bit, by `next 31 from can0 global bit`"] * 31 + ["global bit"]
-    # A run that was cut off has fewer.
+    # A run that was cut off has fewer steps.
     header, _ = data_of(page(bus_off(), NAMES, "run.rec", rules=rules[:1]))
     assert header["verdicts"][:2] == ["global bit, by `next 31 from can0 global bit`", "global bit"]
 
 
 def rules_on(text):
-    """The rule of each row of a page; the empty text where it has none."""
+    """Returns the rules of the rows on a page; the empty text for a row without a rule."""
     header, column = data_of(text)
     verdicts = [header["verdicts"][place] for place in column(header["steps"]["verdict"])]
     return [verdict.partition(", by ")[2].strip("`") for verdict in verdicts]
@@ -228,7 +230,7 @@ def test_items_say_what_became_of_them():
         "taken",
         "dropped",
     ]
-    # The first was in its queue until after the second step.
+    # The first frame was in its queue until after the second step.
     assert column(header["items"]["end"])[0] == 2
     header, column = data_of(page(run, NAMES, "run.rec", most_items=1))
     assert (column(header["items"]["step"]), header["itemsInAll"]) == ([0], 2)
@@ -242,7 +244,7 @@ def test_no_title_ends_the_data():
 
 
 def luminance(colour):
-    """The relative luminance of a colour, as WCAG 2 defines it."""
+    """Returns the relative luminance of a colour, by the definition of WCAG 2."""
     digits = "".join(2 * digit for digit in colour[1:]) if len(colour) == 4 else colour[1:]
     parts = [int(digits[k : k + 2], 16) / 255 for k in (0, 2, 4)]
     red, green, blue = [part / 12.92 if part <= 0.03928 else ((part + 0.055) / 1.055) ** 2.4 for part in parts]

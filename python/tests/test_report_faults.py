@@ -1,4 +1,4 @@
-"""The faults of `canbusd report`: those beside the record, and those that are named."""
+"""The faults for `canbusd report`: faults next to the record, and named files."""
 
 import argparse
 import contextlib
@@ -13,7 +13,7 @@ from forked import forked
 from test_report import data_of, rules_on
 
 RULE = "next 1 from a lastbit"
-# A fault of a file, and the program's words for it.
+# A file with an error, and the program's words for the error.
 WRONG = [
     (b"next 1 globul bit\n", "script line 1: bad line: `next 1 globul bit`; after next N"),
     (b"# a comment\n5 globul bit\n", "script line 2: bad line: `5 globul bit`; "),
@@ -26,8 +26,8 @@ WRONG = [
 
 @pytest.fixture
 def reported(tmp_path):
-    """Makes a page of a run in which a rule gave a's first frame a fault in the last bit; b and c never send, so the log does not
-    say how they are called. Returns the status, the page, and what the command says."""
+    """Makes the page of a run in which a rule gave a's first frame a fault in the last bit. b and c never send, so the
+    log does not have their names. Returns the status, the page, and the command's messages."""
 
     def reported(*words, names="a,b", **more):
         if not (tmp_path / "a.log").exists():
@@ -35,7 +35,7 @@ def reported(tmp_path):
                 bench.open("a").send(0x123)
                 assert [bench.attempt().outcome for _ in range(2)] == ["lastbit", "done"]
         status, page, said = forked("report", *words, cwd=tmp_path, **more)
-        # The line about interfaces without names is not of the fault.
+        # The line about interfaces without names is not about the faults.
         return status, page, "".join(line for line in said.splitlines(True) if ": no log names " not in line)
 
     return reported
@@ -43,7 +43,7 @@ def reported(tmp_path):
 
 @pytest.fixture
 def ruled(reported):
-    """Makes the same page; returns the rules of the attempts, and what the command says."""
+    """Makes the same page; returns the rules of the attempts, and the command's messages."""
 
     def ruled(*words, **more):
         status, page, said = reported(*words, **more)
@@ -59,7 +59,7 @@ def test_the_rule_where_not_all_names_are_known(ruled, tmp_path):
 
 
 def test_the_faults_beside_a_record(ruled, tmp_path):
-    """those that a server leaves, with rules that came while it ran"""
+    """the page has the rules that a server leaves, and those that came while it ran"""
     assert ruled("a.rec") == (["", ""], "")
     (tmp_path / "a.rec.faults").write_text(f"5 good\nat 0 {RULE}\nat 1 always good\n")
     assert ruled("a.rec") == ([RULE, "always good"], "")
@@ -68,7 +68,7 @@ def test_the_faults_beside_a_record(ruled, tmp_path):
 
 
 def test_the_faults_beside_a_record_that_is_cut_off(ruled, tmp_path):
-    """of a run that goes on, or was killed; their last line may be torn"""
+    """the run continues, or was killed; the last line of its faults may be partial"""
     assert ruled("a.rec") == (["", ""], "")
     text = (tmp_path / "a.rec").read_text()
     (tmp_path / "a.rec.new").write_text(text.rpartition("end ")[0])
@@ -82,14 +82,15 @@ def test_the_faults_beside_a_record_that_is_cut_off(ruled, tmp_path):
 
 @pytest.mark.parametrize("name", ["my.new", "my.cut", "my"])
 def test_a_script_without_a_last_line_feed(ruled, tmp_path, name):
-    """is whole, whatever it is called"""
+    """a script without a last newline is complete, whatever its name is"""
     (tmp_path / name).write_text(RULE)
     assert ruled("--faults", name, "a.rec") == ([RULE, ""], "")
 
 
 @pytest.mark.parametrize("text, fault", WRONG)
 def test_faults_that_are_wrong(reported, tmp_path, text, fault):
-    """the page is made without rules, unless they were asked for: the program's words, after the name of the file"""
+    """the page is made without rules, unless the user asked for them: the error then has the file's name and the
+    program's words"""
     assert reported("a.rec")[0] == 0
     (tmp_path / "a.rec.faults").write_bytes(text)
     status, page, said = reported("a.rec")
@@ -116,7 +117,7 @@ def test_faults_that_can_not_be_opened(tmp_path, monkeypatch, capsys):
 
 @contextlib.contextmanager
 def piped(text):
-    """The end of a pipe from which this is read."""
+    """The end of a pipe that has this text."""
     reads, writes = os.pipe()
     os.write(writes, text.encode())
     os.close(writes)
@@ -125,7 +126,7 @@ def piped(text):
 
 
 def test_faults_by_a_pipe(ruled, tmp_path):
-    """they are read once, and standard input is theirs"""
+    """faults from a pipe are read once, and come before standard input"""
     script = f"{RULE}\n"
     with piped(script) as pipe:
         assert ruled("--faults", "/dev/stdin", "a.rec", stdin=pipe) == ([RULE, ""], "")
@@ -145,14 +146,14 @@ def test_a_bare_cr_begins_no_rule(ruled, tmp_path):
 
 
 def test_the_one_interface_without_a_name(reported, tmp_path):
-    """has the name that the faults have besides the others"""
+    """the interface gets the additional name in the faults"""
     assert reported("a.rec")[0] == 0
     rule = "next 1 from a,b lastbit"
     (tmp_path / "a.rec.faults").write_text(f"# from c\n5 local crc b\n{rule}\nat 1 always id 7DF local crc a,b\n")
     status, page, said = reported("a.rec")
     assert (status, rules_on(page), said) == (0, [rule, ""], "")
     assert data_of(page)[0]["names"] == ["a", "b"]
-    # Beside another run, which may have no faults, both have the same.
+    # In a comparison with another run, which may have no faults, both have the same names.
     _, page, said = reported("a.rec", "a.rec")
     header, _ = data_of(page)
     assert (rules_on(page), header["names"], said) == ([rule, ""], ["a", "interface 1"], "")
@@ -161,7 +162,8 @@ def test_the_one_interface_without_a_name(reported, tmp_path):
 
 @pytest.mark.parametrize("names, rule", [("a,b,c", "always from a,b lastbit"), ("a,b", "always from b,c lastbit")])
 def test_interfaces_whose_names_are_not_known(reported, ruled, tmp_path, names, rule):
-    """two without a name, or two names for one: the page is made without rules, unless the faults were asked for"""
+    """two interfaces without a name, or two names for one: the page is made without rules, unless the user asked for
+    the faults"""
     assert reported("a.rec", names=names)[0] == 0
     (tmp_path / "a.rec.faults").write_text(f"{RULE}\n{rule}\n")
     nameless = ",".join(["a", "interface-1", "interface-2"][: names.count(",") + 1])
@@ -171,14 +173,14 @@ def test_interfaces_whose_names_are_not_known(reported, ruled, tmp_path, names, 
     if names == "a,b,c":
         assert ruled("--names", names, "a.rec") == ([RULE, ""], "")
         return
-    # Here --names does not help, and is not named.
+    # --names does not help here, and the message does not mention the option.
     _, said = ruled("--names", names, "a.rec")
     assert said.endswith(f"`{rule}`; c is none of a,b\n")
 
 
 @pytest.mark.parametrize("words", [[], ["--faults", "a.rec.faults.new"]])
 def test_a_server_that_ends_while_its_page_is_made(ruled, tmp_path, monkeypatch, capsys, words):
-    """it gives the record and its faults their names"""
+    """the server then renames the record and its faults"""
     assert ruled("a.rec") == (["", ""], "")
     monkeypatch.chdir(tmp_path)
     (tmp_path / "a.rec.faults").write_text("of another run\n")

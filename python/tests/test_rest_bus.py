@@ -1,4 +1,5 @@
-"""The rest bus: what the other nodes of rest.dbc send, with bytes worked out by hand, on a bench and by a server."""
+"""The rest bus: the frames of the other nodes in rest.dbc, with bytes worked out by hand, on a bench and by a
+server."""
 
 import gc
 import signal
@@ -28,18 +29,18 @@ DATA, STATUS, PAGE, EVENT = 0x100, 0x200, 0x300, 0x400
 
 @pytest.fixture
 def bench():
-    """A bench on which the engine and the gateway have an interface each, at 500 kbit/s."""
+    """A bench at 500 kbit/s, with interfaces for the engine and the gateway."""
     with Bench("engine,gateway,ecu", bitrate=500_000) as running:
         yield running
 
 
 def rest_of(bench, **more):
-    """Its rest bus."""
+    """Returns the rest bus of a bench."""
     return bench.rest_bus(REST, without=["ECU"], nodes={"Engine": "engine", "Gateway": "gateway"}, **more)
 
 
 def sent(session, identifier):
-    """The data of the frames with this identifier that a session has received."""
+    """Returns the data of the frames with this identifier that a session has received."""
     return [frame.data.hex() for frame in session.receive() if frame.arbitration_id == identifier]
 
 
@@ -51,7 +52,7 @@ def test_each_message_at_its_cycle_time(bench):
     counts = {identifier: 0 for identifier in (DATA, STATUS, PAGE)}
     for frame in frames:
         counts[frame.arbitration_id] += 1
-    # 10, 100 and 20 ms; the second begins after 35 ms.
+    # The cycle times are 10, 100 and 20 ms; the second message begins after 35 ms.
     assert counts == {DATA: 100, STATUS: 10, PAGE: 50}
     assert {attempt.outcome for attempt in attempts} == {"done"}
     assert {(attempt.winner, attempt.frame[:3]) for attempt in attempts} == {
@@ -76,7 +77,7 @@ def test_the_start_delay_of_the_file(bench):
     ecu = bench.open("ecu", [{"can_id": STATUS, "can_mask": 0x7FF}])
     with rest_of(bench) as rest:
         rest.run(until=0.1)
-    # It begins at 35 ms, and ends after the 62 bits and at most 12 stuff bits that 2 bytes have, of 2 us each.
+    # The frame begins at 35 ms, and ends after 62 bits and at most 12 stuff bits for 2 bytes, of 2 us each.
     [frame] = ecu.receive()
     assert 0.035 + 62 * 2e-6 - 10e-6 <= frame.timestamp <= 0.035 + 74 * 2e-6
 
@@ -126,7 +127,7 @@ def test_values_that_are_none(bench, node, name, value, said):
 def test_multiplexed_signals(bench):
     ecu = bench.open("ecu")
     rest = rest_of(bench)
-    # Each is there where the multiplexer says so.
+    # Each signal is present if the multiplexer selects it.
     rest["Gateway"]["Left"], rest["Gateway"]["Right"] = -1, 10
 
     def turn(message):
@@ -152,7 +153,7 @@ def test_counters_and_checksums(bench):
         rest.run(until=0.18)
         # 80 + 0C is 8C.
         assert sent(ecu, DATA) == [f"800c00000000{0x8C:02x}{count % 16:02x}" for count in range(18)]
-        # The value that the function sets is in its frame only.
+        # The value that the function sets is only in its frame.
         assert rest["Engine"]["EngineData.Counter"] == 0
         rest.on_send("EngineData", None)
         rest.run(until=0.19)
@@ -203,7 +204,7 @@ def test_an_event(bench):
     ecu = bench.open("ecu")
     with rest_of(bench) as rest:
         rest.run(until=0.2)
-        # It has a cycle time, but its send type says that it goes by an event.
+        # The message has a cycle time, but its send type marks it as sent by an event.
         assert sent(ecu, EVENT) == []
         rest.send("GatewayEvent", {"Key": 7})
         rest.send("GatewayEvent")
@@ -221,7 +222,7 @@ def test_a_table_over_time(bench):
         rest.run(until=0.08)
         with pytest.raises(DatabaseError, match="^EngineData.EngineSpeed is a number, not 'fast'$"):
             rest["Engine"].play("EngineSpeed", [(0, 1), (1, "fast")])
-    # 1000, 2000, 0 and 16 rpm times 4, lowest byte first; a new table ends the one before it.
+    # The values 1000, 2000, 0 and 16 rpm times 4, lowest byte first; a new table ends the one before.
     speeds = [data[:4] for data in sent(ecu, DATA)]
     assert speeds == ["a00f", "a00f", "401f", "401f", "0000", "0000", "0000", "4000"]
 
@@ -245,7 +246,7 @@ def test_what_a_bench_refuses_is_counted():
         with bench.rest_bus(REST, without="ECU", interface="can0") as rest:
             rest.run(until=0.2)
             counts = rest.counts()
-            # After bus off nothing is accepted any more.
+            # After bus off no frame is accepted any more.
             assert counts.refused > 20 and counts.accepted + counts.refused == 20 + 2 + 10
             with pytest.raises(Refused, match="^bus off$"):
                 rest.send("GatewayEvent")
@@ -285,12 +286,12 @@ def test_a_log_as_input(bench, tmp_path):
         (tmp_path / "other.log").write_text("(100.001000) a 123#0000\n")
         with pytest.raises(ValueError, match="other.log: no frame of it is one of the rest bus$"):
             rest.replay(tmp_path / "other.log")
-    # Not that of the ECU, nor what nobody sends.
+    # The replay omits frames of the ECU, and frames without a sender.
     assert [text for text, _ in frames] == ["100#0102030405060708", "300#000000", "100#0807060504030201"]
     assert frames[2][1] - frames[0][1] == pytest.approx(0.05, abs=30e-6)
 
 
-# By a server, in real time: the machine may be busy, so what is said of moments here is little.
+# Tests by a server in real time: the machine may be busy, so these tests check times only loosely.
 
 
 @pytest.fixture
@@ -301,7 +302,7 @@ def car():
 
 
 def live(server, **more):
-    """Its rest bus."""
+    """The rest bus of a server."""
     return server.rest_bus(REST, without=["ECU"], nodes={"Engine": "engine", "Gateway": "gateway"}, **more)
 
 
@@ -316,7 +317,7 @@ def test_a_server(car):
         car.expect(id=EVENT, data=b"\x09", within=WAIT)
         rest.stop()
         accepted = rest.counts().accepted
-    # The log has each frame that was accepted, from the interface of its sender.
+    # The log has each accepted frame, from the interface of its sender.
     log = car.log()
     assert len(log) == accepted == rest.counts().accepted
     assert {(message.channel, message.arbitration_id) for message in log} == {
@@ -344,7 +345,7 @@ def test_its_periods_do_not_drift(car):
         car.wait_for(lambda: sum(rest.counts("EngineData")[::2]) >= 50, timeout=WAIT)
         rest.stop()
         log = [message.timestamp for message in car.log() if message.arbitration_id == DATA]
-    # Whenever the machine was busy, each frame is after its own moment, and none takes the place of a later one.
+    # Even on a busy machine each frame comes after its due time, and none replaces a later one.
     assert len(log) >= 2 and log[0] == first
     cycles = [round((moment - log[0]) / 0.01 - 0.25) for moment in log]
     assert all(later >= earlier for earlier, later in zip(cycles, cycles[1:]))
@@ -409,7 +410,7 @@ def test_a_counter_counts_the_frames_that_were_sent(bench):
     with rest_of(bench) as rest:
         rest.on_send("EngineData", count)
         rest.run(until=0.03)
-        # Its next 32 attempts take the engine off: what it sends then is refused.
+        # The next 32 attempts make the engine bus off: its later frames are refused.
         bench.inject(Faults().next(32, sender="engine").destroyed())
         rest.run(until=0.1)
         assert engine.status().state == "off" and rest.counts("EngineData").refused > 3
@@ -420,7 +421,7 @@ def test_a_counter_counts_the_frames_that_were_sent(bench):
         assert counted[-1] == counts.accepted - 1 < len(counted) - 1
     counters = [int(data[14:], 16) for data in sent(ecu, DATA)]
     accepted = [number % 16 for number in range(counts.accepted)]
-    # Only what bus off took from the queue is missing.
+    # Only the frames that bus off took from the queue are missing.
     assert 1 <= len(accepted) - len(counters) <= lost and set(counters) < set(accepted)
     assert counters[-4:] == accepted[-4:]
 
@@ -443,7 +444,7 @@ def test_threads_set_values(car):
 
 
 def command(server, *words):
-    """The command, on this server."""
+    """Runs the command on this server."""
     return [sys.executable, "-m", "canbusd", "restbus", *map(str, words), "--address", server.address]
 
 
@@ -466,7 +467,7 @@ def test_the_command(car):
     finally:
         child.send_signal(signal.SIGINT)
         written, said = child.communicate(timeout=5 * WAIT)
-    # Their number depends on the machine.
+    # The number of frames depends on the machine.
     assert child.returncode == 0 and said.startswith("canbusd restbus: ") and said.endswith(" skipped\n")
     lines = written.splitlines()
     assert lines[0] == "engine     EngineData 100 [8] from Engine, every 10 ms, NoMsgSendType"
@@ -512,7 +513,7 @@ def test_what_the_files_say(car):
     assert (done.returncode, done.stdout) == (0, f"{load_database(REST)}\n")
 
 
-# Messages and the times at which they are due.
+# Messages, and the times when they are due.
 
 
 def test_a_schedule():
@@ -531,7 +532,7 @@ def test_phases_keep_messages_apart():
     found = phases(cycles)
     assert all(0 <= phase < cycle for phase, cycle in zip(found, cycles))
     moments = sorted(due for phase, cycle in zip(found, cycles) for due in range(phase, 2_000_000, cycle))
-    # Of 2,620 frames a second, 2.6 of which are due in a millisecond on average, no more than 6 are in any.
+    # There are 2,620 frames a second, 2.6 in a millisecond on average, and never more than 6 in a millisecond.
     assert (
         max(
             sum(first <= due < first + 1000 for due in moments[place : place + 20])
@@ -549,7 +550,7 @@ def test_threads_take_turns_sooner_beside_a_rest_bus(car):
     before, frozen = sys.getswitchinterval(), gc.get_freeze_count()
     with live(car), live(car):
         if is_virtual():
-            # There nothing is late.
+            # In virtual time no frame is late.
             assert (sys.getswitchinterval(), gc.get_freeze_count()) == (pytest.approx(before), frozen)
         else:
             assert sys.getswitchinterval() == pytest.approx(INTERVAL) and gc.get_freeze_count() > frozen

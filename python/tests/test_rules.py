@@ -1,4 +1,5 @@
-"""Rules of faults: their grammar, and how many are left. What they give is tried in tests/bench/test_fault_rules.py of the clone."""
+"""Fault rules: their grammar, and the number of remaining rules. tests/bench/test_fault_rules.py of the repository
+tests their verdicts."""
 
 import pytest
 

@@ -1,4 +1,4 @@
-"""Server: how it starts and ends, and what it leaves."""
+"""Server: its start, its end, and the files that it leaves."""
 
 import errno
 import fcntl
@@ -46,7 +46,7 @@ def test_what_a_server_leaves(tmp_path):
     assert (result.status, list(result.entries)) == (0, ["can0", "car0"])
     left = {"can0.log", "can0.rec", "can0.rec.faults", "car0.log", "car0.rec"}
     assert {path.name for path in tmp_path.iterdir()} == left
-    # A fault in the last bit: the receiver has the frame already when it is sent again.
+    # After a fault in the last bit, the receiver already has the frame when it is sent again.
     assert [(one.channel, one.arbitration_id) for one in server.log("can1")] == [("can0", 0x123)] * 2
     assert [attempt.outcome for attempt in server.record("can0").attempts] == ["lastbit", "done"]
     assert [(one.channel, bytes(one.data)) for one in server.log("car0")] == [("car1", b"\x11\x22")]
@@ -255,7 +255,8 @@ def test_the_bit_rates_reach_the_program(caplog):
 
 
 def test_each_bus_has_bit_rates_of_its_own():
-    """By any of its interfaces, and the others by None; a bus that no number is for has none."""
+    """a rate is given by any interface of a bus, and for all other buses by None; a bus without a number has no bit
+    rate"""
     frame, frames = message(1, b"\x55" * 4), 3
     rates = {"bitrate": {"body1": 5_000, "can0": 50_000}, "data_bitrate": {"can0": 500_000}}
     with Server("can0,can1", "body0,body1", "lin0,lin1", **rates) as server:
@@ -288,7 +289,7 @@ def test_a_number_for_all_others():
 
 
 def test_the_load_of_a_bus():
-    """A full bus is busy all the time, and an idle one never; each frame counts with the bits that follow it."""
+    """a full bus is always busy, and an idle bus never; each frame counts with the bits that follow it"""
     frame, size = message(1, bytes(8)), 500
     with Server("can0,can1", "car0", bitrate=50_000, txqueue=size) as server:
         with server.bus("can0") as can0, server.bus("can1", can_filters=NO_FRAMES) as can1, server.bus("car0") as car0:
@@ -326,7 +327,7 @@ def test_what_a_server_says_of_a_full_record():
 
 
 class UntilFull:
-    """A clock for deadlines that goes on only once the record of a server is full."""
+    """A clock for deadlines that stops until the record of a server is full."""
 
     sleep = staticmethod(time.sleep)
 
@@ -339,7 +340,7 @@ class UntilFull:
 
 @pytest.mark.parametrize("sends", ["one", "many"])
 def test_a_record_that_fills_while_a_send_waits(monkeypatch, sends):
-    """Without an acknowledgement no frame leaves the queue, and each attempt is an entry: the counts stay as they are."""
+    """without an acknowledgement no frame leaves the queue, and each attempt is an entry: the counts stay unchanged"""
     with Server("can0", ack="peers", limit=300, txqueue=2, observe=()) as server, server.bus("can0") as can0:
         clock = UntilFull(server)
         monkeypatch.setattr("canbusd._session.raw_session.time", clock)
@@ -353,7 +354,7 @@ def test_a_record_that_fills_while_a_send_waits(monkeypatch, sends):
 
 
 def test_what_is_expected_where_the_record_is_full():
-    """Nothing is sent there any more: what does not come then does not count."""
+    """no frame is sent there any more, so a missing frame does not count"""
     with Server("can0,can1", limit=60) as server, server.bus("can0") as can0:
         with pytest.raises(can.CanOperationError, match="^record full"):
             for _ in range(60):
@@ -367,7 +368,7 @@ def test_what_is_expected_where_the_record_is_full():
             lambda: server.expect_no_frame(2, within=0),
             lambda: server.expect_no_change(1, within=0),
         ):
-            # A session may have been told so, too, and then ended.
+            # A session may also have got this message, and then ended.
             with pytest.raises((AssertionError, can.CanError), match=cure):
                 call()
 
@@ -395,7 +396,7 @@ def test_a_server_that_is_killed_leaves_nothing(tmp_path):
 
 
 def test_a_lock_file_that_is_let_go_a_moment_later(tmp_path, monkeypatch):
-    """is removed: a launcher may end before its server, by the same signal"""
+    """the file is removed: a launcher may end before its server, by the same signal"""
     monkeypatch.setattr(lock_file, "CLOSING", WAIT)
     file = (tmp_path / lock_file.NAME).open("wb")
     fcntl.flock(file, fcntl.LOCK_EX)
@@ -406,7 +407,7 @@ def test_a_lock_file_that_is_let_go_a_moment_later(tmp_path, monkeypatch):
 
 
 def test_the_lock_file_of_another_server(tmp_path):
-    """stays, as does a link and a file with something in it"""
+    """the file stays, and so does a link and a non-empty file"""
     lock = tmp_path / lock_file.NAME
     with Server("can0", out=tmp_path):
         with pytest.raises(ServerError, match="another server writes to it"):
@@ -446,7 +447,7 @@ def test_files_and_processes_are_gone_in_the_end():
 @pytest.mark.parametrize("how", ["os.kill(os.getpid(), 9)", "raise KeyboardInterrupt"])
 @pytest.mark.parametrize("observe, entries", [((), 0), (None, 8)])
 def test_the_end_of_its_process_ends_a_server(tmp_path, how, observe, entries):
-    """Each of the two sessions that observe its interfaces is opened, has two options, and is closed."""
+    """each of the two sessions on its interfaces is opened, gets two options, and is closed"""
     (tmp_path / "out").mkdir()
     program = f"""
 import os
@@ -457,7 +458,7 @@ server = Server("can0,can1", out={str(tmp_path / 'out')!r}, observe={observe!r})
     package = str(Path(canbusd.__file__).parents[1])
     environment = {**os.environ, "PYTHONPATH": package, "TMPDIR": str(tmp_path)}
     subprocess.run([sys.executable, "-c", program], env=environment, capture_output=True, timeout=WAIT, check=False)
-    # It ends by itself, with log and record.
+    # The server ends by itself, with log and record.
     record = tmp_path / "out" / "can0.rec"
     for _ in range(WAIT * 100):
         if record.exists() and record.read_text().endswith(f"end {entries}\n"):
@@ -492,7 +493,7 @@ FORKED = {
 }
 
 
-# A bench has no `kill` and no buses of its own.
+# A bench has no `kill` and no separate buses.
 OF_A_SERVER = ("it kills it", "it drops a bus")
 
 
@@ -555,7 +556,7 @@ def test_a_server_that_many_threads_stop(server):
 
 @pytest.fixture
 def launcher(tmp_path):
-    """The program as it is installed: a script in bin/, which starts servers and Python's commands by others."""
+    """The installed program: a script in bin/, which starts servers, and Python's commands, with other programs."""
     place = tmp_path / "libexec" / "canbusd"
     place.mkdir(parents=True)
     (tmp_path / "bin").mkdir()
@@ -588,7 +589,7 @@ def test_the_launcher(launcher, monkeypatch, found_by):
         states = subprocess.run(
             ["ps", "-o", "stat=", "-s", str(group)], capture_output=True, text=True, check=False
         ).stdout
-        # Nobody may be there to bury them.
+        # No process may be left to wait for them.
         if all(state.startswith("Z") for state in states.split()):
             break
         time.sleep(0.01)
@@ -597,14 +598,14 @@ def test_the_launcher(launcher, monkeypatch, found_by):
 
 
 def test_programs_with_can_sockets(server, pair):
-    """unchanged programs: by run, by environment, and their faults"""
+    """unchanged programs work: by run, by environment, and with their faults"""
     can0, can1 = pair
     send = "import socket, struct; s = socket.socket(29, 3, 1); s.bind(('can0',)); s.send(struct.pack('=IB3x8s', 0x123, 1, b'a'))"
     done = server.run([sys.executable, "-c", send], check=True, capture_output=True, text=True)
     assert (done.returncode, done.stdout, done.stderr) == (0, "", "")
     subprocess.run([sys.executable, "-c", send], env=server.environment(), check=True)
     assert [can1.recv(WAIT).arbitration_id for _ in range(2)] == [0x123] * 2
-    assert can0.recv(WAIT).data == b"a"  # By loopback.
+    assert can0.recv(WAIT).data == b"a"  # The frame comes by loopback.
     assert server.run(["sh", "-c", "exit 3"], wait=True).returncode == 3
     wrong = server.run([sys.executable, "-c", send.replace("can0", "can5")], capture_output=True, text=True)
     assert wrong.returncode == 1 and "No such device" in wrong.stderr

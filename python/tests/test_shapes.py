@@ -1,4 +1,4 @@
-"""Shapes of signals: their values by their definitions, on a bench at exact moments, and expected of a server."""
+"""Shapes of signals: their values by definition, on a bench at exact times, and in expectations of a server."""
 
 import math
 
@@ -27,13 +27,13 @@ BA_DEF_DEF_ "GenMsgCycleTime" 10;
 
 @pytest.fixture
 def dbc(tmp_path):
-    """The file."""
+    """Writes the file."""
     (tmp_path / "car.dbc").write_text(DBC)
     return tmp_path / "car.dbc"
 
 
 def played(dbc, signal, *shape, until=0.1):
-    """The values of a signal that a bench sends each 10 milliseconds, of which the first is 6 milliseconds after the start."""
+    """Returns the values of a signal that a bench sends every 10 milliseconds, first 6 milliseconds after the start."""
     database = load_database(dbc)
     with Bench("engine,ecu", bitrate=500_000) as bench:
         ecu = bench.open("ecu")
@@ -44,7 +44,7 @@ def played(dbc, signal, *shape, until=0.1):
             return [database.decode(frame).value(signal) for frame in ecu.receive()]
 
 
-#: The moments of the frames, in seconds.
+#: The times of the frames, in seconds.
 MOMENTS = [0.006 + 0.01 * number for number in range(10)]
 
 
@@ -63,7 +63,7 @@ def test_a_sine(dbc):
 
 def test_a_square(dbc):
     found = played(dbc, "Temperature", shapes.square(20, 90, period=0.04, duty=0.25))
-    # Low for 10 of 40 milliseconds.
+    # The signal is low for 10 of 40 milliseconds.
     assert found == [20, 90, 90, 90, 20, 90, 90, 90, 20, 90][: len(found)] and len(found) >= 9
 
 
@@ -103,7 +103,7 @@ def test_limits_of_the_database(dbc):
     for shape in (shapes.ramp(0, 160), shapes.sine(-41, 0), shapes.table([(0, 0), (1, 151)])):
         with pytest.raises(DatabaseError, match="Temperature is from -40 to 150, not "):
             played(dbc, "Temperature", shape)
-    # 16 bits with a sign, where the file has no limits.
+    # The file has no limits, so 16 bits with a sign apply.
     assert played(dbc, "Free", shapes.square(period=0.04))[:3] == [-32768, -32768, 32767]
 
 
@@ -122,7 +122,7 @@ def test_what_comes_last_counts(dbc):
 def test_what_a_server_expects(dbc):
     with Server("engine,ecu", bitrate=500_000, database=dbc) as server:
         with server.rest_bus(dbc, interface="engine") as rest:
-            # A busy machine has frames be late; on a bench their moments are exact.
+            # On a busy machine frames are late; on a bench their times are exact.
             ramp = shapes.ramp(800, 3200, seconds=1)
             rest["Engine"].play("EngineSpeed", ramp)
             values = server.expect_signal("EngineSpeed", shape=ramp, late=0.5, within=WAIT)

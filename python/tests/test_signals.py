@@ -1,4 +1,4 @@
-"""Signals by their names: what a DBC says of a frame, worked out by hand, by each library and in each format."""
+"""Signals by name: the content of frames by a DBC file, worked out by hand, with each library and in each format."""
 
 import subprocess
 import sys
@@ -22,19 +22,19 @@ DRIVES = "123#B5043C03FFEC0000"
 
 @pytest.fixture(params=LIBRARIES)
 def library(request):
-    """Each library that is installed."""
+    """Each installed library."""
     pytest.importorskip(request.param, reason=LIBRARIES[request.param])
     return request.param
 
 
 @pytest.fixture
 def car(library):
-    """The file."""
+    """The messages of the file."""
     return load_database(CAR, library=library)
 
 
 def decoded(database, text):
-    """What a frame says."""
+    """Returns the decoded frame."""
     found = database.decode(Frame.parse(text))
     return None if found is None else str(found)
 
@@ -50,7 +50,7 @@ def test_what_a_frame_says(car):
     )
     assert [type(signal.value) for signal in found.signals] == [float, int, str, int]
     assert str(found) == "Engine: speed=120.5 km/h, temperature=20 degC, gear=Drive, torque=-10 Nm"
-    # A number without a name.
+    # The number has no name.
     assert decoded(car, "123#0000000600000000").endswith("gear=6, torque=0 Nm")
 
 
@@ -80,7 +80,7 @@ def test_frames_that_the_file_does_not_know(car):
 def test_the_frame_of_signals(car):
     values = {"speed": "120.5", "temperature": 20, "gear": "Drive", "torque": -10.0}
     assert str(car.encode("Engine", values)) == DRIVES
-    # A signal that is not given has its initial value, 65 for temperature.
+    # A missing signal has its initial value, 65 for temperature.
     assert str(car.encode("Engine", {"gear": 1})) == "123#0000410100000000"
     assert str(car.encode("Pages", {"page": 1, "right": "10"})) == "200#0105"
     assert str(car.encode("Request", {"service": "0x22"})) == "18DAF110#220000"
@@ -107,7 +107,7 @@ def test_a_value_out_of_range(car):
         car.encode("Engine", {"temperature": 216})
 
 
-# As canmatrix converts the file; in its ARXML messages have other names, and units and signs are lost.
+# The file is converted by canmatrix; in its ARXML messages have other names, and units and signs are lost.
 @pytest.mark.parametrize(
     "ending, line",
     [

@@ -1,4 +1,4 @@
-"""Steps of a test, in a JUnit file, on the terminal, and for plugins of pytest that make reports."""
+"""Steps of a test, in a JUnit file, on the terminal, and for report plugins of pytest."""
 
 import re
 from xml.etree import ElementTree
@@ -37,7 +37,7 @@ TESTS = """
 
 
 def shown(lines):
-    """Lines without their seconds."""
+    """Returns lines without their seconds."""
     return [re.sub(r"^ *[0-9.]+ s  ", "", line) for line in lines]
 
 
@@ -62,7 +62,7 @@ def test_reports(run, pytester):
     )
 
 
-#: A plugin that keeps what those of pytest-html and allure-pytest are given, by the names of their documentation.
+#: A plugin that notes the data for pytest-html and allure-pytest, by the names in their documentation.
 STAND_INS = """
 import contextlib, sys, types
 
@@ -113,7 +113,7 @@ def test_plugins_that_make_reports(run, pytester):
     assert given[:3] == ["allure step asks", "allure text canbusd", "allure html can0.html"]
     assert re.fullmatch(r"html steps +[0-9.]+ s  asks: failed, AssertionError", given[3])
     assert given[4] == "html canbusd 2 nodes, 0 attempts: no frame was tried"
-    # The page is linked from the folder of the report.
+    # The link to the page is relative to the folder of the report.
     assert re.fullmatch(r"html page kept/.*/can0\.html", given[5]) and (pytester.path / given[5].split()[2]).exists()
     assert len(given) == 6
 

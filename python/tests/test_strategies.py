@@ -1,4 +1,5 @@
-"""Strategies of Hypothesis: what they make can be sent and is taken by the program, and shrinks to what is simple."""
+"""Strategies of Hypothesis: their frames can be sent, the program accepts their plans, and examples shrink to simple
+ones."""
 
 import pytest
 

@@ -1,6 +1,6 @@
-"""Time on the wire: when attempts begin and are over, the bus load, and the columns of a page.
+"""Time on the wire: the begin and the end of attempts, the bus load, and the columns of a page.
 
-How many bits frames and attempts have is the program's: tests/record/test_audit_wire.py of the clone compares these.
+The program computes the numbers of bits: tests/record/test_audit_wire.py of the repository checks these.
 """
 
 import json
@@ -40,7 +40,8 @@ def test_rates_at_the_limits():
 
 
 def run_of(*tried):
-    """The record of frames, each of which its interface sends before its attempt: (interface, frame, microseconds)."""
+    """Returns the record of frames, each of which its interface sends before its attempt: (interface, frame,
+    microseconds)."""
     entries = [f"open {iface} 1 = socket {iface}" for iface in range(3)]
     numbers = [0, 0, 0]
     for iface, text, micros in tried:
@@ -57,7 +58,7 @@ def replay_of(*tried, rates=SLOW):
 
 
 def run_of_three_messages():
-    """The same run with each frame sent when it is queued, so that others take part in the arbitration that they lose."""
+    """Returns the same run with each frame sent when it is queued, so that other frames lose arbitration to it."""
     entries = [f"open {iface} 1 = socket {iface}" for iface in range(3)]
     numbers = {A: 0, B: 0, C: 0}
 
@@ -100,7 +101,7 @@ def test_attempts_that_begin_too_early():
 
 
 def on_a_bench(maker, rates, frames):
-    """The moments of frames, some of which begin at once: by fractions of a microsecond that are rounded up and down."""
+    """Returns the times of frames, some of which begin at once: fractions of a microsecond are rounded up and down."""
     free, tried = 0, []
     for number, frame in enumerate(frames):
         begin = max(free, 1000 * maker.choice([0, 0, free // 1000 + maker.randrange(200)]))
@@ -119,13 +120,13 @@ def test_rounding_does_not_add_up(seed, rates):
     tried = on_a_bench(maker, rates, frames)
     slots = slots_of(replay_of(*tried, rates=rates))
     assert [slot.overlap for slot in slots] == [0] * len(frames)
-    # A bit more for each frame does add up.
+    # An additional bit for each frame does add up.
     slower = Rates(rates.bitrate - rates.bitrate // 200, rates.dbitrate)
     assert any(slot.overlap for slot in slots_of(replay_of(*tried, rates=slower)))
 
 
 def test_restarts_take_no_time():
-    # Its attempts are a microsecond apart.
+    # The attempts are a microsecond apart.
     slots = slots_of(timed(bus_off(), SLOW))
     assert len(slots) == 32
     assert all(slot.overlap for slot in slots[1:])
@@ -215,7 +216,7 @@ def test_the_columns_of_a_page():
 
 @pytest.fixture
 def audits(monkeypatch):
-    """What was asked of the program: whether a record may be cut off, and with which bit rates it is read."""
+    """Returns the requests to the program: whether a record may be cut off, and the bit rates for reading it."""
     asked = []
 
     def events(cut, rates):
@@ -247,7 +248,7 @@ def test_the_columns_of_a_run_with_bus_off():
     header, column = data_of(page(bus_off(), NAMES, "run.rec", rates=SWITCHING))
     wire = header["wire"]
     assert wire["dbitrate"] == 2000000
-    # Then idle attempts and a restart: they take no time, and nothing begins before what is before it.
+    # Then come idle attempts and a restart: they take no time, and none begins before the end of the one before.
     assert column(wire["busy"])[32:] == column(wire["frame"])[32:] == [0, 0]
     begins = column(wire["begin"])
     assert begins[:32] == [1000 * attempt for attempt in range(32)] and begins[32:] == [begins[32]] * 2

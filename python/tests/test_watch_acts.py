@@ -1,4 +1,5 @@
-"""The acts of the page of canbusd watch: their requests, the users and sites that may ask, and the page in a browser."""
+"""The actions on the page of canbusd watch: their requests, the users and sites that may send them, and the page in a
+browser."""
 
 import contextlib
 import http.client
@@ -25,7 +26,7 @@ from canbusd.signals import load_database
 
 DBC = Path(__file__).with_name("car.dbc")
 ACTS = ("send", "cycle", "stop", "rule", "end", "down", "up", "restart")
-# Seconds in which nothing comes where nothing is sent.
+# A test waits for this many seconds to see that no message comes.
 SILENCE = 0.3
 
 
@@ -43,19 +44,19 @@ def watched(server):
 
 @pytest.fixture
 def receiver(server):
-    """A bus on which nothing is left of what was sent before."""
+    """A bus that has read all frames sent before."""
     with server.bus("can1", fd=True) as bus:
         yield bus
 
 
 def headers_of(watch):
-    """The headers of the page's own requests."""
+    """Returns the headers of the page's own requests."""
     here = f"127.0.0.1:{watch.port}"
     return {"Host": here, "Origin": f"http://{here}", TOKEN: watch.path.strip("/")}
 
 
 def posted(watch, act, body, headers=None):
-    """The answer to a request with this body."""
+    """Returns the answer to a request with this body."""
     connection = http.client.HTTPConnection("127.0.0.1", watch.port, timeout=WAIT)
     connection.putrequest("POST", f"{watch.path}{act}", skip_host=True, skip_accept_encoding=True)
     headers = {"Content-Length": str(len(body)), **(headers_of(watch) if headers is None else headers)}
@@ -67,7 +68,7 @@ def posted(watch, act, body, headers=None):
 
 
 def ask(watch, act, node="can0", **asked):
-    """The answer to the page that asks for this."""
+    """Returns the answer to the page that makes this request."""
     answer = posted(watch, act, json.dumps({"node": node, **asked}).encode())
     assert (answer.status, answer.getheader("Content-Type")) == (200, "application/json")
     return json.loads(answer.read())
@@ -75,7 +76,7 @@ def ask(watch, act, node="can0", **asked):
 
 @contextlib.contextmanager
 def opened(watch):
-    """An open page: a call that returns the next news that it gets."""
+    """Opens a page; returns a function that returns the page's next news."""
     with watch.get(f"{watch.path}news") as answer:
 
         def news():
@@ -89,7 +90,7 @@ def opened(watch):
 
 
 def is_silent(bus):
-    """Whether nothing comes any more, after what is on its way."""
+    """Returns whether no message comes any more, after those on their way."""
     deadline = time.monotonic() + WAIT
     while time.monotonic() < deadline:
         if bus.recv(SILENCE) is None:
@@ -112,7 +113,7 @@ def is_silent(bus):
     ],
 )
 def test_a_frame_is_sent(server, watched, receiver, text, python):
-    """once, and the line of Python sends the same"""
+    """a frame is sent once, and the displayed Python line sends the same frame"""
     has_fd = ", fd=True" if "##" in text else ""
     line = ask(watched, "send", frame=text)["python"]
     assert line == f'bus.send({python})  # bus = server.bus("can0"{has_fd})'
@@ -176,8 +177,8 @@ def test_what_is_refused_is_said(watched, receiver, act, asked, fault):
 
 
 def test_refusals_of_the_bus():
-    """a full queue, bus off, and rules that it has no room for"""
-    # Nobody acknowledges the first frame, which is sent again and again.
+    """a full queue, bus off, and rules without room are refused"""
+    # No node acknowledges the first frame, which is sent again and again.
     with Server("can0", ack="peers", txqueue=1) as lone, Watch(lone, "can0") as watch:
         assert "python" in ask(watch, "send", frame="123#")
         fault = ask(watch, "send", frame="123#")["fault"]
@@ -213,7 +214,7 @@ def test_nodes_go_down_and_up(server, watched):
 
 
 class Interface:
-    """A bus that notes what it is asked for."""
+    """A bus that notes the calls of its methods."""
 
     channel = "can0"
 
@@ -225,7 +226,7 @@ class Interface:
 
 
 def test_what_each_act_asks_the_interface_for(monkeypatch):
-    """of a server that has all of these messages"""
+    """the interface is that of a server that has all of these messages"""
     bus = Interface()
     monkeypatch.setattr("canbusd._page.acts.CanbusdBus", lambda *_, **__: bus)
     acts = Acts(["can0"], None)
@@ -242,7 +243,7 @@ def test_what_each_act_asks_the_interface_for(monkeypatch):
 
 
 def test_cyclic_frames(watched, receiver):
-    """are sent until they are stopped; the page is told which there are"""
+    """cyclic frames are sent until they are stopped; the page gets the list of them"""
     with opened(watched) as news:
         page = news()["page"]
         line = ask(watched, "cycle", page=page, frame="123#11", period=0.02)["python"]
@@ -250,7 +251,7 @@ def test_cyclic_frames(watched, receiver):
         assert line == f'task = bus.send_periodic({python}, 0.02)  # bus = server.bus("can0")'
         got = [receiver.recv(WAIT) for _ in range(6)]
         assert {str(frame_like(one)) for one in got} == {"123#11"}
-        # A late frame is not made up for.
+        # The page does not make up for a late frame.
         assert got[-1].timestamp - got[0].timestamp > 3 * 0.02
         while not (cycles := news()["cycles"]):
             pass
@@ -264,7 +265,7 @@ def test_cyclic_frames(watched, receiver):
 
 
 def test_cyclic_frames_end_with_their_page(watched, receiver):
-    """and those of another page go on"""
+    """the frames of another page continue"""
     with opened(watched) as other:
         with opened(watched) as news:
             for one, frame in ((news, "100#"), (other, "200#")):
@@ -281,12 +282,12 @@ def test_cyclic_frames_end_with_their_page(watched, receiver):
 
 
 def is_without(bus, identifier):
-    """Whether frames come for a while, and none of this identifier."""
+    """Returns whether frames come for a while, but none with this identifier."""
     return all(bus.recv(WAIT).arbitration_id != identifier for _ in range(20))
 
 
 def test_a_closed_page_is_known_without_news(server, receiver):
-    """also where the counts are looked at once an hour"""
+    """this holds even if the counts are requested once an hour"""
     with Watch(server, "can0", options=["--interval", "3600"]) as watch:
         with opened(watch) as news:
             assert "python" in ask(watch, "cycle", page=news()["page"], frame="300#", period=0.01)
@@ -299,7 +300,7 @@ def test_a_closed_page_is_known_without_news(server, receiver):
 
 
 def test_refusals_of_cyclic_frames():
-    """are shown, and it goes on once the interface is back; there is a most number of them"""
+    """refusals are shown, and sending continues when the interface is back; the number of cyclic frames is limited"""
     with Server("can0,can1") as server, Watch(server, "can0") as watch, opened(watch) as news:
         page = news()["page"]
         server.inject("next 32 from can0 global bit", "can0")
@@ -316,7 +317,7 @@ def test_refusals_of_cyclic_frames():
 
 
 def test_nothing_is_done_for_others(watched, receiver):
-    """who lack the token in the header, are of another origin, or ask otherwise"""
+    """others lack the token in the header, have another origin, or send another kind of request"""
     own, frame = headers_of(watched), json.dumps({"node": "can0", "frame": "123#"}).encode()
     token, here = own[TOKEN], own["Origin"]
     without = {name: {key: value for key, value in own.items() if key != name} for name in (TOKEN, "Origin")}
@@ -367,7 +368,7 @@ def test_a_body_that_is_none(watched, receiver):
 
 
 def test_a_page_that_only_reads(server, receiver):
-    """has no controls, and nobody to ask"""
+    """the page has no controls, and the server accepts no requests"""
     with Watch(server, "can0", options=["--read-only"]) as watch:
         frame = json.dumps({"node": "can0", "frame": "123#"}).encode()
         for act in ACTS:
@@ -379,7 +380,7 @@ def test_a_page_that_only_reads(server, receiver):
     assert is_silent(receiver)
 
 
-# Asks for a frame at a port, by a path with the token, and writes the status.
+# Sends a request for a frame to a port, by a path with the token, and prints the status.
 SEND = """
 import http.client, sys
 port, path = sys.argv[1:]
@@ -401,7 +402,7 @@ def test_another_user_of_a_server_at_a_unix_path(tmp_path):
 
 
 def said(browser, form):
-    """The answer that a form shows to its last act; waits for it."""
+    """Returns the answer that a form shows for its last action; waits for the answer."""
     browser.until(f"at('{form}').querySelector('.said').textContent !== ''")
     text = browser.run(f"at('{form}').querySelector('.said').textContent")
     browser.run(f"at('{form}').querySelector('.said').replaceChildren()")
@@ -409,7 +410,7 @@ def said(browser, form):
 
 
 def press(browser, form, name):
-    """Presses a button of a form, and returns what it says then."""
+    """Presses a button of a form, and returns the form's answer."""
     browser.run(f"at('{form}').querySelector('.said').replaceChildren()")
     browser.run(f"at('{form}').elements.{name}.click()")
     return said(browser, form)
@@ -418,7 +419,8 @@ def press(browser, form, name):
 @pytest.mark.browser
 @needs_browser
 def test_the_page_sends(tmp_path):
-    """by keyboard, signals, cyclically; gives rules; and what it sends cyclically ends once it is closed"""
+    """the page sends by keyboard, with signals, and cyclically; it adds rules; its cyclic frames end after it is
+    closed"""
     pytest.importorskip("canmatrix", reason="not installed: canmatrix")
     with Server("can0,can1") as server, Watch(server, "can0", "can1", options=["--dbc", str(DBC)]) as watch:
         browser = Browser(tmp_path)
@@ -428,7 +430,7 @@ def test_the_page_sends(tmp_path):
                 browser.open(watch.url)
                 browser.until("page !== ''")
                 assert browser.run("at('acts').open") is False
-                # By keyboard alone.
+                # This part uses only the keyboard.
                 browser.key("s")
                 for key in "123":
                     browser.key(key)
@@ -439,7 +441,7 @@ def test_the_page_sends(tmp_path):
                 )
                 assert str(frame_like(receiver.recv(WAIT))) == "123#"
                 browser.until("frames.some(one => one.text === '123#' && one.sender === 0)")
-                # Each kind of frame, and one that is none.
+                # Each kind of frame, and a text that is no frame.
                 for kind, data, text in (
                     ("#", "11 22 ab", "123#1122AB"),
                     ("##0", "0A", "123##00A"),
@@ -462,7 +464,7 @@ def test_the_page_sends(tmp_path):
                 browser.run(press_copy)
                 browser.until("at('act-node').querySelector('.said button').textContent === 'copied'")
                 assert browser.run("window.copied") == 'server.up("can0")' and browser.run("isSecureContext")
-                # Signals, whose others are as they start, cyclically.
+                # Signals are sent cyclically, and all other signals have their start values.
                 browser.run("at('act-message').value = 'Engine'; at('act-message').onchange()")
                 assert browser.run("[...at('by-signals').querySelectorAll('input')].map(one => [one.name, one.placeholder].join())") == [
                     "speed,0", "temperature,25", "gear,Park", "torque,0"

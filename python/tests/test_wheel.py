@@ -22,7 +22,7 @@ SCRIPT = [CLONE / "scripts" / "python-package", "wheel"]
 
 
 def done(*words, **options):
-    """A process that has ended well."""
+    """Runs a process, which must succeed; returns the result."""
     finished = subprocess.run(words, capture_output=True, text=True, timeout=300, check=False, **options)
     assert finished.returncode == 0, finished.stdout + finished.stderr
     return finished
@@ -30,15 +30,15 @@ def done(*words, **options):
 
 @pytest.fixture(scope="module")
 def wheel(request):
-    """The wheel."""
+    """Builds the wheel."""
     env = {**os.environ, "PYTHON": sys.executable}
     return made_once(request, "wheel", lambda folder: done(*SCRIPT, folder, env=env)) / NAME
 
 
 @pytest.fixture
 def environment(tmp_path):
-    """A virtual environment in a folder of its own, where nothing shows the way to a program; python-can and pip are
-    those of the system."""
+    """A virtual environment in a new folder, which has no path to a program; python-can and pip are those of the
+    system."""
     done(sys.executable, "-m", "venv", "--system-site-packages", "--without-pip", tmp_path / "venv")
     kept = {name: value for name, value in os.environ.items() if not name.startswith(("CANBUSD", "PYTHON"))}
 
@@ -61,7 +61,7 @@ PROGRAMS = [
 
 
 def test_what_is_in_the_wheel(wheel, tmp_path):
-    """The programs are those that `make install` takes."""
+    """the programs are those that `make install` installs"""
     done("make", "-s", "-C", CLONE, "install", f"PREFIX={tmp_path}")
     with zipfile.ZipFile(wheel) as opened:
         names = opened.namelist()
@@ -81,7 +81,7 @@ def test_what_is_in_the_wheel(wheel, tmp_path):
 
 @pytest.mark.skipif(shutil.which("gcc") is None, reason="no gcc to build canbusd-run with")
 def test_changed_sources_give_another_wheel(tmp_path):
-    """In a copy of the clone canbusd-run of dist/ is of other sources, and is not taken."""
+    """in this copy of the repository canbusd-run in dist/ comes from other sources, and is not used"""
     copy = copy_of_clone(tmp_path / "clone")
     with open(copy / "canrun" / "command" / "main.c", "a") as source:
         source.write('const char changed[] = "changed by a test";\n')
@@ -93,7 +93,7 @@ def test_changed_sources_give_another_wheel(tmp_path):
 
 
 def copy_of_clone(copy):
-    """A copy of what the wheel is made of; the proved sources are those of the clone itself."""
+    """Makes a copy of the wheel's sources; the proved sources are those of the repository itself."""
     ignored = shutil.ignore_patterns("out", "tests", "build", "*.egg-info", "__pycache__", ".*")
     for name in ("python", "scripts", "canrun", "libcanbusd", "dist", "tools"):
         shutil.copytree(CLONE / name, copy / name, ignore=ignored)
@@ -104,7 +104,7 @@ def copy_of_clone(copy):
 
 
 def program_of(clone):
-    """The program that fits the sources of a clone."""
+    """Returns the program that fits the sources of a repository."""
     return clone / done(clone / "scripts" / "program", "choose").stdout.strip()
 
 
@@ -121,13 +121,13 @@ def test_its_commands_are_those_of_make_install(wheel, tmp_path):
 def test_its_platform_is_that_of_the_program():
     for file in (CLONE / "dist").iterdir():
         if file.read_bytes()[:4] == b"\x7fELF":
-            # One that is linked statically needs none, and objdump says that it has no dynamic symbols.
+            # A statically linked program needs no library, and objdump reports no dynamic symbols.
             symbols = subprocess.run(["objdump", "-T", file], capture_output=True, text=True, check=False).stdout
             assert max(map(int, re.findall(r"GLIBC_2\.(\d+)", symbols)), default=0) <= 34, file
 
 
 def tries_the_package(environment, folder):
-    """README's test, and the program's commands."""
+    """Runs README's test, and the program's commands."""
     (text,) = re.findall(r"^```python\n(.*?)^```$", (CLONE / "README.md").read_text(), re.M | re.S)
     (folder / "test_bus_off.py").write_text(text)
     assert "1 passed" in environment("-m", "pytest", "-q", "test_bus_off.py").stdout
@@ -146,7 +146,7 @@ def tries_the_package(environment, folder):
 
 
 def tries_the_commands(bin, folder):
-    """Those on the PATH: of the program, of the package, canbusd-run and candump2bench."""
+    """Runs the commands on the PATH: of the program, of the package, canbusd-run and candump2bench."""
     env = {"PATH": f"{bin}:/usr/bin:/bin", "HOME": str(folder)}
 
     def written(*words, **options):
@@ -199,7 +199,7 @@ def test_pip_installs_the_same_from_the_clone(wheel, environment, tmp_path):
     (package,) = (tmp_path / "venv" / "lib").glob("python3*/site-packages/canbusd")
     with zipfile.ZipFile(wheel) as opened:
         for name in opened.namelist():
-            # No copy without git knows its commit.
+            # A copy without git does not know its commit.
             if name.startswith("canbusd/") and name != "canbusd/COMMIT":
                 assert (package.parent / name).read_bytes() == opened.read(name), name
     tries_the_package(environment, tmp_path)

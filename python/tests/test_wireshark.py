@@ -1,4 +1,4 @@
-"""Captures for Wireshark, as tshark reads them: of a log, of a running server, and by the captures that Wireshark lists."""
+"""Captures for Wireshark, read by tshark: of a log, of a running server, and from the captures that Wireshark lists."""
 
 import shutil
 import signal
@@ -17,14 +17,14 @@ from canbusd.server import Server
 
 pytestmark = pytest.mark.skipif(not shutil.which("tshark"), reason="no tshark")
 READY = 0x7FF
-# The fields of a frame in tshark. It writes a flag as 1 or as True, by its version.
+# The fields of a frame in tshark, which writes a flag as 1 or as True, by its version.
 FIELDS = "frame.interface_name frame.packet_flags_direction frame.time_epoch can.flags.err can.id can.flags.xtd can.flags.rtr"
 FIELDS_OF_FD = "canfd.flags.brs canfd.flags.esi can.len data.data"
 DIRECTIONS = {"": "", "1": "in", "2": "out"}
 
 
 def read(path):
-    """The frames of a capture: interface, direction, moment, and the frame as candump spells it."""
+    """Returns the frames of a capture: interface, direction, time, and the frame in candump's spelling."""
     words = [word for name in f"{FIELDS} {FIELDS_OF_FD}".split() for word in ("-e", name)]
     written = subprocess.check_output(
         ["tshark", "-r", path, "-T", "fields", *words], stderr=subprocess.DEVNULL, text=True
@@ -43,7 +43,7 @@ def row_of(name, way, moment, is_error, number, is_extended, is_remote, brs, esi
 
 
 def interfaces_of(path):
-    """The interfaces of a capture, each with its bits a second, as capinfos reads them."""
+    """Returns the interfaces of a capture, each with its bit rate, as capinfos reads them."""
     written = subprocess.check_output(["capinfos", path], text=True)
     found = {}
     for line in written.split("Interface #0 info:")[1].splitlines():
@@ -56,7 +56,7 @@ def interfaces_of(path):
 
 
 def test_a_log(tmp_path):
-    """frames with their interfaces and moments; which way a frame went where the log says that it was sent there"""
+    """frames have their interfaces and times, and a direction if the log marks them as sent"""
     log = tmp_path / "run.log"
     log.write_text(
         LOG.replace("123#1122", "123#1122 R").replace("R4", "R4 T") + "(1795910923.100000) late 001##3AABB\n"
@@ -80,7 +80,7 @@ def test_a_log(tmp_path):
 
 
 def test_error_message_frames(tmp_path):
-    """bus off, and a missing acknowledgement, which is a bus error too"""
+    """bus off is shown, and a missing acknowledgement, which is a bus error too"""
     (tmp_path / "run.log").write_text(
         "(1.000000) a 20000040#0000000000000000\n(1.000000) a 200000A0#0000821A00000000\n"
     )
@@ -95,7 +95,7 @@ def test_error_message_frames(tmp_path):
 
 
 def capturing(server, sender, path, *words):
-    """A capture of a running server, to which frames are sent until it has the first one."""
+    """Starts a capture of a running server, and sends frames until the capture has the first one."""
     child = subprocess.Popen(
         words_of("dump", "--pcapng", path, *words),
         env=environment(server),
@@ -111,7 +111,7 @@ def capturing(server, sender, path, *words):
 
 
 def test_each_frame_once(tmp_path):
-    """each frame of several interfaces is there once, of its sender; error message frames are of their interfaces"""
+    """each frame of several interfaces occurs once, at its sender; error message frames occur at their interfaces"""
     path = tmp_path / "run.pcapng"
     with Server("can0,can1,can2", "body0", bitrate=500_000, data_bitrate=2_000_000, auto_restart=128) as server:
         with server.bus("can0", fd=True) as can0, server.bus("can1") as can1, server.bus("body0") as body:
@@ -139,7 +139,7 @@ def test_each_frame_once(tmp_path):
         assert [one for one in frames if one[0] == name and one[1].startswith(f"{number:03X}#")] == wanted
     assert frames.count(("can0", "12345678##1" + 12 * "00")) == 100
     assert len(frames) == 401
-    # can1 gets error warning, error passive, bus off, and the restart; the others see no change of state.
+    # can1 gets error warning, error passive, bus off, and the restart; the other interfaces report no change of state.
     assert {(name, way) for name, way, text in rows if text == "ERROR#"} == {("can1", "in")}
     assert len([text for *_, text in rows if text == "ERROR#"]) in (3, 4)
     moments = [float(moment) for name, _, moment, _ in read(path) if name != "body0"]
@@ -150,7 +150,8 @@ def test_each_frame_once(tmp_path):
 
 
 def test_one_interface(tmp_path):
-    """what others send comes in, what its own clients send goes out; -n ends it, and filters select"""
+    """frames of other interfaces are inbound, frames of the interface's own clients outbound; -n ends the capture, and
+    filters select"""
     path = tmp_path / "run.pcapng"
     with Server("can0,can1") as server, server.bus("can0") as can0, server.bus("can1") as can1:
         child = capturing(server, can0, path, "-n", "60", "can1,100:700,7FF:7FF")
@@ -164,7 +165,7 @@ def test_one_interface(tmp_path):
 
 
 class Heard:
-    """A session that has received these frames, of which the socket has got more."""
+    """A session that has received these frames, while more frames wait in the socket."""
 
     def __init__(self, *frames, later=()):
         self.frames, self.later = [*frames], [*later]
@@ -179,7 +180,8 @@ class Heard:
 
 
 def test_frames_that_come_one_after_another():
-    """a frame is known by its moment and its text; one that a session has sooner waits for the other sessions"""
+    """a frame is identified by its time and its text; a frame that one session has early waits for the other
+    sessions"""
     one, sent = Frame(1, timestamp=5.0), Frame(1, timestamp=5.0, is_rx=False)
     other = Frame(2, timestamp=6.0)
     merged = Merged([("a", Heard(one)), ("b", Heard(later=[sent, other])), ("c", Heard())])
@@ -187,7 +189,7 @@ def test_frames_that_come_one_after_another():
     assert merged.has_more
     assert [(name, str(frame), way) for name, frame, way in merged.take()] == [("b", "002#", 1)]
     assert not merged.has_more
-    # Twice the same at one moment, as in virtual time; and two buses, on each of which it was sent.
+    # A frame comes twice at one time, as in virtual time; and two buses each have the same sent frame.
     merged = Merged([("a", Heard(one, one)), ("b", Heard(sent, sent))])
     assert [name for name, _, _ in merged.take()] == ["b", "b"]
     merged = Merged([("a", Heard(sent)), ("b", Heard(sent))])
@@ -210,7 +212,7 @@ def test_what_is_refused(tmp_path, words, said):
 
 @pytest.fixture
 def home(tmp_path):
-    """A home in which the captures are installed."""
+    """A home folder in which the captures are installed."""
     folder = tmp_path / "a home"
     done = subprocess.run(
         words_of("extcap", "--install"),
@@ -224,7 +226,7 @@ def home(tmp_path):
 
 
 def test_in_the_list_of_wireshark(home, tmp_path):
-    """also without a server; each interface of the server that runs; a capture of all of them"""
+    """the list works without a server; it has each interface of the running server, and a capture of all of them"""
 
     def listed(**more):
         words = {**environment(), "HOME": str(home), "CANBUSD_ADDRESS": str(tmp_path / "none"), **more}
@@ -238,7 +240,7 @@ def test_in_the_list_of_wireshark(home, tmp_path):
     with Server("can0,can1") as server, server.bus("can0") as can0:
         every = ["canbusd (canbusd: all interfaces)", "canbusd-can0 (canbusd: can0)", "canbusd-can1 (canbusd: can1)"]
         assert listed(CANBUSD_ADDRESS=server.address) == every
-        # The server is chosen as an option of the capture.
+        # The server is an option of the capture.
         words = ["tshark", "-i", "canbusd", "-o", f"extcap.canbusd.address:{server.address}", "-c", "20", "-w", path]
         elsewhere = {**environment(), "HOME": str(home), "CANBUSD_ADDRESS": str(tmp_path / "none")}
         child = subprocess.Popen(words, env=elsewhere, stderr=subprocess.PIPE)
@@ -249,13 +251,13 @@ def test_in_the_list_of_wireshark(home, tmp_path):
         said = child.communicate()[1]
         assert child.poll() == 0, said
     frames = [(name, way, text) for name, way, _, text in read(path)]
-    # The capture opens one interface after the other: before it has can0, it may see a frame of can0 come in at can1.
+    # The capture opens one interface after the other: before it opens can0, it may see a frame of can0 arrive at can1.
     first = frames.index(("can0", "out", "7FF#"))
     assert frames == first * [("can0", "in", "7FF#")] + (20 - first) * [("can0", "out", "7FF#")]
 
 
 def test_what_wireshark_asks(home, tmp_path):
-    """no capture filter is taken; a server that is not there is named"""
+    """no capture filter is accepted; a missing server is named"""
     script, server = home / ".config" / "wireshark" / "extcap" / "canbusd", str(tmp_path / "none")
 
     def asked(*words):

@@ -1,4 +1,4 @@
-"""Inputs of a bench that come as a whole and a byte at a time: what is reported of their lines and messages."""
+"""Inputs of a bench, complete and a byte at a time: the reports on their lines and messages."""
 
 import pytest
 
@@ -26,7 +26,7 @@ NOTED = [
         "note: session 64: bytes outside < and > were skipped\n",
     ),
 ]
-# The lines after the two sessions, their output, and how the first piece with a refusal is shown.
+# The lines after the two sessions, their output, and the report for the first piece with a refusal.
 REFUSED = [
     ("feed 1 < send 123 2 1122 >\n", "1 < error bad word count >\n", "error bad word count >\n"),
     (
@@ -43,7 +43,7 @@ MISSING = "  no line before it starts session 3\n"
 WITH_CR = "  this line ends with CR and LF: lines end with only LF\n"
 OTHER = "  a line begins with at, session, feed, drain, end, fault, attempt, down or up; see canbusd help bench\n"
 CHANGE = "  down NAME or up NAME: one space comes before the name of an interface, as down can0\n"
-# A line that is refused, how it is shown, and what is reported of it.
+# A refused line, its form in the report, and the report itself.
 FAULTY = [
     ("at 10000000000.000000", "at 10000000000.000000", AT),
     ("at 1.00000", "at 1.00000", AT),
@@ -78,7 +78,7 @@ FAULTY = [
 
 
 def runs(line, text, wanted):
-    """The words of a line end with this status, output and errors, however the input is cut."""
+    """Checks that the words of a line give this status, output and errors, however the input is cut."""
     for run in (run_line, run_bytes):
         assert run(line, text) == wanted
 
@@ -112,7 +112,7 @@ def test_a_line_far_down_is_refused(count):
 
 
 def test_a_line_of_4097_bytes_is_refused():
-    """it would be good if it were shorter, and 72 bytes of it are shown"""
+    """the line would be valid if it were shorter, and 72 bytes of it are shown"""
     first = "canbusd: line 1: bad line\n  standard input:1: feed 1 "
     errors = f"{first}{65 * 'x'}..\n  a line has at most 4096 bytes\n"
     runs("bench can0", f"feed 1 {4090 * 'x'}\n", (1, "", errors))

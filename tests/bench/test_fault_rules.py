@@ -1,7 +1,7 @@
-"""Rules of faults: the program gives what rule_model.py does, on random runs and texts; and each way to say a rule.
+"""Fault rules: the program gives the verdicts of rule_model.py, on random runs and texts; and each way to give a rule.
 
-The model is asked for the verdict of each attempt of a record, and how many rules are left for the answer to each message.
-Whether a text is a rule is what the package says of it.
+The model is asked for the verdict of each attempt of a record, and how many rules are left for the answer to each
+message. The package decides whether a text is a rule.
 """
 
 import itertools
@@ -20,16 +20,17 @@ from rule_model import EXTENDED, REMOTE, RunFaults, word_of
 from serving import Plain, plain, serving
 
 LASTBIT = "next 1 lastbit"
-# The words before the names of senders, and these.
+# The words before the names of senders, and the names.
 SENDERS = re.compile(f"(?:next (?!0+ )[0-9]{{1,8}}|always) from ({NAMES})(?: |$)")
 
 
 def fault_of(text, names, faults):
-    """The fault of giving this text as a rule to a bus with these faults; None where it takes it."""
+    """Returns the fault if this text is given as a rule to a bus with these faults; None if the bus accepts the
+    rule."""
     try:
         rule = parse_rule(text)
     except ValueError:
-        # The first word that is wrong decides, and so does an unknown sender before another fault.
+        # The first wrong word decides, and an unknown sender comes before another fault.
         senders = SENDERS.match(text)
         known = not senders or {*senders[1].split(",")} <= {*names}
         return "bad rule" if known else "no such interface"
@@ -41,7 +42,7 @@ def fault_of(text, names, faults):
 
 
 def answer(text, names, faults):
-    """What a message about rules gets, after which the faults are as they are then."""
+    """Returns the answer to a message about rules, and updates the faults."""
     command, _, words = " ".join(text.split()).partition(" ")
     if command == "faults":
         return f"< faults {len(faults.rules)} >"
@@ -55,7 +56,7 @@ def answer(text, names, faults):
 
 
 def shown(verdict, rule, names):
-    """What the line of an attempt ends in with `--show-faults`: its fault, and the number of its rule."""
+    """Returns the end of an attempt's line with `--show-faults`: its fault, and the number of its rule."""
     kind, _, hit = verdict.partition(":")
     members = ",".join(name for place, name in enumerate(names) if hit and int(hit, 16) >> place & 1)
     fault = "" if verdict == "good" else f"; fault {' '.join([*kind.split('-'), *filter(None, [members])])}"
@@ -63,14 +64,14 @@ def shown(verdict, rule, names):
 
 
 def run(program, words, text, folder):
-    """A run of the program on this input."""
+    """Runs the program on this input."""
     return subprocess.run(
         [program, *words], input=text.encode(), cwd=folder, capture_output=True, timeout=60, check=False
     )
 
 
 def difference(program, case, folder):
-    """What differs first between a run and the model, or None."""
+    """Returns the first difference between a run and the model, or None."""
     case.write_to(folder)
     done = run(program, case.words, case.text, folder)
     if done.returncode:
@@ -103,7 +104,8 @@ def difference(program, case, folder):
 
 
 def shown_difference(program, case, folder, lines, ends):
-    """What differs first in the same run with `--show-faults`, whose lines of attempts that tried a frame end in these."""
+    """Returns the first difference in the same run with `--show-faults`, in which lines of attempts with frames have
+    this end."""
     done = run(program, ["bench", "--show-faults", *case.words[1:]], case.text, folder)
     wanted = [line + next(ends) if line.startswith("tried ") else line for line in lines]
     pairs = itertools.zip_longest(done.stdout.decode().splitlines(), wanted)
@@ -112,9 +114,10 @@ def shown_difference(program, case, folder, lines, ends):
 
 @pytest.mark.parametrize("count", [200, pytest.param(2000, marks=pytest.mark.slow)])
 def test_random_runs(request, program, tmp_path, count):
-    """the verdict of each attempt, the answer to each message; the files of a run that differs are kept"""
+    """the model gives the same verdict of each attempt, and the same answer to each message; the files of a differing
+    run are kept"""
     maker, faults = RuleMaker(request.config.getoption("seed")), []
-    # Lines that fault a bench are tried below: here the 65th rule of a bus comes by a message.
+    # Later tests cover lines that end a bench with a fault: here the 65th rule of a bus comes by a message.
     cases = filter(lambda case: not overfull(case), iter(maker.case, None))
     for number, case in enumerate(itertools.islice(cases, count)):
         differs = difference(program, case, tmp_path / str(number % 2))
@@ -125,7 +128,7 @@ def test_random_runs(request, program, tmp_path, count):
 
 
 def overfull(case):
-    """Whether a line might be one rule too many."""
+    """Returns whether a line might be one rule too many."""
     given = sum(kind in ("line", "message") for kind, _ in case.operations) + len(lines_of(case.script))
     return given > MOST_RULES and any(kind == "line" for kind, _ in case.operations)
 
@@ -140,7 +143,7 @@ def test_the_same_input_gives_the_same_output(request, program, tmp_path):
 
 
 def test_random_texts_in_messages(program, rng, cases, tmp_path):
-    """whether a text is a rule, and why not"""
+    """the program agrees on whether a text is a rule, and on the reason if not"""
     maker, names = RuleMaker(rng.random()), ["can0", "can1"]
     rules = [maker.rule(names) for _ in range(cases)]
     texts = [text.encode("ascii", "ignore").decode() for text in map(maker.changed, rules)]
@@ -155,7 +158,7 @@ def test_random_texts_in_messages(program, rng, cases, tmp_path):
 
 @pytest.mark.parametrize("count", [50, pytest.param(1000, marks=pytest.mark.slow)])
 def test_random_texts_in_scripts_and_lines(program, rng, tmp_path, count):
-    """each one that is wrong is reported with the number of its line, and a note"""
+    """each wrong text is reported with its line number, and a note"""
     maker, names = RuleMaker(rng.random()), ["can0", "can1"]
     for _ in range(count):
         text = maker.changed(maker.rule(names))
@@ -170,14 +173,14 @@ def test_random_texts_in_scripts_and_lines(program, rng, tmp_path, count):
 
 
 def check_report(done, reported, text):
-    """Whether a run ended as it has to: with this fault and a note, or without one."""
+    """Checks that a run ended as expected: with this fault and a note, or without a fault."""
     first, *notes = done.stderr.decode().splitlines() or [""]
     assert (done.returncode, first) == ((1, f"canbusd: {reported}") if reported else (0, "")), text
     assert bool(notes) is bool(reported) and all(note.startswith("  ") for note in notes), notes
 
 
 def test_64_rules(program, tmp_path):
-    """one more is refused in each way, and changes nothing"""
+    """one more rule is refused in each way, and changes nothing"""
     (tmp_path / "full.script").write_text("always good\n" * 64)
     (tmp_path / "more.script").write_text("always good\n" * 64 + "\n" + LASTBIT)
     done = run(program, ["bench", "can0@more.script"], "", tmp_path)
@@ -203,7 +206,7 @@ MODES = {
 
 @pytest.mark.parametrize("opening, fault", MODES.items())
 def test_when_a_session_may_give_rules(program, tmp_path, opening, fault):
-    """once it has opened an interface"""
+    """a session may give rules after it has opened an interface"""
     lines = f"session 1\nfeed 1 {opening}< echo >\nfeed 1 < fault {LASTBIT} >< faults >< nofaults >< faults >\n"
     done = run(program, ["bench", "can0"], lines, tmp_path)
     got = done.stdout.decode().splitlines()[2:]
@@ -223,7 +226,7 @@ def test_a_rule_without_words(program, tmp_path):
     assert done.stdout.decode().splitlines()[-1] == "1 < ok >< error bad word count >< error unknown command >"
 
 
-# Each verdict of a rule, and what two receivers get of a frame.
+# Each verdict of a rule, and the items that two receivers get for a frame.
 VERDICTS = {
     "global bit": (1, 1),
     "global form": (1, 1),
@@ -235,7 +238,7 @@ VERDICTS = {
 
 @pytest.mark.parametrize("verdict, copies", VERDICTS.items())
 def test_a_rule_from_a_socket(verdict, copies):
-    """from the next attempt on, for the bus of the session's interface and no other"""
+    """the rule applies from the next attempt on, only to the bus of the session's interface"""
     with serving("can0,can1,can2", "car0,car1") as server:
         giver, sender, *receivers = [Plain(server), *(plain(server, name) for name in ("can0", "can1", "can2"))]
         assert [giver.text(), giver.answer("< open can1 >")] == ["< hi >", "< ok >"]
@@ -273,7 +276,7 @@ def test_refusals_to_a_socket():
 
 
 def test_no_rules_keeps_the_script(program, tmp_path):
-    """lines by numbers are there after `nofaults`, and go before rules"""
+    """numbered lines stay after `nofaults`, and take precedence over rules"""
     (tmp_path / "my.script").write_text("1 global form\nalways lastbit\n2 good\n")
     asks = ["session 1", "feed 1 < open can0 >< rawmode >< send 123 0 >", "attempt", "feed 1 < nofaults >"]
     words = ["bench", "--record", RECORD, "can0@my.script"]
@@ -284,7 +287,7 @@ def test_no_rules_keeps_the_script(program, tmp_path):
 
 
 def test_one_node_of_two_goes_bus_off(program, tmp_path):
-    """whatever the other sends between, by one frame of it"""
+    """one frame of it suffices, whatever the other node sends between"""
     opening = "".join(f"session {n}\nfeed {n} < open {name} >< rawmode >\n" for n, name in ((1, "ecu"), (2, "tester")))
     turns = "feed 2 < send 100 0 >\nfeed 1 < send 200 0 >\nattempt\nattempt\n" * 40
     done = run(program, ["bench", "ecu,tester"], f"{opening}fault next 32 from ecu global bit\n{turns}", tmp_path)
@@ -299,16 +302,16 @@ ECU, OTHER = 0, 1
 
 
 def planned(*lines):
-    """The faults of a bus with a script of these lines."""
+    """Returns the faults of a bus with a script of these lines."""
     return RunFaults("\n".join(lines), ["ecu", "other"])
 
 
 def verdicts(faults, *attempts):
-    """The verdicts of these attempts, each a winner and an identifier word."""
+    """Returns the verdicts of these attempts, each a winner and an identifier word."""
     return [faults.decide(winner, word)[0] for winner, word in attempts]
 
 
-# The model itself, by what the design says.
+# Tests of the model itself, from the words of the design.
 
 
 def test_who_sends_and_what():
@@ -330,7 +333,7 @@ def test_who_sends_and_what():
 def test_the_first_rule_that_matches_decides():
     a, b = (ECU, 1), (OTHER, 1)
     faults = planned("next 1 from other good", "next 2 skip 1 lastbit", "always global bit")
-    # Only what a rule decides, or skips, counts for it.
+    # Only attempts that a rule decides, or skips, count for the rule.
     assert verdicts(faults, a, b, b, a, a) == ["global-bit", "good", "lastbit", "lastbit", "global-bit"]
     assert [rule.number for rule in faults.rules] == [3]
 

@@ -1,8 +1,8 @@
-"""`canbusd bench` beside an independent program, on random runs.
+"""`canbusd bench` compared with an independent program, on random runs.
 
-It is benches/limit.c, or --other SOURCE.c, compiled with cc; what that makes is called as `PROGRAM bench OPTIONS BUS`, as
-canbusd is. Standard output, the status and the line of a fault have to be the same (of a fault of the command line the
-status only).
+The program is benches/limit.c, or --other SOURCE.c, compiled with cc, and is called as `PROGRAM bench OPTIONS BUS`,
+like canbusd. Standard output, the status and the line of a fault must be the same; for a fault of the command line,
+only the status.
 """
 
 import itertools
@@ -35,10 +35,10 @@ def run(program, case, folder):
 
 
 def difference(one, other):
-    """What differs first between two runs, or None."""
+    """Returns the first difference between two runs, or None."""
     if one.returncode != other.returncode:
         return f"status {one.returncode}, other {other.returncode}: {one.stderr!r}, other {other.stderr!r}"
-    # The lines after that of a fault are our own, and so are those after a run to the end of its input.
+    # The lines after the line of a fault are canbusd's own, and so are those after a complete run.
     if one.returncode == 1 and one.stderr.splitlines()[:1] != other.stderr.splitlines()[:1]:
         return f"standard error {one.stderr!r}, other {other.stderr!r}"
     lines = itertools.zip_longest(one.stdout.split(b"\n"), other.stdout.split(b"\n"))
@@ -49,7 +49,7 @@ def difference(one, other):
 
 
 def test_beside_an_independent_program(request, program, other, cases, tmp_path):
-    """random runs; the files of those that differ are kept"""
+    """random runs agree; the files of differing runs are kept"""
     maker, faults = Maker(request.config.getoption("seed"), has_newer=False), []
     for number in range(cases):
         case, folder = maker.case(), tmp_path / str(number % 2)

@@ -1,4 +1,5 @@
-"""`canbusd bench --bitrate`: moments, byte for byte those of wire_times.py, which knows nothing of the program."""
+"""`canbusd bench --bitrate`: its times are identical to those of wire_times.py, which knows nothing about the
+program."""
 
 from __future__ import annotations
 
@@ -19,7 +20,7 @@ from wire_model import KNOWN_LENGTHS, Frame, bit_counts, random_data
 from wire_times import Ending, Message, Rates, Release, Sent, ending_of, simulated, use, worst_response
 
 LAST = 1_000_000 * MICRO
-# The last nanosecond of the last moment.
+# The last nanosecond of the last possible time.
 LATEST = 10**19 - 1
 
 # Three messages of 216 us with intermission at 500 kbit/s, with periods of 2.5, 3.5 and 3.5 of these: the second instance
@@ -27,7 +28,7 @@ LATEST = 10**19 - 1
 THREE = [Frame.read(text) for text in ("001#55555555555505", "002#55555555555503", "003#5555555555557C")]
 PERIODS = [540 * MICRO, 756 * MICRO, 756 * MICRO]
 
-# Attempts that fail: `--ack`, the verdict, what the line says, and where the flag comes.
+# Failing attempts: `--ack`, the verdict, the text of the line, and the place of the error flag.
 FAILED = [
     ("always", "lastbit", "lastbit can1 -", Ending.LAST_BIT),
     ("always", "global bit", "destroyed - -", Ending.AFTER_DATA),
@@ -44,7 +45,7 @@ def interfaces(count: int) -> list[str]:
 
 
 def lines_of(releases: Iterable[Release]) -> list[str]:
-    """The lines that queue frames at their times, and let the bus run between these."""
+    """Returns the lines that queue frames at their times, and let the bus run between them."""
     lines: list[str] = []
     now = -1
     for release in sorted(releases, key=lambda release: release.time):
@@ -56,7 +57,7 @@ def lines_of(releases: Iterable[Release]) -> list[str]:
 
 
 def expected_lines(sent: Iterable[Sent], nodes: int) -> list[str]:
-    """What a bench says of these frames."""
+    """Returns the output of a bench for these frames."""
     counts = [0] * nodes
     lines = []
     for one in sent:
@@ -68,7 +69,7 @@ def expected_lines(sent: Iterable[Sent], nodes: int) -> list[str]:
 
 
 def check(program: str, releases: Sequence[Release], nodes: int, rates: Rates) -> list[Sent]:
-    """A bench sends these frames as the model does: what the model says of them."""
+    """Checks that a bench sends these frames like the model; returns the model's result."""
     sent = list(simulated(releases, rates))
     options = [*rate_options(rates), "--txqueue", "1024", "--rxqueue", "1"]
     assert bench(program, options, interfaces(nodes), lines_of(releases)) == expected_lines(sent, nodes)
@@ -76,7 +77,7 @@ def check(program: str, releases: Sequence[Release], nodes: int, rates: Rates) -
 
 
 def test_second_instance_responds_last(program: str) -> None:
-    """The moments are those of the example that comes with the program, and the response is the bound."""
+    """the times are those of the example in the repository, and the response equals the bound"""
     rates = Rates(500_000)
     messages = [Message(frame, period) for frame, period in zip(THREE, PERIODS)]
     releases = [r for node, message in enumerate(messages) for r in message.releases(node, 0, 1_080 * MICRO + 1)]
@@ -87,7 +88,7 @@ def test_second_instance_responds_last(program: str) -> None:
 
 
 def test_example(program: str) -> None:
-    """The example is this bus."""
+    """the example is this bus"""
     with open(os.path.join(ROOT, "examples", "response_times.bench"), encoding="utf-8") as file:
         lines = file.read()
     done = subprocess.run(
@@ -103,7 +104,7 @@ def test_example(program: str) -> None:
 
 
 def random_messages(maker: random.Random, rates: Rates) -> list[Message]:
-    """Messages by falling priority that leave the bus some time."""
+    """Returns messages by falling priority that leave the bus some time."""
     while True:
         messages = []
         share = maker.uniform(0.3, 0.97)
@@ -120,9 +121,8 @@ def random_messages(maker: random.Random, rates: Rates) -> list[Message]:
 
 
 def test_responses_of_random_messages(program: str, rng: random.Random, cases: int) -> None:
-    """The bench does what the model does, and no response is worse than the analysis allows; where all messages are
-    released at once, the lowest meets it, since nothing blocks it.
-    """
+    """the bench agrees with the model, and no response is worse than the analysis allows. If all messages are released
+    at once, the lowest reaches the bound, since nothing blocks it"""
     met = 0
     for case in range(max(6, cases // 40)):
         rates = Rates(rng.choice([10_000, 125_000, 250_000, 500_000, 1_000_000]))
@@ -153,7 +153,7 @@ def test_known_lengths(program: str, text: str, bits: int) -> None:
 
 
 def test_known_length_of_an_fd_frame(program: str) -> None:
-    """64 zero bytes: 27 bits, and 651 at the data bit rate."""
+    """64 zero bytes have 27 bits, and 651 at the data bit rate"""
     frame = Frame(0x123, False, bytes(64), is_fd=True, brs=True)
     assert bit_counts(frame) == (27, 651)
     options = ["--bitrate", "1000000", "--dbitrate", "10000000"]
@@ -162,7 +162,7 @@ def test_known_length_of_an_fd_frame(program: str) -> None:
 
 
 def test_frames_without_brs_do_not_switch(program: str) -> None:
-    """64 zero bytes without BRS: all bits go at the nominal bit rate, whatever the one for data is."""
+    """for 64 zero bytes without BRS all bits use the nominal bit rate, whatever the data bit rate is"""
     frame = Frame.read("123##0" + 64 * "00")
     bits, fast = bit_counts(frame)
     assert fast == 0 and bits > 600
@@ -172,7 +172,7 @@ def test_frames_without_brs_do_not_switch(program: str) -> None:
 
 
 def test_random_frames(program: str, rng: random.Random, cases: int) -> None:
-    """One after another on a bus of their own: each begins where the intermission of the one before it ends."""
+    """on a bus of their own, each frame begins at the end of the intermission before"""
     for _ in range(max(4, cases // 100)):
         rates = random_rates(rng)
         frames = [random_frame(rng) for _ in range(100)]
@@ -181,7 +181,7 @@ def test_random_frames(program: str, rng: random.Random, cases: int) -> None:
 
 @pytest.mark.parametrize("ack, verdict, says, ending", FAILED)
 def test_failed_attempts(program: str, rng: random.Random, ack: str, verdict: str, says: str, ending: Ending) -> None:
-    """The frame begins again where the failed attempt ends; its moment is the end of the frame that was tried."""
+    """the frame begins again at the end of the failed attempt, whose time is the end of the frame"""
     for _ in range(10):
         rates, frame = random_rates(rng), random_frame(rng)
         names = ["can0"] if ack == "peers" else ["can0", "can1"]
@@ -196,9 +196,8 @@ def test_failed_attempts(program: str, rng: random.Random, ack: str, verdict: st
 
 
 def test_restart_by_attempts(program: str) -> None:
-    """`--auto-restart 128`: each attempt has one run of 11 recessive bits, an ended one as a failed one, so it is back when
-    another interface has sent 128 frames.
-    """
+    """with `--auto-restart 128` each attempt, failed or not, has one run of 11 recessive bits, so the interface is back
+    after another one has sent 128 frames"""
     rates = Rates(500_000)
     sent = Frame.read("123#")
     other = Frame.read("100#")
@@ -220,7 +219,7 @@ def test_restart_by_attempts(program: str) -> None:
 
 @pytest.mark.parametrize("nominal, restart", [(500_000, 128), (5_000, 1), (83_333, 7), (1_000_000, 1_000)])
 def test_restart_on_an_idle_bus(program: str, nominal: int, restart: int) -> None:
-    """A run makes the attempts that an interface waits for, each of 11 recessive bits, as attempts of the input are."""
+    """a run makes the attempts that an interface waits for, each of 11 recessive bits, like attempts of the input"""
     rates, sent = Rates(nominal), Frame.read("123#")
     over = 32 * rates.attempt_nanos(sent, Ending.AFTER_DATA)
     ends = [moment(over + number * rates.idle_nanos()) for number in range(1, restart + 1)]
@@ -234,9 +233,8 @@ def test_restart_on_an_idle_bus(program: str, nominal: int, restart: int) -> Non
 
 
 def test_moments_of_idle_attempts_do_not_fall(program: str) -> None:
-    """A long FD frame that is destroyed after its data would have ended 19 bits after that attempt is over: the attempt of
-    11 bits that follows has the moment of its end.
-    """
+    """a long FD frame that is destroyed after its data would have ended 19 bits after that attempt is over: the attempt
+    of 11 bits after it has the same time"""
     rates, sent = Rates(1_000_000), Frame(0x123, False, bytes([0x55] * 64), is_fd=True)
     step, length = rates.attempt_nanos(sent, Ending.AFTER_DATA), rates.frame_nanos(sent)
     assert length - step == 19 * 1_000
@@ -253,7 +251,7 @@ def test_moments_of_idle_attempts_do_not_fall(program: str) -> None:
 
 
 def without_moments(output: bytes) -> bytes:
-    """What a bench wrote, without the moments of attempts and of what was received, and without the load."""
+    """Returns the output of a bench, without the times of attempts and received frames, and without the load."""
     lines = re.sub(rb"^((?:tried|idle).*) at [0-9.]+$", rb"\1", output, flags=re.MULTILINE)
     lines = re.sub(rb"< load [0-9]+ [0-9]+ [0-9]+ [0-9]+ >", rb"< load >", lines)
     return re.sub(rb"(< (?:frame|fdframe|fdframex [0-3]|remote|error) [0-9A-F]+) [0-9]+\.[0-9]{6}", rb"\1", lines)
@@ -264,7 +262,7 @@ ATTEMPT = re.compile(r"attempt \S+ (\S+) = (?:idle|tried \d+ \d+ (\S+) (\S+) \S+
 
 
 def attempts_in(record: str) -> Iterator[tuple[str, str | None, str | None, bool]]:
-    """The attempts of a record: verdict, frame, how that ended, and whether an interface waited for its restart."""
+    """Returns the attempts of a record: verdict, frame, outcome, and whether an interface waited for its restart."""
     lines = record.splitlines()
     restarts = lines[1].split(" ")[6:] not in ([], ["0"])
     off = 0
@@ -278,9 +276,8 @@ def attempts_in(record: str) -> Iterator[tuple[str, str | None, str | None, bool
 
 
 def moments_of(text: bytes, record: str, rates: Rates) -> list[str]:
-    """The moments of the attempts of an input, by the frames that its record has and what became of these. One that tries
-    no frame takes 11 bits while an interface waits for its restart, and no moment falls.
-    """
+    """Returns the times of the attempts of an input, from the frames in its record and their outcomes. An attempt
+    without a frame takes 11 bits while an interface waits for its restart, and times never fall."""
     attempts = attempts_in(record)
     moments, now, free, last = [], 0, 0, 0
     for line in text.split(b"\n"):
@@ -302,7 +299,8 @@ def moments_of(text: bytes, record: str, rates: Rates) -> list[str]:
 
 
 def test_random_runs(program: str, request: pytest.FixtureRequest, cases: int, tmp_path: pathlib.Path) -> None:
-    """Bit rates change only moments and the load, and moments are the model's: random runs with faults of every kind."""
+    """bit rates change only times and the load, and the times are the model's, in random runs with faults of every
+    kind"""
     seed = request.config.getoption("seed")
     maker, rng = random_benches.Maker(seed), random.Random(seed)
     compared = 0
@@ -326,7 +324,7 @@ def test_random_runs(program: str, request: pytest.FixtureRequest, cases: int, t
 
 
 def ended(*words: str, text: str = "") -> tuple[int, str, str]:
-    """A command's status, standard output and standard error."""
+    """Returns a command's status, standard output and standard error."""
     done = subprocess.run(words, input=text, capture_output=True, text=True, timeout=60, check=False)
     return done.returncode, done.stdout, done.stderr
 
@@ -378,7 +376,7 @@ def test_bad_lines(program: str, words: str, lines: str, number: int, note: str)
 
 
 def test_moments_are_set(program: str) -> None:
-    """`at` delays the next attempt, and does not make the wire free earlier; what waits for it is not sent before it."""
+    """`at` delays the next attempt, and does not free the wire earlier; waiting frames are not sent before it"""
     lines = [*3 * ["feed 1 < send 123 0 >"], "attempt", "at 0.000010", "attempt", "at 0.000500", "attempt", "attempt"]
     assert bench(program, ["--bitrate", "500000"], ["can0"], lines) == [
         "tried can0 0 done - - at 0.000090",
@@ -389,7 +387,7 @@ def test_moments_are_set(program: str) -> None:
 
 
 def test_frames_have_their_moment(program: str, tmp_path: pathlib.Path) -> None:
-    """Receivers, the log and the record have the end of the frame."""
+    """receivers, the log and the record have the time of the end of the frame"""
     lines = ["session 1", "feed 1 < open can0 >< rawmode >", "session 2", "feed 2 < open can1 >< rawmode >"]
     lines += ["feed 1 < send 123 0 >", "run 1.000000", "drain 2"]
     record, log = tmp_path / "run.rec", tmp_path / "run.log"
@@ -404,7 +402,7 @@ def test_frames_have_their_moment(program: str, tmp_path: pathlib.Path) -> None:
 
 
 def loads(program: str, options: Sequence[str], lines: Iterable[str]) -> list[str]:
-    """What `< load >` says in a session, which each line `load` asks."""
+    """Returns the answers to `< load >` in a session, one for each line `load`."""
     opened = ["session 1", "feed 1 < open can0 >< rawmode >< fdframes 1 >"]
     asked = ["feed 1 < load >" if line == "load" else line for line in lines]
     words = [program, "bench", *options, "can0"]
@@ -414,10 +412,10 @@ def loads(program: str, options: Sequence[str], lines: Iterable[str]) -> list[st
 
 
 def test_the_load_of_a_bench(program: str) -> None:
-    """Each frame has 50 bits, and 3 of intermission follow: 10.6 ms at 5 kbit/s."""
+    """each frame has 50 bits and 3 bits of intermission: 10.6 ms at 5 kbit/s"""
     sent = "feed 1 < send 000 0 >"
     lines = ["load", sent, sent, sent, "run 0.500000", "load", "at 1.000000", "load"]
-    # From 1.9947 to 2.0053: 5.3 ms of each second. An attempt that tries no frame does not count.
+    # From 1.9947 to 2.0053: 5.3 ms of each second. An attempt without a frame does not count.
     lines += [sent, "at 1.994700", "attempt", "load", "attempt", "at 3.500000", "load", "at 4.000000", "load"]
     assert loads(program, ["--bitrate", "5000"], lines) == [
         "0 0 5000 5000",
@@ -430,21 +428,21 @@ def test_the_load_of_a_bench(program: str) -> None:
 
 
 def test_the_load_of_an_fd_frame(program: str) -> None:
-    """64 zero bytes: 27 bits and 3 of intermission at 5 kbit/s, and 651 at 50 kbit/s, are 6 ms and 13.02 ms."""
+    """64 zero bytes take 6 ms for 27 bits and 3 of intermission at 5 kbit/s, and 13.02 ms for 651 bits at 50 kbit/s"""
     frame = Frame(0x123, False, bytes(64), is_fd=True, brs=True)
     lines = [f"feed 1 {send(frame)}", "attempt", "at 1.000000", "load"]
     assert loads(program, ["--bitrate", "5000", "--dbitrate", "50000"], lines) == ["19 19020 5000 50000"]
 
 
 def test_without_bit_rates(program: str) -> None:
-    """Attempts take no time, and their lines say no moment."""
+    """attempts take no time, and their lines have no time"""
     lines = [*2 * ["feed 1 < send 123 0 >"], "at 0.000005", "attempt", "attempt", "attempt"]
     assert bench(program, [], ["can0"], lines) == ["tried can0 0 done - -", "tried can0 1 done - -", "idle"]
     assert loads(program, [], [*lines, "load"]) == ["0 0 0 0"]
 
 
 def recorded(program: str, rates: Rates, maker: random.Random, path: str) -> list[str]:
-    """The lines of the record of a run in which frames of two interfaces fail and are sent."""
+    """Returns the lines of the record of a run in which frames of two interfaces fail and are sent."""
     lines = []
     for _ in range(30):
         lines.append(f"fault next 1 {maker.choice(['lastbit', 'global bit', 'local crc can1', 'good'])}")
@@ -461,9 +459,8 @@ def recorded(program: str, rates: Rates, maker: random.Random, path: str) -> lis
 
 
 def test_replay_of_moments(program: str, rng: random.Random, tmp_path: pathlib.Path) -> None:
-    """A bench whose input never waits has attempts one right after another: the replay finds nothing there, but one that
-    is 2 microseconds too early, or that the bits are too slow.
-    """
+    """a bench whose input never waits has attempts without gaps: the replay reports nothing, except for an attempt that
+    is 2 microseconds too early, or a bit rate that is too low"""
     path = str(tmp_path / "can0.rec")
     for _ in range(3):
         rates = random_rates(rng)

@@ -1,4 +1,5 @@
-"""What the figures are measured by: the plain C programs compile without a warning, and `limit` writes what canbusd does."""
+"""The programs of the benchmarks: the plain C programs compile without a warning, and `limit` writes the same output as
+canbusd."""
 
 import os
 import re
@@ -16,7 +17,7 @@ pytestmark = pytest.mark.skipif(not (shutil.which("cc") and shutil.which("make")
 
 @pytest.fixture(scope="module")
 def built(request):
-    """The folder in which they are built."""
+    """Builds the programs; returns their folder."""
 
     def build(folder):
         shutil.copytree(os.path.join(ROOT, "benches"), folder, dirs_exist_ok=True)
@@ -26,7 +27,7 @@ def built(request):
     return made_once(request, "benches", build)
 
 
-# The C programs have scripts, and no rules of faults and no bit rates.
+# The C programs have scripts, but no fault rules and no bit rates.
 @pytest.mark.parametrize("name", sorted({*examples()} - {"one_goes_bus_off", "response_times"}))
 def test_examples(built, name):
     with open(os.path.join(ROOT, "examples", f"{name}.bench"), encoding="utf-8") as file:
@@ -39,6 +40,6 @@ def test_examples(built, name):
 
 @pytest.mark.slow
 def test_the_server_and_its_client(built):
-    """that the client finds each fault that a server has on purpose, and none in one that is right"""
+    """the client finds each deliberate fault of a server, and none in a correct server"""
     done = subprocess.run([built / "serve_test.py"], capture_output=True, text=True, check=False)
     assert done.returncode == 0, done.stdout + done.stderr

@@ -1,8 +1,8 @@
 """The documents as a newcomer would try them: every link, and the commands of README, guide and manual page exactly
 as written.
 
-They are tried in a clone of the last commit and without the command rt on the PATH. Where CANBUSD names a program,
-the clone has that one in place of its own.
+The commands run in a clone of the last commit, without the command rt on the PATH. If CANBUSD names a program, the
+clone uses this program in place of its own.
 """
 
 import contextlib
@@ -22,12 +22,12 @@ from serving import ROOT, WAIT, come_true
 
 # Commands of README that run until they are ended.
 ENDLESS = ("./canbusd serve", "./canbusd-run candump", "./canbusd dump", "./canbusd watch")
-# Those that need python-can.
+# Commands that need python-can.
 PACKAGE = ("./canbusd dump", "./canbusd watch")
 
 
 class Clone:
-    """A clone of the last commit, and what a newcomer does in it."""
+    """A clone of the last commit, and the actions of a newcomer in it."""
 
     def __init__(self, folder):
         self.folder = str(folder)
@@ -36,13 +36,13 @@ class Clone:
             "HOME": "/nonexistent",
             "LC_ALL": "C.UTF-8",
             "PYTHONDONTWRITEBYTECODE": "1",
-            # A pytest that is run here cleans up after itself only, and not after other runs.
+            # A pytest in the clone removes only its own old folders, and not those of other runs.
             "PYTEST_DEBUG_TEMPROOT": os.path.dirname(self.folder),
         }
         subprocess.run(["git", "clone", "-q", ROOT, self.folder], check=True)
 
     def put_program(self, path):
-        """Makes this the program that the clone takes for the one of its sources."""
+        """Makes the clone use this program as the program of its sources."""
         shutil.copy(path, os.path.join(self.folder, "dist", "canbusd"))
         sources = subprocess.check_output([os.path.join(self.folder, "scripts", "program"), "sources"], text=True)
         with open(path, "rb") as file:
@@ -55,19 +55,19 @@ class Clone:
             return file.read()
 
     def blocks(self, name):
-        """The blocks of code in a document: runs of lines that are indented by four spaces, after an empty line."""
+        """Returns the blocks of code in a document: runs of lines indented by four spaces, after an empty line."""
         return [
             [line[4:] for line in block.splitlines()]
             for block in re.findall(r"(?:(?<=\n\n)|\A)((?:    .*\n)+)", self.read(name))
         ]
 
     def anchors(self, name):
-        """The anchors of a document's headings, as GitHub makes them."""
+        """Returns the anchors of a document's headings, by GitHub's rules."""
         headings = re.findall(r"^#+ (.*)$", self.read(name), re.M)
         return {re.sub(r"[^\w\- ]", "", heading.lower()).replace(" ", "-") for heading in headings}
 
     def shell(self, command, timeout=60):
-        """The status of a command, and what it writes."""
+        """Returns the status and the output of a command."""
         done = subprocess.run(
             ["bash", "-c", command],
             cwd=self.folder,
@@ -86,7 +86,8 @@ class Clone:
 
     @contextlib.contextmanager
     def running(self, command, says=True):
-        """A command that runs until Ctrl-C ends it, and what it has written; where it says something, once it has."""
+        """A command that runs until Ctrl-C ends it, with its output; if the command prints a line, the block starts
+        after that."""
         with tempfile.TemporaryFile("w+") as output:
             child = subprocess.Popen(
                 ["bash", "-c", command],
@@ -111,7 +112,7 @@ class Clone:
 
 
 def needs_port(number):
-    """Skips a test whose commands listen there, where somebody does so already."""
+    """Skips a test whose commands listen on this port, if it is in use."""
     with socket.socket() as one:
         one.setsockopt(socket.SOL_SOCKET, socket.SO_REUSEADDR, 1)
         try:
@@ -130,13 +131,13 @@ def clone(tmp_path):
 
 @pytest.fixture
 def python_can(clone):
-    """What the tests need that use the package with python-can."""
+    """Skips tests that use the package with python-can if that is missing."""
     if not clone.has_python_can():
         pytest.skip("python-can and pytest are not installed")
 
 
 def test_links(clone):
-    """each link of each document leads to a file, and to a heading where it names one"""
+    """each link of each document leads to a file, and to a heading if the link names one"""
     documents = [
         os.path.relpath(path, clone.folder)
         for path in glob.glob(os.path.join(clone.folder, "**", "*.md"), recursive=True)
@@ -152,7 +153,7 @@ def test_links(clone):
 
 
 def test_files_that_are_named(clone):
-    """each path of the repository that a document names is there"""
+    """each path of the repository that a document names exists"""
     for name in [
         "README.md",
         "canbusd.1",
@@ -166,7 +167,7 @@ def test_files_that_are_named(clone):
 
 
 def test_commands_of_readme(clone, fixed_ports):
-    """each of them, in their order; those that run until Ctrl-C together"""
+    """each command works, in order; the commands that run until Ctrl-C run together"""
     needs_port(29536)
     needs_port(8029)
     server = None
@@ -179,7 +180,7 @@ def test_commands_of_readme(clone, fixed_ports):
             if line.startswith("./canbusd-run") and not shutil.which(line.split()[1], path=clone.environment["PATH"]):
                 continue
             if line.startswith(ENDLESS):
-                # A dump writes nothing before there are frames.
+                # A dump writes nothing before frames come.
                 child, _ = endless.enter_context(clone.running(line, says="dump" not in line))
                 server = server or child
             else:
@@ -189,7 +190,8 @@ def test_commands_of_readme(clone, fixed_ports):
 
 
 def test_what_readme_says_that_is_printed(clone):
-    """its first command, which needs nothing, prints the block after it; the second is the script that is there"""
+    """its first command, which needs nothing, prints the block after it; the second block equals the script in the
+    repository"""
     first, printed, second = clone.blocks("README.md")[:3]
     assert clone.shell(f"env -i PATH=/usr/bin:/bin {first[0]}") == (0, "\n".join([*printed, ""]))
     assert len(first) == 1 and os.access(os.path.join(clone.folder, second[0]), os.X_OK)
@@ -199,7 +201,7 @@ def test_what_readme_says_that_is_printed(clone):
 
 
 def test_the_test_of_readme(clone, python_can):
-    """it passes, and fails where its faults are left out"""
+    """the test passes, and fails without its faults"""
     code = re.search(r"^```python\n(.*?)^```$", clone.read("README.md"), re.M | re.S)[1]
     commands = next(block for block in clone.blocks("README.md") if "test_bus_off.py" in block[-1])
     for text, passes in ((code, True), (code.replace('canbusd.bus_off("ecu")', "pass"), False)):
@@ -210,7 +212,7 @@ def test_the_test_of_readme(clone, python_can):
 
 
 def test_examples_of_the_guide(clone):
-    """each command on its examples, and what it writes where that is shown"""
+    """each command works on its examples, and prints the shown output"""
     found = clone.blocks("docs/GUIDE.md")
     tried = set()
     for k, block in enumerate(found):
@@ -233,7 +235,7 @@ def test_examples_of_the_guide(clone):
 
 
 def test_dialogues_of_the_guide(clone):
-    """the blocks with a prompt, except those with a server: what each command writes"""
+    """in the blocks with a prompt, except those with a server, each command prints the shown output"""
     with open(os.path.join(clone.folder, "my.script"), "w", encoding="ascii") as file:
         file.write("0 good\n5 local crc can2\n")
     tried = 0
@@ -248,7 +250,7 @@ def test_dialogues_of_the_guide(clone):
                 with open(path, "w", encoding="ascii") as file:
                     file.write(wanted)
             written = clone.shell(command)[1]
-            # Lines that the bench wrote before it found a fault are not shown.
+            # The block omits lines that the bench wrote before it found a fault.
             assert written == wanted or (
                 wanted.startswith("canbusd: ") and written.endswith(wanted)
             ), f"{command}: {written}"
@@ -257,7 +259,7 @@ def test_dialogues_of_the_guide(clone):
 
 
 def test_commands_of_the_package(clone, python_can, fixed_ports):
-    """those of the guide: a dump prints what a send sends, and a status has the interfaces"""
+    """in the guide's commands, a dump prints the frames of a send, and a status has the interfaces"""
     needs_port(29536)
     dump, send, status = next(
         block for block in clone.blocks("docs/GUIDE.md") if any(" dump " in line for line in block)
@@ -276,7 +278,7 @@ def test_commands_of_the_package(clone, python_can, fixed_ports):
 
 
 def test_examples_of_the_manual_page(clone):
-    """the run and its audit, and that mandoc or man finds nothing wrong with the page"""
+    """the run and its audit work, and mandoc or man finds no fault in the page"""
     page = clone.read("canbusd.1")
     examples = [
         block.replace("\\e", "\\").replace("\\-", "-")
@@ -297,7 +299,7 @@ def test_examples_of_the_manual_page(clone):
 
 
 RAW = "feed 1 < open can0 >< rawmode >\n"
-# For each refusal of the manual page options of the bench, and lines that end with it in a run on can0,can1.
+# For each refusal of the manual page: options of the bench, and lines that end with this refusal in a run on can0,can1.
 REFUSED = {
     "empty message": ("", "feed 1 < >"),
     "message too long": ("", f"feed 1 < echo{' ' * 1020}>"),
@@ -321,12 +323,12 @@ REFUSED = {
     "bad rule": ("", RAW + "feed 1 < fault next 0 good >"),
     "too many rules": ("", RAW + "feed 1 " + "< fault always good >" * 65),
 }
-# A server says the one to a 65th client, and nobody can ask for the other.
+# A server sends the first one to a 65th client, and nobody can provoke the other.
 NOT_TRIED = {"too many sessions", "no memory"}
 
 
 def last_reply(clone, options, lines):
-    """What the last line of a run on can0,can1 writes, where each attempt fails."""
+    """Returns the last line of a run's output on can0,can1, in which each attempt fails."""
     with open(os.path.join(clone.folder, "all.script"), "w", encoding="ascii") as file:
         file.write("".join(f"{number} global bit\n" for number in range(32)))
     with open(os.path.join(clone.folder, "refused.bench"), "w", encoding="ascii") as file:
@@ -337,7 +339,7 @@ def last_reply(clone, options, lines):
 
 
 def test_refusals_of_the_manual_page(clone):
-    """each text that a client can provoke, and no other; how many filters a message has room for"""
+    """the page has each text that a client can provoke, and no other, and the number of filters in a message"""
     page = clone.read("canbusd.1")
     listed = re.findall(r"^\.TP\n\\fB(.*)\\fR$", page[page.index(".SH REFUSALS") : page.index(".SH LIMITS")], re.M)
     assert sorted(listed) == sorted(REFUSED.keys() | NOT_TRIED), f"listed are {listed}"
@@ -352,7 +354,7 @@ def test_refusals_of_the_manual_page(clone):
 
 
 def test_targets_without_the_toolchain(clone):
-    """make install and uninstall with a space in PREFIX; the others say what they lack"""
+    """make install and uninstall work with a space in PREFIX; the other targets report the missing tools"""
     status, written = clone.shell(
         'make install PREFIX="$PWD/a place" && cd / && "$OLDPWD/a place/bin/canbusd" --version && '
         '"$OLDPWD/a place/bin/canbusd" report --help && "$OLDPWD/a place/bin/candump2bench" --help'
@@ -372,7 +374,7 @@ def test_targets_without_the_toolchain(clone):
 
 
 def test_a_changed_source(clone):
-    """./canbusd names the file, and the command that it shows brings the stored program back"""
+    """./canbusd names the file, and the displayed command restores the stored program"""
     source = "crates/can_confine/src/counters.rt"
     with open(os.path.join(clone.folder, source), "a", encoding="utf-8") as file:
         file.write("// a change\n")

@@ -1,4 +1,4 @@
-"""The documents' English, as far as it can be counted: short sentences, subjects that are nouns, and few lines."""
+"""The documents' English, as far as a program can count it: short sentences, subjects that are nouns, and few lines."""
 
 import os
 import re
@@ -10,7 +10,7 @@ from serving import ROOT
 # The most words of a sentence, on average.
 WORDS = {"README.md": 20, "docs/GUIDE.md": 20, "docs/PYTHON.md": 20, "docs/PROVED.md": 24, "docs/SECURITY.md": 20}
 WORDS.update({"docs/RECORD.md": 20, "CONTRIBUTING.md": 20, "canbusd.1": 20, "canbusd-run.1": 20})
-# The same for the documents of those who change canbusd.
+# The same for the documents for developers of canbusd.
 OTHERS = {"docs/ARCHITECTURE.md": 20, "docs/DECISIONS.md": 20, "CHANGELOG.md": 20, "docs/LIBRARIES-CHANGELOG.md": 20}
 LINES = 3400
 # The beginning of a sentence, or of a part of it, whose subject is a clause.
@@ -23,7 +23,8 @@ def read(name):
 
 
 def paragraphs(text):
-    """The paragraphs and items of a document in Markdown or of a manual page, without tables, blocks of code and headings."""
+    """Returns the paragraphs and items of a document in Markdown or of a manual page, without tables, blocks of code
+    and headings."""
     if text.startswith(".TH"):
         text = re.sub(r"(?s:\.nf\n.*?\.fi\n)|^\.\\\W.*\n", "", text, flags=re.M)
         text = re.sub(r"^\.TP\n.*\n|^\.(?:TH|PP|IP|SH|br).*\n", "\n\n", text, flags=re.M)
@@ -36,14 +37,14 @@ def paragraphs(text):
 
 
 def sentences(text):
-    """The sentences of a document; a link counts as its text."""
+    """Returns the sentences of a document; a link counts as its text."""
     text = re.sub(r"!?\[([^]]*)\]\([^)]*\)", r"\1", text).replace("**", "").replace(" ..", "")
     found = [one for part in paragraphs(text) for one in re.split(r"(?<=[.?!])[)\"]? (?=[^a-z])|: (?=`)", part)]
     return [one for one in found if len(one.split()) > 1]
 
 
 def test_counting():
-    """two sentences of a paragraph, one of an item; no heading, code, row of a table or picture's address"""
+    """a paragraph has two sentences, an item one; headings, code, table rows and addresses of pictures don't count"""
     text = "# What is it\n\n[One](x.md) two. Three `a b.c` four:\n\n    code\n\n- What it does, is that.\n\n| a | b |\n"
     assert sentences(text) == ["One two.", "Three `a b.c` four:", "What it does, is that."]
     assert [bool(HEADLESS.search(one)) for one in sentences(text)] == [False, False, True]
@@ -56,7 +57,7 @@ def test_counting():
 
 @pytest.mark.parametrize("name, most", {**WORDS, **OTHERS}.items())
 def test_sentences(name, most):
-    """they are short, and have subjects"""
+    """sentences are short, and have subjects"""
     found = sentences(read(name))
     words = sum(len(one.split()) for one in found) / len(found)
     assert words <= most, f"{words:.1f} words a sentence, such as {max(found, key=len)!r}"
@@ -64,5 +65,5 @@ def test_sentences(name, most):
 
 
 def test_lines():
-    """those of all documents for users are few"""
+    """the documents for users have few lines in all"""
     assert sum(len(read(name).splitlines()) for name in WORDS) <= LINES

@@ -14,13 +14,13 @@ import pytest
 from serving import program
 from test_docs import Clone, needs_port
 
-# In file systems and processes of their own, which are gone with the command.
+# The tests have their own file systems and processes, which end with the command.
 ENTER = 'mount -t proc proc "$0/proc" && mount --rbind /dev "$0/dev" && exec chroot "$0" "$@"'
 
 
 @pytest.fixture(scope="module", params=["bookworm", "trixie"])
 def base(request, tmp_path_factory):
-    """A Debian that nobody has used."""
+    """A Debian system without further packages."""
     if "BASES" in os.environ:
         return os.path.join(os.environ["BASES"], request.param)
     folder = tmp_path_factory.mktemp("base") / request.param
@@ -29,7 +29,8 @@ def base(request, tmp_path_factory):
 
 
 def test_first_day_in_a_clone(tmp_path, fixed_ports):
-    """README's commands and test, the guide's page, commands for a server, with the packages that are there"""
+    """README's commands and test work, and so do the guide's page and commands for a server, with the installed
+    packages"""
     needs_port(29536)
     clone = Clone(tmp_path / "clone")
     clone.put_program(program())

@@ -15,7 +15,7 @@ from serving import ROOT, all_sleep, come_true, join, line_of, turns
 
 
 def run_in(folder, **more):
-    """The status and the output of a test in this copy of the repository, in a minute at most."""
+    """Returns the status and the output of a test in this copy of the repository, within a minute."""
     environment = {name: value for name, value in os.environ.items() if name != "CANBUSD"}
     done = subprocess.run(
         [sys.executable, "-m", "pytest", "-q", os.path.join(folder, "tests", "bench", "test_bench_dialogue.py")],
@@ -29,7 +29,7 @@ def run_in(folder, **more):
 
 
 def test_no_program_of_these_sources(tmp_path):
-    """no test is run, and nothing is built; it says what to do"""
+    """no test is run, nothing is built, and a message shows the remedy"""
     for name in ("tests", "scripts", "python"):
         shutil.copytree(os.path.join(ROOT, name), tmp_path / name)
     shutil.copy(os.path.join(ROOT, "pytest.ini"), tmp_path)
@@ -57,7 +57,7 @@ def test_no_program_of_that_name():
     ],
 )
 def test_no_variable_has_to_be_set(folder, tests):
-    """wherever pytest is called"""
+    """this holds wherever pytest is called"""
     variables = ("CANBUSD", "CANBUSD_RUN", "PYTHONPATH", "PYTEST_ADDOPTS")
     done = subprocess.run(
         [sys.executable, "-m", "pytest", "-q", "-p", "no:cacheprovider", *tests],
@@ -72,7 +72,7 @@ def test_no_variable_has_to_be_set(folder, tests):
 
 
 def test_turns():
-    """they go on until the loop is left, and fail once time is over"""
+    """turns continue until the loop is left, and fail when time is over"""
     begin = time.monotonic()
     for count, _ in enumerate(turns("three")):
         if count == 3:
@@ -101,7 +101,7 @@ def test_join():
 
 
 def test_all_sleep():
-    """one that waits for input sleeps; one that counts does not; one that has ended does"""
+    """a process that waits for input sleeps, a process that counts does not, and an ended process counts as asleep"""
     waiting = subprocess.Popen(["cat"], stdin=subprocess.PIPE, stdout=subprocess.DEVNULL)
     counts = "print('counting', flush=True)\nwhile True: pass"
     counting = subprocess.Popen([sys.executable, "-c", counts], stdout=subprocess.PIPE, text=True)

@@ -1,4 +1,5 @@
-"""scripts/setup: what it installs, and what it says where it may not. Commands in the place of Debian's note their calls."""
+"""scripts/setup: the packages that it installs, and its message without permission. Stand-ins for Debian's commands
+note their calls."""
 
 import os
 import shutil
@@ -9,7 +10,7 @@ from commands import call
 from serving import ROOT
 
 SETUP = os.path.join(ROOT, "scripts", "setup")
-# A package is missing while its file is there.
+# A package is missing while its file exists.
 COMMANDS = {
     "dpkg-query": '[ -e "$HOME/missing/$4" ] || echo installed\n',
     "id": "cat $HOME/user\n",
@@ -20,7 +21,7 @@ case "$*" in *" install "*) for word; do rm -f "$HOME/missing/$word"; done ;; es
 
 
 class Machine:
-    """A folder with the commands of a Debian on which some packages are missing."""
+    """A folder with the commands of a Debian system that lacks some packages."""
 
     def __init__(self, folder, missing, user=0, without=()):
         self.folder = folder

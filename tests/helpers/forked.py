@@ -18,12 +18,12 @@ import traceback
 from canbusd.__main__ import main
 from canbusd._words import COMMANDS, PROGRAM
 
-#: Seconds after which a command is ended, by SIGALRM.
+#: A command is ended by SIGALRM after this many seconds.
 LONGEST = 60
 
 
 def forked(*words, env=None, cwd=None, stdin=subprocess.DEVNULL, preexec_fn=None, longest=LONGEST):
-    """What `canbusd` with these words does: its status, what it writes, and its faults."""
+    """Runs `canbusd` with these words; returns its status, its output, and its errors."""
     if words and words[0] in {*COMMANDS} - {*PROGRAM}:
         importlib.import_module(f"canbusd.commands.{words[0]}")
     (output, written), (errors, said) = os.pipe(), os.pipe()
@@ -49,7 +49,7 @@ def forked(*words, env=None, cwd=None, stdin=subprocess.DEVNULL, preexec_fn=None
 
 
 def read_all(*pipes):
-    """What comes out of these pipes until nobody can write into them, as texts; they are closed then."""
+    """Returns the texts from these pipes after nobody can write into them any more; closes the pipes."""
     found = {pipe: io.BytesIO() for pipe in pipes}
     with selectors.DefaultSelector() as ready:
         for pipe in pipes:
@@ -65,10 +65,10 @@ def read_all(*pipes):
 
 
 def become(begin, words):
-    """Makes this process a command with these words, which begins so, and ends it."""
+    """Turns this process into a command with these words, and ends it."""
     status = 1
     try:
-        # The fork still uses objects that are garbage here.
+        # The fork still uses objects that count as garbage here.
         gc.disable()
         begin()
         main(words)
@@ -85,7 +85,7 @@ def become(begin, words):
 
 
 def take_streams(*streams):
-    """Makes these files, or their numbers, the standard ones."""
+    """Makes these files, or their descriptors, the standard streams."""
     for number, stream in enumerate(streams):
         os.dup2(stream if isinstance(stream, int) else stream.fileno(), number)
     sys.stdin, sys.stdout = open(0, closefd=False), open(1, "w", closefd=False)
@@ -99,7 +99,7 @@ def take_environment(env):
 
 
 def status_of(end):
-    """The status of a process that ends so; a text is written."""
+    """Returns the status of a process that ends with this; a text is written."""
     if isinstance(end.code, str):
         print(end.code, file=sys.stderr)
         return 1

@@ -1,6 +1,5 @@
-"""Where a process of pytest keeps what it compiles of the tests: in the folder that TESTS_BYTECODE names, from which others read
-it, or nowhere. What the tests start does not have this folder.
-"""
+"""The bytecode folder of a pytest process: the folder in TESTS_BYTECODE, from which others read, or none. Programs that
+the tests start do not have this folder."""
 
 import os
 import sys

@@ -1,4 +1,5 @@
-"""What tests need that takes long to make: it is made once in a run of pytest, though several processes try the tests."""
+"""Things that take long to make for tests: they are made once in a run of pytest, even if several processes run the
+tests."""
 
 import fcntl
 import os
@@ -6,16 +7,17 @@ import shutil
 
 
 def made_once(request, name, make):
-    """The folder of this name, which `make` fills for the first test that asks for it. Nobody changes it afterwards."""
+    """Returns the folder with this name, which `make` fills for the first test that asks for it. No test changes it
+    afterwards."""
     shared = request.getfixturevalue("tmp_path_factory").getbasetemp()
     if hasattr(request.config, "workerinput"):
-        # Each process of pytest-xdist has a folder of its own in that of the run.
+        # Each process of pytest-xdist has its own folder in the folder of the run.
         shared = shared.parent
     folder = shared / f"made-{name}"
     with open(f"{folder}.lock", "w", encoding="ascii") as lock:
         fcntl.flock(lock, fcntl.LOCK_EX)
         if not os.path.exists(f"{folder}.done"):
-            # An earlier one that failed has left its part.
+            # An earlier attempt that failed may have left files.
             shutil.rmtree(folder, ignore_errors=True)
             folder.mkdir()
             make(folder)

@@ -12,19 +12,19 @@ import random
 
 SCRIPT = "faults.script"
 
-# Identifiers with equal bits in front: 048C0000 begins with the bits of 123.
+# Identifiers that begin with equal bits: 048C0000 begins with the bits of 123.
 IDENTIFIERS = [
     "123", "124", "122", "0", "7FF", "7ff", "00", "048C0000", "048c0001", "048FFFFF", "04900000", "00000123",
     "1FFFFFFF", "80000123", "848C0000",
 ]  # fmt: skip
-# Words of filters: identifiers with and without the marks of bits 29 to 31, and masks.
+# Words of filters: identifiers with and without bits 29 to 31, and masks.
 FILTER_WORDS = [
     "123", "80000123", "20000123", "A0000123", "40000123", "0", "7FF", "C00007FF", "dfffffff", "80000000",
     "1FFFFFFF", "700", "48C0000", "20000000",
 ]  # fmt: skip
 # Lengths of FD frames.
 FD_LENGTHS = [0, 1, 2, 4, 8, 12, 16, 20, 24, 32, 48, 64]
-# Messages with a fault, or that a mode may not have.
+# Messages with a fault, or that a mode does not allow.
 FAULTY = [
     "", "send", "send 123", "send 123 1", "send 123 0 1", "send 1234 0", "send 800 0", "send A0000123 0",
     "send 123 9", "send 123 x", "send 123 00", "send g 0", "send 123 1 100", "send 123 1 g", "send 123 2 g",
@@ -36,7 +36,7 @@ FAULTY = [
     "sendfd 123 65", "sendfd 123 1 g", "fdframes", "fdframes 2", "fdframes 1 1", "fdframe", "rawmode 1", "open",
     "open can0 can1", "bcmmode", "bcmmode 1 2", "isotpmode", "controlmode", "Send 123 0", "stat",
 ]  # fmt: skip
-# The same of messages that are newer than the programs beside which canbusd is compared.
+# Further messages, which are newer than the programs that are compared with canbusd.
 NEWER = [
     "sendfdx", "sendfdx 1", "sendfdx 4 123 0", "sendfdx 01 123 0", "sendfdx 1 123 9", "sendfdx x 123 0", "fdframex",
     "load 1",
@@ -69,7 +69,7 @@ class Maker:
 
     def __init__(self, seed, has_newer=True):
         self.random = random.Random(seed)
-        # Whether there are flags of FD frames, and the message `load`.
+        # Whether cases use flags of FD frames, and the message `load`.
         self.has_newer = has_newer
         # Whether the sessions of a case send FD frames.
         self.fd = False
@@ -120,7 +120,7 @@ class Maker:
                 words += [option, self.random.choice(["+5", "x", "", "4294967296"])]
         return words
 
-    # The script.
+    # Make the script.
 
     def script(self, names, attempts, mood):
         numbers = [number for number in range(attempts) if self.chance([0.2, 0.6, 0.95][mood])]
@@ -164,7 +164,7 @@ class Maker:
         among = self.random.choices(names, k=self.random.choice([1, 1, 2, 3]))
         return f"local {self.random.choice(['stuff', 'crc', 'form'])} {','.join(among)}"
 
-    # The input.
+    # Make the input.
 
     def text(self, names, attempts):
         started, lines = [], []

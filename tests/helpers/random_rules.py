@@ -9,7 +9,7 @@ import random
 
 SCRIPT, RECORD = "faults.script", "run.rec"
 NAMES = ["can0", "can1", "next", "id", "skip", "x.y_z", "longest-name.15", "0", "from", "good"]
-# Frames: data and remote ones, of 11 and 29 bits, and FD frames.
+# Data and remote frames, of 11 and 29 bits, and FD frames.
 FRAMES = [
     "send 123 0", "send 124 1 11", "send 7FF 0", "sendrtr 123 0", "send 00000123 0", "sendrtr 00000123 2",
     "send 1FFFFFFF 1 22", "sendfd 123 0", "sendfd 00000124 1 33", "sendfdx 1 123 0",
@@ -19,7 +19,7 @@ IDENTIFIERS = [
     "20000123:7FF", "80000123:9FFFFFFF", "A0000123:9fffffff", "40000000:40000000", "C0000123:DFFFFFFF", "0:80000000",
 ]  # fmt: skip
 VERDICTS = ["good", "lastbit", "global bit", "global form"]
-# Words that a rule is changed to have.
+# Words that replace a word of a rule.
 WORDS = [
     "next", "always", "from", "id", "skip", "good", "lastbit", "global", "local", "bit", "crc", "form", "stuff", "0", "1",
     "00000001", "000000001", "99999999", "100000000", "-1", "+1", "1x", "123", "800", "20000000", "123:", ":123",
@@ -39,7 +39,7 @@ class Case:
 
     @property
     def text(self):
-        """The input."""
+        """Returns the input."""
         lines = ["session 1", f"feed 1 < open {self.names[0]} >"]
         for number, name in enumerate(self.names, 2):
             lines += [f"session {number}", f"feed {number} < open {name} >< rawmode >< fdframes 1 >"]
@@ -72,7 +72,7 @@ class RuleMaker:
         return f"local {self.random.choice(['crc', 'stuff', 'form'])} {self.some(names)}"
 
     def rule(self, names):
-        """A rule on a bus of these names."""
+        """Returns a rule on a bus with these names."""
         count = self.random.choice([1, 1, 2, 3, 8, 32, 99999999])
         words = ["always"] if self.chance(0.2) else ["next", f"{count:0{self.random.choice([1, 1, 8])}}"]
         words += ["from", self.some(names)] if self.chance(0.4) else []
@@ -81,7 +81,8 @@ class RuleMaker:
         return " ".join([*words, self.verdict(names)])
 
     def changed(self, rule):
-        """A rule with one word dropped, put in, moved or replaced, or one character changed; it may be one all the same."""
+        """Returns a rule with one word dropped, added, moved or replaced, or one character changed; it may still be a
+        rule."""
         words = rule.split(" ")
         place = self.random.randrange(len(words))
         kind = self.random.randrange(5)
@@ -99,7 +100,7 @@ class RuleMaker:
         return " ".join(words)
 
     def spaced(self, text):
-        """A message with these words, and other blanks between them now and then."""
+        """Returns a message with these words, and sometimes other blanks between them."""
         if self.chance(0.8):
             return f" {text} "
         blanks = [" ", "  ", "\t", " \t "]
@@ -116,7 +117,7 @@ class RuleMaker:
         return Case(names, [*words, f"{','.join(names)}@{SCRIPT}"], script, self.operations(names, attempts))
 
     def script(self, names, attempts):
-        """Rules, and lines by numbers, which may be between them."""
+        """Returns rules, possibly with numbered lines between them."""
         share = self.random.choice([0, 0, 0.1, 0.5])
         lines = [f"{number} {self.verdict(names)}" for number in range(attempts) if self.chance(share)]
         for _ in range(self.random.choice([0, 1, 2, 4, 10, 64])):
@@ -125,7 +126,7 @@ class RuleMaker:
         return "\n".join(lines) + self.random.choice(["", "\n"])
 
     def operations(self, names, attempts):
-        """Attempts, frames that are sent, and rules."""
+        """Returns attempts, frames to send, and rules."""
         found, left = [], attempts
         while left:
             kind = self.random.random()
@@ -142,7 +143,7 @@ class RuleMaker:
         return found
 
     def message(self, names):
-        """A message about rules."""
+        """Returns a message about rules."""
         kind = self.random.random()
         if kind < 0.3:
             return "faults"

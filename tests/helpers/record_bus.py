@@ -1,21 +1,22 @@
-"""What a bus is made of, by the rules of docs/DEFINITIONS.md: frames, sockets, interfaces, and what waits to be sent."""
+"""The parts of a bus, by the rules of docs/DEFINITIONS.md: frames, sockets, interfaces, and waiting frames."""
 
 from collections import deque
 from typing import Optional
 
 # Bits of an identifier word (linux/can.h): an identifier with 29 bits, a remote frame, an inverted filter.
 EXTENDED, REMOTE, INVERTED = 1 << 31, 1 << 30, 1 << 29
-#: The least counts of an interface that is bus off, error passive, and warned.
+#: The lowest counts of an interface that is bus off, error passive, and error warning.
 OFF, PASSIVE, WARNING = 256, 128, 96
 
 
 def severity(count: int) -> int:
-    """How bad a count is: 0 active, 1 warning, 2 passive, 3 off."""
+    """Returns the severity of a count: 0 active, 1 warning, 2 passive, 3 off."""
     return (count >= WARNING) + (count >= PASSIVE) + (count >= OFF)
 
 
 class Frame:
-    """A data, remote or FD frame as a record spells it, with its identifier word and what arbitration compares."""
+    """A data, remote or FD frame in the record's spelling, with its identifier word and the bits that arbitration
+    compares."""
 
     __slots__ = ("text", "is_fd", "word", "bits")
 
@@ -24,39 +25,41 @@ class Frame:
         number, is_extended, is_remote = int(identifier, 16), len(identifier) == 8, payload.startswith("R")
         self.text, self.is_fd = text, payload.startswith("#")
         self.word = number + is_extended * EXTENDED + is_remote * REMOTE
-        # From the first bit of the identifier on: RTR and IDE after 11 bits of it, or SRR, IDE, 18 bits more and RTR. An FD
-        # frame has a dominant bit in the place of RTR.
+        # The bits start with the identifier. After its first 11 bits come RTR and IDE, or SRR, IDE, 18 further bits and
+        # RTR. An FD frame has a dominant bit in the place of RTR.
         self.bits = f"{number:029b}{is_remote:b}" if is_extended else f"{number:011b}{is_remote:b}0"
         if is_extended:
             self.bits = f"{self.bits[:11]}11{self.bits[11:]}"
 
 
 def is_match(word: int, identifier: int, mask: int) -> bool:
-    """Whether an identifier word matches a filter of a raw socket (Documentation/networking/can.rst of Linux)."""
+    """Returns whether an identifier word matches a filter of a raw socket (Documentation/networking/can.rst of
+    Linux)."""
     return (word & mask == identifier & ~INVERTED & mask) is not (identifier & INVERTED != 0)
 
 
 class Socket:
-    """A raw socket: its filters, its options, and what waits in it."""
+    """A raw socket: its filters, its options, and its waiting items."""
 
     def __init__(self, number: int, iface: int, capacity: int) -> None:
         self.number, self.iface, self.capacity = number, iface, capacity
         self.closed_after: Optional[int] = None
         self.filters = [(0, 0)]
-        # By the identifier word: whether a frame passes them.
+        # By the identifier word: whether a frame passes the filters.
         self.passed: dict[int, bool] = {}
         self.options = {"loopback": 1, "recvown": 0, "join": 0, "errmask": 0, "fd": 0}
-        # The words of a reply with each item that waits.
+        # The words of a reply with each waiting item.
         self.queue: deque[list[str]] = deque()
         self.queued = self.dropped = self.taken = 0
 
     @property
     def waiting(self) -> int:
-        """How many items wait."""
+        """The number of waiting items."""
         return len(self.queue)
 
     def passes(self, frame: Frame) -> bool:
-        """Whether a frame passes the filters, and an FD frame the option for such. Without a filter nothing passes."""
+        """Returns whether a frame passes the filters, and an FD frame also the option for FD frames. Without a filter
+        no frame passes."""
         if frame.is_fd and not self.options["fd"]:
             return False
         found = self.passed.get(frame.word)
@@ -67,7 +70,7 @@ class Socket:
 
 
 class Pending:
-    """A frame in a transmit queue, and how it takes part in arbitration: with the number of its interface."""
+    """A frame in a transmit queue, with the number of its interface, and its part in arbitration."""
 
     __slots__ = ("number", "frame", "socket", "loops_back", "contender")
 
@@ -83,34 +86,34 @@ class Interface:
         self.tec = self.rec = 0
         self.waiting: deque[Pending] = deque()
         self.sent = self.done = self.lost = self.refused = 0
-        # The number of attempts since it went bus off; None if it is not bus off.
+        # The number of attempts since the interface went bus off; None if it is not bus off.
         self.attempts_off: Optional[int] = None
         self.is_down = False
 
     def is_off(self) -> bool:
-        """Whether it is bus off."""
+        """Whether the interface is bus off."""
         return self.tec >= OFF and not self.is_down
 
     def is_silent(self) -> bool:
-        """Whether it takes no part."""
+        """Whether the interface takes no part."""
         return self.is_down or self.is_off()
 
     def is_passive(self) -> bool:
-        """Whether it is error passive."""
+        """Whether the interface is error passive."""
         return self.state() == 2
 
     def state(self) -> int:
-        """0 active, 1 warning, 2 passive, 3 off."""
+        """The state of the interface: 0 active, 1 warning, 2 passive, 3 off."""
         return severity(max(self.tec, self.rec))
 
     def restart(self) -> None:
-        """Back from bus off, or up."""
+        """Brings the interface back from bus off, or up."""
         self.tec = self.rec = 0
         self.attempts_off = None
         self.is_down = False
 
     def go_down(self) -> list[Pending]:
-        """Leaves the bus; returns the frames that it loses."""
+        """Leaves the bus; returns the lost frames."""
         lost = list(self.waiting)
         self.lost += len(lost)
         self.waiting.clear()
@@ -119,9 +122,9 @@ class Interface:
         return lost
 
     def receive_error(self) -> None:
-        """Counts a fault that it saw as a receiver."""
+        """Counts a fault that the interface saw as a receiver."""
         self.rec = min(self.rec + 1, 255)
 
     def good_reception(self) -> None:
-        """Counts a frame that it received."""
+        """Counts a frame that the interface received."""
         self.rec = 127 if self.rec > 127 else max(self.rec - 1, 0)

@@ -1,8 +1,8 @@
-"""What `canbusd audit` says of a record, and what `audit --events` writes of it, by the rules of docs/DEFINITIONS.md.
+"""The verdict of `canbusd audit` on a record, and the output of `audit --events`, by the rules of docs/DEFINITIONS.md.
 
 This is the independent model: a second implementation of the rules, to which the tests hold the proved program. The
-program is not asked: each reply in the record is compared with the one that the rules give, so a replay to the end of a
-record is an audit.
+model does not run the program: it compares each reply in the record with the reply by the rules, so a replay to the end
+of a record is an audit.
 """
 
 import collections
@@ -17,11 +17,11 @@ from wire_times import Rates, ending_of
 
 FIRST_LINE = "canbus events 1"
 MOST_SOCKETS = 64
-# The bytes 2 and 3 of a fault's error message frame: by the verdict at the winner, and by the local fault at who is
-# hit.
+# The bytes 2 and 3 of a fault's error message frame: by the verdict at the winner, and by the local fault at the
+# interface that it hits.
 AT_THE_WINNER = {"global-bit": (0x81, 0x0A), "global-form": (0x82, 0x1B), "local": (0x81, 0x00)}
 AT_THE_HIT = {"stuff": (0x04, 0x0A), "crc": (0x00, 0x08), "form": (0x02, 0x1B)}
-# A change of state's byte 1, by the severity of a side: active, warning, passive.
+# Byte 1 of a change of state, by the severity of a side: active, warning, passive.
 TRANSMIT_CODES, RECEIVE_CODES = (0x40, 0x08, 0x20), (0x40, 0x04, 0x10)
 #: The transmit and the receive error count of an interface.
 Counts = tuple[int, int]
@@ -29,36 +29,37 @@ Counts = tuple[int, int]
 
 @dataclass
 class Step:
-    """A tried attempt, a restart or a down; an attempt that restarts interfaces is followed by a step for each."""
+    """An attempt with a frame, a restart or a down; after an attempt that restarts interfaces comes a step for each of
+    them."""
 
-    #: done, lastbit, destroyed, noack, restart or down.
+    #: One of done, lastbit, destroyed, noack, restart and down.
     kind: str
-    #: The number of its entry, and its moment there.
+    #: The number of the step's entry, and its time there.
     entry: int
     moment: str
-    #: The winner, or the one that was restarted or went down.
+    #: The winner, or the interface that was restarted or went down.
     iface: int
-    #: How many attempts were tried before, and how many were idle since the last step.
+    #: The number of earlier attempts with a frame, and the number of idle attempts since the last step.
     attempt: int
     idle: int
-    #: How many frames wait at each interface before it.
+    #: The number of waiting frames at each interface before the step.
     waiting: list[int]
-    #: Of an attempt: the number and the text of its frame, and what the script says.
+    #: For an attempt: the number and the text of its frame, and the verdict of the script.
     number: int = 0
     text: str = ""
     verdict: str = ""
-    #: Those that accept the frame, that go off, and that have a fault of their own.
+    #: The interfaces that accept the frame, that go bus off, and that see a fault only by themselves.
     accepted: Sequence[int] = ()
     off: Sequence[int] = ()
     hit: Sequence[int] = ()
     #: The frame of each interface that takes part.
     contenders: list[tuple[int, Frame]] = field(default_factory=list)
-    #: The counts of each interface after it.
+    #: The counts of each interface after the step.
     counts: Sequence[Counts] = ()
 
 
 class Replay:
-    """The replay of a record: its steps, what its entries brought about, and its bus as it is in the end."""
+    """The replay of a record: its steps, the effects of its entries, and its bus at the end."""
 
     def __init__(self, record: RecordText) -> None:
         self.record = record
@@ -67,25 +68,26 @@ class Replay:
         self.open_sockets: list[list[Socket]] = [[] for _ in self.ifaces]
         self.frames: dict[str, Frame] = {}
         self.steps: list[Step] = []
-        #: By the step the frames that were taken out of a transmit queue, at bus off or down.
+        #: By the step, the frames that bus off or a down removed from a transmit queue.
         self.lost: dict[int, list[Pending]] = {}
-        #: The last steps before sends were refused, by the interface and the reply: `no-buffers`, `bus-off` or `interface-down`.
+        #: The last steps before refused sends, by the interface and the reply: `no-buffers`, `bus-off` or
+        #: `interface-down`.
         self.refused: dict[tuple[int, str], list[int]] = {}
         self.counts: tuple[Counts, ...] = ((0, 0),) * record.ifaces
         self.attempts = self.idle = 0
         # The number of idle attempts since the last step.
         self.idle_since = 0
         self.moment = ""
-        #: What the step that was begun last brought about: the number of a socket, the text of an error message frame, empty
-        #: for the frame of the step, and whether there was room.
+        #: The effects of the last begun step: the number of a socket, the text of an error message frame, empty for the
+        #: frame of the step, and whether there was room.
         self.items: list[tuple[int, str, bool]] = []
-        #: How many entries were replayed; by the number of each what its event brought about.
+        #: The number of replayed entries, and the effects of each event by the number of its entry.
         self.entries = 0
         self.parts: dict[int, list[str]] = {}
         self.go_on()
 
     def go_on(self) -> None:
-        """Replays the entries that the record has more than before: of one that is written while its run goes on."""
+        """Replays the new entries of a record that is written while its run continues."""
         calls = {name[3:]: getattr(self, name) for name in dir(self) if name.startswith("on_")}
         for event, reply in self.record.entries(self.entries):
             if self.entries >= self.record.limit:
@@ -100,11 +102,11 @@ class Replay:
             self.entries += 1
 
     def parts_since(self, counts: Sequence[Counts], lost: Sequence[int]) -> list[str]:
-        """What an entry brought about, before which the interfaces had these counts and had lost so many frames."""
+        """Returns the effects of an entry, from the interfaces' counts and the number of lost frames before it."""
         parts = [f"counts {i} {tec} {rec}" for i, (tec, rec) in enumerate(self.counts) if (tec, rec) != counts[i]]
         parts += [f"lost {i} {iface.lost - lost[i]}" for i, iface in enumerate(self.ifaces) if iface.lost != lost[i]]
         queued, dropped = "", collections.Counter[int]()
-        # Those of a socket stay in their order.
+        # The items of a socket stay in order.
         for socket, error, has_room in sorted(self.items, key=lambda item: item[0]):
             if has_room:
                 queued += f" {socket}:{error}" if error else f" {socket}"
@@ -114,30 +116,30 @@ class Replay:
         return parts + [f"{name}{words}" for name, words in (("put", queued), ("dropped", without_room)) if words]
 
     def lines(self, first: int = 0, rates: Optional[Rates] = None) -> Iterator[str]:
-        """Yields the lines of the events of the entries from this number on, with bit rates also how long attempts took."""
+        """Yields the event lines of the entries from this number on, with bit rates also with the times of attempts."""
         for entry in range(first, self.entries):
             line = self.record.lines[entry]
             took = wire_part(line, rates) if rates is not None else ""
             yield "; ".join([line, *self.parts.get(entry, ()), *filter(None, [took])])
 
     def frame(self, text: str) -> Frame:
-        """The frame of this text, one for all places where it is."""
+        """Returns the frame of this text, the same object each time."""
         if text not in self.frames:
             self.frames[text] = Frame(text)
         return self.frames[text]
 
     def open_socket(self, number: str) -> Optional[Socket]:
-        """The socket of this number, if it is open."""
+        """Returns the socket with this number, if it is open."""
         place = int(number)
         if place < len(self.sockets):
             socket = self.sockets[place]
             return socket if socket.closed_after is None else None
         return None
 
-    # Calls of sockets: each returns the words of its reply.
+    # Socket calls: each returns the words of its reply.
 
     def on_open(self, _entry: int, iface: str, capacity: str) -> list[str]:
-        """A socket is opened."""
+        """Opens a socket."""
         if int(iface) >= len(self.ifaces):
             return ["no-interface"]
         if not 1 <= int(capacity) <= 65536:
@@ -150,7 +152,7 @@ class Replay:
         return ["socket", str(socket.number)]
 
     def on_close(self, _entry: int, number: str) -> list[str]:
-        """A socket is closed; what waits in it stays unread."""
+        """Closes a socket; its waiting items stay unread."""
         socket = self.open_socket(number)
         if socket is None:
             return ["no-socket"]
@@ -161,7 +163,7 @@ class Replay:
         return ["closed", str(unread), str(socket.dropped)]
 
     def on_filters(self, _entry: int, number: str, _count: str, *words: str) -> list[str]:
-        """A socket gets other filters."""
+        """Changes the filters of a socket."""
         socket = self.open_socket(number)
         if socket is None:
             return ["no-socket"]
@@ -171,7 +173,7 @@ class Replay:
         return ["ok"]
 
     def on_option(self, _entry: int, number: str, kind: str, value: str) -> list[str]:
-        """An option of a socket is set."""
+        """Sets an option of a socket."""
         socket = self.open_socket(number)
         if socket is None:
             return ["no-socket"]
@@ -180,7 +182,7 @@ class Replay:
         return ["ok"]
 
     def on_send(self, _entry: int, number: str, text: str) -> list[str]:
-        """A frame goes into a transmit queue."""
+        """Puts a frame into a transmit queue."""
         socket = self.open_socket(number)
         if socket is None:
             return ["no-socket"]
@@ -199,12 +201,12 @@ class Replay:
         return ["number", str(iface.sent - 1)]
 
     def refuse(self, number: int, reply: str) -> list[str]:
-        """Keeps that a send was refused."""
+        """Notes a refused send."""
         self.refused.setdefault((number, reply), []).append(len(self.steps) - 1)
         return [reply]
 
     def on_receive(self, _entry: int, number: str) -> list[str]:
-        """A socket takes its oldest item."""
+        """Hands out the oldest item of a socket."""
         socket = self.open_socket(number)
         if socket is None:
             return ["no-socket"]
@@ -214,7 +216,7 @@ class Replay:
         return socket.queue.popleft()
 
     def on_restart(self, entry: int, number: str, moment: str) -> list[str]:
-        """An interface is restarted by hand."""
+        """Restarts an interface by hand."""
         if int(number) >= len(self.ifaces):
             return ["no-interface"]
         if not self.ifaces[int(number)].is_silent():
@@ -223,7 +225,7 @@ class Replay:
         return ["ok"]
 
     def on_down(self, entry: int, number: str, moment: str) -> list[str]:
-        """An interface goes down, which posts nothing."""
+        """Takes an interface down, which posts nothing."""
         if int(number) >= len(self.ifaces):
             return ["no-interface"]
         step = self.begin("down", entry, moment, int(number))
@@ -244,7 +246,7 @@ class Replay:
     # Attempts.
 
     def on_attempt(self, entry: int, moment: str, verdict: str) -> list[str]:
-        """An attempt, and the restarts in its end."""
+        """Makes an attempt, and the restarts at its end."""
         due = self.count_attempt()
         reply = self.attempt(entry, moment, verdict)
         for number in due:
@@ -252,7 +254,7 @@ class Replay:
         return [*reply, "restarted", spelled_set(due)] if due else reply
 
     def count_attempt(self) -> list[int]:
-        """One attempt more for each interface that is off; those that it restarts in the end."""
+        """Counts an attempt for each interface that is bus off; returns the interfaces that it restarts."""
         due = []
         for number, iface in enumerate(self.ifaces):
             if iface.attempts_off is not None:
@@ -262,13 +264,13 @@ class Replay:
         return due
 
     def attempt(self, entry: int, moment: str, verdict: str) -> list[str]:
-        """The frame that wins arbitration is tried."""
+        """Tries the frame that wins arbitration."""
         contenders = [iface.waiting[0].contender for iface in self.ifaces if iface.waiting and not iface.is_silent()]
         if not contenders:
             self.idle += 1
             self.idle_since += 1
             return ["idle"]
-        # Of equal bits the first, which is the lower number, wins.
+        # If the bits are equal, the interface with the lower number wins.
         winner = min(contenders, key=lambda contender: contender[1].bits)[0]
         sent = self.ifaces[winner].waiting[0]
         step = self.begin("", entry, moment, winner)
@@ -295,7 +297,7 @@ class Replay:
         ]
 
     def judge(self, step: Step, receivers: list[int]) -> None:
-        """What becomes of an attempt, and of the error counters."""
+        """Determines the outcome of an attempt, and changes the error counters."""
         winner, verdict = self.ifaces[step.iface], step.verdict.split(":")
         if len(verdict) > 1:
             named = int(verdict[1], 16)
@@ -320,7 +322,7 @@ class Replay:
         step.off = (step.iface,) if winner.is_off() else ()
 
     def leave_queue(self, step: Step) -> None:
-        """A frame that is done leaves its queue; a winner that goes off loses all of its frames."""
+        """Removes a sent frame from its queue; a winner that goes bus off loses all its frames."""
         winner = self.ifaces[step.iface]
         if step.kind == "done":
             winner.waiting.popleft()
@@ -332,7 +334,7 @@ class Replay:
             winner.attempts_off = 0
 
     def post_frame(self, step: Step, sent: Pending) -> None:
-        """Puts the frame to the sockets where it was accepted, and looped back."""
+        """Posts the frame to the sockets of the interfaces that accepted it, and to the sender's by loopback."""
         looped = [step.iface] if step.kind == "done" and sent.loops_back else []
         reply = ["data", str(step.iface), str(step.number), step.text, step.moment]
         for number in sorted([*step.accepted, *looped]):
@@ -341,7 +343,7 @@ class Replay:
                     self.put(socket, reply)
 
     def post_fault(self, step: Step, number: int, is_receiver: bool) -> None:
-        """An error message frame for the fault that an interface saw in the attempt, where faults are reported."""
+        """Posts an error message frame for the fault that an interface saw in the attempt, if it reports faults."""
         kind, _, local = step.verdict.partition(":")[0].partition("-")
         place = None
         if not self.record.reporting >> number & 1:
@@ -360,7 +362,7 @@ class Replay:
             self.post_error(number, 0x0A0 if nobody else 0x088, (0, 0, *place, 0, 0, 0, 0))
 
     def post_state(self, number: int, before: Counts) -> None:
-        """An error message frame for a change of an interface's state."""
+        """Posts an error message frame for a change of an interface's state."""
         iface = self.ifaces[number]
         if iface.state() == severity(max(before)):
             return
@@ -374,14 +376,15 @@ class Replay:
         self.post_error(number, 0x204, (0, code, 0, 0, 0, 0, iface.tec, iface.rec))
 
     def post_error(self, number: int, error_class: int, data: Sequence[int]) -> None:
-        """Puts an error message frame to the sockets that ask for its class."""
+        """Posts an error message frame to the sockets that ask for its class."""
         text = f"{0x20000000 | error_class:08X}#{bytes(data).hex().upper()}"
         for socket in self.open_sockets[number]:
             if socket.options["errmask"] & error_class:
                 self.put(socket, ["error", str(number), text, self.moment], text)
 
     def put(self, socket: Socket, reply: list[str], error: str = "") -> None:
-        """Puts an item to a socket, which drops it for want of room; `error` is the text of an error message frame."""
+        """Posts an item to a socket, which drops it if there is no room; `error` is the text of an error message
+        frame."""
         has_room = len(socket.queue) < socket.capacity
         self.items.append((socket.number, error, has_room))
         if has_room:
@@ -391,14 +394,14 @@ class Replay:
             socket.dropped += 1
 
     def begin(self, kind: str, entry: int, moment: str, iface: int) -> Step:
-        """A new step."""
+        """Begins a new step."""
         self.moment = moment
         waiting = [len(one.waiting) for one in self.ifaces]
         idle, self.idle_since = self.idle_since, 0
         return Step(kind, entry, moment, iface, self.attempts, idle, waiting)
 
     def count_errors(self) -> bool:
-        """Takes the error counts of the interfaces; whether one has changed."""
+        """Notes the error counts of the interfaces; returns whether one has changed."""
         counts = tuple((iface.tec, iface.rec) for iface in self.ifaces)
         if counts == self.counts:
             return False
@@ -406,24 +409,24 @@ class Replay:
         return True
 
     def end(self, step: Step) -> None:
-        """Keeps a step that has happened."""
+        """Adds a finished step."""
         step.counts = self.counts
         self.steps.append(step)
         self.attempts += step.kind not in ("restart", "down")
 
 
 def wrong(entry: int, message: str) -> BadRecord:
-    """The fault of the entry of this number, from 0."""
+    """Returns the fault of the entry with this number, from 0."""
     return BadRecord(f"entry {entry}: {message}", f"entry {entry}: wrong")
 
 
 def spelled_set(numbers: Sequence[int]) -> str:
-    """A set of interfaces as a record spells it."""
+    """Returns a set of interfaces in the record's spelling."""
     return f"{sum(1 << number for number in numbers):04X}"
 
 
 def wire_part(line: str, rates: Rates) -> str:
-    """How long the attempt of an entry's line took the wire and how many bits its frame has; nothing without a frame."""
+    """Returns the time of a line's attempt on the wire, and the bits of its frame; the empty text without a frame."""
     words = line.split(" ")
     if words[0] != "attempt" or words[4] != "tried":
         return ""
@@ -434,7 +437,7 @@ def wire_part(line: str, rates: Rates) -> str:
 
 
 def events_of(data: bytes, cut: bool = False, rates: Optional[Rates] = None) -> str:
-    """Returns the events of the record that these bytes spell; BadRecord where it is not legal."""
+    """Returns the events of the record in these bytes; raises BadRecord if it is not legal."""
     record = parse_text(data, cut)
     replay = Replay(record)
     last = f"{'cut' if record.is_cut else 'end'} {replay.entries}"
@@ -443,7 +446,7 @@ def events_of(data: bytes, cut: bool = False, rates: Optional[Rates] = None) -> 
 
 
 def audit(data: bytes, cut: bool = False) -> str:
-    """Returns what `canbusd audit`, or with `cut` `canbusd audit --cut`, has to say first of these bytes."""
+    """Returns the verdict of `canbusd audit`, or of `canbusd audit --cut` with `cut`, on these bytes."""
     try:
         record = parse_text(data, cut)
         return f"ok {Replay(record).entries} entries{', then cut off' if record.is_cut else ''}"

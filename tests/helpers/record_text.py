@@ -1,4 +1,4 @@
-"""The text of a record, as docs/RECORD.md describes it: its grammar, and the bus and the entries that it spells."""
+"""The text of a record, as docs/RECORD.md describes it: its grammar, and the bus and the entries in the text."""
 
 import dataclasses
 import re
@@ -8,7 +8,7 @@ from typing import Optional
 
 
 def up_to(most: int) -> str:
-    """Returns a regular expression of the numbers from 0 to `most`, at least 10, without leading zeros."""
+    """Returns a regular expression for the numbers from 0 to `most`, at least 10, without leading zeros."""
     digits = str(most)
     ways = [digits, "0", f"[1-9][0-9]{{0,{len(digits) - 2}}}"]
     for place, digit in enumerate(digits):
@@ -21,14 +21,14 @@ def up_to(most: int) -> str:
 IFACE, SOCKET, COUNT = up_to(15), up_to((1 << 32) - 1), up_to((1 << 64) - 1)
 SET = "[0-9A-F]{4}"
 WORD = "[0-9A-F]{8}"
-# A word without bit 29.
+# Matches a word without bit 29.
 MASK = "[014589CD][0-9A-F]{7}"
 MOMENT = r"(?:0|[1-9][0-9]{0,9})\.[0-9]{6}"
 VERDICT = f"(?:good|global-bit|global-form|lastbit|local-(?:stuff|crc|form):{SET})"
 REFUSALS = ["no-interface", "bad-capacity", "too-many-sockets", "no-socket", "bus-off", "no-buffers", "not-bus-off"]
 MOST_FILTERS = 512
 
-# Data and remote frames; FD frames without flags, and with or without; error message frames.
+# Match data and remote frames; FD frames without flags, and with or without; and error message frames.
 IDENTIFIER = "(?:[0-7][0-9A-F]{2}|[01][0-9A-F]{7})"
 FRAME = f"{IDENTIFIER}#(?:(?:[0-9A-F]{{2}}){{0,8}}|R[1-8]?)"
 FD_BYTES = "|".join(f"[0-9A-F]{{{2 * length}}}" for length in (*range(9), 12, 16, 20, 24, 32, 48, 64))
@@ -40,23 +40,23 @@ NUMBER = "(0|[1-9][0-9]*)"
 BUS = f"bus {NUMBER} (always|peers) ({SET}) {NUMBER} {NUMBER}"
 
 
-# About how many bytes are read at once.
+# The approximate number of bytes in a read.
 BLOCK = 1 << 20
-# The most entries of a record that is written at the end of its run, and of one that is written while it runs.
+# The most entries of a record that is written at the end of its run, and of a record that is written during its run.
 MOST_ENTRIES, MOST_LIVE_ENTRIES = 1 << 24, (1 << 32) - 2
 
 
 class Version:
-    """A version of the text: the line of its bus and its limits, and for each kind of event its words and its replies."""
+    """A version of the text: the line of its bus and its limits, and the words and replies of each kind of event."""
 
     def __init__(
         self, bus: str, fd: Optional[str] = None, limits: range = range(1, MOST_ENTRIES + 1), has_downs: bool = False
     ) -> None:
-        # FD frames as it spells them, if it has any; whether interfaces go down.
+        # The spelling of FD frames, if the version has any; and whether interfaces can go down.
         self.bus, self.fd, self.limits, self.has_downs = re.compile(bus), fd, limits, has_downs
 
     def entries(self, restarts: bool) -> dict[str, re.Pattern[str]]:
-        """Returns the entries' regular expressions, on a bus that restarts interfaces or one that does not."""
+        """Returns the regular expressions of entries, for a bus that restarts interfaces or a bus that does not."""
         frame = f"(?:{FRAME}|{self.fd})" if self.fd else FRAME
         options = "loopback|recvown|join|fd" if self.fd else "loopback|recvown|join"
         restarted = f"(?: restarted (?!0000){SET})?" if restarts else ""
@@ -80,14 +80,14 @@ class Version:
         return {kind: re.compile(line) for kind, line in spelled.items()}
 
 
-# From version 2 on a number after the limit says after how many attempts interfaces are restarted.
+# From version 2 on, a number after the limit is the number of attempts after which interfaces restart.
 VERSION_3 = Version(f"{BUS} {NUMBER}", FD_FRAME)
 # Version 5 has flags of FD frames.
 VERSION_5 = Version(f"{BUS} {NUMBER}", FLAGGED_FRAME)
-# Version 6 has interfaces that go down, too.
+# Version 6 also has interfaces that go down.
 VERSION_6 = Version(f"{BUS} {NUMBER}", FLAGGED_FRAME, has_downs=True)
 LONG_LIMITS = range(MOST_ENTRIES + 1, MOST_LIVE_ENTRIES + 1)
-# By the first line. Version 4 is the text of the record of a long run, and of no other.
+# The versions by first line. Version 4 is only for the record of a long run, and a long run has no other version.
 VERSIONS = {
     "canbus record 1": Version(BUS),
     "canbus record 2": Version(f"{BUS} ([1-9][0-9]*)"),
@@ -99,7 +99,8 @@ VERSIONS = {
 
 
 class BadRecord(ValueError):
-    """Why bytes are not the record of a run; `verdict` is what `canbusd audit` says of it, such as `line 5: bad line`."""
+    """The reason why bytes are not the record of a run; `verdict` is the verdict of `canbusd audit`, such as `line 5:
+    bad line`."""
 
     def __init__(self, message: str, verdict: str) -> None:
         super().__init__(message)
@@ -107,13 +108,13 @@ class BadRecord(ValueError):
 
 
 def bad_line(number: int, message: str) -> BadRecord:
-    """The fault of the line of this number, from 1."""
+    """Returns the fault of the line with this number, from 1."""
     return BadRecord(f"line {number}: {message}", f"line {number}: bad line")
 
 
 @dataclass(frozen=True)
 class RecordText:
-    """What the text of a record spells: the configuration of its bus, and the lines of its entries."""
+    """The content of a record's text: the configuration of its bus, and the lines of its entries."""
 
     ifaces: int
     #: Whether a silent node acknowledges each frame.
@@ -122,26 +123,26 @@ class RecordText:
     reporting: int
     tx_capacity: int
     limit: int
-    #: In which attempt after bus off an interface is restarted; 0 if none is.
+    #: The number of the attempt after bus off that restarts an interface; 0 for no restart.
     auto_restart: int
     lines: list[str]
     #: Whether the text ends before its line `end`.
     is_cut: bool
 
     def entries(self, first: int = 0) -> Iterator[tuple[list[str], list[str]]]:
-        """Yields each entry from this number on: the words of its event, and those of its reply."""
+        """Yields each entry from this number on: the words of its event, and the words of its reply."""
         for number in range(first, len(self.lines)):
             event, reply = self.lines[number].split(" = ")
             yield event.split(" "), reply.split(" ")
 
 
 def parse_text(data: bytes, cut: bool = False) -> RecordText:
-    """Returns what these bytes spell; BadRecord at the first line that is none of a record.
+    """Returns the content of these bytes; raises BadRecord at the first line that no record has.
 
-    With `cut` the text may end before its line `end`; what follows its last LF is not looked at then.
+    With `cut` the text may end before its line `end`; text after its last LF is then ignored.
     """
     reader, end = TextReader(), data.rfind(b"\n") + 1
-    # A byte that is none of a text is reported before the lines are read.
+    # A byte that no text can have is reported before the lines are read.
     for block in blocks_of(data, end):
         decoded(block)
     if not cut:
@@ -152,7 +153,7 @@ def parse_text(data: bytes, cut: bool = False) -> RecordText:
 
 
 def blocks_of(data: bytes, end: int) -> Iterator[bytes]:
-    """Yields the whole lines of these bytes, which end there, many at a time."""
+    """Yields the complete lines of these bytes, many at a time."""
     first = 0
     while first < end:
         after = data.find(b"\n", min(first + BLOCK, end - 1)) + 1
@@ -161,7 +162,7 @@ def blocks_of(data: bytes, end: int) -> Iterator[bytes]:
 
 
 def decoded(data: bytes) -> str:
-    """The text of these bytes."""
+    """Returns the text of these bytes."""
     try:
         return data.decode()
     except UnicodeDecodeError:
@@ -169,7 +170,7 @@ def decoded(data: bytes) -> str:
 
 
 class TextReader:
-    """Reads the lines of a record as they come, all at once or while they are written."""
+    """Reads the lines of a record as they come, all at once or during the run."""
 
     def __init__(self) -> None:
         #: The lines of the entries that were read.
@@ -182,11 +183,11 @@ class TextReader:
 
     @property
     def bus(self) -> Optional[RecordText]:
-        """The bus, once its line was read; it has the list `lines`, which grows."""
+        """Returns the bus after its line was read; it has the list `lines`, which grows."""
         return self._bus
 
     def take(self, lines: Iterable[str]) -> None:
-        """Reads these lines, which are whole and without their LF; BadRecord at the first that is wrong."""
+        """Takes these complete lines without LF; raises BadRecord at the first wrong line."""
         for line in lines:
             if self._bus is not None:
                 self._take_entry(line)
@@ -211,7 +212,7 @@ class TextReader:
             self.is_ended = True
 
     def finish(self, is_torn: bool = False, cut: bool = False) -> RecordText:
-        """Returns what the lines spell; `is_torn` says whether bytes follow that end no line.
+        """Returns the content of the lines; `is_torn` says whether bytes of an incomplete line follow.
 
         With `cut` the line `end` may be missing.
         """
@@ -239,7 +240,7 @@ class TextReader:
 
 
 def no_version() -> BadRecord:
-    """The fault of a text whose first line is none of a record."""
+    """Returns the fault of a text whose first line no record has."""
     first = " or ".join(f"`{line}`" for line in VERSIONS)
     return BadRecord(f"no record: its first line is not {first}", "bad version")
 
@@ -252,28 +253,28 @@ def version_of(line: str) -> Version:
 
 
 def needs_fd(line: str) -> bool:
-    """Whether neither version 1 nor version 2 has such a line."""
+    """Returns whether neither version 1 nor version 2 has such a line."""
     return "##" in line or line.startswith("option ") and line.split(" ")[2] == "fd"
 
 
 def has_flags(line: str) -> bool:
-    """Whether the line has an FD frame with a flag."""
+    """Returns whether the line has an FD frame with a flag."""
     return re.search("##[1-3]", line) is not None
 
 
 def has_down(line: str) -> bool:
-    """Whether the line takes an interface down, or says that one is down."""
+    """Returns whether the line takes an interface down, or reports a down interface."""
     return line.startswith("down ") or line.endswith(" = interface-down")
 
 
 def has_its_filters(line: str) -> bool:
-    """Whether a line `filters` has as many filters as it says."""
+    """Returns whether a line `filters` has as many filters as its number says."""
     words = line.split(" = ")[0].split(" ")
     return len(words) == 3 + 2 * int(words[2])
 
 
 def bus_of(version: Version, line: str, entries: list[str]) -> RecordText:
-    """Returns the bus that this line spells, with this list of entries."""
+    """Returns the bus in this line, with this list of entries."""
     words = version.bus.fullmatch(line)
     if not words:
         raise bad_line(2, f"no bus: {line[:60]!a}")

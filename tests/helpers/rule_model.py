@@ -1,7 +1,7 @@
-"""Which rule gave each attempt of a record its verdict, from the faults of its run, as docs/RECORD.md has it.
+"""Finds the rule that gave each attempt of a record its verdict, from the faults of its run, by docs/RECORD.md.
 
-This is an independent model, to which the tests hold the program: it takes a rule apart by one regular expression, and knows
-nothing of the package and its rules.
+This is an independent model, to which the tests hold the program: it takes a rule apart by one regular expression, and
+knows nothing of the package and its rules.
 """
 
 import re
@@ -15,12 +15,12 @@ RULE = re.compile(
 )
 LATER = re.compile("at ([0-9]{1,10}) (.*)")
 NUMBERED = re.compile("([0-9]{1,8}) (.*)")
-# Marks of an identifier word in linux/can.h.
+# The flags of an identifier word in linux/can.h.
 EXTENDED, REMOTE, INVERTED = 1 << 31, 1 << 30, 1 << 29
 
 
 class Rule:
-    """A rule that was taken: its number, and what it still skips and takes."""
+    """A rule that the bus took: its number, and the numbers of attempts that it still skips and takes."""
 
     def __init__(self, number: int, text: str, names: Sequence[str]) -> None:
         found = RULE.fullmatch(text)
@@ -33,7 +33,7 @@ class Rule:
         self.left = int(found["count"]) if found["count"] else None
 
     def matches(self, winner: int, word: int) -> bool:
-        """Whether an attempt of this winner, with a frame of this identifier word, is one that the rule is about."""
+        """Returns whether the rule matches an attempt of this winner, with a frame of this identifier word."""
         if self.senders is not None and winner not in self.senders:
             return False
         is_equal = word & self.mask == self.identifier & self.mask
@@ -41,19 +41,19 @@ class Rule:
 
 
 class RunFaults:
-    """The faults of a run: the lines of its script by the numbers of attempts, its rules, and what came while it ran."""
+    """The faults of a run: the numbered lines of its script, its rules, and the changes during the run."""
 
     def __init__(self, text: str, names: Sequence[str]) -> None:
         self.names, self.taken = names, 0
-        #: The rules that are left.
+        #: The remaining rules.
         self.rules: list[Rule] = []
-        #: The verdicts of the lines by the numbers of attempts.
+        #: The verdicts of the numbered lines.
         self.lines: dict[int, str] = {}
-        #: What was given or ended before the attempt of a number, in its order.
+        #: The rules given or ended before an attempt, by its number, in order.
         self.later: list[tuple[int, str]] = []
-        #: How many attempts tried a frame.
+        #: The number of attempts with a frame.
         self.tried = 0
-        #: The lines of the rules that were taken, and of where all were ended, since they were last looked at.
+        #: The event lines of taken rules and of their ends, since the last call of `tell`.
         self.told: list[str] = []
         for line in filter(None, text.split("\n")):
             later, numbered = LATER.fullmatch(line), NUMBERED.fullmatch(line)
@@ -65,19 +65,19 @@ class RunFaults:
                 self.take(line)
 
     def take(self, rule: str) -> None:
-        """Takes one rule more, if there is a place for it."""
+        """Takes a further rule, if there is room for it."""
         if len(self.rules) < MOST_RULES:
             self.taken += 1
             self.rules.append(Rule(self.taken, rule, self.names))
             self.told.append(self.rules[-1].line)
 
     def end(self) -> None:
-        """Ends all rules that are left; lines by numbers stay."""
+        """Ends all remaining rules; numbered lines stay."""
         self.rules.clear()
         self.told.append("nofaults")
 
     def catch_up(self, number: int) -> None:
-        """Gives and ends rules as it was done before the attempt of this number."""
+        """Gives and ends rules as the run did before the attempt with this number."""
         while self.later and self.later[0][0] <= number:
             _, change = self.later.pop(0)
             if change == "nofaults":
@@ -86,12 +86,12 @@ class RunFaults:
                 self.take(change)
 
     def tell(self) -> list[str]:
-        """The lines of rules since the last call."""
+        """Returns the lines of rules since the last call."""
         told, self.told = self.told, []
         return told
 
     def part(self, line: str) -> str:
-        """The last part of the line of the next entry, which this is in the record; empty where it has none."""
+        """Returns the last part of the next entry's line, for this line of the record; empty if there is none."""
         words = line.split(" ")
         if words[0] != "attempt" or words[4] != "tried":
             return ""
@@ -99,9 +99,9 @@ class RunFaults:
         return f"rule {rule}" if rule and verdict == words[2] else ""
 
     def decide(self, winner: int, word: int) -> "tuple[str, int | None]":
-        """The verdict of the next attempt that tries a frame, and the number of the rule that gives it, if one does.
+        """Returns the verdict of the next attempt with a frame, and the number of the deciding rule, if there is one.
 
-        Rules before that one that match skip one attempt more.
+        Earlier rules that match skip a further attempt.
         """
         self.catch_up(self.tried)
         line = self.lines.get(self.tried)
@@ -123,7 +123,8 @@ class RunFaults:
 
 
 def words_of(identifier: "str | None", mask: "str | None") -> tuple[int, int]:
-    """The identifier word and the mask of a rule; a frame's own mark for a remote frame counts only where a mask asks for it."""
+    """Returns the identifier word and the mask of a rule; a frame's flag for a remote frame counts only if a mask
+    includes it."""
     if identifier is None:
         return 0, 0
     number = int(identifier, 16)
@@ -133,14 +134,14 @@ def words_of(identifier: "str | None", mask: "str | None") -> tuple[int, int]:
 
 
 def word_of(frame: str) -> int:
-    """The identifier word of a frame as a record has it."""
+    """Returns the identifier word of a frame in the record's spelling."""
     identifier, _, data = frame.partition("#")
     word = int(identifier, 16) | (EXTENDED if len(identifier) == 8 else 0)
     return word | (REMOTE if data.startswith("R") else 0)
 
 
 def recorded(verdict: str, names: Sequence[str]) -> str:
-    """A verdict of a script as a record has it."""
+    """Returns a verdict of a script in the record's spelling."""
     words = verdict.split(" ")
     if words[0] != "local":
         return "-".join(words)
@@ -149,7 +150,8 @@ def recorded(verdict: str, names: Sequence[str]) -> str:
 
 
 def written(found: "re.Match[str]", names: Sequence[str]) -> str:
-    """A rule in the words of the program: names by their places, and an identifier with its mask in 8 digits each."""
+    """Returns a rule in the words of the program: interfaces by number, and an identifier with its mask in 8 digits
+    each."""
     words = [f"next {int(found['count'])}" if found["count"] else "always"]
     if found["senders"]:
         words.append(f"from {in_places(found['senders'], names)}")
@@ -168,18 +170,18 @@ def written(found: "re.Match[str]", names: Sequence[str]) -> str:
 
 
 def in_places(given: str, names: Sequence[str]) -> str:
-    """These names in the order of the interfaces, each once."""
+    """Returns these names in the order of the interfaces, each once."""
     return ",".join(name for name in names if name in given.split(","))
 
 
 def with_rules(events: str, faults: RunFaults) -> str:
-    """The text of a record's events with the rules that were taken, and those that decided."""
+    """Returns the text of a record's events with the rules that the bus took, and the deciding rules."""
     return "".join(f"{line}\n" for line in ruled_lines(events.splitlines(), faults))
 
 
 def ruled_lines(lines: Sequence[str], faults: RunFaults) -> Iterator[str]:
-    """Yields the lines with their last part, and those of rules: of the script after the second line, of a change before the
-    attempt that it came before, and all that are left before the last line."""
+    """Yields the lines with their last part, and the lines of rules: the script's after the second line, those of a
+    change before its attempt, and the remaining ones before the last line."""
     for place, line in enumerate(lines):
         if line.startswith(("end ", "cut ")):
             faults.catch_up(1 << 64)
@@ -190,5 +192,5 @@ def ruled_lines(lines: Sequence[str], faults: RunFaults) -> Iterator[str]:
 
 
 def rules_of(events):
-    """The numbers of the rules that decided, of each attempt that tried a frame; the empty text where there is none."""
+    """Returns the number of the deciding rule for each attempt with a frame; the empty text if there is none."""
     return [line.partition("; rule ")[2] for line in events.splitlines() if " = tried " in line]

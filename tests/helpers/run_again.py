@@ -1,4 +1,4 @@
-"""A program that is run for many inputs: it is started once, by run_again.c, and each run is a fork of that."""
+"""A program that runs for many inputs: run_again.c starts it once, and each run is a fork of that process."""
 
 import os
 import select
@@ -8,7 +8,7 @@ import subprocess
 from serving import ROOT, WAIT
 
 SOURCE = os.path.join(ROOT, "tests", "helpers", "run_again.c")
-#: The statuses of its runs.
+#: The statuses of the program's runs.
 STATUS = struct.Struct("=i")
 
 
@@ -19,13 +19,13 @@ def compile_library(folder):
 
 
 class Again:
-    """The program with these words, and what it writes of each input that it reads from /dev/stdin."""
+    """The program with these words; it reads each input from /dev/stdin."""
 
     def __init__(self, library, *words):
         self.files = [os.memfd_create(name, os.MFD_CLOEXEC) for name in ("input", "output", "errors")]
         asked, self.ask = os.pipe()
         self.told, tell = os.pipe()
-        # Each run has new ends of its files.
+        # Each run has new pipes.
         streams = [open(f"/proc/self/fd/{file}", mode) for file, mode in zip(self.files, ("rb", "ab", "ab"))]
         env = {**os.environ, "LD_PRELOAD": str(library), "RUN_AGAIN": f"{asked} {tell}"}
         stdin, stdout, stderr = streams
@@ -38,7 +38,7 @@ class Again:
         os.close(tell)
 
     def run(self, data):
-        """The status, the output and the errors of a run with this input."""
+        """Returns the status, the output and the errors of a run with this input."""
         for file in self.files:
             os.ftruncate(file, 0)
         os.pwrite(self.files[0], data, 0)

@@ -1,4 +1,4 @@
-"""canbusd-run for tests: the command, C programs that are compiled for a test, and what is left after a run."""
+"""canbusd-run for tests: the command, C programs that are compiled for a test, and the leftovers of a run."""
 
 import contextlib
 import functools
@@ -15,21 +15,21 @@ SOURCES = os.path.join(ROOT, "canrun")
 PROGRAMS = os.path.join(ROOT, "canrun", "tests", "run_c")
 FLAGS = ["-std=gnu11", "-O1", "-Wall", "-Wextra", "-Werror", "-pthread"]
 SANITIZERS = ["-g", "-fsanitize=address,undefined", "-fno-sanitize-recover=all"]
-#: Options of a server that is as fast as the test.
+#: The options of a server that is as fast as the test.
 FAST = ("--pace", "0", "--txqueue", "1024", "--rxqueue", "65536", "--write", "16384")
 
 needs_gcc = pytest.mark.skipif(not shutil.which("gcc"), reason="no gcc: apt-get install gcc")
 
 
 def needs(*tools):
-    """Skips a test where one of these programs is not installed."""
+    """Skips a test if one of these programs is not installed."""
     missing = [tool for tool in tools if not shutil.which(tool)]
     return pytest.mark.skipif(bool(missing), reason=f"no {', '.join(missing)}: apt-get install can-utils")
 
 
 @functools.lru_cache(maxsize=None)
 def command():
-    """The path of canbusd-run: CANBUSD_RUN, else that of the sources at hand, which may have to be built."""
+    """Returns the path of canbusd-run: CANBUSD_RUN, else the program of these sources, which may have to be built."""
     if "CANBUSD_RUN" in os.environ:
         return os.path.abspath(os.environ["CANBUSD_RUN"])
     words = [os.path.join(ROOT, "scripts", "run-program"), "choose"]
@@ -41,7 +41,7 @@ def command():
 
 @functools.lru_cache(maxsize=None)
 def sanitized_command():
-    """The path of canbusd-run with sanitizers, which is built for the tests."""
+    """Returns the path of canbusd-run with sanitizers, which is built for the tests."""
     with one_at_a_time("sanitized"):
         subprocess.run(["make", "-s", "-C", SOURCES, "sanitized"], check=True)
     return os.path.join(SOURCES, "out", "sanitized", "canbusd-run")
@@ -55,7 +55,7 @@ def compiled(name, folder, *flags):
 
 
 def environment(server, **more):
-    """The environment of a program for this server, by which canbusd-run finds it."""
+    """Returns the environment of a program for this server, with which canbusd-run finds the server."""
     address = server.address
     if address.startswith("."):
         address = os.path.join(server.folder, address)
@@ -63,14 +63,14 @@ def environment(server, **more):
 
 
 def run(server, *words, options=(), patience=60, runner=None, **how):
-    """Runs a program by canbusd-run, and returns how it ended and what it wrote."""
+    """Runs a program by canbusd-run, and returns its result and its output."""
     how.setdefault("env", environment(server))
     line = [runner or command(), *options, "--", *words]
     return subprocess.run(line, capture_output=True, text=True, timeout=patience, check=False, **how)
 
 
 def passes(server, *words, **how):
-    """Runs a program that has to end with status 0; what it wrote to standard output."""
+    """Runs a program that must end with status 0; returns its standard output."""
     ended = run(server, *words, **how)
     assert ended.returncode == 0, f"status {ended.returncode}: {ended.stdout}{ended.stderr}"
     return ended.stdout
@@ -78,7 +78,7 @@ def passes(server, *words, **how):
 
 @contextlib.contextmanager
 def started(server, *words, options=(), **how):
-    """A program that runs by canbusd-run, in a group of its own, which is gone in the end."""
+    """A program that runs by canbusd-run, in its own process group, which is ended with the block."""
     how.setdefault("env", environment(server))
     how = {"stdout": subprocess.PIPE, "stderr": subprocess.PIPE, "text": True, "start_new_session": True, **how}
     with subprocess.Popen([command(), *options, "--", *words], **how) as child:
@@ -90,7 +90,7 @@ def started(server, *words, options=(), **how):
 
 
 def processes_of(address, name):
-    """The numbers of the processes with this name for a server at this address that have not ended."""
+    """Returns the numbers of the living processes with this name for a server at this address."""
     found = []
     for process in filter(str.isdigit, os.listdir("/proc")):
         with contextlib.suppress(OSError):
@@ -104,29 +104,29 @@ def processes_of(address, name):
 
 
 def bridges(address):
-    """The numbers of the bridges for a server at this address that have not ended."""
+    """Returns the numbers of the living bridges for a server at this address."""
     return processes_of(address, "canbusd-bridge")
 
 
 def none_left(server):
-    """Whether no bridge is left of what ran for this server, soon."""
+    """Returns whether all bridges of this server end soon."""
     return come_true(lambda: not bridges(environment(server)["CANBUSD_ADDRESS"]), WAIT)
 
 
-#: Calls of the kernel in which a program waits for frames: poll, select, pselect6, ppoll, epoll_wait, epoll_pwait, recvmsg.
-#: While a socket is made or bound it waits in others.
+#: System calls in which a program waits for frames: poll, select, pselect6, ppoll, epoll_wait, epoll_pwait, recvmsg.
+#: While a program makes or binds a socket it waits in other calls.
 WAITING = {7, 23, 270, 271, 232, 281, 47}
 
 
 def settled(child):
-    """Returns the program once it waits for frames; it may have ended."""
+    """Returns the program after it waits for frames; the program may have ended."""
 
     def fact(name):
         with open(f"/proc/{child.pid}/{name}", encoding="utf-8") as file:
             return file.read().split()[0]
 
     def waits():
-        # The command waits too, for the server's replies, and for a moment its process has the name of this one.
+        # The command also waits, for the server's replies, and for a moment its process has the name of this program.
         before, call, after = fact("comm"), fact("syscall"), fact("comm")
         return "canbusd-run" not in (before, after) and call in map(str, WAITING)
 
@@ -145,7 +145,7 @@ def listening(server, *words, **how):
 
 
 def written(child, patience=WAIT):
-    """What a program has written until its end, which comes by itself."""
+    """Returns the output of a program until its end, which comes by itself."""
     output, errors = child.communicate(timeout=patience)
     assert child.returncode == 0, f"status {child.returncode}: {output}{errors}"
     return output
@@ -153,7 +153,7 @@ def written(child, patience=WAIT):
 
 @pytest.fixture
 def server():
-    """A fast server of two buses, of whose sessions none is left after the test."""
+    """A fast server of two buses; after the test no session of it remains."""
     with serving(*FAST, "can0,can1", "vcan0") as running:
         yield running
         assert none_left(running), "a bridge is left"

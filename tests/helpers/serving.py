@@ -1,7 +1,7 @@
-"""A server of the program in a folder of its own, and clients that are plain sockets.
+"""A server in its own folder, and clients that are plain sockets.
 
-The package's Server ends a server in one way, and its clients know what a server says. Here a server is looked at
-from outside: its processes, its streams, how it ends; and clients show each text as it comes.
+The package's Server ends a server in one way, and its clients interpret messages. This module shows a server from
+outside: its processes, its streams, and its end. Its clients return each text unchanged.
 """
 
 import contextlib
@@ -26,7 +26,7 @@ WAIT = 60
 
 @functools.lru_cache(maxsize=None)
 def program():
-    """The path of the program, without its launcher: CANBUSD, else the one that fits the sources at hand."""
+    """Returns the path of the program, without its launcher: CANBUSD, else the program that fits these sources."""
     if "CANBUSD" in os.environ:
         path = os.path.abspath(os.environ["CANBUSD"])
         if not shutil.which(path):
@@ -43,21 +43,21 @@ def program():
 
 
 class NoProgram(Exception):
-    """There is no program to test; the text says what to do."""
+    """There is no program to test; the text has the remedy."""
 
 
 @functools.lru_cache(maxsize=None)
 def writes_live():
-    """Whether the program has `serve --record`."""
+    """Returns whether the program has `serve --record`."""
     return b"--record" in subprocess.run([program(), "serve", "--help"], stdout=subprocess.PIPE, check=True).stdout
 
 
 class NotListening(Exception):
-    """A server said something else than where it listens; the text is what it said."""
+    """A server printed something other than its address; the text is its output."""
 
 
 def come_true(question, patience=WAIT):
-    """Whether this comes true in time, in seconds."""
+    """Returns whether this becomes true within these seconds."""
     until = time.monotonic() + patience
     while time.monotonic() < until:
         if question():
@@ -67,7 +67,7 @@ def come_true(question, patience=WAIT):
 
 
 def turns(what, patience=WAIT):
-    """The turns of a loop, which leaves it in time; else the test fails, since this has not come about."""
+    """Yields turns of a loop, which must be left in time; else the test fails, because this event has not come."""
     until = time.monotonic() + patience
     while time.monotonic() < until:
         yield
@@ -75,7 +75,7 @@ def turns(what, patience=WAIT):
 
 
 def join(threads, patience=WAIT):
-    """Waits until these threads have ended, at most these seconds in all."""
+    """Waits until these threads have ended, for at most these seconds in all."""
     until = time.monotonic() + patience
     for thread in threads:
         thread.join(max(0, until - time.monotonic()))
@@ -84,7 +84,7 @@ def join(threads, patience=WAIT):
 
 @contextlib.contextmanager
 def one_at_a_time(what):
-    """Waits until no other test of this user does so on this machine."""
+    """Waits until no other test of this user is in such a block on this machine."""
     path = os.path.join(tempfile.gettempdir(), f"canbusd-tests-{os.getuid()}-{what}.lock")
     with open(path, "w", encoding="ascii") as file:
         fcntl.flock(file, fcntl.LOCK_EX)
@@ -92,7 +92,7 @@ def one_at_a_time(what):
 
 
 def threads_of(processes):
-    """The state of each thread, and how often it has gone to sleep."""
+    """Returns the state of each thread, and the number of times that it has gone to sleep."""
     for process in processes:
         for path in glob.glob(f"/proc/{process}/task/*/status"):
             with contextlib.suppress(OSError), open(path, encoding="utf-8") as status:
@@ -100,15 +100,14 @@ def threads_of(processes):
 
 
 def all_sleep(processes):
-    """Whether all threads of these processes sleep, or have ended: each that is seen twice in the same sleep did not
-    run in between.
-    """
+    """Returns whether all threads of these processes sleep, or have ended: a thread that is seen twice in the same
+    sleep did not run between."""
     before, now = sorted(threads_of(processes)), sorted(threads_of(processes))
     return before == now and all(state in "SZ" for _, state, _ in now)
 
 
 def line_of(stream):
-    """The next line of a pipe of text from which only lines are read."""
+    """Returns the next line of a text pipe from which only lines are read."""
     assert select.select([stream], [], [], WAIT)[0], "it writes nothing"
     return stream.readline()
 
@@ -157,7 +156,7 @@ class Server:
         return os.path.join(self.folder, name)
 
     def processes(self):
-        """Its processes, each with the fields of its state."""
+        """The server's processes, each with the fields of its state."""
         for process in filter(str.isdigit, os.listdir("/proc")):
             with contextlib.suppress(OSError), open(f"/proc/{process}/stat", encoding="utf-8") as stat:
                 fields = stat.read().rsplit(") ", 1)[1].split()
@@ -165,21 +164,21 @@ class Server:
                     yield process, fields
 
     def ticks(self):
-        """The processor time of all its processes, in hundredths of a second."""
+        """The processor time of all the server's processes, in hundredths of a second."""
         return sum(int(fields[11]) + int(fields[12]) for _, fields in self.processes())
 
     def held(self):
-        """How many file descriptors and threads its processes have."""
+        """The number of file descriptors and threads in the server's processes."""
         return sum(
             len(os.listdir(f"/proc/{process}/{what}")) for process, _ in self.processes() for what in ("fd", "task")
         )
 
     def rests(self):
-        """Whether it waits with all its threads."""
+        """Whether the server waits with all its threads."""
         return all_sleep([process for process, _ in self.processes()])
 
     def memory(self, what):
-        """How much memory its processes have, in kilobytes, by VmRSS or VmHWM of their status."""
+        """The memory of the server's processes in kilobytes, from VmRSS or VmHWM of their status."""
         held = 0
         for process, _ in self.processes():
             with contextlib.suppress(OSError), open(f"/proc/{process}/status", encoding="utf-8") as status:
@@ -187,7 +186,7 @@ class Server:
         return held
 
     def finish(self, patience=WAIT):
-        """Ends it, which has to happen in time; its status, and what it wrote after `listening`."""
+        """Ends the server, which must happen in time; returns its status, and its output after `listening`."""
         if self.child.stdin is None:
             os.killpg(self.child.pid, signal.SIGINT)
         try:
@@ -197,14 +196,14 @@ class Server:
         return self.child.returncode, written
 
     def end(self, says="", patience=WAIT):
-        """Ends it, as it has to; what it wrote after `listening`."""
+        """Ends the server, which must succeed; returns its output after `listening`."""
         status, written = self.finish(patience)
         assert status == 0, f"status {status}: {self.said()}"
         assert self.said() == says, f"standard error: {self.said()}"
         return written
 
     def audited(self, name):
-        """How many entries the record of this name has, by the audit."""
+        """Returns the number of entries in the record with this name, by the audit."""
         audit = subprocess.run([program(), "audit", self.path(name)], capture_output=True, text=True, check=False)
         assert re.fullmatch(r"ok \d+ entries\n", audit.stdout), f"the audit: {audit.stdout}{audit.stderr}"
         return int(audit.stdout.split()[1])
@@ -220,7 +219,7 @@ class Server:
 
 @contextlib.contextmanager
 def serving(*words, **how):
-    """A server that is gone in the end, whatever happens."""
+    """A server that ends with the block, whatever happens."""
     server = Server(*words, **how)
     try:
         yield server
@@ -229,12 +228,12 @@ def serving(*words, **how):
 
 
 def serving_alone(*words, **how):
-    """A server that is the program without its launcher, and ends when its input does."""
+    """A server that is the program without its launcher, and ends when its input ends."""
     return serving("--until-eof", *words, launcher=False, stdin=subprocess.PIPE, **how)
 
 
 class Plain:
-    """A connection that is a socket and nothing else, which shows the texts as they are."""
+    """A connection that is only a socket, and returns the texts unchanged."""
 
     def __init__(self, server):
         self.rest = ""
@@ -249,7 +248,7 @@ class Plain:
         self.socket.sendall(text.encode())
 
     def text(self):
-        """The next message, or the empty text where the connection has ended."""
+        """Returns the next message, or the empty text if the connection has ended."""
         while ">" not in self.rest:
             piece = self.socket.recv(65536)
             if not piece:
@@ -263,7 +262,7 @@ class Plain:
         return self.text()
 
     def frame(self):
-        """The next frame: its identifier as it is written, and its data."""
+        """Returns the next frame: its identifier as written, and its data."""
         text = self.text()
         frame = re.fullmatch(r"< frame ([0-9A-F]{3}|[0-9A-F]{8}) \d+\.\d{6} ([0-9A-F]*) >", text)
         assert frame, text
@@ -274,7 +273,7 @@ class Plain:
 
 
 def plain(server, name):
-    """A session in raw mode on the interface of this name."""
+    """Opens a session in raw mode on the interface with this name."""
     client = Plain(server)
     greeted = client.text(), client.answer(f"< open {name} >"), client.answer("< rawmode >")
     assert greeted == ("< hi >", "< ok >", "< ok >"), f"{greeted}"
@@ -282,8 +281,8 @@ def plain(server, name):
 
 
 class Pair:
-    """Two sessions between which frames go, whatever else happens on their bus. Nobody else sends 29-bit identifier 0,
-    which goes before all others but 11-bit identifier 0."""
+    """Two sessions that exchange frames, whatever else happens on their bus. No other session sends 29-bit identifier
+    0, which precedes all others but 11-bit identifier 0."""
 
     def __init__(self, server, source="can0", target="can1"):
         self.source, self.target, self.count = plain(server, source), plain(server, target), 0
@@ -291,7 +290,7 @@ class Pair:
         assert replies == ("< ok >", "< ok >"), f"{replies}"
 
     def go_on(self, after="what happened"):
-        """The next frame from the one to the other."""
+        """Returns the next frame from one session to the other."""
         self.count += 1
         data = self.count.to_bytes(4, "big")
         self.source.write(f"< send 00000000 4 {data.hex(' ')} >")

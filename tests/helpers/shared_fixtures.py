@@ -17,21 +17,21 @@ import kept_bytecode  # noqa: F401
 import serving
 from few_at_a_time import pytest_xdist_make_scheduler  # noqa: F401
 
-# Programs that the tests start have the package of the tests.
+# Programs that the tests start use the package of the tests.
 os.environ["PYTHONPATH"] = os.path.dirname(importlib.util.find_spec("canbusd").submodule_search_locations[0])
 os.environ["PYTHONDONTWRITEBYTECODE"] = "1"
-# A job in the background, or under nohup, ignores these, and so would what the tests start: what is handled here is not
-# ignored there.
+# A background job, or a job under nohup, ignores these signals, and so would programs that the tests start. A handled
+# signal is not ignored there.
 for ignored in (signal.SIGINT, signal.SIGQUIT, signal.SIGHUP):
     if signal.getsignal(ignored) == signal.SIG_IGN:
         signal.signal(ignored, lambda *_: None)
 
 
 def share(pluginmanager):
-    """Registers this module as a plugin, once however many folders of tests are run."""
+    """Registers this module as a plugin, once, for any number of test folders."""
     if not pluginmanager.has_plugin(__name__):
         pluginmanager.register(sys.modules[__name__], __name__)
-    # If the tests of the package run beside these, and it is not installed, pytest has not found it.
+    # If the package's tests run together with these, and the package is not installed, pytest has not found the plugin.
     pluginmanager.import_plugin("canbusd.pytest_plugin")
 
 
@@ -78,19 +78,19 @@ def pytest_runtest_setup(item):
 
 @pytest.fixture
 def rng(request):
-    """A source of random numbers, the same for a test and a seed whatever other tests are run."""
+    """A source of random numbers that depends only on the test and a seed, whatever other tests run."""
     return random.Random(f"{request.config.getoption('seed')} {request.node.name}")
 
 
 @pytest.fixture
 def cases(request):
-    """How many random inputs are tried."""
+    """The number of random inputs that are tried."""
     return request.config.getoption("cases")
 
 
 @pytest.fixture
 def fixed_ports():
-    """For a test of what listens at a port that a document or another program names: of these one runs at a time."""
+    """For a test that listens at a port from a document or another program: only one such test runs at a time."""
     with serving.one_at_a_time("ports"):
         yield
 
@@ -103,6 +103,6 @@ def program():
 
 @pytest.fixture
 def server():
-    """A server with can0 and can1 on one bus, as the launcher starts it."""
+    """A server with can0 and can1 on one bus, started by the launcher."""
     with serving.serving("can0,can1") as running:
         yield running

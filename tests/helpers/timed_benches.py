@@ -1,4 +1,4 @@
-"""Benches that have bit rates: their options, frames as messages, and what is written of their attempts."""
+"""Benches with bit rates: their options, frames as messages, and the output on their attempts."""
 
 from __future__ import annotations
 
@@ -13,7 +13,7 @@ MICRO = 1000
 
 
 def moment(nanos: int) -> str:
-    """The microsecond that a time is in, as it is written."""
+    """Returns the microsecond that contains a time, in the program's spelling."""
     micros = nanos // MICRO
     return f"{micros // 1_000_000}.{micros % 1_000_000:06}"
 
@@ -21,7 +21,7 @@ def moment(nanos: int) -> str:
 def bench(
     program: str, options: Sequence[str], names: Sequence[str], lines: Iterable[str], status: int = 0
 ) -> list[str]:
-    """The lines that a bench writes of its attempts, where each interface has a session."""
+    """Returns the lines that a bench writes about its attempts, with a session on each interface."""
     opened = []
     for number, name in enumerate(names, 1):
         opened += [f"session {number}", f"feed {number} < open {name} >< rawmode >< fdframes 1 >"]
@@ -43,7 +43,7 @@ def rate_options(rates: Rates) -> list[str]:
 
 
 def send(frame: Frame) -> str:
-    """The message that sends a frame."""
+    """Returns the message that sends a frame."""
     name = f"{frame.number:0{8 if frame.extended else 3}X}"
     if frame.requests is not None:
         return f"< sendrtr {name} {frame.requests} >"

@@ -1,8 +1,9 @@
-"""When frames are on a bus that has bit rates, apart from the program: how long attempts last, which frame goes when,
-and the worst response times that analysis allows.
+"""The times of frames on a bus with bit rates, independent of the program: the lengths of attempts, the order of
+frames, and the worst response times by analysis.
 
 The bits of a frame are those of wire_model.py. Where a failed attempt ends is a choice of this project
-(crates/can_wire/specs/AttemptBits.antt). Times are in nanoseconds, exact but for each attempt's end, which is rounded up.
+(crates/can_wire/specs/AttemptBits.antt). Times are in nanoseconds, exact but for each attempt's end, which is rounded
+up.
 """
 
 from __future__ import annotations
@@ -17,15 +18,15 @@ from wire_model import FD_LENGTHS, Frame, Sender, arbitration_bits, bit_counts, 
 
 SECOND = 10**9
 INTERMISSION = 3
-# CRC delimiter, ACK slot, ACK delimiter and end of frame.
+# The bits for CRC delimiter, ACK slot, ACK delimiter and end of frame.
 FRAME_END = 10
 ERROR_DELIMITER = 8
-#: Bits of an attempt in which no frame waits.
+#: The bits of an attempt without a waiting frame.
 IDLE = 11
 
 
 class Ending(enum.Enum):
-    """How an attempt ends: a fault is answered after the data, or after the CRC."""
+    """The end of an attempt: the error flag for a fault comes after the data, or after the CRC."""
 
     DONE = enum.auto()
     LAST_BIT = enum.auto()
@@ -34,25 +35,26 @@ class Ending(enum.Enum):
     AFTER_CRC = enum.auto()
 
 
-# Classes of attempts that destroy no frame, as records name them.
+# The classes of attempts that destroy no frame, by their names in records.
 ENDINGS = {"done": Ending.DONE, "lastbit": Ending.LAST_BIT, "noack": Ending.NO_ACK}
 
 
 def ending_of(kind: str, verdict: str) -> Ending:
-    """How an attempt of this class ends, by its verdict as a record has it: bit errors and stuffing come early."""
+    """Returns the end of an attempt of this class, by its verdict in a record: bit errors and stuff errors come
+    early."""
     early = Ending.AFTER_DATA if verdict.startswith(("global-bit", "local-stuff")) else Ending.AFTER_CRC
     return ENDINGS.get(kind, early)
 
 
 @dataclasses.dataclass(frozen=True)
 class Rates:
-    """The bit rates of a bus: FD frames with BRS switch to the second, if there is one."""
+    """The bit rates of a bus: FD frames with BRS switch to the second rate, if there is one."""
 
     nominal: int
     fast: int | None = None
 
     def nanos(self, bits: tuple[int, int]) -> int:
-        """How long bits last, by the rate at which they go, rounded up."""
+        """Returns the duration of bits at their rates, rounded up."""
         nominal, fast = bits
         return math.ceil(
             fractions.Fraction(nominal * SECOND, self.nominal)
@@ -60,11 +62,11 @@ class Rates:
         )
 
     def frame_nanos(self, frame: Frame) -> int:
-        """How long a frame lasts from start of frame to end of frame."""
+        """Returns the duration of a frame from start of frame to end of frame."""
         return self.nanos(bit_counts(frame))
 
     def attempt_nanos(self, frame: Frame, ending: Ending = Ending.DONE) -> int:
-        """How long it is from start of frame until the next frame may begin."""
+        """Returns the time from start of frame until the next frame may begin."""
         return self.nanos(attempt_bits(frame, ending))
 
     def idle_nanos(self) -> int:
@@ -72,7 +74,7 @@ class Rates:
 
 
 def bits_to_data_end(frame: Frame) -> tuple[int, int]:
-    """How many bits there are from start of frame to the last data bit, by rate."""
+    """Returns the number of bits from start of frame to the last data bit, by rate."""
     sender = Sender()
     length = len(frame.data) if frame.requests is None else frame.requests
     if frame.is_fd:
@@ -86,7 +88,7 @@ def bits_to_data_end(frame: Frame) -> tuple[int, int]:
 
 
 def attempt_bits(frame: Frame, ending: Ending) -> tuple[int, int]:
-    """How many bits an attempt has with the intermission, by rate."""
+    """Returns the number of bits of an attempt with the intermission, by rate."""
     nominal, fast = bit_counts(frame)
     if ending is Ending.DONE:
         return nominal + INTERMISSION, fast
@@ -105,7 +107,7 @@ def attempt_bits(frame: Frame, ending: Ending) -> tuple[int, int]:
 
 @dataclasses.dataclass(frozen=True)
 class Release:
-    """A frame that a node queues at `time`, `late` after it was due; the frames of a node go in their order."""
+    """A frame that a node queues at `time`, `late` after its due time; a node sends its frames in order."""
 
     time: int
     node: int
@@ -115,7 +117,7 @@ class Release:
 
 @dataclasses.dataclass(frozen=True)
 class Sent:
-    """A frame that was sent: when it began, its end of frame, and from when on the next one may begin."""
+    """A sent frame: its begin, its end of frame, and the time from which the next frame may begin."""
 
     release: Release
     begin: int
@@ -124,12 +126,12 @@ class Sent:
 
     @property
     def response(self) -> int:
-        """From when it was due until the bus is free again, as response times are counted."""
+        """The response time: from the due time until the bus is free again."""
         return self.free - self.release.time + self.release.late
 
 
 def simulated(releases: Iterable[Release], rates: Rates) -> Iterator[Sent]:
-    """What a bus sends, frame by frame: at each begin the head of a queue whose bits are the lowest."""
+    """Returns the frames that a bus sends: at each begin the queue head with the lowest bits."""
     coming = sorted(releases, key=lambda release: release.time)
     queues: dict[int, list[Release]] = {}
     now = 0
@@ -153,14 +155,14 @@ def simulated(releases: Iterable[Release], rates: Rates) -> Iterator[Sent]:
 
 @dataclasses.dataclass(frozen=True)
 class Message:
-    """A message of a node of its own: what it sends, how often, and how late it may be queued."""
+    """A message of a separate node: its frame, its period, and the most delay before it is queued."""
 
     frame: Frame
     period: int
     jitter: int = 0
 
     def releases(self, node: int, offset: int, until: int, lateness: Sequence[int] = (0,)) -> Iterator[Release]:
-        """Its releases before a time, each as late as said."""
+        """Returns the releases of the message before a time, each with the given delay."""
         for number, due in enumerate(range(offset, until, self.period)):
             late = lateness[number % len(lateness)]
             yield Release(due + late, node, self.frame, late)
@@ -171,8 +173,9 @@ def up(time: int, period: int) -> int:
 
 
 def worst_response(messages: Sequence[Message], place: int, rates: Rates) -> int:
-    """The worst response time of a message, of those by falling priority (Davis, Burns, Bril and Lukkien, "Controller
-    Area Network (CAN) schedulability analysis: Refuted, revisited and revised", Real-Time Systems 35, 2007).
+    """Returns the worst response time of a message, from the messages by falling priority (Davis, Burns, Bril and
+    Lukkien, "Controller Area Network (CAN) schedulability analysis: Refuted, revisited and revised", Real-Time Systems
+    35, 2007).
     """
     lengths = [rates.attempt_nanos(message.frame) for message in messages]
     bit = rates.nanos((1, 0))
@@ -200,7 +203,7 @@ def worst_response(messages: Sequence[Message], place: int, rates: Rates) -> int
 
 
 def use(messages: Sequence[Message], rates: Rates) -> fractions.Fraction:
-    """The share of the time that these messages take."""
+    """Returns the share of the time that these messages take."""
     return sum(
         (fractions.Fraction(rates.attempt_nanos(message.frame), message.period) for message in messages),
         fractions.Fraction(0),

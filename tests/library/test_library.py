@@ -34,7 +34,7 @@ def run(*words, **more):
 
 @pytest.fixture(scope="module")
 def installed(tmp_path_factory):
-    """A folder in which the library is installed."""
+    """Installs the library; returns the folder."""
     prefix = tmp_path_factory.mktemp("prefix")
     run(ROOT / "scripts" / "library", "install", prefix)
     return prefix

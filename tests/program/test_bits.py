@@ -1,4 +1,5 @@
-"""`canbusd bits`: the bits of frames, those of a model that was written apart (wire_model.py), and those that pages show."""
+"""`canbusd bits`: the bits of frames agree with an independent model (wire_model.py), and with the bits that pages
+show."""
 
 from __future__ import annotations
 
@@ -17,8 +18,8 @@ from serving import ROOT, program
 from wire_model import Frame, arbitration_bits, bit_counts, random_frames, sent
 
 INTERMISSION = [1, 1, 1]
-# By hand: 34 zeros, those of the CRC among them, with a stuff bit after each five; the others differ from them in the last
-# bit of the identifier, and in RTR.
+# These bits are worked out by hand: 34 zeros including those of the CRC, with a stuff bit after each five. The others
+# differ from them in the last bit of the identifier, and in RTR.
 ZEROS = """SOF            0
 identifier     0000(1)00000(1)00
 RTR            0
@@ -45,7 +46,7 @@ def frames_of_all_kinds(count: int) -> Iterator[Frame]:
 
 
 def bits_of(*words: str) -> list[str]:
-    """The lines that the program writes."""
+    """Returns the lines that the program writes."""
     status, output, errors = call(program(), "bits", *words)
     assert (status, errors) == (0, ""), words
     return output.splitlines()
@@ -56,7 +57,7 @@ def is_total(line: str) -> bool:
 
 
 def silence_of(frame: Frame, other: Frame) -> int | None:
-    """The bit in which the sender of another frame falls silent."""
+    """Returns the bit at which the sender of another frame falls silent."""
     if arbitration_bits(frame) >= arbitration_bits(other):
         return None
     return next(place for place, (bit, its) in enumerate(zip(sent(frame).bits, sent(other).bits)) if bit != its)
@@ -101,7 +102,7 @@ def test_times() -> None:
         assert f"time           {both} ns to end of frame" in bits_of(str(frame), *rates)
 
 
-# Slow for the program, which runs once for each frame.
+# This is slow because the program runs once for each frame.
 @pytest.mark.slow
 @pytest.mark.skipif(shutil.which("node") is None, reason="no node on the PATH")
 def test_pages_show_the_bits_of_the_program() -> None:

@@ -1,4 +1,4 @@
-"""Command lines: words that are refused, help, and buses, scripts and addresses that can't be had, text for text."""
+"""Command lines: the exact texts for refused words and help, and for buses, scripts and addresses that can't be had."""
 
 import resource
 import socket
@@ -8,7 +8,7 @@ import pytest
 from commands import call, run_line
 from serving import program
 
-# Reports of other words are in test_long_runs.py, and those of files and streams that fail in test_devices.py.
+# test_long_runs.py tests reports on other words, and test_devices.py those on failing files and streams.
 NO_JOB = [
     "",
     "serve",
@@ -73,7 +73,7 @@ NO_JOB = [
     "bench --faults can0@a can0",
     "serve --faults can0@a can0",
 ]
-# Words that are taken: what is reported is of the bus.
+# Accepted words: the report is about the bus.
 A_JOB = [
     "bench --record run.rec --log /run.rec can0,can0",
     "bench --record run.rec --log a/run.rec can0,can0",
@@ -95,7 +95,7 @@ A_JOB = [
     "serve --record none --flush 60000 --sync can0,can0",
     "serve --record none --sessions 4294967295 can0,can0",
 ]
-# Words, and how what is reported of them begins.
+# Words, and the beginning of the report on them.
 REFUSED = [
     (
         "bench --bitrate 500000 --dbitrate 499999 can0",
@@ -222,7 +222,7 @@ HELP = [
     ("serve -h", "Serve clients on buses\n"),
     ("help serve", "Serve clients on buses\n"),
 ]
-# Words, and all that is reported of them.
+# Words, and the complete report on them.
 NO_BUS = [
     ("bench can0,can0", "canbusd: bad bus\n  can0: this name is given twice\n"),
     ("bench a,b,can1,b@none", "canbusd: bad bus\n  b: this name is given twice\n"),
@@ -268,7 +268,7 @@ NO_SCRIPT = [
     ),
     ("bench can0@.", "canbusd: read fault\n  .: Is a directory (os error 21)\n"),
 ]
-# Buses for which 16 megabytes are too few, and what is said of that.
+# Buses that need more than 16 megabytes, and the report on that.
 TOO_LARGE = [
     ("bench can0", "a run reserves 108 bytes of memory for each event of --limit"),
     ("serve can0", "each bus reserves 108 bytes of memory for each event of --limit"),
@@ -319,7 +319,7 @@ def test_buses_that_memory_is_too_small_for(line, note, tmp_path):
 
 
 def test_addresses_that_are_taken(tmp_path):
-    """a port, which has a note, a file that is no socket, which stays, and a socket at which somebody listens"""
+    """a port gets a note, a file that is no socket stays, and so does a socket at which a program listens"""
 
     def refused(address, note=""):
         errors = f"canbusd: cannot listen\n  {address}: Address already in use (os error 98)\n{note}"
@@ -338,7 +338,7 @@ def test_addresses_that_are_taken(tmp_path):
 
 
 def test_a_log_that_is_a_folder(tmp_path):
-    """it is reported at the end, and the record is there"""
+    """the fault is reported at the end, and the record exists"""
     (tmp_path / "can0.log").mkdir()
     errors = "canbusd: cannot open ./can0.log\n  ./can0.log: Is a directory (os error 21)\n"
     listening = "listening ./lost\nbus can0 entries 0\n"

@@ -1,4 +1,4 @@
-"""Completions: in each shell a line is typed, and the tab key after it."""
+"""Completions: the test types a line into each shell, and then the tab key."""
 
 import contextlib
 import os
@@ -67,7 +67,7 @@ TYPED = [
     ("canbusd serve --lo", ""),
     ("canbusd serve --str", ""),
 ]
-# The beginning of an option that takes a value, and the rest of its name, after which a shell puts its own sign.
+# The beginning of an option that takes a value, and the rest of its name, after which a shell adds its own sign.
 OPTIONS = [
     ("canbusd bench --lo", "g"),
     ("canbusd bench --rec", "ord"),
@@ -97,7 +97,7 @@ def folder_of_files():
 
 
 class Shell:
-    """A shell at a terminal of its own, where Ctrl-T shows the line that is being typed, and throws it away."""
+    """A shell at its own terminal, where Ctrl-T shows the line that is being typed, and discards it."""
 
     def __init__(self, words, folder):
         try:
@@ -110,7 +110,7 @@ class Shell:
             os.execvpe(words[0], words, environment)
 
     def until(self, pattern):
-        """What the terminal shows first of this pattern."""
+        """Returns the first text on the terminal that matches this pattern."""
         end, text = time.monotonic() + WAIT, ""
         while time.monotonic() < end:
             if select.select([self.terminal], [], [], 0.1)[0]:
@@ -124,7 +124,7 @@ class Shell:
         os.write(self.terminal, text.encode())
 
     def completed(self, typed):
-        """The line after the tab key."""
+        """Returns the line after the tab key."""
         self.write(typed + "\t\x14")
         return self.until("LINE\\[(.*?)\\]")[1].replace("\r\n", "")
 
@@ -135,12 +135,12 @@ class Shell:
 
 
 def typed_with(sign):
-    """What is typed, and what the tab key adds where a shell puts this sign after an option."""
+    """Returns the typed text, and the text that the tab key adds if a shell puts this sign after an option."""
     return TYPED + [(typed, rest + sign) for typed, rest in OPTIONS]
 
 
 def completes(words, sign, *commands):
-    """Types each line into the shell, after commands that make it ready."""
+    """Types each line into the shell, after commands that prepare the shell."""
     if not shutil.which(words[0]):
         pytest.skip(f"{words[0]} is not installed")
     with folder_of_files() as folder, contextlib.closing(Shell(words, folder)) as shell:
@@ -161,12 +161,12 @@ BASH_LINE = [
 
 
 def test_completion_in_bash():
-    """with bash as it is"""
+    """completion works in bash without further settings"""
     completes(["bash", "--norc", "--noprofile", "-i"], " ", f"source {COMPLETIONS}/canbusd.bash", *BASH_LINE)
 
 
 def test_completion_in_bash_with_other_words():
-    """where neither `=` nor `@` parts words"""
+    """completion works if neither `=` nor `@` separates words"""
     completes(
         ["bash", "--norc", "--noprofile", "-i"],
         " ",
@@ -177,7 +177,7 @@ def test_completion_in_bash_with_other_words():
 
 
 def test_completion_in_zsh():
-    """with zsh's own completion system, which finds the file by its name"""
+    """completion works with zsh's own completion system, which finds the file by its name"""
     completes(
         ["zsh", "-f", "-i"],
         "=",
@@ -195,7 +195,7 @@ def test_completion_in_zsh():
 
 
 def test_completion_in_fish():
-    """what fish offers for each line"""
+    """fish offers the right completions for each line"""
     if not shutil.which("fish"):
         pytest.skip("fish is not installed")
     with folder_of_files() as folder:

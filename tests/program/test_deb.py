@@ -22,7 +22,7 @@ pytestmark = [
 ]
 EXAMPLES = os.path.join(ROOT, "examples")
 APT_INSTALL = "apt-get update -qq && apt-get install -qq -y --no-install-recommends /tmp/canbusd_*.deb"
-# Starts a server in a folder, ends it, and asks for its record. (What a script runs in the background gets no SIGINT.)
+# Starts a server in a folder, ends it, and asks for its record. (A script's background job gets no SIGINT.)
 SERVES = """cd "$0" && : >served
 canbusd "$@" >served & server=$!
 until grep -qs listening served; do sleep 0.1; kill -0 $server || exit 1; done
@@ -31,7 +31,7 @@ kill -TERM $server; wait $server && canbusd audit can0.rec"""
 
 @pytest.fixture(scope="module")
 def package(tmp_path_factory):
-    """The path of the package."""
+    """Builds the package; returns its path."""
     folder = tmp_path_factory.mktemp("package")
     maker = {"DEBFULLNAME": "Tester", "DEBEMAIL": "tester@lists.debian.org"}
     subprocess.run([os.path.join(ROOT, "scripts", "deb")], cwd=folder, env={**os.environ, **maker}, check=True)
@@ -40,13 +40,13 @@ def package(tmp_path_factory):
 
 @pytest.fixture(scope="module")
 def glibc(package):
-    """The glibc that it depends on."""
+    """Returns the glibc version that the package depends on."""
     depends = subprocess.check_output(["dpkg-deb", "-f", package, "Depends"], text=True)
     return re.search(r"libc6 \(>= ([0-9.]*)\)", depends)[1]
 
 
 class Debian:
-    """A clean Debian, in which the package and what is tried are in /tmp."""
+    """A clean Debian, with the package and the test files in /tmp."""
 
     def __init__(self, folder, suite, package):
         self.folder = folder / suite
@@ -60,7 +60,7 @@ class Debian:
             shutil.copy(path, self.folder / "tmp")
 
     def run(self, *words):
-        """What a command does in it."""
+        """Runs a command in the Debian; returns the result."""
         environment = ["PATH=/usr/sbin:/usr/bin:/sbin:/bin", "DEBIAN_FRONTEND=noninteractive"]
         return subprocess.run(
             ["chroot", self.folder, "env", "-i", *environment, *words],
@@ -72,7 +72,7 @@ class Debian:
         )
 
     def does(self, *words):
-        """What a command writes that has to succeed."""
+        """Runs a command that must succeed; returns its output."""
         done = self.run(*words)
         assert done.returncode == 0, done.stdout
         return done.stdout
@@ -105,14 +105,14 @@ def test_readme_says_which_glibc(glibc):
 
 
 def try_program(debian):
-    """A run of the bench and its audit, an example of its documents, servers."""
+    """Runs the bench and its audit, an example of the documents, and servers."""
     bench = "cd /tmp && canbusd bench --record run.rec can0,can1 <first_frame.bench"
     assert debian.does("sh", "-c", bench) == expected("first_frame")
     debian.does("canbusd", "audit", "/tmp/run.rec")
     bench = "canbusd bench can0,can1@examples/last_bit.script <examples/last_bit.bench"
     assert debian.does("sh", "-c", f"cd /usr/share/doc/canbusd && {bench}") == expected("last_bit")
     debian.serves(0, "/tmp/served", "serve", "--listen", "./socket", "--out", ".", "can0")
-    # The command of contrib/Dockerfile, as its user and in its folder, but on a free port.
+    # This is the command of contrib/Dockerfile, as its user and in its folder, but on a free port.
     with open(os.path.join(ROOT, "contrib", "Dockerfile"), encoding="utf-8") as file:
         recipe = file.read()
     words = re.search(r"^CMD \[(.*)\]$", recipe, re.M)[1].replace('"', "").replace(":29536", ":0").split(", ")
@@ -120,7 +120,7 @@ def try_program(debian):
 
 
 def try_tools(debian):
-    """The package with python-can and pytest, a page of a run, a log as an input."""
+    """Tests the package with python-can and pytest, a page of a run, and a log as an input."""
     debian.does(
         "apt-get", "install", "-qq", "-y", "--no-install-recommends", "python3", "python3-can", "python3-pytest"
     )
@@ -131,7 +131,7 @@ def try_tools(debian):
 
 
 def try_unit(debian, folder):
-    """systemd takes the unit."""
+    """Checks that systemd accepts the unit."""
     if not shutil.which("systemd-analyze"):
         return
     unit = (debian.folder / "usr/lib/systemd/system/canbusd.service").read_text()
@@ -142,7 +142,7 @@ def try_unit(debian, folder):
 
 
 def traces(debian):
-    """What is left of the package, apart from logs and caches."""
+    """Returns the leftovers of the package, except logs and caches."""
     kept = [debian.folder / place for place in ("tmp", "var/log", "var/cache", "proc", "sys")]
     found = [path for word in ("canbusd", "candump2bench") for path in debian.folder.rglob(f"*{word}*")]
     return [path for path in found if not any(place in path.parents for place in kept)]
@@ -150,7 +150,8 @@ def traces(debian):
 
 @pytest.mark.parametrize("suite", ["bookworm", "bullseye"])
 def test_package(package, glibc, suite, tmp_path):
-    """it is installed, runs and is removed without a trace; where glibc is too old neither apt nor it goes on"""
+    """the package is installed, runs and is removed without a trace; if glibc is too old, apt refuses it and the
+    program does not run"""
     debian = Debian(tmp_path, suite, package)
     if debian.has_glibc(glibc):
         debian.does("sh", "-c", APT_INSTALL)
