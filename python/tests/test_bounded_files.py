@@ -61,13 +61,8 @@ def compressed(tmp_path_factory):
 
 @pytest.mark.parametrize("name", ["x.log", "x.asc", "x.csv", "x.trc"])
 @pytest.mark.parametrize("words", [["convert"], ["candump2bench"]], ids=lambda words: words[0])
-<<<<<<< HEAD
 def test_a_line_without_end(compressed, tmp_path, words, name):
     """of zeros, as /dev/zero, a file, and compressed; also after right lines"""
-=======
-def test_a_line_without_end(tmp_path, words, name):
-    """a line without end is refused: zeros as from /dev/zero, in a file, and compressed; also after correct lines"""
->>>>>>> com5
     out = [tmp_path / "out.log"] if words == ["convert"] else []
     path = sparse(tmp_path / name)
     assert call(*words, path, *out) == (1, "", f"{prefix(words)}: {path}:1: {NO_LINE}\n")
@@ -97,14 +92,9 @@ def test_standard_input_without_a_line():
 
 
 def test_a_log_without_end(tmp_path):
-<<<<<<< HEAD
     """makes no input of the bench, however long it would be"""
     # The longest frames: their lines are fewer.
     with subprocess.Popen(["yes", f"(1795910922.000000) ecu 123##1{128 * '1'}"], stdout=subprocess.PIPE) as endless:
-=======
-    """a log without end makes no input of the bench, however long it would be"""
-    with subprocess.Popen(["yes", FRAME.strip()], stdout=subprocess.PIPE) as endless:
->>>>>>> com5
         said = "candump2bench: the input would have more than the 16777216 bytes that canbusd reads: cut the log\n"
         assert call("candump2bench", stdin=endless.stdout) == (1, "", said)
         endless.kill()
@@ -157,14 +147,9 @@ def test_faults_without_lines(run):
     assert said.splitlines()[-1] == "canbusd report: /dev/zero: no line of faults has 4,096 bytes, as its first one has"
 
 
-<<<<<<< HEAD
 RULES = "".join(f"at 50 next 1 from can0 id {number:03X} local crc can1\n" for number in range(0x7FF))
 #: The blocks of lines of 40 MB of faults after the first, by a number: rules that were refused, since 64 have no end, some that
 #: were given and ended at once, comments, and lines of a script.
-=======
-#: The lines of 40 MB of faults after the first, by a number: refused rules, since 64 have no end; rules that were given
-#: and ended at once; comments; and lines of a script.
->>>>>>> com5
 MANY = {
     "refused": lambda number: RULES.replace("at 50 ", f"at {1 + number // 15} "),
     "ended": lambda _: RULES.replace("can1\n", "can1\nat 50 nofaults\n"),
@@ -186,12 +171,8 @@ def processor_seconds(*words):
 
 @pytest.mark.parametrize("kind", [*MANY])
 def test_forty_megabytes_of_faults(run, tmp_path, kind):
-<<<<<<< HEAD
     """take seven times as long as to split their lines, at most: 3 seconds of a processor that does nothing else. One of three
     tries is beside even work"""
-=======
-    """forty megabytes of faults take at most 3 seconds of a processor"""
->>>>>>> com5
     for path in (run, run.with_suffix(".log")):
         os.link(path, tmp_path / path.name)
     first = "next 1 id 123 global bit\n"
