@@ -382,7 +382,7 @@ class LocalBus(NamesWhatThereIs):
             # The wire is busy for longer than that, so that no attempt begins.
             if code not in (lib.OK, BAD_RUN):
                 raise self._refused(code)
-            self._tell()
+            self._news.notify_all()
             return made.value
 
     def inject(self, rules: Script) -> None:
@@ -429,7 +429,8 @@ class LocalBus(NamesWhatThereIs):
             raise self._refused(code)
         if self._is_timed:
             self.moment = max(self.moment, *MOMENT.unpack_from(self._tried, MOMENT_AT))
-        self._tell()
+        if self._waiting:
+            self._news.notify_all()
 
     def _settle(self) -> int:
         """Makes attempts until no interface has a frame to send; returns how many."""
@@ -439,11 +440,6 @@ class LocalBus(NamesWhatThereIs):
             if self._tried[OUTCOME_AT] == b"\0":
                 return made
             made += 1
-
-    def _tell(self) -> None:
-        """Wakes the threads that wait for news."""
-        if self._waiting:
-            self._news.notify_all()
 
     def _iface(self, channel: str) -> int:
         """The number of an interface."""

@@ -237,7 +237,7 @@ class Runs:
     def __init__(self, request: pytest.FixtureRequest, factory: pytest.TempPathFactory) -> None:
         self._item: pytest.Item = request.node
         self._keep = str(request.config.getoption("--canbusd-keep"))
-        # Of a placement nothing is shown but its result: the sweep keeps the records of benches, and audits that without a fault.
+        # A placement of a sweep has a result, and no page: benches leave no files, and their records are not audited.
         self._is_bare = self._keep == "none" and placement.has_faults()
         name = re.sub(r"\W+", "-", self._item.name)[:40]
         self._folder = new_folder(factory.getbasetemp(), f"canbusd-{name}")
