@@ -13,7 +13,7 @@
 struct card {
     int fd; /* -1: the server is gone */
     struct link_facts facts;
-    uint64_t restart_at; /* the time of the restart, by the clock, or NEVER */
+    uint64_t restart_at; /* by the clock, or NEVER */
     bool is_answered;    /* the last request has its reply */
     bool was_down;       /* the interface was down since its last restart */
     bool has_news;       /* the state has changed, and the watchers do not know it yet */
