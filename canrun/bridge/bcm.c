@@ -85,7 +85,7 @@ static struct bcm_task *new_task(const struct bcm_head *head, int index, bool is
     return task;
 }
 
-/* Replaces the head of a task by that of a message. Count and timers are replaced only with SETTIMER. */
+/* Replaces the head of a task by the head of a message. Count and timers are replaced only with SETTIMER. */
 static void change_head(struct bcm_task *task, const struct bcm_head *head) {
     struct bcm_head before = task->head;
     if (head->nframes != before.nframes || head->flags & TX_RESET_MULTI_IDX) {
@@ -111,7 +111,7 @@ static bool is_bad(struct bcm_timeval time) {
     return time.tv_sec < 0 || time.tv_sec > 400 * 24 * 60 * 60 || time.tv_usec < 0 || time.tv_usec >= 1000000;
 }
 
-/* Makes the task of this message, with its frames; if there already is one, it is changed. */
+/* Makes the task of this message, with its frames. An existing task is changed. */
 static int set_up(const struct bcm_head *head, struct rest rest, int index, bool is_rx, struct bcm_task **made) {
     struct bcm_task **place = find(head, index, is_rx), *fresh = NULL;
     if (head->flags & SETTIMER && (is_bad(head->ival1) || is_bad(head->ival2))) {

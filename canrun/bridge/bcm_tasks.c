@@ -105,7 +105,8 @@ static void compare(struct bcm_task *task, unsigned at, const struct item *item,
     }
 }
 
-/* Of several frames, frame 0 is the multiplexer's mask. The first frame that is equal in these bits is compared. */
+/* If a task has several frames, frame 0 is the multiplexer's mask. The first frame that is equal in these bits is
+ * compared. */
 static void compare_multiplex(struct bcm_task *task, const struct item *item, int index) {
     for (unsigned i = 1; i < task->head.nframes; i++) {
         if (!differs(&task->frames[0], &item->frame, &task->frames[i], CAN_MAX_DLEN)) {

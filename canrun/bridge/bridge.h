@@ -72,13 +72,13 @@ struct session {
     char reply[160];      /* the first reply to the last commands that is not ok */
     size_t have;
     char input[32768];
-    uint64_t gone, waiting; /* the last counts of the queue: how many frames have left it, and how many wait there */
+    uint64_t gone, waiting; /* the last counts of the queue: frames that have left it, and frames that wait there */
     uint64_t since;         /* frames of this session that the queue took since then */
-    uint64_t places;        /* the most frames seen in the queue; this is its size once it was full */
+    uint64_t places;        /* the largest number of frames seen in the queue; this is its size once it was full */
     bool was_full;          /* a frame that waits for room has found the queue full */
     unsigned missed;        /* how often others had taken the room that became free */
-    uint64_t look_at;       /* while a frame waits for room: when the bridge next looks at the counts */
-    int64_t pause;          /* and the pause before the look after that */
+    uint64_t look_at;       /* while a frame waits for room: the time of the next look at the counts */
+    int64_t pause;          /* while a frame waits for room: the pause after that look */
     bool is_stuck;          /* a short wait for room failed, and the server has accepted no frame since */
     uint64_t sent_end;      /* 1 + the highest number of a frame of this session */
     uint8_t sent[NUMBERS_KEPT / 8]; /* a bit for each of the last numbers: whether a frame of this session has it */
@@ -102,8 +102,8 @@ bool session_brings_nothing(const struct session *session);
 /* Notes the number of a frame that a program has sent through this session. */
 void session_note_number(struct session *session, uint64_t number);
 
-/* Waits for the reply to a frame that a program has sent through this session. The program has read this much of the
- * reply; `is_new` unless the program has waited in vain. Returns 0, or an errno. */
+/* Waits for the reply to a frame that a program has sent through this session. `text` is the part of the reply that the
+ * program has read; `is_new` is false if the program has waited in vain. Returns 0, or an errno. */
 int session_take_over(struct session *session, const char *text, size_t length, bool is_new);
 
 /* Asks for the counts, without waiting for them. They come in the order of the frames. */
@@ -133,7 +133,7 @@ bool session_read(struct session *session, bool waits);
 struct later {
     void (*done)(const struct later *later, int error);
     int reply_to, value;
-    uint64_t until;  /* when the wait ends in vain, by the clock; 0: never */
+    uint64_t until;  /* the end of the wait, by the clock; 0: it has no end */
     bool is_refused; /* a quick write of this frame has just found no room */
 };
 #define NOBODY (-1)
@@ -223,7 +223,7 @@ bool order_has_news(void);
 /* Adds a message at the end. If there is no room, the message is lost and counted. */
 void outbox_put(const void *data, size_t length, uint64_t moment, int index, uint32_t message_flags);
 
-/* The same for a protocol whose messages all have a way. */
+/* Adds a message with its way. outbox_keep_ways comes first, in a protocol whose messages all have ways. */
 void outbox_keep_ways(void);
 void outbox_put_way(const void *data, size_t length, const struct wire_note *note, const struct wire_way *way);
 
@@ -258,7 +258,7 @@ int64_t outbox_counts_due(void);
 /* Sets the error. The next call that takes it returns this errno: a read, a write of ISO-TP, or SO_ERROR. */
 void error_set(int error);
 
-/* The same, but does not wake the readers again if the error before was not taken. */
+/* Sets the error, but does not wake the readers again if the last error was not taken. */
 void error_change(int error);
 
 /* Takes the error; 0 if there is none. */
@@ -316,7 +316,7 @@ void quick_take_back(void);
 /* Replies to a request with this error or value. */
 void request_reply(int to, int error, int value);
 
-/* The same for a write that has waited; and returns the `later` of such a write. */
+/* Replies to a write that has waited; and returns the `later` of such a write. */
 void request_done(const struct later *later, int error);
 struct later request_later(const struct wire_request *request, int to, int value);
 

@@ -306,7 +306,7 @@ static void start_next(void) {
     }
 }
 
-/* Handles a received frame: one that this socket has sent, or one for this socket. */
+/* Handles a received frame: the echo of a frame from this socket, or a frame for this socket. */
 static void take_item(const struct item *item) {
     if (item->message_flags & MSG_CONFIRM) {
         isotp_send_echo(item->number);

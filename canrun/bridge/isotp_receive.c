@@ -12,7 +12,7 @@ static struct {
     size_t at, length;
     unsigned number, in_block, frame_length;
     uint64_t last_moment;
-    struct isotp_timer timer; /* for the next frame */
+    struct isotp_timer timer; /* the timer for the next frame */
 } rx;
 
 bool isotp_is_receiving(void) {

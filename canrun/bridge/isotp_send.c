@@ -20,7 +20,7 @@ static struct {
     unsigned number, block, in_block; /* the next number; frames until flow control, and since the last one */
     uint64_t frame;                   /* the number of the frame whose echo is due */
     uint64_t gap, next;               /* the pause before a frame, and its end */
-    struct isotp_timer timer;         /* for the echo or for flow control */
+    struct isotp_timer timer;         /* the timer for the echo or for flow control */
 } tx;
 
 bool isotp_is_sending(void) {

@@ -49,7 +49,7 @@ struct j1939_socket {
 /* A request of a bridge to the host; filters or data follow. The host replies once to each request. */
 struct j1939_ask {
     enum { ASK_BIND, ASK_CHANGE, ASK_SEND, ASK_LEAVE } kind;
-    uint32_t key, size; /* of a message; its first bytes follow, or the next */
+    uint32_t key, size; /* the key and the size of a message; its first bytes follow, or the next */
     bool is_first;
     struct wire_way way;
     struct j1939_socket socket;
@@ -94,7 +94,7 @@ bool writes_are_pending(void);
 /* Set and get SO_SNDBUF. */
 void writes_set_room(int number);
 int writes_room(void);
-/* Returns a message's number for the socket's error queue, and starts these numbers anew. */
+/* Returns a message's number for the socket's error queue, and restarts these numbers. */
 uint32_t writes_number(const struct wire_notice *notice);
 void writes_count_anew(void);
 

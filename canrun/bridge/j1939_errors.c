@@ -8,7 +8,7 @@
 
 /* The kernel's limit for a socket of the usual size. */
 #define MOST 256
-/* The most pipes that wait for an error. */
+/* The maximum number of pipes that wait for an error. */
 #define WATCHERS 64
 
 bool errors_are_on;

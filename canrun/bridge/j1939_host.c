@@ -16,7 +16,7 @@
 /* The size of the queue of received frames: nothing can be sent while the server's messages are read. */
 #define WAITING 8192
 /* How many questions the server must answer before something is given up. In that time a frame and its reply would have
- * come, so a frame that was on the bus in time is not missed on a busy machine. */
+ * come. So a frame that was on the bus in time is not missed on a busy machine. */
 #define ROUNDS 10
 #define PAUSE MILLISECOND
 

@@ -81,7 +81,7 @@ void names_claimed(uint64_t name, uint8_t address, uint64_t moment);
 bool names_claim(uint64_t name, uint8_t address);
 /* Makes claims good that were not contested until this moment. Returns when the next claim is due. */
 uint64_t names_due(uint64_t known);
-/* The same for claims that were good before the frame with this timestamp. */
+/* Makes claims good that were good before the frame with this timestamp. */
 void names_expire(uint64_t moment);
 
 /* ---- j1939_transfers.c: messages on their way ---- */

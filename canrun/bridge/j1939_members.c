@@ -9,7 +9,8 @@
 #include <sys/uio.h>
 #include <unistd.h>
 
-/* The most messages that wait for a bridge that does not read. Further messages are lost, as at a full socket. */
+/* The maximum number of messages that wait for a bridge that does not read. Further messages are lost, as at a full
+ * socket. */
 #define BACKLOG 1024
 
 struct member *members;

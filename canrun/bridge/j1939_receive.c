@@ -13,7 +13,7 @@ static uint32_t group_of(const uint8_t *data) {
     return has_destination(pgn) ? pgn & 0xffff00 : pgn;
 }
 
-/* The reason for refusing a command whose group is not that of the transfer; 0: no abort is sent. */
+/* The reason for refusing a command whose group is not the transfer's group; 0: no abort is sent. */
 static uint8_t reason_for_group(uint8_t command) {
     switch (command) {
     case TP_RTS:

@@ -4,7 +4,7 @@
 #include <errno.h>
 #include <string.h>
 
-/* Milliseconds: between packets to all nodes; for a reply; for a frame to come back from the bus. */
+/* Times in milliseconds: between packets to all nodes; for a reply; for a frame to come back from the bus. */
 enum { PAUSE_TO_ALL = 50, REPLY_TIME = 1250, ECHO_TIME = 250, SIMPLE_TIME = 10000 };
 
 bool is_of_transport(uint32_t pgn) {

@@ -6,7 +6,7 @@
 #include <stdlib.h>
 #include <string.h>
 
-/* Milliseconds: for the end of an abort; and the pause before a refused frame is tried again, 10 to 25. */
+/* The time for the end of an abort in milliseconds; and the pause before a refused frame is tried again, 10 to 25. */
 enum { ABORT_TIME = 500, LEAST_PAUSE = 10, PAUSES = 16, RETRIES = 100 };
 
 static struct transfer *active, **active_end = &active;

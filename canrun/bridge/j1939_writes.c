@@ -7,9 +7,9 @@
 #include <string.h>
 #include <sys/socket.h>
 
-/* The most writes that wait. */
+/* The maximum number of waiting writes. */
 #define TURNS 64
-/* The most requests that stay in the socket. */
+/* The maximum number of requests that stay in the socket. */
 #define KEPT 64
 /* How many bytes the kernel counts for a segment. Its buffer's size is a power of two, and part of the buffer is not
  * data. */

@@ -27,7 +27,7 @@ static int refuse(struct link_reply *reply, int error, const char *text) {
     return reply->error = error;
 }
 
-/* A requested bit rate must be that of the bus. */
+/* A requested bit rate must be the bus's own. */
 static int check_rate(uint32_t asked, uint32_t rate, const char *option, struct link_reply *reply) {
     char text[sizeof reply->text];
     if (!asked || asked == rate) {

@@ -7,7 +7,7 @@
 #include <poll.h>
 #include <stdlib.h>
 
-/* The most items that wait; beyond that, the oldest are handed over without waiting. */
+/* The maximum number of waiting items; beyond that, the oldest are handed over without waiting. */
 #define HELD 4096
 /* How many nanoseconds until a question that found no room is repeated. */
 #define PAUSE 1000000

@@ -9,7 +9,7 @@
 #include <sys/socket.h>
 
 #define RING 1048576
-/* How many messages wait for a program that has set no limit. At most as many are in its socket besides. */
+/* How many messages wait for a program that has set no limit. At most as many more are in its socket. */
 #define USUAL_ROOM 4096
 /* From here on the server keeps further items. The rest of the room is for items that come with replies to commands. */
 #define CROWDED 2048

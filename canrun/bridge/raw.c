@@ -12,7 +12,7 @@
 
 /* CAN_RAW_XL_FRAMES, which older headers lack. No interface has CAN XL, but this option also allows FD frames. */
 #define RAW_XL_FRAMES 7
-/* The most characters of filters in a message. With its command the message has 1024. */
+/* The maximum number of characters of filters in a message. With its command the message has 1024. */
 #define FILTER_TEXT 1000
 
 static struct options options = {.loopback = 1};

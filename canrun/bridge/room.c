@@ -6,7 +6,7 @@
 #include <poll.h>
 #include <string.h>
 
-/* The most frames that wait. When so many wait, no more requests are taken. */
+/* The maximum number of waiting frames. When so many wait, no more requests are taken. */
 #define WAITERS 64
 /* The pause between two looks at the counts of an interface, in nanoseconds: the shortest and the longest. */
 #define SHORT_PAUSE 100000
@@ -18,7 +18,7 @@
 #define FEW_PLACES 4
 
 static struct waiter {
-    int index; /* of the interface */
+    int index; /* the index of the interface */
     bool is_fd;
     struct canfd_frame frame;
     struct later later;
@@ -64,7 +64,7 @@ static int send_now(struct session *to, const struct canfd_frame *frame, bool is
     return error;
 }
 
-/* The same for a frame that may wait: it is sent only if there is room. */
+/* Sends a frame that may wait, but only if the queue has room. */
 static int send_to_room(struct session *to, const struct canfd_frame *frame, bool is_fd) {
     if (!session_has_room(to)) {
         int error = session_look(to);

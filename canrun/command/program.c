@@ -121,7 +121,7 @@ static bool is_harmless(const char *path) {
     return strstr(path, "/valgrind/");
 }
 
-/* The same for the file with this path. */
+/* The reason why the program in the file with this path does not load the library. */
 static const char *file_obstacle(const char *path, bool *is_32_bit) {
     int fd = open(path, O_RDONLY | O_CLOEXEC);
     const char *obstacle = fd >= 0 ? elf_obstacle(fd, is_32_bit) : NULL;

@@ -17,7 +17,7 @@ int program_find(const char *name, char path[PATH_MAX]);
 /* Returns the reason why this program's sockets will be the kernel's; NULL if no such reason is found. */
 const char *program_obstacle(const char *path);
 
-/* The same, but only for reasons in the program's kind, whichever user runs it. */
+/* Returns such a reason, but only for the kind of program: it holds for every user. */
 const char *program_bypass(const char *path);
 
 /* Whether the loader loads the library into this program. */

@@ -189,7 +189,7 @@ static bool is_of_moment(const struct call *call) {
 }
 
 static int64_t do_request(const struct call *call) {
-    struct ifreq request; /* It has room for a timestamp or a number. */
+    struct ifreq request; /* The struct has room for a timestamp or a number. */
     bool is_of_interface = !is_of_moment(call) && call->words[1] >> 8 == 0x89 && call->words[1] != SIOCATMARK;
     size_t length = is_of_interface ? sizeof request : is_of_moment(call) ? sizeof(struct timespec) : sizeof(int);
     if (is_of_interface && !take(call, &request, call->words[2], length)) {

@@ -122,7 +122,7 @@ static int j1939_setsockopt(const struct socket *sock, int level, int option, co
     return result;
 }
 
-/* The socket's priority is 7 minus that of its messages. */
+/* The socket's priority is 7 minus the priority of its messages. */
 static int get_priority(const struct socket *sock, void *value, socklen_t *length, socklen_t has) {
     int priority = 0;
     struct answer answer = {.data = &priority, .room = sizeof priority};

@@ -355,7 +355,7 @@ bool links_answer(const struct nlmsghdr *asked, struct outgoing *out) {
     if (is_get) {
         put_link(out, asked, index);
     }
-    /* Like a hardware interface, this one cannot be removed; the request is not an error. */
+    /* Like a hardware interface, an interface of the server cannot be removed; the request is not an error. */
     int error = is_get || asked->nlmsg_type == RTM_DELLINK ? 0 : change(&question, index, &reply);
     if (error) {
         int before = errno;

@@ -15,9 +15,9 @@
 #include <sys/mman.h>
 #include <sys/syscall.h>
 
-/* The most bytes of a dump in one datagram, as in the kernel. */
+/* The maximum size of a dump's part in one datagram, as in the kernel. */
 #define CHUNK 8192
-/* The most bytes of a message with an answer. */
+/* The maximum size of a message with an answer. */
 #define MAIL 4096
 
 /* The head of a refusal with an answer. */

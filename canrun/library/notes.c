@@ -87,8 +87,8 @@ static struct match look(const struct wire_notes *received, uint64_t found, stru
     return best;
 }
 
-/* The same if several notes match because the bridge is putting more into the socket. If all reads look for their
- * notes, the next note after those found before is the right one. Otherwise this waits for the bridge. */
+/* Finds the note, even if several notes match because the bridge is putting more into the socket. If all reads look for
+ * their notes, the next note after those found before is the right one. Otherwise this waits for the bridge. */
 static uint64_t find(const struct wire_notes *received, uint64_t found, int fd, bool is_peeked, const void *head,
                      size_t length) {
     bool are_all_found = found && !__atomic_load_n(&received->is_mixed, __ATOMIC_RELAXED);

@@ -1,6 +1,6 @@
-/* Reads and writes by other calls than those of sockets: with an offset that means "here", between the socket and pipes
- * or files, with streams of the C library, and with the number of a system call. The kernel's own read would return the
- * right data from a CAN socket. These also return the socket's errors and the refusals of writes. */
+/* Reads and writes by other calls than those of sockets: with an offset that means "here", to and from pipes or files,
+ * with streams of the C library, and by system call number. The kernel's own read would return the right data from a
+ * CAN socket. These also return the socket's errors and the refusals of writes. */
 #define _GNU_SOURCE
 #include "library.h"
 

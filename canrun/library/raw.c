@@ -60,7 +60,7 @@ static int check_control(const struct msghdr *message) {
     return 0;
 }
 
-/* The interface of a write: that of its address, or that of the socket. */
+/* The interface of a write: the one in its address, or the socket's own. */
 static int interface_of(const struct socket *sock, int index) {
     struct sockaddr_can can = {0};
     struct answer answer = {.data = &can, .room = sizeof can};
@@ -86,7 +86,7 @@ __attribute__((constructor)) static void read_planted(void) {
     planted = planted_read();
 }
 
-/* Whether this write is the one that a sweep makes fail for lack of room. Later writes succeed. */
+/* Whether a sweep makes this write fail for lack of room. Later writes succeed. */
 static bool is_planted(const struct socket *sock, const struct wire_request *request, const struct msghdr *message) {
     canid_t identifier;
     struct timespec now;

@@ -242,7 +242,7 @@ static ssize_t receive(const struct socket *sock, void *data, size_t length, int
     return result >= 0 && from && give_name(from, room, &message) ? -1 : result;
 }
 
-/* The same for a struct msghdr of the program. */
+/* Receives a message into a struct msghdr of the program. */
 static ssize_t receive_named(const struct socket *sock, struct msghdr *named, int flags) {
     struct msghdr message;
     if (!copy_from(&message, named, sizeof message)) {

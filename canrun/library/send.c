@@ -67,7 +67,7 @@ int read_target(const struct msghdr *message, int32_t *index) {
     if (can.can_family != AF_CAN) {
         return refuse("sendto", EINVAL, "the address is not of AF_CAN");
     }
-    /* No interface has a negative index, nor this one. */
+    /* No interface has a negative index, or this index. */
     *index = can.can_ifindex < 0 ? INT32_MAX : can.can_ifindex;
     return 0;
 }

@@ -89,7 +89,7 @@ NO_RETURN static int become_bridge(void *argument) {
     char *words[] = {"canbusd-bridge", NULL};
     long memory = start->memory;
     if (memory == WIRE_PROGRAM) {
-        memory = syscall(SYS_fcntl, memory, F_DUPFD, WIRE_MEMORY + 1L); /* It has the number that the other needs. */
+        memory = syscall(SYS_fcntl, memory, F_DUPFD, WIRE_MEMORY + 1L); /* `end` needs this number. */
     }
     put_at(start->end, WIRE_PROGRAM);
     put_at(memory, WIRE_MEMORY);

@@ -11,7 +11,7 @@
 #include <signal.h>
 #include <stdlib.h>
 
-/* The most waits of a process that signals can end; no bridge keeps more waiting frames. */
+/* The maximum number of a process's waits that signals can end; no bridge keeps more waiting frames. */
 #define WAITS 64
 enum state { UNUSED, BEGUN, ASKED, ENDING, ENDED };
 

@@ -9,7 +9,7 @@
 #include <string.h>
 #include <sys/syscall.h>
 
-/* The most sockets of one poll for which this is done. */
+/* The maximum number of sockets in one poll for which this is done. */
 #define MOST 256
 
 /* The polled descriptors: the program's, and after them a pipe for each socket with an error queue. */

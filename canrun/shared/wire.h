@@ -23,7 +23,7 @@
 
 /* The longest message in either direction: an ISO-TP message. */
 #define WIRE_LARGEST 66000
-/* The most data of a reply: 512 filters. */
+/* The maximum size of a reply's data: 512 filters. */
 #define WIRE_REPLY 4096
 
 enum wire_kind {
@@ -52,8 +52,8 @@ enum wire_kind {
     WIRE_FILL,  /* does nothing; its bytes fill the socket while it has no room for writes */
     WIRE_HOST, /* connects to the host of the interface `ifindex`; if the host must be started, the reply's data are its
                   abstract name */
-    WIRE_CANCEL, /* a signal ends the wait of a request; this one comes with the read end of that request's pipe. The
-                    waiting request gets the reply */
+    WIRE_CANCEL, /* a signal ends the wait of a request: this message comes with the read end of that request's pipe.
+                    The waiting request gets the reply */
     WIRE_SHARE,  /* comes with an end of a pair in place of the pipe; the bridge sends the memory of quick writes there
                     (SCM_RIGHTS) */
 };
@@ -137,7 +137,7 @@ struct wire_notice {
     uint64_t nanoseconds;
     int32_t error, what; /* an enum wire_event */
     uint32_t key;        /* how many messages the socket had sent before this one */
-    uint32_t size, done; /* bytes: of the whole message, and those that the receiver has */
+    uint32_t size, done; /* the length of the whole message, and of the part that the receiver has */
 };
 enum wire_noticed { NOTICE_IS_THERE = 1, NOTICE_KEEPS = 2 /* an empty datagram stays: it is a message without data */ };
 enum wire_event { EVENT_SENT, EVENT_BEGUN, EVENT_FAILED, EVENT_OFFERED, EVENT_BLOCK, EVENT_BROKEN };
@@ -164,12 +164,12 @@ struct wire_j1939 {
  * other readers of the socket cause no confusion. */
 struct wire_notes {
     uint64_t put;      /* total length of all datagrams that the bridge has put into the socket */
-    uint64_t meant;    /* the same, with datagrams that the bridge is putting there now */
+    uint64_t meant;    /* total length of these datagrams and of those that the bridge is putting there now */
     uint64_t count;    /* how many datagrams have notes */
     uint64_t found;    /* the number, from 1 on, of the last datagram whose note was found */
     uint32_t is_mixed; /* the program reads some datagrams without looking for their notes */
     struct wire_note notes[WIRE_NOTES];
-    struct wire_way ways[WIRE_NOTES]; /* for J1939: the ways of the same datagrams */
+    struct wire_way ways[WIRE_NOTES]; /* the ways of the same datagrams, for J1939 */
 };
 
 /* A J1939 message without data. */

@@ -87,7 +87,7 @@ void forget_look(void);
 
 /* Waits until one of these descriptors may be ready. Returns the flags of wait_turn. */
 uint32_t wait_for(const struct pollfd *fds, nfds_t count, uint64_t deadline);
-/* The same for an epoll; and notes that an epoll has this descriptor. */
+/* Waits until an epoll may be ready; and notes that an epoll has this descriptor. */
 uint32_t wait_for_epoll(int fd, uint64_t deadline);
 void note_entry(int fd);
 /* Asks the kernel which of these descriptors are ready now, and returns its result. */
@@ -97,7 +97,7 @@ long look_at(struct pollfd *fds, nfds_t count);
 bool await_later(int fd, short events, uint64_t *deadline);
 /* Waits until a blocking call on a descriptor can be made. False and errno if the timeout or a signal came. */
 bool await_ready(int fd, short events, int flags);
-/* The same with this deadline. */
+/* Waits until such a call can be made, or until this deadline. */
 bool await_until(int fd, short events, uint64_t deadline);
 /* Does recvfrom. */
 ssize_t receive(int fd, void *data, size_t length, int flags, struct sockaddr *from, socklen_t *room);

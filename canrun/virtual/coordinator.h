@@ -10,7 +10,7 @@ struct virtual_options {
     uint64_t until;  /* the end, in nanoseconds of the run; UINT64_MAX: no end */
     double stall;    /* how many seconds the run may make no progress */
     uint64_t seed;   /* 0: threads go on in the order of their births */
-    uint64_t jitter; /* by how many nanoseconds a wait is extended at most */
+    uint64_t jitter; /* the largest number of nanoseconds by which a wait is extended */
 };
 
 /* Runs the program in this file with these arguments, and all that it starts. Returns the status. */

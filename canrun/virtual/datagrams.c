@@ -71,8 +71,8 @@ static bool is_of_run(unsigned long inode) {
     return false;
 }
 
-/* The owner of a port of this machine: the run, other programs, or nobody. If nobody has it, the kernel refuses
- * datagrams to it. */
+/* The owner of a port of this machine: the run, other programs, or no program. In the last case the kernel refuses
+ * datagrams to the port. */
 enum owner { OF_NOBODY, OF_OTHERS, OF_RUN };
 
 static enum owner owner_of(uint32_t port) {

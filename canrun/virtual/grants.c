@@ -16,7 +16,7 @@ static struct grant {
 
 int descendant_open(uint32_t pid) {
     int fd = pid ? (int)syscall(SYS_pidfd_open, pid, 0) : -1;
-    /* If another process got the number meanwhile, it is not the one that is open. */
+    /* If another process got the number meanwhile, this is not the process of the descriptor. */
     if (fd >= 0 && !proc_is_below(pid, (uint32_t)getpid())) {
         close(fd);
         return -1;

@@ -124,7 +124,7 @@ EXPORT int msgsnd(int queue, const void *message, size_t length, int flags) {
     return (int)answer(try_until(try_send, &it, EAGAIN, NEVER, false));
 }
 
-#define OPERATIONS 500 /* the most operations of one call: SEMOPM */
+#define OPERATIONS 500 /* the maximum number of operations in one call: SEMOPM */
 
 struct operations {
     int semaphores;

@@ -6,7 +6,8 @@
 
 #include <pthread.h>
 
-/* Salts of keys. Mutexes and condition variables have different ones, since one may take the other's address. */
+/* Salts of keys. Mutexes and condition variables have different salts, since a condition variable may take a mutex's
+ * address. */
 enum { OF_MUTEX = 1, OF_CONDITION, OF_SEMAPHORE, OF_LOCK, OF_END, OF_BARRIER };
 
 /* Whether this program is CPython. */

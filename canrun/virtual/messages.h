@@ -13,10 +13,10 @@ double real_now(void);
 /* Prints a line with the run's time. */
 void say(const char *format, ...) __attribute__((format(printf, 1, 2)));
 
-/* The same, but only once for each process and message. */
+/* Prints a line, but only once for each process and message. */
 void say_once(uint32_t pid, const char *format, ...) __attribute__((format(printf, 2, 3)));
 
-/* The same, and ends the run with status 125. */
+/* Prints a line, and ends the run with status 125. */
 void fail(const char *format, ...) __attribute__((format(printf, 1, 2)));
 
 /* Prints the notices of programs: see tell.h. */

@@ -6,8 +6,8 @@
 #include <stdint.h>
 
 /* Checks the thread that has had this turn for so many looks. Takes the turn back if the thread sleeps and no thread of
- * the run will wake it, unless `is_asked` reports a process that waits for the coordinator. Returns whether the thread
- * was not running. */
+ * the run will wake it. It does not if `is_asked` reports a process that waits for the coordinator. Returns whether the
+ * thread was not running. */
 bool outside_watch(uint64_t turn, int looks, bool (*is_asked)(void));
 
 /* For a thread that computes for long in this turn, or waits for another thread of its process by looking. Gives the

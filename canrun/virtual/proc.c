@@ -14,7 +14,7 @@
  * nanoseconds pass between two looks. */
 #define SETTLE_SECONDS 60
 #define SETTLE_PAUSE 200000
-/* The most ancestors of a process of the run below its coordinator. */
+/* The maximum number of a process's ancestors below the coordinator. */
 #define DEEPEST 1000
 /* How often the ancestors are looked up again if one of them ended meanwhile. */
 #define CLIMBS 100

@@ -16,7 +16,7 @@
 #define DEVICES 1024
 /* The device numbers, as in devices.txt of Linux. */
 enum { MEMORY_DEVICES = 1, RANDOM_DEVICE = 8, URANDOM_DEVICE = 9 };
-/* The most bytes that getentropy returns. */
+/* The maximum number of bytes that getentropy returns. */
 #define MOST_ENTROPY 256
 
 static void fill(void *data, size_t length) {

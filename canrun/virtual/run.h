@@ -77,12 +77,12 @@ struct slot {
     _Atomic uint64_t deadline; /* nanoseconds of the run, or NEVER */
     _Atomic uint64_t key;      /* the key of the lock, child or thread that it waits for */
     uint64_t ticket;           /* its place among the threads that can go on; 0 before it has a place */
-    uint64_t number; /* the number of its birth, or of its age when a test began; its random numbers depend on this, */
-    uint64_t waits, reads; /* and on how often it has waited, and has read random bytes, since then */
-    uint64_t since;        /* the number of its wait in the run; the longest wait is woken first */
-    uint64_t tried;        /* the value of `progress` when it last looked */
-    uint64_t thread;       /* pthread_self */
-    uint64_t go_at;        /* the address of `go` in its process */
+    uint64_t number;           /* of its birth, or of its age when a test began; its random numbers depend on it */
+    uint64_t waits, reads;     /* how often it has waited, and has read random bytes, since then */
+    uint64_t since;            /* the number of its wait in the run; the longest wait is woken first */
+    uint64_t tried;            /* the value of `progress` when it last looked */
+    uint64_t thread;           /* pthread_self */
+    uint64_t go_at;            /* the address of `go` in its process */
     _Atomic uint32_t tid;
     uint32_t parent;             /* the parent of a new process */
     uint32_t bits;               /* the bits of a wait on a word: FUTEX_WAIT_BITSET */
@@ -120,7 +120,7 @@ struct timer {
     uint32_t is_shared;      /* other processes may have it */
     int32_t clock;
     uint64_t deadline, period;
-    uint64_t unread; /* how many expirations were unread at the last one */
+    uint64_t unread; /* how many expirations were unread at the last expiry */
 };
 
 /* A message that a process has the coordinator print: see tell.h. */
@@ -142,7 +142,7 @@ struct run {
     uint64_t until;
     uint64_t seed;     /* 0: threads go on in the order of their births */
     uint64_t test;     /* a hash of the current test's name, which is added to the seed */
-    uint64_t jitter;   /* by how many nanoseconds a timed wait is extended at most */
+    uint64_t jitter;   /* the largest number of nanoseconds by which a timed wait is extended */
     uint64_t terminal; /* the device of the terminal from which the run was started, or 0 */
     uint32_t has_ended;
     _Atomic uint32_t has_failed; /* a printed line has the reason why the run cannot continue */
@@ -152,7 +152,7 @@ struct run {
     _Atomic uint32_t pause;
     _Atomic uint32_t births; /* the deciding thread sleeps on this word until new threads have begun */
     _Atomic uint64_t waits, tickets;
-    _Atomic uint64_t ending;          /* process << 32 and thread of the one that handed the turn on when it ended */
+    _Atomic uint64_t ending;          /* process << 32 and thread of the thread that handed the turn on at its end */
     _Atomic uint64_t progress;        /* how often a thread began a new wait, or ended */
     _Atomic uint32_t tries;           /* threads in waits that no thread of the run ends */
     _Atomic uint64_t born;            /* how many threads have been born */

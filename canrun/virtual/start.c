@@ -108,7 +108,7 @@ static struct run *map_run(const char *path) {
     return at == MAP_FAILED || at->magic != RUN_MAGIC ? NULL : at;
 }
 
-/* The slot of this process: the one that it had before execve, or the one that its parent took, or a new one. */
+/* The slot of this process: its slot before execve, the slot that its parent took, or a new slot. */
 static uint32_t find_slot(void) {
     uint32_t pid = (uint32_t)RAW(SYS_getpid, 0), parent = (uint32_t)RAW(SYS_getppid, 0), found = NOBODY;
     const char *given = getenv(RUN_SLOT);

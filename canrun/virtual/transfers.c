@@ -17,7 +17,7 @@
 
 /* How many bytes a ready pipe takes at once. */
 #define PIECE 4096
-/* The most parts of a message that is received or sent in pieces. */
+/* The maximum number of parts of a message that is received or sent in pieces. */
 #define PARTS 64
 
 /* ---- messages ---- */

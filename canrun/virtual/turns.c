@@ -136,7 +136,7 @@ struct slot *my_slot(void) {
     return my.slot;
 }
 
-/* ---- which thread can go on ---- */
+/* ---- which thread can run ---- */
 
 static void collect_events(void) {
     struct epoll_event events[EVENTS];
@@ -175,7 +175,7 @@ static bool goes_before(const struct slot *one, const struct slot *other) {
                                           : one->number < other->number;
 }
 
-/* Gives a place to each thread that can go on now and could not before. Finds the first thread. */
+/* Gives a place to each thread that has become able to run, and finds the first thread. */
 static struct look look_round(void) {
     struct look look = {.best = NOBODY, .next = NEVER};
     uint64_t now = run->now, round = 0;
@@ -199,8 +199,8 @@ static struct look look_round(void) {
     return look;
 }
 
-/* Makes the threads that nobody wakes look once more, if another thread has run since their last look. False if there
- * are none. */
+/* Makes threads in waits that no thread ends look once more, if another thread has run since their last look. False if
+ * there are none. */
 static bool try_again(void) {
     bool has_one = false;
     for (uint32_t i = 0; run->tries && i < slots_used(); i++) {
@@ -241,7 +241,7 @@ static bool has_birth(void) {
     return false;
 }
 
-/* Waits until new threads have begun: the order must include all threads that can go on. */
+/* Waits until new threads have begun: the order must include all threads that can run. */
 static bool wait_for_births(void) {
     struct timespec patience = {0, BIRTH_NANOSECONDS};
     for (uint32_t seen = run->births; has_birth(); seen = run->births) {

@@ -27,7 +27,7 @@ static inline struct slot *slot_at(uint32_t index) {
 /* Whether a wait is for something that no thread of the run reports; TRIES_ON: it repeats such a wait. */
 enum tries { TRIES_NOT, TRIES, TRIES_ON };
 
-/* What a thread stores about itself. */
+/* The data that a thread keeps about itself. */
 struct my {
     struct slot *slot;
     uint32_t index;
@@ -70,7 +70,7 @@ void begin_slot(uint32_t index);
 /* Waits for a moment, or for an event that sets flags. Returns the flags. `deadline` may be NEVER. */
 uint32_t wait_turn(uint64_t deadline, uint64_t key, enum kind kind);
 
-/* Lets all other threads go on that can at this moment. */
+/* Lets all other threads run that can run at this moment. */
 void yield_turn(void);
 
 /* Waits for the turn, if the turn was taken from this thread. */
@@ -103,7 +103,7 @@ bool turn_change(uint64_t turn, uint32_t to);
 /* Begins to choose the next turn, for the owner of the turn. False if the turn was taken back. */
 bool begin_deciding(void);
 
-/* Returns the slot that can go on next; or NOBODY, and run->pause has the reason. Only the thread that decides may call
+/* Returns the slot that can run next; or NOBODY, and run->pause has the reason. Only the thread that decides may call
  * it. */
 uint32_t next_turn(bool ignores_outside);
 void hand_turn(uint32_t index);

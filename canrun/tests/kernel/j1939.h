@@ -46,7 +46,7 @@ void take_last(int fd, int number);
 /* Waits for a message, and prints its data, its source and its control messages; or prints that no message comes. */
 void receive(int fd);
 void receive_none(int fd);
-/* The same with buffers of these sizes for the data, the control messages and the address. */
+/* Receives a message into buffers of these sizes for the data, the control messages and the address. */
 void receive_into(int fd, size_t room, size_t control, size_t name);
 
 /* Turns the error queue on, with these flags of SO_TIMESTAMPING. */

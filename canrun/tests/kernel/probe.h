@@ -56,7 +56,7 @@ void result(long value);
 /* The value that the last call returned. */
 extern long returned;
 #define DO(...) (errno = 0, result((long)(__VA_ARGS__)))
-/* The same for a call that returns a descriptor, whose number is not printed. */
+/* Prints whether a call returned a descriptor, without its number; or its errno. */
 #define OPEN(...) (errno = 0, result((__VA_ARGS__) < 0 ? -1 : 0))
 #define SETS(...) DO(setsockopt(__VA_ARGS__))
 
@@ -120,8 +120,7 @@ void take_to(int fd, canid_t id);
 /* Reads the frame of the last write, and prints its bytes up to the last nonzero one. After a failed write no frame
  * comes. */
 void look(int fd);
-/* The same for messages of ISO-TP, up to a message with the byte 0x77; and of CAN_BCM, up to the frame LAST of
- * `writer`. */
+/* Read messages: of ISO-TP, up to a message with the byte 0x77; of CAN_BCM, up to the frame LAST of `writer`. */
 void message(int fd);
 void message_to_77(int fd);
 void change(int fd);

@@ -2,7 +2,7 @@
 #include "probe.h"
 #include <sys/stat.h>
 
-/* The limit in milliseconds for frames that must come, and the most frames that are read. */
+/* The limit in milliseconds for frames that must come, and the maximum number of frames that are read. */
 enum { PATIENCE = 5000, MOST = 40 };
 
 static bool comes(int fd, short wanted, int milliseconds) {

@@ -16,7 +16,7 @@ void reset(void);
  * prints its status. */
 void shows(const char *words, const char *expression);
 void status_of(const char *words);
-/* The same for a shell command. */
+/* Prints the output of a shell command. */
 void shell(const char *words);
 
 /* Makes a socket of NETLINK_ROUTE with these groups. */

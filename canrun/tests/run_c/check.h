@@ -88,7 +88,7 @@ static inline void send_numbered(int fd, canid_t id, unsigned number) {
     CHECK(write(fd, &frame, sizeof frame) == sizeof frame);
 }
 
-/* The same, repeated while the transmit queue is full. */
+/* Sends a numbered frame, and repeats that while the transmit queue is full. */
 static inline void send_patiently(int fd, canid_t id, unsigned number) {
     struct can_frame frame = frame_of(id, number);
     while (write(fd, &frame, sizeof frame) != sizeof frame) {

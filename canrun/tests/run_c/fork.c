@@ -46,7 +46,7 @@ int main(int count, char **words) {
         _exit(0);
     }
     succeeds(child);
-    send_numbered(writer, 0x123, 2); /* Its copies are closed, ours is not. */
+    send_numbered(writer, 0x123, 2); /* The copies in the child are closed, ours are not. */
     get(reader, 0x123, 2);
     int copy = dup(writer), third = dup2(copy, 77);
     CHECK(copy >= 0 && third == 77 && close(writer) == 0 && close(copy) == 0);

@@ -116,7 +116,7 @@ static void fault(const char *control, size_t length, int error) {
 }
 #define FAULT(bytes, error) fault(bytes, sizeof(bytes) - 1, error)
 
-/* The same for a received message. Earlier data stay readable. */
+/* An error of a received message becomes the socket's error. Earlier data stay readable. */
 static void received_fault(void) {
     int fd = made();
     CHECK(bind_isotp(fd, RX, TX) == 0);

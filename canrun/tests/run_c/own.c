@@ -28,7 +28,7 @@ static void take_turns(int self, int beside, int other) {
     }
 }
 
-/* The same without waiting for each frame: there is one interface, which keeps the order. */
+/* Equal frames of two sockets, without waiting for each frame: there is one interface, which keeps the order. */
 static void take_turns_at_once(int self, int beside) {
     for (int i = 0; i < TURNS; i++) {
         send_patiently(i % 5 < 2 ? self : beside, 0x7, 7);

@@ -1,5 +1,5 @@
-/* Reads that bypass the library's receiving calls get the frame and nothing else, whatever the size of their buffer:
- * splice, preadv2, stdio, direct system calls and io_uring. */
+/* Reads that bypass the library's receiving calls get the frame and nothing else, with buffers of any size: splice,
+ * preadv2, stdio, direct system calls and io_uring. */
 #include "check.h"
 #include <linux/io_uring.h>
 #include <sys/mman.h>

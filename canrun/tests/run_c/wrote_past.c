@@ -127,7 +127,7 @@ static void unseen(void) {
     get(reader, 0x123, 8);
 }
 
-/* The same for the other protocols. */
+/* Such writes to sockets of the other protocols. */
 static void other_protocols(void) {
     struct sockaddr_can address = address_of("can0");
     int manager = socket(PF_CAN, SOCK_DGRAM, CAN_BCM), isotp = socket(PF_CAN, SOCK_DGRAM, CAN_ISOTP);

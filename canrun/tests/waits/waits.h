@@ -34,7 +34,7 @@ extern const struct wait sleeps[], polls[], signals[], awaited[], signalfds[], c
 /* `begin` starts the measurement; `end` stops it and notes the result of the call, and its errno. */
 void begin(void);
 void end(long result);
-/* The same for a call that returns its error. */
+/* Ends the measurement of a call that returns its error. */
 void ends_with(int error);
 
 /* Adds to the printed result. */
