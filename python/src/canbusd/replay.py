@@ -2,7 +2,7 @@
 
 The program has the rules, and says in these lines what each entry of a record brought about. Here is kept what they say,
 and what follows of it: which frames wait, who takes part in arbitration, and what became of each item. There are millions
-of lines, so those of a kind are taken together, as columns of their words.
+of lines, so they are taken as columns, which `_run/chunks.py` reads.
 """
 
 from array import array
