@@ -1,7 +1,7 @@
-"""Lines of the events of a run that follow each other, read into columns without those before them: so any process can do it.
+"""Some lines of the events of a run, as columns. They are read without the lines before them, so any process can do it.
 
-Numbers of entries, steps and items are counted from the first of the lines on. What else depends on the lines before is left
-to the reader of all of them, which is a Replay.
+Entries, steps and items are counted from the first of these lines on. Everything else that depends on lines before is left
+to Replay, which takes the columns of all lines.
 """
 
 import itertools
@@ -74,15 +74,15 @@ class Chunk:
     verdict_texts: list[str] = field(default_factory=list)
     accepted: "array[int]" = column("H")
     off: "array[int]" = column("H")
-    #: How many frames wait at each interface more than before the first line, as `Waiting` has it.
+    #: How many more frames wait at each interface than before the first line, as `Waiting` packs them.
     waiting: bytes = b""
     #: The same after the last line, as one number.
     waiting_more: int = 0
     #: Four columns of the time on the wire; none if no line has it.
     wires: "list[array[int]]" = field(default_factory=list)
-    #: The error counts, two of each interface, from the first step on that says them; before they are 0. It is empty if none does.
+    #: The error counts, two of each interface, and 0 before the first step that has them; empty if no step has any.
     counts: "array[int]" = column("H")
-    #: By the place of two counts, the first step that says them.
+    #: By the place of two counts, the first step that has them.
     counted_from: dict[int, int] = field(default_factory=dict)
     #: The steps that changed counts.
     changed: "array[int]" = column("I")

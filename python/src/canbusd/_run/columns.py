@@ -26,9 +26,9 @@ def later(column: "array[int]", by: int) -> "array[int]":
 
 
 class Waiting:
-    """How many frames wait at each interface before steps, as bytes: two an interface, and two more that are 1.
+    """How many more frames wait at each interface before steps than before the first line: two bytes for each interface.
 
-    Those take the borrow of an interface that has fewer than before the first line, so that one sum is that of all steps.
+    Two more bytes are 1. They take the borrow if fewer frames wait than before, so that no step takes it from the next one.
     """
 
     def __init__(self, ifaces: int) -> None:

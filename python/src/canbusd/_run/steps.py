@@ -187,7 +187,7 @@ class Steps(Sequence[Step]):
             self.note(column)
 
     def set_down(self, place: int, members: int) -> None:
-        """The interfaces that are down from a step on, which is the last whose interfaces are said."""
+        """Notes the interfaces that are down from a step on: of a step that is not added yet, in their order."""
         self._go_on(self.down, place)
         self.down.append(members)
 
