@@ -1,4 +1,4 @@
-"""Files and streams that fail, and what canbusd says and leaves then.
+"""Files and streams that fail, and the messages and files of canbusd then.
 
 Each file and stream of `bench`, `audit` and `serve` is one that is closed, full (/dev/full), a folder, missing, one
 that can't be read (/proc/self/mem), that is no text or has no end, a pipe that nobody reads, and a file that may
@@ -48,7 +48,7 @@ def nothing():
 
 
 def run(*words, closes=None, most=resource.RLIM_INFINITY, **streams):
-    """What the program does with these streams, perhaps with one of them closed, and with a bound of its memory."""
+    """Runs the program with these streams, perhaps with one of them closed, and with a limit on its memory."""
 
     def begin():
         resource.setrlimit(resource.RLIMIT_AS, (most, most))
@@ -106,7 +106,7 @@ def test_output_of_a_bench(tmp_path):
 
 
 def test_errors_of_a_bench():
-    """closed, full, a pipe that nobody reads: output and status are as ever"""
+    """the errors are closed, full, or a pipe that nobody reads: output and status stay the same"""
     for stream in (unread_pipe, full, nothing):
         with stream() as errors:
             closes = 2 if errors is None else None
@@ -181,7 +181,7 @@ def test_log_of_a_bench(tmp_path):
 
 
 def may_grow(most, errors=None):
-    """Lets files grow to a number of bytes; then writes are refused. Standard error may be a pipe instead."""
+    """Lets files grow to a number of bytes, after which writes are refused. Standard error may be a pipe instead."""
 
     def begin():
         if errors is not None:
@@ -218,7 +218,8 @@ def test_file_of_an_audit():
 
 @contextlib.contextmanager
 def ended(*words, before=lambda folder: None, **how):
-    """A server of two buses, with two frames on the first, that was ended: it, its status, and what it wrote."""
+    """Runs and ends a server of two buses, with two frames on the first; returns the server, its status, and its
+    output."""
     with serving_alone("--pace", "0", *words, "can0,can1", "can2", **how) as server:
         before(server.folder)
         pair = Pair(server)
@@ -229,7 +230,7 @@ def ended(*words, before=lambda folder: None, **how):
 
 
 def whole(server, *names):
-    """Whether these files, and no others, are what a run leaves that went well."""
+    """Returns whether exactly these files of a successful run exist."""
     for name in ("can0.rec", "can2.rec"):
         if name in names:
             server.audited(name)
@@ -240,7 +241,7 @@ def whole(server, *names):
 
 
 def test_files_of_a_server():
-    """full, a folder, no memory to grow: each file's fault is its own"""
+    """a full file, a folder, or no memory to grow: a fault of a file affects only this file"""
     names = ["can0.log", "can0.rec", "can2.log", "can2.rec"]
     faults = {"can0.log": "log of can0: 0 whole lines", "can0.rec": "write fault", "can2.rec": "write fault"}
     for name in names:
@@ -261,14 +262,14 @@ def test_files_of_a_server():
 
 
 def leave_old(folder):
-    """A log of an earlier run."""
+    """Writes a log of an earlier run."""
     with open(os.path.join(folder, "can0.log"), "w", encoding="ascii") as log:
         log.write("old\n")
 
 
 def test_logs_that_grow_to_a_limit():
-    """how many whole lines they have; one of an earlier run stays, and what was written is beside it"""
-    # A line of a frame with an identifier of 29 bits and 4 bytes: (SSSSSSSSSS.MMMMMM) can0 00000000#00000001 and LF.
+    """the logs have only complete lines; the log of an earlier run stays, and the new one is next to it"""
+    # The line of a frame with an identifier of 29 bits and 4 bytes: (SSSSSSSSSS.MMMMMM) can0 00000000#00000001 and LF.
     line = 43
     note = "  what was written is in ./can0.log.new: the old file ./can0.log stays as it is\n"
     for most, count, is_first in [
@@ -301,7 +302,7 @@ def test_logs_that_grow_to_a_limit():
 
 
 def test_output_of_a_server():
-    """full, closed, a pipe that nobody reads; files are written all the same"""
+    """the output is full, closed, or a pipe that nobody reads; files are written nevertheless"""
     words = "serve", "--listen", "127.0.0.1:0", "--until-eof", "can0"
     with full() as file:
         expect("full", run(*words, stdout=file), 1, "", "write fault")
@@ -318,7 +319,8 @@ def test_output_of_a_server():
 
 
 def test_input_of_a_server():
-    """closed, a folder, unreadable: with --until-eof an end; without it nobody reads it"""
+    """the input is closed, a folder, or unreadable: with --until-eof this is the end; without it nobody reads the
+    input"""
     for path in ("/", UNREADABLE, "/dev/null"):
         file = os.open(path, os.O_RDONLY)
         status, output, errors = run("serve", "--listen", "127.0.0.1:0", "--until-eof", "can0", stdin=file)
@@ -330,7 +332,7 @@ def test_input_of_a_server():
 
 
 def test_a_full_standard_error_of_a_server(tmp_path):
-    """full: a record that is full, and files that fail, are reported to nobody; the status says so"""
+    """reports on a full record and on failing files are lost, and the status shows the fault"""
     with full() as file:
         os.mkdir(os.path.join(tmp_path, "can0.log"))
         words = "serve", "--listen", "127.0.0.1:0", "--until-eof", "--out", tmp_path, "can0"
@@ -344,7 +346,7 @@ def test_a_full_standard_error_of_a_server(tmp_path):
 
 
 def test_addresses_of_a_server(server, tmp_path):
-    """a missing folder, a file that is there, a port that is taken, no address"""
+    """a missing folder, an existing file, a port in use, and no address are refused"""
     there = tmp_path / "there"
     there.touch()
     taken = f"{server.host}:{server.port}"

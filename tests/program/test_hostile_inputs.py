@@ -18,7 +18,7 @@ FAULTS = re.compile(
     rb"canbusd: (line \d+: bad line|input too long|bad version|entry \d+: wrong|read fault|no memory)\n"
     rb"(  [ -~]{1,300}\n){0,3}"
 )
-# Standard error after a run to the end of its input.
+# The standard error after a run to the end of its input.
 NOTES = re.compile(rb"(note: session \d+: (bytes outside < and > were skipped|the last message has no >)\n)*")
 RECORD = b"""canbus record 1
 bus 2 always 0000 10 100
@@ -45,7 +45,7 @@ WORDS = [
 
 
 def changed(rng, text):
-    """The text with a few bytes, words or lines changed."""
+    """Returns the text with a few bytes, words or lines changed."""
     for _ in range(rng.choice([1, 1, 2, 3, 8])):
         at, to = sorted(rng.randint(0, len(text)) for _ in range(2))
         kind = rng.randrange(7)
@@ -70,7 +70,7 @@ def changed(rng, text):
 
 
 def case(rng, inputs):
-    """The words of a run and its input."""
+    """Returns the words of a run and its input."""
     if rng.random() < 0.4:
         return ["audit", "/dev/stdin"], changed(rng, RECORD)
     words = ["bench", "--limit", str(rng.choice([1, 3, 50, 5000])), rng.choice(["can0", "can0,can1", "can0,can1,can2"])]
@@ -80,7 +80,7 @@ def case(rng, inputs):
 
 
 def fault_of(program, words, text):
-    """What a run did that it may not do, or None."""
+    """Returns the forbidden behaviour of a run, or None."""
     try:
         with tempfile.TemporaryFile() as out:
             done = subprocess.run(
@@ -99,7 +99,7 @@ def fault_of(program, words, text):
 
 
 def test_inputs_of_bench_and_audit(program, rng, cases, tmp_path):
-    """a fault reported as it has to be, or none; inputs that fail are kept"""
+    """faults are reported in the required form, or there is none; failing inputs are kept"""
     inputs = []
     for path in sorted(glob.glob(os.path.join(ROOT, "examples", "*.bench"))):
         with open(path, "rb") as file:

@@ -22,7 +22,7 @@ SOURCE = "crates/can_confine/src/counters.rt"
 
 
 class Copy:
-    """A copy of the repository, without what was built."""
+    """A copy of the repository, without built files."""
 
     def __init__(self, request, folder):
         self.folder, self.launcher = folder / "copy", folder / "copy" / "canbusd"
@@ -32,7 +32,7 @@ class Copy:
         subprocess.run(["tar", "-xf", archive, "-C", self.folder], check=True)
 
     def run(self, *words, **how):
-        """What a command does in the copy."""
+        """Runs a command in the copy; returns the result."""
         how = {"cwd": self.folder, "env": self.environment, **how}
         return subprocess.run(words, stdin=subprocess.DEVNULL, capture_output=True, text=True, check=False, **how)
 
@@ -69,7 +69,7 @@ def copy(request, tmp_path):
 
 @pytest.fixture(scope="module")
 def launchers(request, tmp_path_factory):
-    """A launcher in a copy, and one that is installed, each called through a link."""
+    """A launcher in a copy, and an installed launcher, each called through a link."""
     folder = tmp_path_factory.mktemp("launchers")
     copy = Copy(request, folder)
     copy.make("install", f"PREFIX={folder}/a place/y")
@@ -79,12 +79,12 @@ def launchers(request, tmp_path_factory):
 
 
 def on_path(folder):
-    """An environment whose PATH begins with this folder."""
+    """Returns an environment whose PATH begins with this folder."""
     return {"PATH": f"{folder}:/usr/bin:/bin", "HOME": str(folder)}
 
 
 def test_calls(copy, tmp_path):
-    """again, from other folders, through a link, on the PATH; the status is the program's"""
+    """repeated calls work from other folders, through a link and on the PATH; the status is the program's"""
     assert [copy.status("./canbusd", "--version") for _ in range(2)] == [0, 0]
     assert copy.status("./canbusd", "bench") == 2
     (tmp_path / "bin").mkdir()
@@ -95,7 +95,7 @@ def test_calls(copy, tmp_path):
 
 
 def test_changed_source(copy):
-    """the program of other sources is not run, whatever the time of the changed file"""
+    """a program of other sources is not run, whatever the time of the changed file"""
     source = copy.folder / SOURCE
     text = source.read_text()
     assert copy.status("./canbusd", "--version") == 0
@@ -110,7 +110,7 @@ def test_changed_source(copy):
 
 @pytest.mark.skipif(not shutil.which("git"), reason="no git")
 def test_sources_after_those_of_dist(copy):
-    """where later commits changed the sources, the command that is shown brings back those that dist/ fits"""
+    """if later commits changed the sources, the displayed command restores the sources that dist/ fits"""
     commit = ["git", "-c", "user.name=n", "-c", "user.email=n@n.example", "commit", "-q", "-m"]
     for words in (["git", "init", "-q"], ["git", "add", "dist", "crates", "crates.txt"], [*commit, "dist"]):
         assert copy.status(*words) == 0, words
@@ -123,7 +123,7 @@ def test_sources_after_those_of_dist(copy):
 
 
 def test_interrupted_build(copy, tmp_path):
-    """how to stop a build is said before it begins, and Ctrl-C ends all of it without a word more"""
+    """a message before the build says how to stop it, and Ctrl-C ends all of it without a further word"""
     (tmp_path / "rt").write_text("#!/bin/sh\n: >$HOME/begun\nexec sleep 600\n")
     (tmp_path / "rt").chmod(0o755)
     (copy.folder / SOURCE).write_text("// a change\n")
@@ -150,7 +150,7 @@ def test_definitions_taken_away(copy):
 
 
 def test_few_file_descriptors(copy):
-    """it is said, and the program is not taken for one of other sources"""
+    """the launcher reports this, and does not mistake the program for a program of other sources"""
     for files in range(8, 24):
         shutil.rmtree(copy.folder / "crates" / "canbusd" / "out", ignore_errors=True)
         done = copy.run("bash", "-c", f"ulimit -n {files}; exec ./canbusd --version")
@@ -161,7 +161,7 @@ def test_few_file_descriptors(copy):
 
 
 def test_file_past_its_limit(copy):
-    """a write fault, and no end by SIGXFSZ"""
+    """it is a write fault, and no end by SIGXFSZ"""
     assert copy.status("./canbusd", "--version") == 0
     record = copy.folder.parent / "run.rec"
     done = copy.run("bash", "-c", f"ulimit -f 0; printf '' | ./canbusd bench --record '{record}' can0")
@@ -169,7 +169,7 @@ def test_file_past_its_limit(copy):
     assert not record.exists()
 
 
-# A file of a crate that the program is not made of, of a proof, and the list of crates with one more.
+# A file of a crate outside the program, a file of a proof, and the list of crates with a further crate.
 OTHERS = {
     "crates/can_audit/src/lib.rt": "// a remark\n",
     "crates/can_audit/specs/Lib.antt": "-- a remark\n",
@@ -177,7 +177,7 @@ OTHERS = {
     "crates/can_confine/wrong/new.edit": "",
     "crates.txt": "# A remark.\ncan_new: can_bus canbusd\n",
 }
-# A file of the program, a definition of it, and a line of a crate of it.
+# A file of the program, a definition of the program, and a line of one of its crates.
 OWN = {
     "crates/can_frame/src/lib.rt": "// a remark\n",
     "crates/can_frame/specs/Lib.antt": "-- a remark\n",
@@ -188,7 +188,7 @@ OWN = {
 
 @pytest.mark.parametrize("file", OTHERS)
 def test_what_makes_no_other_program(copy, file):
-    """whether or not it was looked for before"""
+    """this holds whether or not the program was searched before"""
     assert copy.status("./canbusd", "--version") == 0
     append(copy.folder / file, OTHERS[file])
     assert copy.status("./canbusd", "--version") == 0
@@ -203,7 +203,7 @@ def test_what_makes_another_program(copy, file):
 
 
 def test_crates_of_the_program(copy):
-    """what is listed: its own, what it stands on, and what those stand on"""
+    """the list has the program's own crate, its dependencies, and their dependencies"""
     listed = copy.run("scripts/program", "crates").stdout.split()
     assert listed[-1] == "canbusd" and {"can_frame", "can_bus", "can_server"} < set(listed)
     assert not {"can_audit", "hex", "clap"} & set(listed)
@@ -217,7 +217,7 @@ def test_damaged_program(copy):
 
 @pytest.mark.skipif(os.geteuid() == 0, reason="root may write everywhere")
 def test_folder_that_cannot_be_written(copy, tmp_path):
-    """which program fits is kept in the user's cache"""
+    """the user's cache notes which program fits"""
     copy.run("chmod", "-R", "a-w", copy.folder)
     try:
         assert copy.status("./canbusd", "--version") == 0
@@ -231,7 +231,7 @@ def files_in(folder):
 
 
 def test_installed(copy, tmp_path):
-    """called by its path, through a link and on the PATH; nothing is left once it is uninstalled"""
+    """the program works by its path, through a link and on the PATH; after uninstalling nothing remains"""
     place = tmp_path / "a place" / "y"
     copy.make("install", f"PREFIX={place}")
     launcher = place / "bin" / "canbusd"
@@ -260,7 +260,7 @@ def test_installed_off_the_path(copy, tmp_path):
 
 
 def test_installed_in_a_folder_of_the_user(copy, tmp_path):
-    """make install prints the PYTHONPATH that python3 needs, and nothing once it is set; ~ is the user's folder"""
+    """make install prints the PYTHONPATH that python3 needs, and nothing if it is set; ~ is the user's folder"""
     done = copy.run("make", "-s", "install", "PREFIX=~/a place")
     assert (done.returncode, done.stderr) == (0, ""), done
     assert (tmp_path / "a place" / "bin" / "canbusd").exists()
@@ -286,13 +286,13 @@ JOINED = "  names of a bus are joined by commas, without spaces: can0,can1\n"
         (["--listen", "127.0.0.1:99999", "can0"], LISTEN),
         (["--out", "nosuchdir", "can0"], "  --out is a folder that exists: mkdir 'nosuchdir'\n"),
         (["--out=nosuchdir", "can0"], "  --out is a folder that exists: mkdir 'nosuchdir'\n"),
-        # The program says it all.
+        # The program's message is complete.
         (["--listen", "/none/socket", "can0"], ""),
         (["--out", ".", "--listen", "127.0.0.1:0", "can0,can0"], ""),
     ],
 )
 def test_a_word_that_is_refused_is_followed_by_its_cure(launchers, tmp_path, words, said):
-    """the launcher adds what to do to what the program says"""
+    """the launcher adds a remedy to the program's message"""
     for launcher in launchers.values():
         done = subprocess.run(
             [launcher, "serve", *words],
@@ -327,7 +327,7 @@ def to_launcher(number, child, _):
 
 
 def to_all(number, child, _):
-    """As the terminal does, which signals the whole group of processes."""
+    """Sends a signal to the whole group of processes, as the terminal does."""
     os.killpg(child.pid, number)
 
 
@@ -339,7 +339,7 @@ def hang_up(_, client):
     client.close()
 
 
-# The ends of a server: its words, the number of its sessions, the act, and the status.
+# The ends of a server: its words, the number of its sessions, the action, and the status.
 ENDS = {
     "Ctrl-C": ([], 10, functools.partial(to_all, signal.SIGINT), 0),
     "SIGINT": ([], 10, functools.partial(to_launcher, signal.SIGINT), 0),
@@ -357,7 +357,7 @@ ENDS = {
 
 
 def nobody_in(group):
-    """Whether a group of processes has ended."""
+    """Returns whether a group of processes has ended."""
     try:
         os.killpg(group, 0)
     except ProcessLookupError:
@@ -368,7 +368,7 @@ def nobody_in(group):
 @pytest.mark.parametrize("place", ["copy", "installed"])
 @pytest.mark.parametrize("end", ENDS)
 def test_end_of_a_server(launchers, place, end):
-    """it leaves no process, and except after Ctrl-\\ the record of its session's `open` and `close`"""
+    """it leaves no process, and except after Ctrl-\ the record of its session's `open` and `close`"""
     words, sessions, ends, wanted = ENDS[end]
     words = ["--sessions", str(sessions), *words, "can0"]
     with serving(*words, launcher=launchers[place], stdin=subprocess.PIPE) as server:
@@ -405,7 +405,7 @@ WRONG = [
 
 @pytest.mark.parametrize("words", WRONG)
 def test_wrong_words_of_serve(launchers, words):
-    """what is said of them is what the program says, without the launcher's own option"""
+    """the messages are the program's, without the launcher's own option"""
     said = []
     for command in (launchers["copy"], launchers["installed"], program()):
         done = subprocess.run([command, "serve", *words.split()], capture_output=True, text=True, check=False)
@@ -418,7 +418,7 @@ def test_wrong_words_of_serve(launchers, words):
     "words", ["can0 --pace 1", "--pace 1 -- can0", "--pace 1 can0 --", "--pace=1 -- -can0 --until-eof"]
 )
 def test_places_of_words_of_serve(launchers, words):
-    """wherever its options are: it ends cleanly at SIGTERM to its launcher"""
+    """wherever its options are, it ends cleanly at SIGTERM to its launcher"""
     with serving(*words.split(), launcher=launchers["copy"], stdin=subprocess.PIPE) as server:
         server.child.send_signal(signal.SIGTERM)
         assert server.child.wait(WAIT) == 0, server.said()

@@ -28,22 +28,22 @@ pytestmark = pytest.mark.skipif(not shutil.which("cc"), reason="no C compiler: c
 needs_live = pytest.mark.skipif("not writes_live()", reason="the program is older than `serve --record`")
 
 FOREVER = 2**64 - 1
-# More often than this nothing that is tried here asks for memory; and more bytes than this it does not need.
+# None of the tested runs asks for memory more often than this, nor needs more bytes than this.
 MOST_PLACES, MOST_BYTES = 5000, 1 << 34
-# A program that makes the calls of the libraries that take memory.
+# A program that calls the library functions that take memory.
 CALLS = os.path.join(ROOT, "crates", "can_memory_tests", "out", "can_memory_tests")
 NO_MEMORY = "canbusd: no memory\n"
-# Standard error where memory was refused: its fault, and perhaps what helps.
+# The standard error after refused memory: the fault, and perhaps a remedy.
 REFUSED = re.compile(r"canbusd: no memory\n(  [ -~]+\n)*")
 SAYS_NO_MEMORY = "< error no memory >"
-# A command that does nothing, in place of one that was refused memory.
+# A command without effect, in place of a command that was refused memory.
 UNKNOWN, SAYS_UNKNOWN = "< nothing >", "< error unknown command >"
 TAKES_MEMORY = re.compile(r"< *(?:open|rawmode|filter)\b[^<>]*>")
 
 
 @pytest.fixture(scope="module")
 def library(request):
-    """The library that refuses memory."""
+    """Compiles the library that refuses memory."""
     words = ["cc", "-O2", "-shared", "-fPIC", os.path.join(ROOT, "tests", "helpers", "refuse_memory.c"), "-o"]
     name = "refuse_memory.so"
     return made_once(request, "refusing", lambda folder: subprocess.run([*words, folder / name], check=True)) / name
@@ -51,12 +51,12 @@ def library(request):
 
 @pytest.fixture
 def refusing(library, tmp_path):
-    """The program's environment in which it is refused memory."""
+    """Returns the environment in which the program is refused memory."""
     return Refusing(library, tmp_path)
 
 
 class Refusing:
-    """An environment in which a program is refused memory, and a folder in which it runs."""
+    """An environment in which a program is refused memory, and a folder in which the program runs."""
 
     def __init__(self, library, folder):
         self.folder, self.server, plan = folder, None, folder / "plan"
@@ -66,17 +66,17 @@ class Refusing:
         self.environment = {**os.environ, "LD_PRELOAD": str(library), "REFUSE": str(plan)}
 
     def asked(self):
-        """How many times it has asked for memory."""
+        """The number of times that the program has asked for memory."""
         return struct.unpack("=Q", self.plan[:8])[0]
 
     def refuse(self, first, last, asked=0):
-        """Refuses it from the first to the last time, `asked` being how many there were before."""
+        """Refuses memory from the first to the last time, after `asked` earlier times."""
         self.plan[8:] = struct.pack("=2Q", 1, 0)
         self.plan[:8] = struct.pack("=Q", asked)
         self.plan[8:] = struct.pack("=2Q", first, last)
 
     def refuse_soon(self, first, last):
-        """Refuses it from the first to the last time, counted from now on; the number of the first."""
+        """Refuses memory from the first to the last time, counted from now on; returns the number of the first."""
         asked = self.settled()
         self.plan[8:] = struct.pack("=2Q", asked + first, min(asked + last, FOREVER))
         return asked + first
@@ -85,13 +85,13 @@ class Refusing:
         self.plan[8:] = struct.pack("=2Q", 1, 0)
 
     def settled(self):
-        """How often the server has asked, once it asks no more."""
+        """Returns the number of the server's requests for memory, after they have stopped."""
         assert come_true(self.server.rests), "the server does not come to rest"
         return self.asked()
 
     def run(self, words, text="", first=1, last=0, most=resource.RLIM_INFINITY, other=None):
-        """What the program does in a folder of its own with this input and this much memory: what it was, and how
-        often it asked."""
+        """Runs the program in a new folder with this input and this much memory; returns its result, and the number of
+        its requests."""
         self.refuse(first, last)
         done = subprocess.run(
             [other or program(), *words],
@@ -102,7 +102,7 @@ class Refusing:
             check=False,
             cwd=self.folder,
             env=self.environment,
-            # With one Python copies itself for each run.
+            # With a preexec function Python copies itself for each run.
             preexec_fn=None if most == resource.RLIM_INFINITY else within(most),
         )
         assert done.returncode in (0, 1, 2), f"status {done.returncode} at {first}: {done.stderr}"
@@ -115,18 +115,18 @@ def within(most):
 
 
 def places():
-    """One place after the other where memory is asked for, until the loop is left."""
+    """Yields each place where the program asks for memory, until the loop is left."""
     yield from range(1, MOST_PLACES)
     pytest.fail(f"it asks for memory more than {MOST_PLACES} times")
 
 
 def windows(asked):
-    """Each time that it is refused: only then, and from then on."""
+    """Yields each time twice: refused only then, and from then on."""
     return [(first, last) for first in range(1, asked + 1) for last in (first, FOREVER)]
 
 
 class Bench:
-    """A bench with its input, and what it does with ample memory."""
+    """A bench with its input, and its results with ample memory."""
 
     def __init__(self, refusing, words, text):
         self.words, self.text, self.refusing = words, text, refusing
@@ -134,31 +134,31 @@ class Bench:
         self.line = ["bench", "--record", "run.rec", *words]
         assert "error unknown command" not in self.runs(text)[0], "this input has unknown commands"
         self.commands = [found.span() for found in TAKES_MEMORY.finditer(text)]
-        # The answers of the program when one of these commands is refused memory.
+        # The answers of the program if one of these commands is refused memory.
         self.refused = {self.refuses(command) for command in self.commands}
         self.ample = self.runs(text)
 
     def runs(self, text):
-        """Output and record, with ample memory."""
+        """Returns output and record, with ample memory."""
         with contextlib.suppress(FileNotFoundError):
             os.remove(self.record)
         done, self.asked = self.refusing.run(self.line, text)
         return done.stdout, self.written(), done.returncode, done.stderr
 
     def refuses(self, command):
-        """What it does where the command does nothing and the reply is the words of refused memory."""
+        """Returns the results if the command has no effect and the reply reports refused memory."""
         begin, end = command
         output, *others = self.runs(self.text[:begin] + UNKNOWN + self.text[end:])
         return output.replace(SAYS_UNKNOWN, SAYS_NO_MEMORY), *others
 
     def written(self):
-        """The record, or None where there is none."""
+        """Returns the record, or None if there is none."""
         with contextlib.suppress(FileNotFoundError), open(self.record, encoding="utf-8") as file:
             return file.read()
         return None
 
     def try_at(self, first, last, most=resource.RLIM_INFINITY):
-        """Refuses it memory: whether a session reported it, or the program, or nobody."""
+        """Refuses the bench memory; returns whether a session reported this, or the program, or nobody."""
         with contextlib.suppress(FileNotFoundError):
             os.remove(self.record)
         done, _ = self.refusing.run(self.line, self.text, first, last, most)
@@ -170,11 +170,11 @@ class Bench:
         assert done.returncode == 1, f"at {first}: {did}"
         is_reported = REFUSED.fullmatch(done.stderr) or done.stderr == self.ample[3].splitlines(True)[0]
         assert is_reported, f"at {first}: {done.stderr}"
-        # After the first command that was refused for good, others depend on it.
+        # After the first command that was refused for ever, others depend on it.
         output = done.stdout.split(SAYS_NO_MEMORY)[0] if last == FOREVER else done.stdout
         assert self.ample[0].startswith(output), f"at {first}: {done.stdout}"
         assert done.stdout == "" or done.stdout.endswith("\n"), f"a line is cut at {first}: {done.stdout}"
-        # If the record's own memory was refused, its file is a part of it.
+        # If the record's own memory was refused, its file may be partial.
         assert (
             last == FOREVER or not did[1] or self.ample[1].startswith(did[1]) and did[1] != self.ample[1]
         ), f"at {first}: another record: {did[1]}"
@@ -182,7 +182,7 @@ class Bench:
 
 
 def try_everywhere(bench):
-    """Refuses a bench memory at each place: how often it was reported where."""
+    """Refuses a bench memory at each place; returns the number of reports by reporter."""
     outcomes = {}
     for first, last in windows(bench.asked):
         how = bench.try_at(first, last)
@@ -191,7 +191,7 @@ def try_everywhere(bench):
 
 
 def summed(runs):
-    """The counts of several runs together."""
+    """Returns the sums of the counts of several runs."""
     sums = {}
     for outcomes in runs:
         for how, count in outcomes.items():
@@ -199,7 +199,8 @@ def summed(runs):
     return ", ".join(f"{count} {how}" for how, count in sorted(sums.items()))
 
 
-# Each command that takes memory, between others that show whether it was done; a long piece, a name that is not there.
+# Each command that takes memory, between commands that show whether it was carried out; a long piece, and an unknown
+# name.
 COMMANDS = (
     """session 1
 session 2
@@ -229,7 +230,7 @@ end 3
 
 
 def example(path):
-    """The words and the input of an example."""
+    """Returns the words and the input of an example."""
     with open(path, encoding="utf-8") as file:
         text = file.read()
     words = re.search(r"\./canbusd bench (.*) < examples/", text)[1]
@@ -238,7 +239,7 @@ def example(path):
 
 @pytest.mark.slow
 def test_a_bench_without_memory(refusing):
-    """each example, and an input with each command that takes memory"""
+    """this is tested with each example, and with an input that has each command that takes memory"""
     inputs = [example(path) for path in sorted(glob.glob(os.path.join(ROOT, "examples", "*.bench")))]
     inputs += [(["can0,can1"], COMMANDS), (["--report", "--ack", "peers", "--limit", "12", "can0,can1"], COMMANDS)]
     runs = [try_everywhere(Bench(refusing, words, text)) for words, text in inputs]
@@ -247,7 +248,7 @@ def test_a_bench_without_memory(refusing):
 
 @pytest.mark.slow
 def test_faults_without_memory(refusing):
-    """lines, scripts, names and words that are refused: their first line is reported, or no memory"""
+    """for refused lines, scripts, names and words, the first line is reported, or no memory"""
     folder = refusing.folder
     scripts = {"line": "0 good\nx\n", "name": "5 local crc can2\n", "twice": "5 good\n5 good\n"}
     for name, text in scripts.items():
@@ -298,7 +299,7 @@ def test_faults_without_memory(refusing):
     ],
 )
 def test_an_audit_without_memory(refusing, old, new):
-    """a legal record, a wrong entry, a bad line, another version"""
+    """this is tested with a legal record, a wrong entry, a bad line and another version"""
     bench = Bench(refusing, ["can0,can1"], COMMANDS)
     legal = bench.ample[1]
     record = re.sub(old, new, legal, count=1)
@@ -326,7 +327,7 @@ def test_an_audit_without_memory(refusing, old, new):
 
 @pytest.mark.parametrize("part, options", [("put", []), ("rule", ["--faults", "can0,can1@run.faults"])])
 def test_events_without_memory(refusing, part, options):
-    """an audit's: they are as ever, or the fault follows whole lines of them"""
+    """an audit's events stay the same, or the fault follows complete lines"""
     Bench(refusing, ["can0,can1"], COMMANDS)
     (refusing.folder / "run.faults").write_text("next 1 good\nat 1 always good\nat 1 next 1 lastbit\n")
     words = ["audit", "--events", *options, "run.rec"]
@@ -342,7 +343,7 @@ def test_events_without_memory(refusing, part, options):
 
 
 def crosses(server, source, target):
-    """Whether a frame crosses a bus. Its driver may have been refused memory."""
+    """Returns whether a frame crosses a bus, whose driver may have been refused memory."""
     with contextlib.closing(plain(server, source)) as sender, contextlib.closing(plain(server, target)) as receiver:
         receiver.socket.settimeout(1)
         sender.write("< send 7FF 0 >")
@@ -361,7 +362,8 @@ def refused_server(refusing, *words):
 
 @pytest.mark.skipif(not os.path.exists(CALLS), reason="not built: rt run in crates/can_memory_tests")
 def test_calls_without_memory(refusing):
-    """each call of the libraries is made again where it was refused: it left all as it was, and returns the same"""
+    """each call of the libraries is repeated after a refusal: the refused call changed nothing, and the repeated call
+    returns the same"""
     ample, asked = refusing.run([], other=CALLS)
     assert ample.returncode == 0 and ample.stdout.count(": as ever\n") == ample.stdout.count("\n") > 0, f"{ample}"
     for place in range(1, asked + 1):
@@ -369,7 +371,7 @@ def test_calls_without_memory(refusing):
         assert (done.returncode, done.stdout, done.stderr) == (0, ample.stdout, ""), f"at {place}: {done}"
 
 
-# A client's messages, each with its answer with ample memory; None is an answer of texts in any order.
+# A client's messages, each with its answer with ample memory; None means several texts in any order.
 SAYS = [
     ("< open can2 >", "< ok >"),
     ("< rawmode >", "< ok >"),
@@ -384,7 +386,7 @@ SAYS = [
 
 
 def converse(server, refusing):
-    """What a client hears of all that it says. After `no memory` it asks again, with memory."""
+    """Returns the answers to all messages of a client. After `no memory` it asks again, with memory."""
     with contextlib.closing(Plain(server)) as client:
         try:
             greeting = client.text()
@@ -412,7 +414,7 @@ def converse(server, refusing):
 
 
 def test_sessions_without_memory(refusing):
-    """a session that is refused memory ends without the others, or hears of it"""
+    """a session that is refused memory ends without the others, or gets a message"""
     outcomes, numbers, drivers, is_over = {}, places(), 0, False
     while not is_over:
         refusing.stop()
@@ -439,7 +441,7 @@ def test_sessions_without_memory(refusing):
 
 
 def hears(sender, listener):
-    """What becomes of a listener to which frames go, where one call may be refused memory."""
+    """Returns what happens to a listener that receives frames, if one call may be refused memory."""
     listener.socket.settimeout(1)
     outcome = "as ever"
     for number in range(40):
@@ -463,7 +465,7 @@ def hears(sender, listener):
 
 
 def test_deliveries_without_memory(refusing):
-    """a receive takes no memory: a listener gets its frames whatever is refused to others"""
+    """a receive takes no memory: a listener gets its frames, whatever is refused to others"""
     outcomes = {}
     for place in places():
         refusing.stop()
@@ -489,14 +491,15 @@ def test_deliveries_without_memory(refusing):
 
 
 def why_not(fault, others=()):
-    """Why a server does not listen, where it said so as it has to: these reasons are taken too."""
+    """Returns the reason why a server does not listen, if its report has the right form: these reasons are accepted
+    too."""
     reported = re.fullmatch(rf"canbusd: ({'|'.join(['no memory', 'cannot listen', *others])})(\n  [ -~]*)*", str(fault))
     assert reported, f"{fault}"
     return reported[1]
 
 
 def greets(server):
-    """Whether a server that listened serves a session."""
+    """Returns whether a listening server serves a session."""
     with contextlib.suppress(ConnectionError), contextlib.closing(Plain(server)) as client:
         if client.text() == "< hi >":
             return "served"
@@ -504,8 +507,9 @@ def greets(server):
 
 
 def refused_at_each_place(tried):
-    """What came of each try, of which memory is refused at one place or from there on, until nothing is asked for there. A
-    try gets the place and the last that is refused, and returns what came of it, and whether it asked for less."""
+    """Returns the results of tries in which memory is refused at one place or from there on, until no try asks for
+    memory there. A try gets the place and the last refused request, and returns its result, and whether it made fewer
+    requests."""
     outcomes = {}
     for place in places():
         for last in (FOREVER, place):
@@ -517,8 +521,8 @@ def refused_at_each_place(tried):
 
 
 def start(refusing, place, last, ended, *words, reasons=()):
-    """What came of a server whose start is refused memory: why it does not listen, or what `ended` says of it; and whether
-    its start asks for less than that."""
+    """Returns the result of a server whose start is refused memory: the reason why it does not listen, or the result of
+    `ended`; and whether its start makes fewer requests."""
     refusing.refuse(place, last)
     try:
         with refused_server(refusing, *words) as server:
@@ -530,7 +534,7 @@ def start(refusing, place, last, ended, *words, reasons=()):
 
 
 def test_a_start_without_memory(refusing):
-    """a server that is refused memory says so and is gone, or serves"""
+    """a server that is refused memory reports this and ends, or serves"""
 
     def ended(server, how):
         status, _ = server.finish()
@@ -542,7 +546,7 @@ def test_a_start_without_memory(refusing):
 
 
 def test_an_end_without_memory(refusing):
-    """a file that is refused memory is reported; the others are whole"""
+    """a file that is refused memory is reported; the other files are complete"""
 
     def tried(place, last):
         with refused_server(refusing) as server:
@@ -557,7 +561,7 @@ def test_an_end_without_memory(refusing):
 
 
 def files_at_the_end(server, status, written):
-    """What became of the files of a server."""
+    """Returns the results for the files of a server."""
     assert re.fullmatch(r"bus can0 entries \d+\nbus can2 entries 0\n", written), written
     lines = [line for line in server.said().splitlines() if not line.startswith("  ")]
     assert status == (1 if lines else 0) and all(
@@ -576,7 +580,7 @@ def files_at_the_end(server, status, written):
 
 @needs_live
 def test_a_start_of_a_long_run_without_memory(refusing):
-    """a server that writes while it runs says so and is gone, or serves"""
+    """a server that writes while it runs reports this and ends, or serves"""
 
     def ended(server, how):
         status, written = server.finish()
@@ -589,7 +593,7 @@ def test_a_start_of_a_long_run_without_memory(refusing):
 @needs_live
 @pytest.mark.parametrize("flush", ["0", "60000"])
 def test_a_long_run_without_memory(refusing, flush):
-    """a bus or a file that is refused memory is reported, and no record looks whole that is not"""
+    """a bus or a file that is refused memory is reported, and no partial record looks complete"""
 
     def tried(place, last):
         with refused_server(refusing, "--record", "live", "--flush", flush) as server:
@@ -607,7 +611,7 @@ def test_a_long_run_without_memory(refusing, flush):
 
 
 def live_files(server, status, written):
-    """What became of the files of a server that wrote them while it ran."""
+    """Returns the results for the files that a server wrote while it ran."""
     entries = dict(re.findall(r"^bus (\w+) entries (\d+)$", written, re.M))
     whole = 0
     for name in ("can0", "can2"):
@@ -630,7 +634,7 @@ def live_files(server, status, written):
 
 
 def amounts(first):
-    """Ever more bytes, from the first on."""
+    """Yields ever more bytes, from the first on."""
     most = first
     while most < MOST_BYTES:
         most += most // 64
@@ -639,7 +643,7 @@ def amounts(first):
 
 
 def least(words):
-    """The fewest bytes, by the first of the amounts, in which the program can be started."""
+    """Returns the fewest bytes, of these amounts, in which the program can be started."""
 
     def is_enough(most):
         limited = within(most)
@@ -650,7 +654,7 @@ def least(words):
 
 
 def test_a_bench_within_ever_more_memory(refusing):
-    """RLIMIT_AS, from what `--version` needs on"""
+    """the limit is RLIMIT_AS, from the needs of `--version` on"""
     bench, outcomes = Bench(refusing, ["--limit", "200000", "can0,can1"], COMMANDS), {}
     for most in amounts(least(["--version"])):
         how = bench.try_at(1, 0, most)
@@ -661,7 +665,7 @@ def test_a_bench_within_ever_more_memory(refusing):
 
 
 def test_a_server_within_ever_more_memory():
-    """RLIMIT_AS; each time ten sessions, of which some may be refused"""
+    """the limit is RLIMIT_AS; each time ten sessions connect, some of which may be refused"""
     outcomes = {}
     for most in amounts(least(["--version"])):
         try:

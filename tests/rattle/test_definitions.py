@@ -1,7 +1,8 @@
-"""Definitions and clauses can be read: what contracts cite has to be believed by a reader, so its lines are short.
+"""Definitions and clauses are readable: a reader must believe the definitions that contracts cite, so their lines are
+short.
 
-Widths are in characters: 120 in a crate's specs/, 100 in a clause of its sources. A definition has at most 25 lines, but for
-tables with a line for each case.
+Widths are in characters: 120 in a crate's specs/, 100 in a clause of its sources. A definition has at most 25 lines,
+but for tables with a line for each case.
 """
 
 import glob
@@ -14,7 +15,7 @@ from serving import ROOT
 CRATES = os.path.join(ROOT, "crates")
 DEFINITION = re.compile(r"(?:(?:abbrev|unfoldable)(?: pub)?|pub data|pub record) (\S+)")
 CLAUSE = re.compile(r"\s*(?:requires|ensures|ghost (?!use ))")
-# A line for each case, field or step.
+# The tables with a line for each case, field or step.
 TABLES = {"Headline", "arguments_of", "cause_text", "entry_in", "named"}
 
 
@@ -32,7 +33,8 @@ def sources() -> List[str]:
 
 
 def clause_lines(lines: List[str]) -> Iterator[Tuple[int, str]]:
-    """The lines of clauses with their numbers: each goes from its first word to the brace that closes it."""
+    """Yields the lines of clauses with their numbers: each clause goes from its first word to the brace that closes
+    it."""
     open_braces = 0
     for number, line in enumerate(lines, 1):
         if open_braces or CLAUSE.match(line):
@@ -41,7 +43,8 @@ def clause_lines(lines: List[str]) -> Iterator[Tuple[int, str]]:
 
 
 def definitions(lines: List[str]) -> Iterator[Tuple[str, int]]:
-    """Each definition with the number of its lines: it ends before an empty line, a comment at its left or another one."""
+    """Yields each definition with the number of its lines: it ends before an empty line, a comment at its left, or
+    another definition."""
     name, count = "", 0
     for line in lines + [""]:
         found = DEFINITION.match(line)

@@ -31,7 +31,7 @@ def read(*path: str) -> str:
 
 
 def remainder(bits: Sequence[int], width: int, polynomial: int) -> list[int]:
-    """What long division leaves of the bits with zeros after them."""
+    """Returns the remainder of the long division of the bits with zeros after them."""
     rest = int("".join(map(str, bits)), 2) << width
     for place in reversed(range(len(bits))):
         if rest >> (place + width) & 1:
@@ -57,14 +57,14 @@ def test_bounds_of_classic_frames() -> None:
 
 
 def test_stuffed_bits() -> None:
-    """No six bits in a row are equal before the end of the CRC."""
+    """no six bits in a row are equal before the end of the CRC"""
     for frame in [*random_frames(5, 1000, False, 8), *random_frames(6, 1000, True, 64)]:
         text = "".join(map(str, sent(frame).bits[:-10]))
         assert not re.search("0{6}|1{6}", text), str(frame)
 
 
 def test_tables() -> None:
-    """The random frames of the tests have the numbers of the model."""
+    """the random frames of the tests have the numbers of the model"""
     text = read("tests", "rattle", "can_unit_tests", "tests", "wire.rtt")
     classic = re.findall(r'\("([0-9A-FR#]+)", (\d+)\),', text)
     for frame, nominal in classic:
@@ -76,7 +76,7 @@ def test_tables() -> None:
 
 
 def test_known_frames() -> None:
-    """The law has the bits of the model."""
+    """the law has the bits of the model"""
     law = read("crates", "can_wire", "src", "laws.rt").split("known_frames_have_their_bits")[1].split("{}")[0]
     texts = re.findall(r"low_bits (\d+) 0x([0-9A-F]+)", law)
     assert [number_bits(int(number, 16), int(count)) for count, number in texts] == [

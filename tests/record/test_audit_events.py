@@ -1,4 +1,4 @@
-"""`canbusd audit --events`: what it writes of records whose events are known by the rules, text for text.
+"""`canbusd audit --events`: its exact output for records whose events follow from the rules.
 
 Each kind of part, records that are cut off, wrong entries and lines, several files, a record that is followed through a
 pipe, and a writer that fails. test_memory.py refuses it memory.
@@ -28,8 +28,8 @@ receive 2 = data 0 0 123#01FF 0.000002
 attempt 0.000003 good = idle
 end 10
 """
-# The transmitter counts 8, the receiver 1; the good attempt takes 1 off each. The one item that socket 1 has room for is
-# the error message frame of the first attempt.
+# The transmitter counts 8, the receiver 1; the good attempt takes 1 off each. Socket 1 has room for one item, the error
+# message frame of the first attempt.
 FAULT = "; counts 0 8 0; counts 1 0 1; put 0:20000088#0000810A00000000 1:20000088#0000040000000000"
 DONE = "; counts 0 7 0; counts 1 0 0; put 2; dropped 1:1"
 EVENTS = (
@@ -54,8 +54,8 @@ send 0 124##10000000000000000 = number 0
 attempt 0.000001 good = tried 0 0 124##10000000000000000 done 0000 0000
 end 4
 """
-# After 31 destroyed attempts a transmitter has counted 248, and the next one takes it to bus off; what it has to send is
-# lost. A call brings it back.
+# After 31 destroyed attempts a transmitter has counted 248, and the next attempt takes it to bus off; its waiting
+# frames are lost. A call brings it back.
 FAULTS = "".join(
     f"attempt 0.0000{number:02} global-bit = tried 0 0 123# destroyed 0000 0000\n" for number in range(1, 32)
 )
@@ -73,24 +73,24 @@ end 38
 
 
 def audited(record, folder, *options):
-    """The status, the output and the errors of an audit with events."""
+    """Returns the status, the output and the errors of an audit with events."""
     (folder / "run.rec").write_text(record)
     return run_line(" ".join(["audit", "--events", *options, "run.rec"]), cwd=folder)
 
 
 def front(text, lines):
-    """The first lines of a text."""
+    """Returns the first lines of a text."""
     return "".join(text.splitlines(True)[:lines])
 
 
 def test_each_kind_of_part(tmp_path):
-    """counts, what is queued, and what finds no room"""
+    """the parts are counts, queued items, and items without room"""
     assert audited(RECORD, tmp_path) == (0, EVENTS, "")
     assert audited(RECORD, tmp_path, "--cut") == (0, EVENTS, "")
 
 
 def test_what_attempts_take_of_the_wire(tmp_path):
-    """with bit rates, after all other parts, of what tried a frame; nothing else changes"""
+    """with bit rates the time comes after all other parts, for attempts with a frame; nothing else changes"""
     status, written, errors = audited(RECORD, tmp_path, "--bitrate", "500000")
     assert (status, errors) == (0, "") and written == TIMED
     assert audited(RECORD, tmp_path, "--cut", "--bitrate", "500000", "--dbitrate", "2000000") == (0, TIMED, "")
@@ -99,7 +99,7 @@ def test_what_attempts_take_of_the_wire(tmp_path):
 
 
 def test_both_bit_rates(tmp_path):
-    """an FD frame that switches has bits at both; a third of a nanosecond is rounded up"""
+    """an FD frame that switches has bits at both rates; a third of a nanosecond is rounded up"""
     status, written, errors = audited(SWITCHED, tmp_path, "--bitrate", "500000", "--dbitrate", "2000000")
     assert (status, errors) == (0, "") and written.splitlines()[-2].endswith(
         "done 0000 0000; wire 108500 114500 27 109"
@@ -111,7 +111,7 @@ def test_both_bit_rates(tmp_path):
 
 
 def test_bus_off(tmp_path):
-    """losses, error message frames of it, and the counts after a restart"""
+    """the lines have losses, error message frames for bus off, and the counts after a restart"""
     status, written, errors = audited(BUS_OFF, tmp_path)
     lines = written.splitlines()
     assert (status, errors) == (0, "") and lines[:6] == ["canbus events 1", *BUS_OFF.splitlines()[1:6]]
@@ -125,7 +125,7 @@ def test_bus_off(tmp_path):
 
 
 def test_a_record_that_is_cut_off(tmp_path):
-    """after an entry, and within a line"""
+    """the record is cut off after an entry, and within a line"""
     assert audited(front(RECORD, 9), tmp_path, "--cut") == (0, front(EVENTS, 9) + "cut 7\n", "")
     note = "note: 13 bytes of a line without its end were not looked at\n"
     torn = front(RECORD, 9) + "attempt 0.000"
@@ -139,11 +139,11 @@ def test_a_record_that_is_cut_off(tmp_path):
         ("done 0002 0000", "done 0000 0000", 9),  # a wrong entry
         ("open 1 1 = socket 1", "open 1 1 = socket 2", 3),
         ("100\n", "7\n", 9),  # past the limit
-        ("receive 2 = data", "receive 2 = date", 10),  # a line that is none
+        ("receive 2 = data", "receive 2 = date", 10),  # an unknown line
         ("bus 2", "bus 17", 0),
         ("record 1", "record 9", 0),
         ("end 10\n", "end 9\n", 12),
-        ("end 10\n", "", 12),  # nothing where the end has to be
+        ("end 10\n", "", 12),  # nothing in place of the end
         ("end 10\n", "end 10\nend 10\n", 12),
         (
             "record 1\nbus 2 always 0003 10 100\n",
@@ -162,21 +162,21 @@ def test_before_a_fault(old, new, lines, tmp_path):
 
 
 def test_a_wrong_entry_before_a_wrong_line(tmp_path):
-    """the line is reported, and nothing is written of what follows the entry"""
+    """the line is reported, and no event after the entry is written"""
     record = RECORD.replace("done 0002 0000", "done 0000 0000").replace("receive 2 = data", "receive 2 = date")
     status, written, errors = audited(record, tmp_path)
     assert (status, written) == (1, front(EVENTS, 9)) and errors.startswith("canbusd: line 11: bad line\n")
 
 
 def test_several_files(tmp_path):
-    """they are one text, also where one ends within a line"""
+    """several files are one text, even if one ends within a line"""
     (tmp_path / "a.rec").write_text(RECORD[:333])
     (tmp_path / "b.rec").write_text(RECORD[333:])
     assert run_line("audit --events a.rec b.rec", cwd=tmp_path) == (0, EVENTS, "")
 
 
 def test_a_record_that_is_followed():
-    """the events of what is written to a pipe come before it ends"""
+    """the events of lines written to a pipe come before the pipe ends"""
     words = [program(), "audit", "--events", "--cut", "/dev/stdin"]
     pipes = {"stdin": subprocess.PIPE, "stdout": subprocess.PIPE}
     with subprocess.Popen(words, bufsize=0, **pipes) as running:
@@ -191,7 +191,7 @@ def test_a_record_that_is_followed():
 
 
 def test_a_writer_that_fails(tmp_path):
-    """at once: what it did not take is not written later"""
+    """at once: output that was refused is not written later"""
     (tmp_path / "run.rec").write_text(RECORD)
     with open("/dev/full", "wb") as full:
         words = [program(), "audit", "--events", "run.rec"]

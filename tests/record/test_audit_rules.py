@@ -51,7 +51,7 @@ attempt 0.000007 good = tried 0 3 124# done 0002 0000; counts 0 12 0; rule 4
 attempt 0.000008 lastbit = tried 0 4 124# lastbit 0002 0000; counts 0 20 0
 attempt 0.000009 good = tried 0 4 124# done 0002 0000; counts 0 19 0
 """
-# The places where the bus took the rules: the two of the script after its line, the others before their attempts.
+# The places where the bus took the rules: the script's two after its line, and the others before their attempts.
 TOLD = {
     "open 0 ": "rule 1 next 1 from ecu lastbit\nrule 2 always id 123 skip 1 good\n",
     "attempt 0.000003 ": "rule 3 next 1 global form\n",
@@ -66,7 +66,7 @@ RECORD = FRONT + "".join(f"{line.partition(';')[0]}\n" for line in ATTEMPTS.spli
 
 
 def audited(folder, faults, *options, names=NAMES, record=RECORD):
-    """The status, the output and the errors of an audit with these faults."""
+    """Returns the status, the output and the errors of an audit with these faults."""
     (folder / "run.rec").write_text(record)
     (folder / "run.faults").write_text(faults)
     return run_line(" ".join(["audit", "--events", *options, "--faults", f"{names}@run.faults", "run.rec"]), cwd=folder)
@@ -87,13 +87,13 @@ def test_beside_time_on_the_wire(tmp_path):
 
 def test_a_record_that_is_cut_off(tmp_path):
     front = "".join(RECORD.splitlines(True)[:10])
-    # Four attempts were made: what came before later ones comes before the last line.
+    # The record has four attempts: rules from later times come before the last line.
     wanted = "".join(EVENTS.splitlines(True)[:13]) + "nofaults\nrule 4 next 2 good\ncut 8\n"
     assert audited(tmp_path, FAULTS, "--cut", record=front) == (0, wanted, "")
 
 
 def test_without_a_rule(tmp_path):
-    """nothing is said of an attempt; where a rule was taken it has its line"""
+    """an attempt without a rule has no part; a rule that was taken has its line"""
     nothing = "".join(f"{line.partition('; rule')[0]}\n" for line in PLAIN.splitlines())
     for faults in ("", "1 global bit\n"):
         assert audited(tmp_path, faults) == (0, nothing, "")
@@ -115,7 +115,7 @@ def test_without_a_rule(tmp_path):
     ],
 )
 def test_words_of_a_rule(tmp_path, rule, words):
-    """as few as it takes, with names in the order of the bus"""
+    """a rule has as few words as possible, with names in the order of the bus"""
     status, written, errors = audited(tmp_path, rule)
     assert (status, errors) == (0, "") and written.splitlines()[2] == f"rule 1 {words}"
     assert audited(tmp_path, words)[1] == written
@@ -124,13 +124,14 @@ def test_words_of_a_rule(tmp_path, rule, words):
 @pytest.mark.parametrize(
     "faults, rules",
     [
-        # The first that matches, by whom and what. The attempts 0, 1 and 6 are none that `good` is said of.
+        # The first rule that matches the sender and the frame decides. The attempts 0, 1 and 6 match no rule with
+        # `good`.
         ("always good\nalways good", ["1", "1", "1", "1", "1"]),
         ("always from tester good\nalways from tester,ecu good", ["2", "2", "2", "2", "2"]),
         ("always id 124 good\nalways good", ["2", "2", "2", "1", "1"]),
-        # The first skips attempts 0 to 2, and of these the second skips attempt 0.
+        # The first rule skips attempts 0 to 2, and of these the second rule skips attempt 0.
         ("always skip 3 good\nalways skip 1 good", ["2", "1", "1", "1", "1"]),
-        # A line by number, and one more before the same attempt: they are in their order.
+        # A numbered line, and a further line before the same attempt: they are in order.
         ("3 good\nalways good\nat 4 next 1 good", ["1", "", "1", "1", "1"]),
         ("at 2 always id 124 good\nat 2 next 2 good\nalways from tester good", ["3", "3", "", "2", "2"]),
     ],
@@ -142,7 +143,7 @@ def test_which_one(tmp_path, faults, rules):
 
 
 def test_64_rules(tmp_path):
-    """one that came while 64 were left has no number"""
+    """a rule that came while 64 were left has no number"""
     full = "next 1 good\n" * 64
     given = "at 0 always lastbit\nat 4 next 9 good\nat 4 next 9 global bit\n"
     # Rules 1 and 2 are used up by attempts 0 and 1, 3 by attempt 2, 4 by attempt 3, and so on.
@@ -160,7 +161,7 @@ def test_64_rules(tmp_path):
     assert (status, errors) == (0, "") and rules_of(written) == ["", "", "3", "4", "", "66", "", "66"]
 
 
-# Lines of a file, and what is said of the last of them: the fault, and how its note begins.
+# Lines of a file, and the report on the last of them: the fault, and the beginning of its note.
 WRONG = [
     ("at 1", "bad line", "a line is at N RULE or at N nofaults"),
     ("at x nofaults", "bad line", "a line is at N RULE"),
@@ -189,7 +190,7 @@ WRONG = [
 
 @pytest.mark.parametrize("lines, fault, note", WRONG)
 def test_a_file_that_is_none(tmp_path, lines, fault, note):
-    """nothing is written, and the line is shown"""
+    """no event is written, and the line is shown"""
     status, written, errors = audited(tmp_path, f"# faults\n{lines}\n")
     number, last = lines.count("\n") + 2, lines.split("\n")[-1].replace("\r", "?")
     first, shown, why = errors.splitlines()
@@ -198,7 +199,7 @@ def test_a_file_that_is_none(tmp_path, lines, fault, note):
 
 
 def test_lines_of_a_run_are_none_of_a_bus(tmp_path):
-    """a script of bench has none"""
+    """a script of a bench has no such lines"""
     (tmp_path / "my.script").write_text("at 0 always good\n")
     status, written, errors = run_line("bench can0@my.script", cwd=tmp_path)
     assert (status, written) == (1, "") and errors.startswith(
@@ -207,7 +208,7 @@ def test_lines_of_a_run_are_none_of_a_bus(tmp_path):
 
 
 def test_names_and_files(tmp_path):
-    """the names are looked at first, then the file, and then the record"""
+    """the names are checked first, then the file, and then the record"""
     (tmp_path / "my.faults").write_text("x\n")
     for word, fault in (
         ("ecu,ecu@none", "bad bus"),
@@ -222,7 +223,7 @@ def test_names_and_files(tmp_path):
 
 
 def test_names_by_their_places(tmp_path):
-    """a name says which interface sends"""
+    """a name identifies the sending interface"""
     faults = "always from ecu good"
     assert rules_of(audited(tmp_path, faults)[1]) == ["", "", "1", "1", "1", "1", "", "1"]
     assert rules_of(audited(tmp_path, faults, names="tester,ecu")[1]) == [""] * 8
@@ -230,7 +231,7 @@ def test_names_by_their_places(tmp_path):
 
 @pytest.mark.parametrize("names", ["ecu", "ecu,tester,gateway", ",".join(f"can{i}" for i in range(16))])
 def test_names_of_another_bus(tmp_path, names):
-    """they are refused before anything is written, also where the record goes on to a fault; not before line 2 is right"""
+    """they are refused before any output, even if the record has a fault later; but only after line 2 is right"""
     count = len(names.split(","))
     wanted = f"canbusd: names of another bus\n  names in --faults: {count}, interfaces of run.rec: 2\n"
     for record in (RECORD, FRONT, FRONT + "x\n", RECORD.replace("idle", "tried"), RECORD + "x"):
@@ -253,11 +254,11 @@ def test_names_of_another_bus_in_parts(tmp_path):
         )
 
 
-# Random runs of the bench, and what their buses had for faults.
+# Random runs of the bench, and the faults of their buses.
 
 
 def file_of(case, output, source):
-    """The faults of a run as a file: its script, and between its lines what was given or ended while it ran."""
+    """Returns the faults of a run as a file: its script, and between its lines the changes during the run."""
     later, tried = [], 0
     answers = [line for line in output if line.startswith("1 <")][2:]
     attempts = iter([line for line in output if line.startswith(("tried ", "idle"))])
@@ -278,7 +279,7 @@ def file_of(case, output, source):
 
 
 def runs(maker, count, folder):
-    """So many random runs: the names of each, its record, and the file of its faults."""
+    """Returns this many random runs: the names of each, its record, and the file of its faults."""
     while count:
         case = maker.case()
         case.write_to(folder)
@@ -295,7 +296,7 @@ def runs(maker, count, folder):
 
 
 def events_with(data, names, faults, folder, *options):
-    """What the program writes of a record with these faults."""
+    """Returns the program's output for a record with these faults."""
     (folder / "run.faults").write_text(faults)
     words = [program(), "audit", "--events", *options, "--faults", f"{','.join(names)}@run.faults", "/dev/stdin"]
     done = subprocess.run(words, input=data, cwd=folder, capture_output=True, timeout=WAIT, check=False)
@@ -314,7 +315,7 @@ def test_random_runs(request, cases, tmp_path):
 
 
 def test_faults_of_another_run(request, rng, cases, tmp_path):
-    """what does not fit is not said, and the rules go on as they would; with time on the wire"""
+    """rules that do not fit are not shown, and the others continue as usual; also with time on the wire"""
     maker, found = RuleMaker(request.config.getoption("seed")), 0
     for names, data, faults in runs(maker, cases // 20, tmp_path):
         other = faults.split("\n")

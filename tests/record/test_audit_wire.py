@@ -1,7 +1,8 @@
-"""`canbusd audit --events --bitrate`: how long attempts take the wire, and how many bits their frames have.
+"""`canbusd audit --events --bitrate`: the time of attempts on the wire, and the numbers of bits of their frames.
 
-Frames of known lengths and attempts by their fields, each kind of frame and of attempt beside the model of wire_model.py and
-wire_times.py, which spells frames bit by bit, and the words that are refused. test_record_events.py has random runs.
+Frames of known lengths and attempts by their fields, each kind of frame and of attempt beside the model of
+wire_model.py and wire_times.py, which spells frames bit by bit, and the words that are refused. test_record_events.py
+has random runs.
 """
 
 import os
@@ -18,10 +19,10 @@ from timed_benches import random_rates, rate_options
 from wire_model import FD_LENGTHS, KNOWN_LENGTHS, Frame, bit_counts, random_data, random_frames
 from wire_times import Rates, ending_of
 
-# At these a nominal bit takes 1,000 nanoseconds, and a fast one 125.
+# At these bit rates a nominal bit takes 1,000 nanoseconds, and a fast bit 125.
 FAST = Rates(1_000_000, 8_000_000)
-# Attempts to send a frame to another interface: the verdict, the class and who accepts it. Interface 2 is not there to see a
-# fault.
+# Attempts to send a frame to another interface: the verdict, the class and the accepting interfaces. Interface 2 is
+# missing, and so can't see a fault.
 ATTEMPTS = [
     ("lastbit", "lastbit", "0002"),
     ("global-bit", "destroyed", "0000"),
@@ -32,12 +33,12 @@ ATTEMPTS = [
     ("local-stuff:0004", "done", "0002"),
     ("good", "done", "0002"),
 ]
-# A frame that nobody acknowledges.
+# A frame that no interface acknowledges.
 NOBODY = [("good", "noack", "0000")]
 
 
 def record_of(frame, attempts):
-    """The record of attempts to send a frame, which is queued twice, as it is done twice at most."""
+    """Returns the record of attempts to send a frame, which is queued twice, because it succeeds at most twice."""
     bus = "2 always" if attempts is ATTEMPTS else "1 peers"
     lines = ["open 0 1 = socket 0", "option 0 fd 1 = ok", *(f"send 0 {frame} = number {k}" for k in (0, 1))]
     number = 0
@@ -49,7 +50,7 @@ def record_of(frame, attempts):
 
 
 def wires(record, rates):
-    """What the last parts of the lines say of a record: nanoseconds of frame and attempt, bits at each rate."""
+    """Returns the last parts of a record's event lines: nanoseconds of frame and attempt, and bits at each rate."""
     words = [program(), "audit", "--events", *rate_options(rates), "/dev/stdin"]
     done = subprocess.run(words, input=record, capture_output=True, text=True, timeout=WAIT, check=False)
     assert (done.returncode, done.stderr) == (0, ""), record
@@ -58,7 +59,7 @@ def wires(record, rates):
 
 
 def bits_of(text):
-    """How many bits a frame has at each rate."""
+    """Returns the number of bits of a frame at each rate."""
     return wires(record_of(text, NOBODY), FAST)[0][2:]
 
 
@@ -75,13 +76,14 @@ def test_known_lengths_of_classic_frames(text, bits):
         ("555##1" + 20 * "55", 27, 37 + 160),
         ("15555555##1" + 20 * "55", 46, 37 + 160),
         ("123##1" + 64 * "00", 27, 651),
-        # Without a switch BRS is dominant: before a length of 3 that makes five zeros, which a stuff bit follows.
+        # Without a switch BRS is dominant: before a length of 3 this makes five zeros, so a stuff bit follows.
         ("555##0" + 20 * "55", 27 + 37 + 160, 0),
         ("555##0" + 3 * "55", 27 + 32 + 24 + 1, 0),
     ],
 )
 def test_known_lengths_of_fd_frames(text, nominal, fast):
-    """without stuff bits but for the fixed ones, by counting fields; and with those of 64 zeros"""
+    """frames without stuff bits except the fixed ones have these lengths by counting fields; and so does a frame with
+    the stuff bits of 64 zeros"""
     assert bits_of(text) == (nominal, fast)
 
 
@@ -102,13 +104,14 @@ def test_known_lengths_of_attempts():
     [
         ("000#", Rates(1_000_000), 50_000, 53_000),
         ("000#", Rates(500_000), 100_000, 106_000),
-        # 50 and 53 bits of 3,333 and a third.
+        # These are 50 and 53 bits of 3,333 and a third nanoseconds.
         ("000#", Rates(300_000), 166_667, 176_667),
-        # 27 bits of 2,000 and 32 of 333 and a third; a switch to the nominal rate is none.
+        # These are 27 bits of 2,000 and 32 of 333 and a third nanoseconds; a switch to the nominal rate changes
+        # nothing.
         ("555##1", Rates(500_000, 3_000_000), 64_667, 70_667),
         ("555##1", Rates(500_000), 118_000, 124_000),
         ("123##1" + 64 * "00", FAST, 108_375, 111_375),
-        # The slowest bus and the longest of these frames, and the fastest.
+        # These are the longest frames on the slowest bus, and on the fastest.
         ("123##1" + 64 * "00", Rates(5_000), 135_600_000, 136_200_000),
         ("123##1" + 64 * "00", Rates(1_000_000, 20_000_000), 59_550, 62_550),
     ],
@@ -118,7 +121,7 @@ def test_times_are_rounded_up(text, rates, frame, attempt):
 
 
 def frames(maker, count):
-    """Frames of every kind and length, and others at random."""
+    """Returns frames of every kind and length, and others at random."""
     for number in (maker.getrandbits(11), maker.getrandbits(29)):
         extended = number >= 1 << 11
         yield from (Frame(number, extended, random_data(maker, length)) for length in range(9))
@@ -132,7 +135,7 @@ def frames(maker, count):
 
 
 def test_each_kind_of_frame_and_attempt(rng, cases):
-    """beside the model, at random bit rates"""
+    """the program agrees with the model, at random bit rates"""
     for frame in frames(rng, cases // 10):
         rates, whole = random_rates(rng), bit_counts(frame)
         for attempts in (ATTEMPTS, NOBODY):
@@ -157,7 +160,7 @@ def test_where_the_part_is(tmp_path):
 
 
 def test_the_worked_line(tmp_path):
-    """what docs/RECORD.md has of its example"""
+    """docs/RECORD.md has this line of its example"""
     with open(os.path.join(ROOT, "docs", "RECORD.md"), encoding="utf-8") as page:
         (line,) = re.findall("^    (attempt .*; wire .*)$", page.read(), re.MULTILINE)
     (tmp_path / "run.rec").write_bytes(example())
@@ -166,7 +169,7 @@ def test_the_worked_line(tmp_path):
 
 
 def test_restarts_and_idle_attempts_take_no_time(tmp_path):
-    """also where an attempt has both: it has the time of its own frame"""
+    """this holds even if an attempt has both: it has the time of its own frame"""
     entries = ["open 1 1 = socket 1", "send 1 000# = number 0"]
     entries += ["attempt 0.000034 good = tried 1 0 000# done 0000 0000 restarted 0001", "end 40"]
     both = BUS_OFF.replace("record 1", "record 2").replace("10 100", "10 100 2")
@@ -179,7 +182,7 @@ def test_restarts_and_idle_attempts_take_no_time(tmp_path):
         assert [line for line in lines if "; wire " in line] == [line for line in lines if " tried " in line]
         untimed = re.sub("; wire [0-9 ]+$", "", written, flags=re.MULTILINE)
         assert run_line("audit --events run.rec", cwd=tmp_path) == (0, untimed, "")
-    # Its sender has no count to change, so all else is of the restart.
+    # The sender has no count to change, so the rest belongs to the restart.
     assert lines[-2].endswith("restarted 0001; counts 0 0 0; put 0:20000100#0000000000000000; wire 50000 53000 50 0")
 
 

@@ -23,7 +23,7 @@ from record_text import REFUSALS
 from run_again import Again, compile_library
 from serving import ROOT, WAIT
 
-# Into how many tests the bytes of a record are divided, so that they run side by side.
+# The number of tests that share the bytes of a record, so that they run in parallel.
 PARTS = 6
 in_parts = pytest.mark.parametrize("part", range(PARTS))
 
@@ -31,17 +31,17 @@ SEEN = b"0123459AFRfr#= .-:\n\r\t\0x\x7f\x80\xff"
 
 
 class Tried:
-    """The damaged records that were tried, and what was said of them."""
+    """The damaged records that were tried, and the verdicts on them."""
 
     def __init__(self, programs, changes_all, rng, folder, library):
         self.program, *self.beside = programs
         self.changes_all, self.rng, self.folder = changes_all, rng, folder
         self.said = {}
-        # The program, started for audits with these options; without a compiler it is started for each.
+        # The program, started once for audits with these options; without a compiler it is started for each audit.
         self.library, self.started = library, {}
 
     def audited(self, program, data, *options):
-        """The status, the output and the errors of an audit of this record."""
+        """Returns the status, the output and the errors of an audit of this record."""
         words = [program, "audit", *options, "/dev/stdin"]
         if program != self.program or self.library is None:
             done = subprocess.run(words, input=data, capture_output=True, timeout=WAIT, check=False)
@@ -51,9 +51,9 @@ class Tried:
         return self.started[options].run(data)
 
     def one(self, data):
-        """What canbusd and the replay say of a record: the same."""
+        """Checks that canbusd and the replay give the same verdict on a record."""
         wanted = audit(data)
-        # The other program may know more versions.
+        # The other program may know further versions.
         beside = self.beside if wanted != "canbusd: bad version" else []
         for program in (self.program, *beside):
             status, output, errors = self.audited(program, data)
@@ -65,7 +65,7 @@ class Tried:
         self.count(wanted)
 
     def cut(self, data):
-        """The same with `--cut`, of a record that may be cut off, and of its torn end."""
+        """Checks the same with `--cut`, for a record that may be cut off, and for its partial last line."""
         self.one(data)
         wanted = audit(data, cut=True)
         status, output, errors = self.audited(self.program, data, "--cut")
@@ -90,7 +90,7 @@ class Tried:
 
 @pytest.fixture
 def tried(request, program, rng, tmp_path):
-    """What is tried in a test, and shown in its output."""
+    """Counts the records of a test, and prints the number in its output."""
     beside = request.config.getoption("beside")
     programs = [program, os.path.abspath(beside)] if beside else [program]
     folder = made_once(request, "run_again", compile_library) if shutil.which("gcc") else None
@@ -110,7 +110,7 @@ def example():
 
 
 def restarted():
-    """The record of an interface that goes bus off and is restarted in the second attempt after it."""
+    """The record of an interface that goes bus off and restarts in the second attempt after that."""
     lines = [
         "open 0 256 = socket 0",
         "open 1 256 = socket 1",
@@ -131,7 +131,7 @@ def restarted():
 
 
 def with_fd():
-    """The record of FD frames beside a classic one, between sockets that ask for them and one that does not."""
+    """The record of FD frames and a classic frame, with sockets that ask for FD frames and a socket that does not."""
     lines = [
         "open 0 256 = socket 0", "open 1 1 = socket 1", "open 1 256 = socket 2", "send 0 123##0 = fd-off",
         "option 0 fd 1 = ok", "option 1 fd 1 = ok", "send 0 123##00102030405060708090A0B0C = number 0",
@@ -146,13 +146,13 @@ def with_fd():
 
 
 def with_flags():
-    """The same with flags of FD frames."""
+    """The same record with flags of FD frames."""
     text = with_fd().replace(b"record 3", b"record 5").replace(b"123##0 = fd-off", b"123##2 = fd-off")
     return text.replace(b"##001", b"##101").replace(b"##0FF", b"##3FF")
 
 
 def live(data=None):
-    """A record as it is where it was written while its run went on; of one with an automatic restart, or another."""
+    """Returns a record as if it was written during its run; by default a record with an automatic restart."""
     first, bus, entries = (data or restarted()).split(b"\n", 2)
     *words, capacity, limit, restart = [*bus.split(b" "), *([b"0"] if first.endswith(b"1") else [])]
     assert (capacity, limit) == (b"10", b"100")
@@ -160,7 +160,7 @@ def live(data=None):
 
 
 def recorded(tried, words, text):
-    """The record of a run of the bench."""
+    """Returns the record of a run of the bench."""
     path = os.path.join(tried.folder, "run.rec")
     done = subprocess.run(
         [tried.program, "bench", "--record", path, *words],
@@ -184,7 +184,7 @@ def examples(tried):
 
 
 def random_run(tried):
-    """The record of a run with sessions, options, faults, bus off and restarts at random."""
+    """Returns the record of a run with random sessions, options, faults, bus off and restarts."""
     rng = tried.rng
     count = rng.randrange(1, 5)
     names = [f"can{number}" for number in range(count)]
@@ -246,7 +246,7 @@ def random_line(rng, session, has_fd):
 
 @in_parts
 def test_bytes_of_the_example(tried, part):
-    """each byte changed, and the record cut at each"""
+    """each byte is changed, and the record is cut at each"""
     assert audit(example()) == "ok 7 entries", "the example"
     change_bytes(tried, example(), part=part)
     assert tried.said["ok N entries"] >= 1, "the example is not ok"
@@ -254,24 +254,24 @@ def test_bytes_of_the_example(tried, part):
 
 @pytest.mark.slow
 def test_bytes_of_a_record_with_a_restart(tried):
-    """the same for version 2"""
+    """the verdicts agree for version 2"""
     data = restarted()
     assert audit(data) == "ok 42 entries", f"the record: {audit(data)}"
-    # The attempts before it went off are all alike.
+    # The attempts before the bus off are all alike.
     lines = data.splitlines(True)
     change_bytes(tried, data, len(b"".join(lines[:7])), len(b"".join(lines[:36])))
 
 
 @pytest.mark.slow
 def test_bytes_of_a_record_with_fd_frames(tried):
-    """the same for version 3"""
+    """the verdicts agree for version 3"""
     assert audit(with_fd()) == "ok 15 entries", f"the record: {audit(with_fd())}"
     change_bytes(tried, with_fd())
 
 
 @in_parts
 def test_bytes_of_a_record_with_flags(tried, part):
-    """each byte changed, and the record cut at each"""
+    """each byte is changed, and the record is cut at each"""
     assert audit(with_flags()) == "ok 15 entries", f"the record: {audit(with_flags())}"
     change_bytes(tried, with_flags(), part=part)
 
@@ -296,8 +296,8 @@ def test_bytes_of_a_live_record_with_fd_frames(tried):
 
 
 def change_bytes(tried, data, skip_from=0, skip_to=0, part=None):
-    """Each byte changed and left out, and the record cut at each, except a piece of it, or each that is in this part; and with
-    text after it."""
+    """Changes and removes each byte, and cuts the record at each, except within a piece of it, or only in this part;
+    and appends text."""
     tried.one(data)
     for place, byte in enumerate(data):
         if skip_from <= place < skip_to or part not in (None, place % PARTS):
@@ -313,7 +313,7 @@ def change_bytes(tried, data, skip_from=0, skip_to=0, part=None):
 
 
 def test_named_damages_of_the_example(tried):
-    """how they have to be reported, without the replay's help"""
+    """the reports have the required form, without the replay's help"""
     text = example().decode()
     damages = [
         (text.replace("canbus record 1", "canbus record 9"), "bad version"),
@@ -374,7 +374,7 @@ def test_named_damages_of_the_example(tried):
 
 
 def test_named_cuts(tried):
-    """what is said of a record that is cut off, without the replay's help"""
+    """the verdicts on a record that is cut off are right, without the replay's help"""
     lines = example().splitlines(True)
     wrong = [line.replace(b"done 0002", b"done 0000") for line in lines]
     bad = [line.replace(b"123#01FF", b"123#01ff") for line in lines]
@@ -398,10 +398,10 @@ def test_named_cuts(tried):
         (b"", "canbusd: bad version"),
         (b"".join([*lines, b"x"]), "canbusd: line 11: bad line"),
         (b"".join([*lines, b"x\n"]), "canbusd: line 11: bad line"),
-        # An FD frame may have come later.
+        # An FD frame may come later.
         (needless, "ok 1 entries, then cut off"),
         (needless + b"end 1\n", "canbusd: bad version"),
-        # Version 4 needs none.
+        # Version 4 needs no FD frame.
         (live(example()), "ok 7 entries"),
         (live(example())[:-1], "ok 7 entries, then cut off"),
         (live(with_fd()), "ok 15 entries"),
@@ -416,7 +416,7 @@ def test_named_cuts(tried):
 
 
 def test_files_of_one_record(tried):
-    """a record in several files, cut anywhere between them, and what is said of a file that is not there"""
+    """a record in several files, cut anywhere between them, is one record, and a missing file is reported"""
     data = example()
     first, second = tried.folder / "1.rec", tried.folder / "2.rec"
     for place in range(len(data) + 1):
@@ -439,7 +439,7 @@ def test_files_of_one_record(tried):
 
 
 def test_what_cut_would_do_is_said(tried):
-    """where a record ends without its last line, and only there"""
+    """the message comes if a record ends without its last line, and only then"""
     text = example()
     cut = "  with --cut the {} entries before it are audited\n"
     ends = [
@@ -460,7 +460,8 @@ def test_what_cut_would_do_is_said(tried):
 
 @in_parts
 def test_lines_of_other_records(tried, part):
-    """lines of the examples' records and of random runs left out, doubled, exchanged, given other replies and words"""
+    """lines of the examples' records and of random runs are left out, doubled, exchanged, and given other replies and
+    words"""
     for data in [*itertools.islice(examples(tried), part, None, PARTS), random_run(tried)]:
         assert audit(data).startswith("ok "), f"the replay: {audit(data)}"
         tried.one(data)
@@ -470,7 +471,7 @@ def test_lines_of_other_records(tried, part):
 
 
 def damaged(rng, lines):
-    """The lines with one of them damaged, or two."""
+    """Returns the lines with one or two of them damaged."""
     lines = list(lines)
     for _ in range(rng.choice([1, 1, 1, 2])):
         place, other = (rng.randrange(len(lines)) for _ in range(2))
@@ -497,7 +498,7 @@ def with_other_word(rng, line):
     place = rng.randrange(len(words))
     word = words[place]
     if word.isdigit() and rng.random() < 0.7:
-        # A capacity has 32 bits here, and may have more elsewhere.
+        # A capacity has 32 bits here, and may have more in other programs.
         far = 10**6 if words[0] == b"open" else 2**32
         words[place] = b"%d" % max(0, int(word) + rng.choice([-1, 1, 2, 10**6, far, 2**64]))
     elif word:
@@ -507,7 +508,7 @@ def with_other_word(rng, line):
 
 
 def test_bytes_of_other_records(tried):
-    """random bytes of random runs"""
+    """random bytes of random runs are changed"""
     rng = tried.rng
     for data in (random_run(tried) for _ in range(4)):
         for _ in range(400):

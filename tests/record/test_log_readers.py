@@ -1,6 +1,6 @@
 """Logs: candump's as inputs of a bench, and a bench's read by python-can and can-utils.
 
-Each reader has to find one message for each line, with the identifier, the kind and the data that it has.
+Each reader must find one message for each line, with the line's identifier, kind and data.
 """
 
 import os
@@ -14,7 +14,7 @@ from commands import call, is_clean
 from serving import ROOT, program
 
 LOG_READER = os.path.join(ROOT, "tools", "candump2bench")
-# A line of each kind, as the tests of can_logfile expect them to be written.
+# A line of each kind, as the tests of can_logfile expect it.
 EVERY_KIND = """\
 (0000000000.000005) can0 00000123#R3
 (0000000023.424242) can0 123#11223344
@@ -32,7 +32,7 @@ EVERY_KIND = """\
 
 
 class Message:
-    """A line of the log: its moment, channel, identifier, kind and data."""
+    """A message of the log: its time, channel, identifier, kind and data."""
 
     def __init__(self, line):
         stamp, self.channel, text = line.split(" ")
@@ -40,7 +40,7 @@ class Message:
         word, payload = text.split("#", 1)
         self.is_fd, self.flags = payload.startswith("#"), 0
         if self.is_fd:
-            # A second mark and a digit of flags: 1 is the bit rate switch, 2 the error state indicator.
+            # An FD frame has a second mark and a digit of flags: 1 is the bit rate switch, 2 the error state indicator.
             self.flags, payload = int(payload[1]), payload[2:]
         self.is_error = len(word) == 8 and int(word, 16) & 0x20000000 != 0
         self.is_extended = len(word) == 8 and not self.is_error
@@ -50,7 +50,7 @@ class Message:
 
 
 def by_python_can(path, messages):
-    """What python-can reads otherwise."""
+    """Returns the messages that python-can reads differently."""
     reader = pytest.importorskip("can.io", reason="python-can is not installed")
     found = list(reader.CanutilsLogReader(path))
     faults = [] if len(found) == len(messages) else [f"python-can: {len(found)} messages"]
@@ -70,7 +70,7 @@ def by_python_can(path, messages):
 
 
 def by_log2asc(path, messages):
-    """What can-utils' log2asc reads otherwise."""
+    """Returns the messages that can-utils' log2asc reads differently."""
     if not shutil.which("log2asc"):
         pytest.skip("can-utils is not installed")
     channels = sorted({message.channel for message in messages})
@@ -106,7 +106,7 @@ LOG = """\
 (1.000450) can1 123##10102030405060708090A0B0C
 (1.000460) can0 1FFFFFFF##0
 """
-# A listener's frames of that log.
+# The frames of that log that a listener receives.
 HEARD = [
     "frame 123 1.000000 1122", "remote 123 1.000100 0", "remote 7FF 1.000200 4",
     "frame 1FFFFFFF 1.000300 0102030405060708", "frame 12345678 1.000400 ", "frame 048C0000 0.500000 DEADBEEF",
@@ -123,7 +123,7 @@ LOGGED = """\
 (0000000001.000450) can1 123##10102030405060708090A0B0C
 (0000000001.000460) can0 1FFFFFFF##0
 """
-# Lines that can't be taken, and a word of the reason.
+# Lines that are left out, and a word of the reason.
 NOT_TAKEN = [
     ("(1.000500) can0 123##0112233445566778899", "bytes"),
     ("(1.000500) can0 123##", "no frame"),
@@ -143,7 +143,7 @@ NOT_TAKEN = [
 
 
 def heard(bench, folder):
-    """What the listener of an input reads on the bus that its first line names."""
+    """Returns the frames that the listener of an input reads on the bus in the input's first line."""
     bus = re.match(r"# canbusd bench (\S+) < THIS FILE\n", bench)[1]
     record = os.path.join(folder, "log.rec")
     done = subprocess.run(

@@ -1,6 +1,5 @@
-"""The tools for runs, and the package's drawings: pages in a browser, drawings, and the replay beside the
-program.
-"""
+"""The tools for runs, and the package's drawings: pages in a browser, drawings, and the replay compared with the
+program."""
 
 import os
 import re
@@ -15,7 +14,7 @@ from forked import forked
 from random_benches import Maker
 from serving import ROOT, program
 
-# The same as a program.
+# The same command as a program.
 REPORT = [sys.executable, "-m", "canbusd", "report"]
 # The number of random runs that are replayed.
 RUNS = 300
@@ -23,12 +22,12 @@ STATES = ["active", "warning", "passive", "off", "down"]
 
 
 def reported(*words):
-    """What `canbusd report` does: its status, what it writes, and its faults."""
+    """Runs `canbusd report`; returns its status, its output, and its errors."""
     return forked("report", *words)
 
 
 def numbers_asked(written, sessions):
-    """The last answers of each session to `stats` and `status`, as tuples of words."""
+    """Returns the last answers of each session to `stats` and `status`, as tuples of words."""
     found = re.findall(
         r"< stats ([0-9 ]+) >< status (\w+) (\d+) (\d+) >$", "\n".join(written.splitlines()[-sessions:]), re.M
     )
@@ -36,7 +35,7 @@ def numbers_asked(written, sessions):
 
 
 def numbers_replayed(run):
-    """The same for each socket that is open at the end of a replay."""
+    """Returns the same for each socket that is open at the end of a replay."""
     for socket in run.sockets:
         if socket.closed_after is None:
             iface = run.ifaces[socket.iface]
@@ -61,7 +60,7 @@ def numbers_replayed(run):
 
 
 def test_replay(tmp_path):
-    """random runs: each reply, and the statistics of sockets and interfaces, are what the program says"""
+    """in random runs each reply, and the statistics of sockets and interfaces, agree with the program"""
     maker, runs, asked, off = Maker(20), 0, 0, 0
     for _ in range(RUNS):
         case = maker.case()
@@ -84,7 +83,7 @@ def test_replay(tmp_path):
 
 
 def test_record_of_another_history(tmp_path):
-    """each reply changed in each line of a record is seen, as by the audit"""
+    """the replay notices each changed reply in each line of a record, like the audit"""
     record, _ = example("last_bit", tmp_path)
     with open(record, encoding="ascii") as file:
         lines = file.read().splitlines()
@@ -98,7 +97,7 @@ def test_record_of_another_history(tmp_path):
 
 
 def replies_like(line):
-    """Other replies that a line may have."""
+    """Returns other replies that a line may have."""
     event, reply = line.split(" = ")
     others = {
         "open": ["socket 7", "too-many-sockets"],
@@ -111,7 +110,7 @@ def replies_like(line):
 
 
 def test_faults_of_records(tmp_path):
-    """missing, empty, binary, cut, damaged; a reader that goes; a full device"""
+    """a record is missing, empty, binary, cut or damaged; a reader goes away; a device is full"""
     record, _ = example("bus_off_attack", tmp_path)
     with open(record, "rb") as file:
         text = file.read()
@@ -151,7 +150,7 @@ def test_faults_of_records(tmp_path):
 
 
 def test_names_of_interfaces(tmp_path):
-    """those given, those of the log beside the record, never those of another run's log"""
+    """names come from the arguments, or from the log next to the record, and never from another run's log"""
     record, _ = example("lost_arbitration", tmp_path)
 
     def winners():
@@ -182,7 +181,7 @@ def test_names_of_interfaces(tmp_path):
 
 
 def test_drawings(tmp_path):
-    """that of the guide is what `report` draws; none is wider than 120 columns"""
+    """the guide's drawing is the output of `report`, and no drawing is wider than 120 columns"""
     with open(os.path.join(ROOT, "docs", "GUIDE.md"), encoding="utf-8") as file:
         guide = file.read()
     widest = 0
@@ -199,7 +198,7 @@ def test_drawings(tmp_path):
 
 
 def width_of_sixteen(folder):
-    """The widest line of the drawings of a long run of 16 interfaces with long names."""
+    """Returns the widest line in the drawings of a long run of 16 interfaces with long names."""
     long = ",".join(f"longest-name.{number:02}" for number in range(16))
     record = os.path.join(folder, "long.rec")
     lines = [f"session {s}\nfeed {s} < open longest-name.{s - 1:02} >< rawmode >\n" for s in range(1, 17)]
@@ -220,7 +219,7 @@ def width_of_sixteen(folder):
 
 
 def page_in_browser(page, step):
-    """What a page shows, as the text of its elements, with a step chosen."""
+    """Returns the text of a page's elements, with a step chosen."""
     done = call(
         BROWSER,
         "--headless",
@@ -240,7 +239,7 @@ def page_in_browser(page, step):
     )
 
 
-# Of examples, the step to choose and what the page has to show then.
+# For some examples the chosen step, and the text on the page then.
 SHOWN = [
     (
         "lost_arbitration",
@@ -269,18 +268,18 @@ SHOWN = [
 
 @pytest.mark.parametrize("name", examples())
 def test_page(name, tmp_path):
-    """a page of each example: one file without a link"""
+    """the page of each example is one file without a link"""
     record, names = example(name, tmp_path)
     status, page, errors = reported("--names", names, record)
     assert (status, errors) == (0, "") and page.endswith("</html>\n"), errors
-    # The icon is in the page, so that no browser asks for one.
+    # The icon is in the page, so that no browser requests one.
     assert not re.search(r"https?:|\bsrc=|\bhref=(?!\"data:)|@import|url\(", page), "a link"
 
 
 @pytest.mark.browser
 @pytest.mark.parametrize("name, step, texts", SHOWN)
 def test_page_in_a_browser(name, step, texts, tmp_path):
-    """it shows the chosen attempt"""
+    """the page shows the chosen attempt"""
     record, names = example(name, tmp_path)
     path = tmp_path / f"{name}.html"
     path.write_text(reported("--names", names, record)[1], encoding="utf-8")
@@ -291,7 +290,7 @@ def test_page_in_a_browser(name, step, texts, tmp_path):
 
 @pytest.mark.slow
 def test_page_of_a_long_run(tmp_path):
-    """100,000 attempts: the page is made, and opens in a browser"""
+    """the page of 100,000 attempts is made, and opens in a browser"""
     lines = ["session 1\nfeed 1 < open can0 >< rawmode >\nsession 2\nfeed 2 < open can1 >< rawmode >\n"]
     lines += [
         f"at {number // 1000}.{number % 1000:03}000\n"

@@ -1,4 +1,5 @@
-"""`canbusd serve` with clients that know nothing of it: python-can, its player and logger, and can-utils' readers."""
+"""`canbusd serve` with clients that know nothing about it: python-can, its player and logger, and can-utils'
+readers."""
 
 import contextlib
 import logging
@@ -25,7 +26,7 @@ OLD_CLIENT = can.__version__.startswith("4.1.")
 
 
 def client(server, name, **more):
-    """python-can on the interface of this name."""
+    """Opens python-can's bus on the interface with this name."""
     return can.Bus(interface="socketcand", channel=name, host=server.host, port=server.port, **more)
 
 
@@ -64,13 +65,13 @@ def passes(source, target, number, data):
 
 
 def test_python_can_both_ways():
-    """11 and 29 bits, 0 to 8 bytes"""
+    """frames of 11 and 29 bits with 0 to 8 bytes arrive in both directions"""
     with serving("can0,can1") as server, client(server, "can0") as can0, client(server, "can1") as can1:
         for number in (0, 0x123, 0x7FF, 0x10000000, 0x12345678, 0x1FFFFFFF):
             for length in (0, 1, 8):
                 got = passes(can0, can1, number, bytes(range(0xF8, 0xF8 + length)))
                 assert abs(got.timestamp - time.time()) < WAIT, f"the moment {got.timestamp}"
-                # Each bus gets the next frame of the other, and none of its own before it.
+                # Each bus gets the next frame of the other, and no frame of its own before that.
                 passes(can1, can0, number, bytes(range(length)))
         passes(can0, can1, 0x7FF, b"")
 
@@ -86,7 +87,7 @@ def test_empty_frame():
 
 
 def test_identifiers_of_29_bits():
-    """below 10000000, and the way round: bit 31 set in the identifier"""
+    """identifiers below 10000000 arrive too, if bit 31 is set in the identifier"""
     saw = []
     with serving("can0,can1") as server, client(server, "can0") as can0, logged() as lines:
         socket1 = plain(server, "can1")
@@ -111,14 +112,14 @@ def test_identifiers_of_29_bits():
 
 
 def test_frames_received_have_no_format():
-    """python-can 4.1 takes each frame for one of 29 bits"""
+    """python-can 4.1 takes each frame for a frame with 29 bits"""
     with serving("can0,can1") as server, client(server, "can0") as can0, client(server, "can1") as can1:
         short, long = passes(can0, can1, 0x123, b""), passes(can0, can1, 0x12345678, b"")
     assert long.is_extended_id and short.is_extended_id == OLD_CLIENT, f"{short} {long}"
 
 
 def test_remote_frames():
-    """python-can up to 4.5 neither sends nor knows them"""
+    """python-can up to 4.5 neither sends nor recognises them"""
     with serving("can0,can1") as server, client(server, "can0") as can0, logged() as lines:
         socket1 = plain(server, "can1")
         socket1.write("< sendrtr 123 3 >< send 124 1 5 >")
@@ -127,7 +128,7 @@ def test_remote_frames():
         can0.send(message(0x123, is_remote_frame=True, dlc=3))
         can0.send(message(0x125, is_remote_frame=True, dlc=0))
         got = socket1.text()
-        # Debian 13's does no more, and has no version.
+        # python-can of Debian 13 does not do this either, and has no version.
         if not got.startswith("< remote 123 "):
             assert unknown, f"logged {lines}"
             assert re.fullmatch(r"< frame 125 \S+  >", got), got
@@ -137,7 +138,7 @@ def test_remote_frames():
 
 
 def test_filters_and_periodic_frames():
-    """python-can's filters, Notifier and periodic frames"""
+    """python-can's filters, Notifier and periodic frames work"""
     with serving("can0,can1") as server, client(server, "can0") as can0:
         seen = []
         enough = threading.Event()
@@ -191,7 +192,8 @@ def test_connects_to_a_busy_bus():
 
 
 def first_frame(server, sender, *pieces):
-    """How many seconds it takes from the last of these writes, after which it is raw, to a frame that is sent then."""
+    """Returns the seconds from the last of these writes, after which the session is raw, to a frame that is sent
+    then."""
     one = Plain(server)
     texts = [one.text()]
     for piece in pieces:
@@ -207,7 +209,8 @@ def first_frame(server, sender, *pieces):
 
 
 def test_first_frame_of_a_session():
-    """it comes at once to a client that sends more with `rawmode`, and 20 ms after a reply that went out alone"""
+    """it comes at once to a client that sends more together with `rawmode`, and 20 ms after a reply that went out
+    separately"""
     with serving("--pace", "0", "can0,can1") as server:
         sender = plain(server, "can0")
         assert min(first_frame(server, sender, "< open can1 >< rawmode >") for _ in range(20)) < 0.015
@@ -215,11 +218,11 @@ def test_first_frame_of_a_session():
 
 
 def test_several_buses():
-    """two buses of two interfaces, and no frame from one to the other"""
+    """no frame goes from one bus of two interfaces to the other"""
     with serving("can0,can1", "can2,can3") as server:
         with contextlib.ExitStack() as stack:
             buses = [stack.enter_context(client(server, f"can{number}")) for number in range(4)]
-            # In the second round a frame of another bus would come before the one that is expected.
+            # In the second round a frame of another bus would come before the expected frame.
             for number in (0x100, 0x500):
                 passes(buses[0], buses[1], number, b"\x01")
                 passes(buses[2], buses[3], number + 1, b"\x02")
@@ -248,7 +251,7 @@ def candump_log(path, count):
 
 
 def of_can(module, server, *words):
-    """The words that start the player or the logger of python-can on the server."""
+    """Returns the words that start the player or the logger of python-can on the server."""
     return [
         sys.executable,
         "-m",
@@ -276,7 +279,7 @@ def logger_runs(server, path):
 
 
 def bytes_wait(port):
-    """Whether there are bytes on their way through an open connection to this port."""
+    """Returns whether bytes are on their way through an open connection to this port."""
     with open("/proc/net/tcp", encoding="ascii") as file:
         for _, here, there, state, queues, *_ in map(str.split, file):
             ports = here.split(":")[-1], there.split(":")[-1]
@@ -286,7 +289,7 @@ def bytes_wait(port):
 
 
 def logger_ends(server, logger):
-    """Ends the logger once it has taken all that the server has for it; what it wrote on standard error."""
+    """Ends the logger after it has taken all the server's frames; returns its standard error."""
     assert come_true(
         lambda: server.rests() and not bytes_wait(server.port) and all_sleep([logger.pid]), 3 * WAIT
     ), "the logger does not come to rest"
@@ -295,7 +298,8 @@ def logger_ends(server, logger):
 
 
 def compare_logger(path, frames, warnings):
-    """What the logger wrote, beside the frames. It loses each frame that one of its reads cuts, and logs that."""
+    """Compares the logger's output with the frames. The logger loses each frame that one of its reads cuts, and logs
+    that."""
     got = [(one.arbitration_id, bytes(one.data)) for one in CanutilsLogReader(path)]
     wanted = [(int(text, 16), data) for text, data in frames]
     places = {frame: place for place, frame in enumerate(wanted)}
@@ -306,7 +310,7 @@ def compare_logger(path, frames, warnings):
 
 
 def compare_files(server, frames):
-    """The server's log by python-can's reader, and by those of can-utils that need no kernel CAN."""
+    """Compares the server's log, read by python-can's reader, and by can-utils' readers that need no kernel CAN."""
     path = server.path("can0.log")
     with open(path, encoding="ascii") as file:
         lines = [line.split() for line in file]
@@ -333,7 +337,7 @@ def compare_files(server, frames):
     not (shutil.which("log2asc") and shutil.which("log2long")), reason="can-utils' log2asc and log2long are missing"
 )
 def test_player_and_logger():
-    """a log replayed by can.player, logged by can.logger; Ctrl-C; then the server's log and record"""
+    """can.player replays a log, can.logger logs it until Ctrl-C, and the server's log and record agree"""
     with serving("--pace", "0", "--txqueue", "1024", "--rxqueue", "65536", "can0,can1") as server:
         frames = candump_log(server.path("replayed.log"), FRAMES)
         logged = server.path("logged.log")

@@ -1,6 +1,5 @@
-"""The folder of a server: it is that of one server, a start that is refused leaves it as it is, and no link in it is
-followed to a plain file.
-"""
+"""The folder of a server: only one server uses it, a refused start leaves it unchanged, and links in it are not
+followed to plain files."""
 
 import itertools
 import os
@@ -16,12 +15,12 @@ WHEN = ("end", "live", "none")
 
 
 def start(folder, *words):
-    """What a start says that is refused: status, standard output and standard error."""
+    """Returns the status, standard output and standard error of a refused start."""
     return call(program(), "serve", "--until-eof", "--listen", "127.0.0.1:0", "--out", str(folder), *words)
 
 
 def files_of(folder):
-    """Each file with its number, its target or its text, and when it was changed."""
+    """Returns each file with its number, its target or its text, and the time of its last change."""
     found = {}
     for name in os.listdir(folder):
         path, status = os.path.join(folder, name), os.lstat(os.path.join(folder, name))
@@ -34,14 +33,15 @@ def files_of(folder):
 
 
 def leave_old(folder, *names):
-    """Files of an earlier run."""
+    """Writes files of an earlier run."""
     for name in names:
         (folder / name).write_text(f"old {name}\n" * 20)
 
 
 @pytest.mark.parametrize("first, second", itertools.product(WHEN, WHEN))
 def test_one_server_a_folder(first, second, tmp_path):
-    """a second one is refused at once, also with other buses, and changes nothing; once the first is gone it starts"""
+    """a second server is refused at once, also with other buses, and changes nothing; it starts after the first has
+    ended"""
     leave_old(tmp_path, "can0.log", "can0.rec", "can2.rec.new")
     with serving_alone("--record", first, "can0", out=tmp_path) as server:
         before = files_of(tmp_path)
@@ -64,7 +64,7 @@ def test_a_killed_server_leaves_the_folder_free(tmp_path):
 
 @pytest.mark.parametrize("first, second", [("live", "live"), ("end", "live"), ("none", "end")])
 def test_two_starts_at_once(first, second, tmp_path):
-    """of two at the same moment one listens, each time"""
+    """of two starts at the same time exactly one listens, each time"""
     words = [program(), "serve", "--until-eof", "--listen", "127.0.0.1:0", "--out", str(tmp_path), "--record"]
     pipes = {"stdin": subprocess.PIPE, "stdout": subprocess.PIPE, "stderr": subprocess.DEVNULL, "text": True}
     for _ in range(20):
@@ -77,7 +77,8 @@ def test_two_starts_at_once(first, second, tmp_path):
 
 @pytest.mark.parametrize("when", WHEN)
 def test_a_start_that_is_refused(when, tmp_path):
-    """for its second bus: logs and records of earlier runs stay, also one of a run that was killed"""
+    """a start is refused because of its second bus: logs and records of earlier runs stay, including those of a killed
+    run"""
     leave_old(tmp_path, "can0.log", "can0.rec", "can0.rec.new", "can0.log.new", "can2.log")
     (tmp_path / "can2.rec.new").mkdir()
     (tmp_path / "can4.log").mkdir()
@@ -91,7 +92,7 @@ def test_a_start_that_is_refused(when, tmp_path):
 
 @pytest.mark.parametrize("when", ["end", "live"])
 def test_a_fifo_for_a_record(when, tmp_path):
-    """it is refused before the server listens, where a record could not be read again"""
+    """a fifo is refused before the server listens, because the record could not be read again"""
     os.mkfifo(tmp_path / "can0.rec")
     said = f"canbusd: cannot open {tmp_path}\n  {tmp_path}/can0.rec: a fifo can't be a record\n"
     assert start(tmp_path, "--record", when, "can0") == (1, "", said)
@@ -100,7 +101,7 @@ def test_a_fifo_for_a_record(when, tmp_path):
 
 @pytest.mark.parametrize("when", WHEN)
 def test_a_fifo_where_files_are_written_first(when, tmp_path):
-    """it is removed, as all is that is left there"""
+    """the fifo is removed, like every file there"""
     os.mkfifo(tmp_path / "can0.rec.new")
     os.mkfifo(tmp_path / "can0.log.new")
     assert start(tmp_path, "--record", when, "can0")[0] == 0
@@ -110,7 +111,7 @@ def test_a_fifo_where_files_are_written_first(when, tmp_path):
 
 @pytest.mark.parametrize("when, target", itertools.product(WHEN, ["others", "nothing"]))
 def test_links_are_not_followed(when, target, tmp_path):
-    """of logs and records, to a plain file or to nothing: the new files take their places"""
+    """links for logs and records, to a plain file or to nothing, are replaced by the new files"""
     folder, others = tmp_path / "out", tmp_path / "others"
     folder.mkdir()
     others.write_text("of others\n")
@@ -130,12 +131,12 @@ def test_a_link_to_a_device_is_written_to(when, tmp_path):
 
 
 def mode_of(path):
-    """The mode of a file that is no link."""
+    """Returns the mode of a file that is no link."""
     return stat.S_IMODE(os.lstat(path).st_mode)
 
 
 def test_the_lock_file_of_a_folder(tmp_path):
-    """is for its user only, and goes with its server"""
+    """the lock file is readable only for its user, and is removed with its server"""
     with serving_alone("can0", out=tmp_path) as server:
         assert mode_of(tmp_path / ".canbusd.lock") == 0o600
         server.end()
@@ -153,7 +154,7 @@ def test_a_link_is_no_lock_file_of_a_folder(tmp_path):
 
 
 def test_the_lock_file_of_a_path(tmp_path):
-    """is for its user only, and no link: a link to nothing makes no file"""
+    """the lock file is readable only for its user, and is no link: a link to nothing makes no file"""
     path, lock = tmp_path / "bus", tmp_path / "bus.lock"
     words = (program(), "serve", "--until-eof", "--listen", str(path), "can0")
     lock.symlink_to(tmp_path / "other")

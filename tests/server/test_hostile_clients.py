@@ -1,4 +1,4 @@
-"""Clients of `canbusd serve` that say anything, go at any moment, or take nothing.
+"""Clients of `canbusd serve` that send anything, disconnect at any time, or read nothing.
 
 After each of them a frame still goes from one session to another on the same bus, and in the end the record is
 audited.
@@ -18,7 +18,7 @@ import pytest
 from serving import WAIT, Pair, Plain, come_true, join, plain, serving_alone, turns
 
 FAST = ("--pace", "0", "--txqueue", "1024")
-# A client's messages to enter raw mode, and those in it.
+# A client's messages to enter raw mode, and its messages in raw mode.
 DIALOGUE = b"< open can1 >< rawmode >< filter 1 123 7FF >< send 124 2 1 2 >< stats >< errmask FF >< send 7FF 0 >"
 WORDS = [
     b"open",
@@ -53,7 +53,7 @@ WORDS = [
     b"load",
     b"echo",
     b"restart",
-    # Rules of faults, of which none takes a frame from the others.
+    # Fault rules, none of which affects frames of the others.
     b"fault",
     b"faults",
     b"nofaults",
@@ -79,7 +79,7 @@ WORDS = [
 
 @contextlib.contextmanager
 def disturbed(*words, sessions=4000, says="", **how):
-    """A server with two sessions that go on, and the audit of its record in the end."""
+    """A server with two sessions that continue, and the audit of its record at the end."""
     with serving_alone(*FAST, "--sessions", str(sessions), *words, "can0,can1,can2", **how) as server:
         pair = Pair(server)
         yield server, pair
@@ -93,17 +93,17 @@ def connect(server):
 
 
 def reset(client):
-    """Goes away without an end: what is under way is lost, and the server meets a fault."""
+    """Resets the connection: bytes on their way are lost, and the server gets an error."""
     client.setsockopt(socket.SOL_SOCKET, socket.SO_LINGER, struct.pack("ii", 1, 0))
     client.close()
 
 
 def gone(client, how):
-    """Goes away in one of three ways."""
+    """Disconnects in one of three ways."""
     if how == "reset":
         reset(client)
     elif how == "half closed":
-        # The server may have gone first: shutdown then fails with ENOTCONN.
+        # The server may have closed first: shutdown then fails with ENOTCONN.
         with contextlib.suppress(OSError):
             client.shutdown(socket.SHUT_WR)
             while client.recv(65536):
@@ -114,7 +114,7 @@ def gone(client, how):
 
 
 def nonsense(rng):
-    """Random bytes, or random words in messages."""
+    """Returns random bytes, or random words in messages."""
     if rng.random() < 0.4:
         return rng.randbytes(rng.choice([1, 10, 1000, 20000]))
     text = b"".join(
@@ -124,7 +124,7 @@ def nonsense(rng):
 
 
 def test_random_bytes(rng):
-    """600 clients that say random bytes and words, in pieces of any size"""
+    """600 clients send random bytes and words, in pieces of any size"""
     with disturbed() as (server, pair):
         for number in range(600):
             client, text = connect(server), nonsense(rng)
@@ -142,7 +142,7 @@ def test_random_bytes(rng):
 
 
 def test_cut_messages():
-    """a dialogue that ends at each of its bytes, in three ways"""
+    """a dialogue ends at each of its bytes, in three ways"""
     with disturbed() as (server, pair):
         for end in range(len(DIALOGUE) + 1):
             for how in ("reset", "closed", "half closed"):
@@ -154,7 +154,7 @@ def test_cut_messages():
 
 
 def test_one_byte_at_a_time():
-    """a dialogue in single bytes is answered as ever"""
+    """a dialogue in single bytes gets the usual answers"""
     with disturbed() as (server, pair), contextlib.closing(Plain(server)) as client:
         client.socket.setsockopt(socket.IPPROTO_TCP, socket.TCP_NODELAY, 1)
         for byte in DIALOGUE + b"< close >":
@@ -166,7 +166,7 @@ def test_one_byte_at_a_time():
 
 
 def test_endless_messages():
-    """a million `<`, and a message of a million bytes, which is reported once; then the next message is read"""
+    """a million `<`, and a message of a million bytes, are reported once; then the next message is read"""
     with disturbed() as (server, pair):
         before = server.memory("VmRSS")
         for text, replies in [
@@ -202,7 +202,7 @@ def test_nobody_takes_the_answers():
 
 
 def test_slow_readers():
-    """twenty sessions that read nothing while 3,000 frames go to them, then are reset or read on"""
+    """twenty sessions read nothing while 3,000 frames go to them, and then are reset or continue to read"""
     with disturbed("--rxqueue", "100") as (server, pair):
         slow, sender = [plain(server, "can1") for _ in range(20)], plain(server, "can2")
         assert sender.answer("< filter 0 >") == "< ok >", "the sender"
@@ -222,7 +222,7 @@ def test_slow_readers():
 
 
 def test_silent_connections(rng):
-    """62 that say nothing, then 40 more at once; their places are free once they have gone"""
+    """62 connections send nothing, and then 40 more at once; their places are free after they have gone"""
     with disturbed() as (server, pair):
         before = server.held()
         for _ in range(3):
@@ -245,7 +245,7 @@ def comes_in(server):
 
 
 def test_storms(rng):
-    """1,500 clients from 16 threads, in all ways of coming and going"""
+    """1,500 clients from 16 threads come and go in all ways"""
     with disturbed() as (server, pair):
         seeds = [rng.randrange(2**32) for _ in range(16)]
         threads = [threading.Thread(target=storm, args=(server, random.Random(seed), 94)) for seed in seeds]
@@ -269,7 +269,7 @@ def storm(server, rng, count):
 
 
 def test_four_thousand_sessions():
-    """all that one run serves, half of them in raw mode with frames; its memory grows only by its record"""
+    """one run serves them all, half of them in raw mode with frames; its memory grows only by its record"""
     with disturbed() as (server, pair):
         visit(server, 200)
         before = server.memory("VmRSS")
@@ -279,13 +279,13 @@ def test_four_thousand_sessions():
         pair.go_on("3,998 sessions")
         with contextlib.suppress(OSError):
             assert not comes_in(server), "one more comes in"
-    # Of half the sessions the record has four entries, and each is in a list of 4 calls as well.
+    # For half of the sessions the record has four entries, each also in a list of 4 calls.
     most = (1900 * 4 * 36 + 1900 * 4 * 104) // 1024 + 2048
     assert grown <= most, f"{grown} KB more"
 
 
 def visit(server, count):
-    """This many sessions from 8 threads, every other one in raw mode."""
+    """Opens this many sessions from 8 threads, every other one in raw mode."""
     failed = []
 
     def come(first):
@@ -314,7 +314,7 @@ def visit(server, count):
 
 
 def test_too_few_descriptors():
-    """more clients than the server may have files, for five seconds; then the sessions that are left come in"""
+    """for five seconds there are more clients than files for the server; then the remaining sessions are accepted"""
 
     def begin():
         resource.setrlimit(resource.RLIMIT_NOFILE, (24, 24))
@@ -333,5 +333,5 @@ def test_too_few_descriptors():
         with contextlib.suppress(OSError):
             while served <= 200 and comes_in(server):
                 served += 1
-        # A connection that can't be accepted is no session, so none but the pair and the crowd were.
+        # A connection that can't be accepted is no session, so only the pair and the crowd were sessions.
         assert served == 200 - 2 - 60, f"{served} of 138 sessions are left"

@@ -39,7 +39,7 @@ KINDS = [
     "local form {0},{1}",
     "local crc {0},{1}",
 ]
-# An answer; or a frame with its identifier and data, and maybe its origin, or an error message frame.
+# Matches an answer; or a frame with its identifier and data, and perhaps its origin; or an error message frame.
 TEXT = re.compile(
     rb"< (?:(hi|ok|stats [\d ]+|closed \d+ \d+|error [a-z][a-z ]+)|"
     rb"frame (\w+) \S+ (\w*)(?: (same|other) (\d+))?|error \w{3,8} [\d.]+) >"
@@ -51,7 +51,7 @@ def names_of(bus):
 
 
 def write_fault_script(path, names, attempts, rng):
-    """A fault now and then, of each kind, and now and then 40 in a row."""
+    """Writes a script with a fault now and then, of each kind, and sometimes 40 in a row."""
     with open(path, "w", encoding="utf-8") as file:
         number = 20
         while number < attempts:
@@ -87,7 +87,7 @@ class Client:
         self.socket.sendall(text.encode())
 
     def answer(self):
-        """The next text that is no item. Items are counted, and looked at."""
+        """Returns the next text that is no item. Items are counted and checked."""
         while not self.answers:
             piece = self.socket.recv(65536)
             assert piece, f"session {self.place} was ended"
@@ -103,7 +103,7 @@ class Client:
         return self.answers.pop(0)
 
     def take(self, sender, data, side, number):
-        """Counts an item; the frames of one session have to come in order, and those of one interface."""
+        """Counts an item; the frames of one session must come in order, and so must those of one interface."""
         self.items += 1
         if sender:
             is_copy = self.comes_again((sender, data[:4]), int(data[4:], 16))
@@ -111,26 +111,27 @@ class Client:
             self.copies += is_copy
 
     def comes_again(self, sender, number):
-        """Whether the last frame of this sender was this one too; it was none that was sent later."""
+        """Returns whether the last frame of this sender was the same; fails for an earlier frame."""
         last = self.last.get(sender, -1)
         assert number >= last, f"session {self.place}: frame {number} of {sender} after {last}"
         self.last[sender] = number
         return number == last
 
     def burst(self, count):
-        """This many commands that send the next frames."""
+        """Returns this many commands that send the next frames."""
         first = self.sent + self.refused
         numbers = range(first, first + count)
         start = f"< send {identifier(self.place):X} 6 {self.earlier.to_bytes(2, 'big').hex(' ')} "
         return "".join(f"{start}{number.to_bytes(4, 'big').hex(' ')} >" for number in numbers)
 
     def stats(self):
-        """QUEUED DROPPED TAKEN SENT DONE WAITING LOST REFUSED, as `stats` has them, after refusals of sends."""
+        """Returns QUEUED DROPPED TAKEN SENT DONE WAITING LOST REFUSED from `stats`, after refusals of sends."""
         self.write("< stats >")
         return self.read_stats()
 
     def read_stats(self):
-        """The numbers of `stats`; how many sends were refused before it, and whether for bus off."""
+        """Reads the numbers of `stats`; returns also the number of sends refused before, and whether bus off was the
+        reason."""
         self.were_off = False
         while not (answer := self.answer()).startswith(b"stats "):
             assert answer in (b"error no buffers", b"error bus off", b"error not bus off", b"ok"), f"{answer}"
@@ -141,7 +142,7 @@ class Client:
         return [int(word) for word in answer.split()[1:]]
 
     def send(self, count):
-        """Sends a number of frames, but for those that are refused, and waits until few wait."""
+        """Sends a number of frames, without those that are refused, and waits until few wait."""
         text = self.burst(count)
         self.sent += count
         self.write(text + "< stats >")
@@ -155,7 +156,7 @@ class Client:
             waiting = self.stats()[5]
 
     def drain(self):
-        """Waits until nothing waits and all items have come; what `stats` says then."""
+        """Waits until no frame waits and all items have come; returns the numbers of `stats` then."""
         until = time.monotonic() + PATIENCE
         while True:
             counts = self.stats()
@@ -177,7 +178,7 @@ def identifier(place):
 
 
 def break_off(server, place, names, rng, is_over):
-    """Sessions that break, one after the other; how many there were."""
+    """Runs sessions that break, one after the other; returns their number."""
     count = 0
     while not is_over.is_set():
         with contextlib.suppress(OSError, AssertionError):
@@ -197,7 +198,7 @@ def break_off(server, place, names, rng, is_over):
 
 
 def take_place(server):
-    """A connection of which nothing more is asked; the place of a session that broke may be free a moment later."""
+    """Opens a connection without further requests; the place of a broken session may be free a moment later."""
     for _ in turns("a place is free again", PATIENCE):
         client = Plain(server)
         if client.text() == "< hi >":
@@ -207,7 +208,7 @@ def take_place(server):
 
 
 class BusLoad:
-    """The sessions of a bus, each in a thread, and in the end what `stats` says to those that stay."""
+    """The sessions of a bus, each in a thread, and the final `stats` of the sessions that stay."""
 
     # A barrier at which the processes of all buses wait for one another.
     buses = None
@@ -220,7 +221,7 @@ class BusLoad:
         self.ends, self.faults, self.broken = [], [], []
 
     def stay(self, place):
-        """A session that is there all the time."""
+        """Runs a session that stays until the end."""
         try:
             client = Client(self.server, place, self.names)
             self.steps.wait(PATIENCE)
@@ -238,7 +239,7 @@ class BusLoad:
             self.steps.abort()
 
     def come_and_go(self, place, seed):
-        """Sessions that break, one after another."""
+        """Runs sessions that break, one after another."""
         self.broken.append(break_off(self.server, place, self.names, random.Random(seed), self.is_over))
 
     def go_through(self, breaking):
@@ -261,7 +262,7 @@ class BusLoad:
             place.close()
 
     def run(self):
-        """What went wrong, how the sessions that stayed ended, and how many broke."""
+        """Returns the faults, the results of the sessions that stayed, and the number of broken sessions."""
         staying = [threading.Thread(target=self.stay, args=(place,)) for place in range(self.steady)]
         breaking = [
             threading.Thread(target=self.come_and_go, args=(place, self.rng.random()))
@@ -288,7 +289,8 @@ def on_one_bus(*load):
 
 
 class Counted:
-    """What a record has: what each interface sent, finished, lost and refused; what each socket took and lost."""
+    """The counts of a record: frames sent, finished, lost and refused by each interface; items taken and lost by each
+    socket."""
 
     def __init__(self, path):
         self.sent, self.done, self.refused, self.lasts, self.offs = [0, 0], [0, 0], [0, 0], 0, 0
@@ -325,7 +327,8 @@ class Counted:
 
 @pytest.mark.parametrize("frames", [40_000, pytest.param(None, marks=pytest.mark.slow, id="--frames")])
 def test_load_with_faults(request, tmp_path, frames):
-    """64 sessions, 4 buses, faults of every kind, sessions that break and come back"""
+    """64 sessions on 4 buses, with faults of every kind, and sessions that break and come back, lose nothing
+    uncounted"""
     frames, seed = frames or request.config.getoption("frames"), request.config.getoption("seed")
     buses = []
     for bus in range(BUSES):
@@ -355,7 +358,7 @@ def test_load_with_faults(request, tmp_path, frames):
 
 
 def compare(server, bus, record, ends):
-    """What `stats` said to the sessions of a bus, beside its record."""
+    """Compares the `stats` of the sessions of a bus with its record."""
     assert server.audited(f"{names_of(bus)[0]}.rec") == record.entries, "the audit counts other entries"
     for side in (0, 1):
         assert (

@@ -1,4 +1,4 @@
-"""`canbusd serve` with plain sockets: records that fill, clients that go, and how it ends."""
+"""`canbusd serve` with plain sockets: records that fill, clients that disconnect, and the end of a server."""
 
 import contextlib
 import os
@@ -18,7 +18,7 @@ from serving import ROOT, WAIT, Plain, come_true, join, line_of, plain, program,
 
 
 def test_full_record():
-    """it is reported once and to each call, and nothing spins"""
+    """a full record is reported once and to each call, and no thread spins"""
     with serving("--limit", "5", "can0,can1", "can2") as server:
         can0, can1 = plain(server, "can0"), plain(server, "can1")
         can0.write("< send 123 1 5 >")
@@ -38,7 +38,7 @@ def test_full_record():
 
 
 def test_nearly_full_record():
-    """nine tenths are reported once, with what has no such end"""
+    """nine tenths are reported once, with the alternative without a limit"""
     note = "note: bus can0: the record is nine tenths full; serve --record live or --record none has no such end"
     with serving("--limit", "50", "--pace", "0", "can0,can1") as server:
         can0, can1 = plain(server, "can0"), plain(server, "can1")
@@ -51,7 +51,7 @@ def test_nearly_full_record():
 
 
 def test_verbose():
-    """who comes, opens, goes, and each bus off and restart, each line with its moment"""
+    """each client, each open and each end is reported, and each bus off and restart, each line with its time"""
     words = ("--verbose", "--auto-restart", "3", "--pace", "0", f"can0,can1@{ROOT}/examples/bus_off_attack.script")
     with serving(*words) as server:
         can0 = plain(server, "can0")
@@ -75,7 +75,7 @@ def test_verbose():
 
 
 def test_down_and_up():
-    """an interface that is down says so, sends and receives nothing, and comes up by a restart; both are reported"""
+    """a down interface reports this, sends and receives nothing, and comes up by a restart; both are reported"""
     with serving("--verbose", "--pace", "0", "can0,can1") as server:
         can0, can1 = plain(server, "can0"), plain(server, "can1")
         replies = [can0.answer(f"< {words} >") for words in ("down", "status", "send 123 0")]
@@ -94,12 +94,12 @@ def test_down_and_up():
 
 
 def said_in_turn(server):
-    """What a server with --verbose has said, without the moments."""
+    """Returns the output of a server with --verbose, without the times."""
     return [re.sub(r"^\d{10}\.\d{6} ", "", line) for line in server.said().splitlines()]
 
 
 def test_verbose_of_another_bus():
-    """an interface that is not the first, of a bus that is not the first, has its own name, and that bus has its own"""
+    """an interface and a bus that are not the first are reported by their own names"""
     words = ("--verbose", "--auto-restart", "3", "--pace", "0", "--limit", "50")
     with serving(*words, "car0", f"can0,can1@{ROOT}/examples/bus_off_attack.script") as server:
         ports = []
@@ -111,7 +111,8 @@ def test_verbose_of_another_bus():
         (can1, port), (can0, other) = ports
         can1.write("< send 123 0 >")
         assert come_true(lambda: said_in_turn(server)[-1:] == ["can1: restarted"]), server.said()
-        # There are 38 entries: two sockets, a send, 32 attempts and three until the restart. Each frame has three.
+        # There are 38 entries: two sockets, a send, 32 attempts and three until the restart. Each further frame has
+        # three.
         for value in range(4):
             can1.write(f"< send 123 1 {value} >")
             assert can0.frame() == ("123", bytes([value])), "not the frame"
@@ -134,7 +135,7 @@ def test_verbose_of_another_bus():
 
 
 def test_record_that_a_delivery_finds_full():
-    """where the first call that the record has no room for takes an item, it is reported, and both sessions go on"""
+    """if a receive is the first call without room in the record, this is reported, and both sessions continue"""
     with serving("--limit", "4", "--pace", "0", "can0,can1") as server:
         can0, can1 = plain(server, "can0"), plain(server, "can1")
         can0.write("< send 123 1 5 >")
@@ -148,7 +149,7 @@ def test_record_that_a_delivery_finds_full():
 
 
 def test_each_of_64_sessions():
-    """a frame reaches the sockets of all, whatever their numbers"""
+    """a frame reaches the sockets of all sessions, whatever their numbers"""
     with serving("--pace", "0", "can0,can1") as server:
         sender, *others = [plain(server, "can0")] + [plain(server, "can1") for _ in range(63)]
         for number in range(3):
@@ -160,7 +161,7 @@ def test_each_of_64_sessions():
 
 
 def test_counts_of_verbose():
-    """what a session has lost, and the restart that comes after many calls of its session"""
+    """the report has the lost frames of a session, and the restart that comes after many calls of its session"""
     words = ("--verbose", "--pace", "0", "--txqueue", "1024", "--rxqueue", "1")
     with serving(*words, f"can0,can1@{ROOT}/examples/bus_off_attack.script", "can2,can3") as server:
         off = plain(server, "can0")
@@ -191,7 +192,7 @@ def test_counts_of_verbose():
 
 @pytest.mark.slow
 def test_raw_sessions_keep_their_places():
-    """a minute later, when somebody finds no place, a silent client gives way, and no session in raw mode"""
+    """a minute later, when a client finds no place, a silent client loses its place, but no session in raw mode does"""
     with serving("can0,can1") as server:
         raw = [plain(server, "can0") for _ in range(63)]
         silent = Plain(server)
@@ -205,7 +206,7 @@ def test_raw_sessions_keep_their_places():
 
 
 def has_ended(client):
-    """Whether the server has closed a connection, which may have had more to read."""
+    """Returns whether the server has closed a connection, which may have more to read."""
     try:
         return client.text() == ""
     except ConnectionError:
@@ -258,7 +259,7 @@ def test_no_web_page(first):
 
 
 def test_slow_reader():
-    """what it does not take is dropped and counted, and nobody else waits for it"""
+    """frames that it does not read are dropped and counted, and nobody else waits for it"""
     with serving(
         "--pace", "0", "--txqueue", "1024", "--rxqueue", "100", "can0,can1", address="./slow.socket"
     ) as server:
@@ -287,7 +288,7 @@ def test_slow_reader():
 
 @pytest.mark.parametrize("most", [256, 1024, 65536])
 def test_bytes_of_a_write(most):
-    """frames come whole and in order, however many go out in a write"""
+    """frames come complete and in order, however many go out in a write"""
     options = ("--pace", "0", "--txqueue", "1024", "--rxqueue", "65536", "--write", str(most))
     with serving(*options, "can0,can1") as server:
         sender, reader = plain(server, "can0"), plain(server, "can1")
@@ -302,7 +303,8 @@ def test_bytes_of_a_write(most):
 @pytest.mark.skipif(not shutil.which("cc"), reason="no C compiler: cc")
 @pytest.mark.parametrize("words, most", [(["--write", "256"], 256), ([], 1024), (["--write", "3000"], 3000)])
 def test_lengths_of_writes(words, most, tmp_path):
-    """each has whole frames and is no longer than that, and where many wait one nearly is (noted_sends.c)"""
+    """each write has complete frames and is no longer than the limit, and if many wait a write nearly reaches it
+    (noted_sends.c)"""
     library, sends = tmp_path / "noted_sends.so", tmp_path / "sends"
     source = os.path.join(ROOT, "tests", "helpers", "noted_sends.c")
     subprocess.run(["cc", "-O2", "-Wall", "-Werror", "-fPIC", "-shared", "-o", library, source], check=True)
@@ -310,7 +312,7 @@ def test_lengths_of_writes(words, most, tmp_path):
     with serving_alone("--pace", "0", "--txqueue", "100", *words, "can0,can1", env=environment) as server:
         sender, reader = plain(server, "can0"), plain(server, "can1")
         for _ in range(20):
-            # They come in one read, and up to 64 of them are on the bus before anybody gets one.
+            # They come in one read, and up to 64 of them are on the bus before a client gets one.
             sender.write("< send 123 8 1 2 3 4 5 6 7 8 >" * 100)
             texts = [reader.text() for _ in range(100)]
         server.end()
@@ -322,7 +324,7 @@ def test_lengths_of_writes(words, most, tmp_path):
 
 
 def test_clients_that_go():
-    """half a message, a sending side shut down; the others get their frames"""
+    """clients send half a message, or shut down their sending side; the others get their frames"""
     with serving("can0,can1") as server:
         can0, can1 = plain(server, "can0"), plain(server, "can1")
         gone, half = plain(server, "can0"), plain(server, "can1")
@@ -356,7 +358,7 @@ def test_too_many_sessions():
 
 
 def test_sessions_that_come_and_go():
-    """2,000 of them, some in the middle of what they say: nothing of them stays"""
+    """2,000 sessions come and go, some in the middle of a message, and leave nothing"""
     openings = [
         "",
         "< open can0 >",
@@ -366,7 +368,7 @@ def test_sessions_that_come_and_go():
         "< open can0 >< rawmode >" + "< send 7FF 8 1 2 3 4 5 6 7 8 >" * 50,
     ]
     with serving("--pace", "0", "--txqueue", "1024", "can0,can1") as server:
-        # Once somebody was greeted and has gone, all threads of the server have begun.
+        # After one client was greeted and has gone, all threads of the server have begun.
         with contextlib.closing(Plain(server)) as visitor:
             assert visitor.text() == "< hi >"
         assert come_true(server.rests), "the server does not come to rest"
@@ -414,7 +416,7 @@ def test_ends_while_busy():
 
 
 def test_unix_path(tmp_path):
-    """a socket file that nobody listens at is taken over, and is gone in the end; one that is in use is left"""
+    """a socket file without a listener is taken over, and removed at the end; a socket in use is left"""
     path = os.path.join(tmp_path, "socket")
     with socket.socket(socket.AF_UNIX) as stale:
         stale.bind(path)
@@ -428,7 +430,7 @@ def test_unix_path(tmp_path):
 
 
 def connected(server):
-    """A connection to a server, or None where it is refused."""
+    """Opens a connection to a server; returns None if it is refused."""
     with contextlib.suppress(ConnectionRefusedError, ConnectionResetError, FileNotFoundError):
         if ":" in server.address:
             return socket.create_connection((server.host, server.port), WAIT)
@@ -444,7 +446,7 @@ def connected(server):
 
 
 def heard(connection):
-    """All that a connection reads to its end.
+    """Returns the input of a connection up to its end.
 
     It says something first: a connection that Linux dropped on the side of the server as it was made hears of that only
     then.
@@ -459,7 +461,7 @@ def heard(connection):
 
 @pytest.mark.slow
 def test_ends_in_bursts():
-    """1,000 servers that have to end while clients come: each ends, and gives nobody another reason"""
+    """1,000 servers must end while clients come: each ends, and gives each client the right reason"""
     for number in range(1000):
         path = "./burst.socket" if number % 2 else "127.0.0.1:0"
         with contextlib.ExitStack() as stack:
@@ -481,7 +483,7 @@ def test_ends_in_bursts():
 
 
 def test_door_after_the_last_session():
-    """who comes once --sessions have come is refused at once, and so is who waited"""
+    """a client that comes after the last of --sessions is refused at once, and so is a waiting client"""
     for address in ("127.0.0.1:0", "./last.socket"):
         with serving_alone("--sessions", "1", "can0", address=address) as server:
             if ":" not in address:
@@ -498,7 +500,7 @@ def test_door_after_the_last_session():
 
 
 def test_attempts_in_vain_at_the_end(tmp_path):
-    """a frame that nobody acknowledges, and an interface that waits for its restart, do not hold up the end"""
+    """an unacknowledged frame, and an interface that waits for its restart, do not delay the end"""
     most = 16777216
     with serving("--ack", "peers", "--pace", "0", "--limit", str(most), "can0") as server:
         plain(server, "can0").write("< send 123 0 >")
@@ -573,7 +575,8 @@ def test_own_socket_file(tmp_path):
 
 
 def test_folder_of_a_server(tmp_path):
-    """one that takes no files is refused before the server listens; files of an earlier run stay until new ones are whole"""
+    """a folder that accepts no files is refused before the server listens; files of an earlier run stay until new ones
+    are complete"""
     none = os.path.join(tmp_path, "none")
     words = [program(), "serve", "--listen", "127.0.0.1:0", "--until-eof", "--out"]
     said = f"canbusd: cannot open {none}\n  {none}/can0.rec.new: No such file or directory (os error 2)\n"

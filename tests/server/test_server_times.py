@@ -1,4 +1,4 @@
-"""`canbusd serve --bitrate`: when frames are on the bus of a server, and when clients get them."""
+"""`canbusd serve --bitrate`: the times of frames on the bus of a server, and the times when clients get them."""
 
 from __future__ import annotations
 
@@ -34,7 +34,7 @@ class TooBusy(Exception):
 
 
 def patiently(test: Callable[..., None]) -> Callable[..., None]:
-    """The test, of which one of three tries may be on a machine that is not too busy."""
+    """Runs the test up to three times, of which one must be on a machine that is not too busy."""
 
     @functools.wraps(test)
     def tried(**fixtures: object) -> None:
@@ -49,7 +49,7 @@ def patiently(test: Callable[..., None]) -> Callable[..., None]:
 
 
 def end_in_time(server: Server) -> None:
-    """Ends a server, which has to have been in time."""
+    """Ends a server, which must have been in time."""
     status, _ = server.finish()
     said = server.said()
     if said:
@@ -62,7 +62,7 @@ def micros(text: str) -> int:
 
 
 def replayed(path: str, rates: Rates) -> str:
-    """What the replay says of the moments of a record, with whose bit rates it finds nothing."""
+    """Returns the report of a replay on the times of a record, which has no finding at the right bit rates."""
     words = [sys.executable, "-m", "canbusd", "replay", "--quiet", *rate_options(rates), path]
     done = subprocess.run(words, capture_output=True, text=True, timeout=120, check=False)
     assert (done.returncode, done.stderr) == (0, ""), done.stderr
@@ -70,40 +70,40 @@ def replayed(path: str, rates: Rates) -> str:
 
 
 def attempts(server: Server, name: str = "can0") -> list[tuple[int, str]]:
-    """The moments of the attempts in the record of a bus, in microseconds, and their lines."""
+    """Returns the times of the attempts in the record of a bus, in microseconds, and their lines."""
     with open(server.path(f"{name}.rec"), encoding="utf-8") as record:
         lines = [line for line in record if line.startswith("attempt ")]
     return [(micros(line.split(" ")[1]), line) for line in lines]
 
 
 def quiet(server: Server, name: str) -> Plain:
-    """A session that gets no frames, so that what it reads are replies."""
+    """Opens a session that gets no frames, so that it only reads replies."""
     client = raw(server, name)
     assert client.answer("< filter 0 >") == "< ok >"
     return client
 
 
 def waiting(client: Plain) -> int:
-    """How many frames wait at its interface."""
+    """Returns the number of waiting frames at the session's interface."""
     return int(client.answer("< stats >").split(" ")[7])
 
 
 def raw(server: Server, name: str) -> Plain:
-    """A session that takes FD frames too."""
+    """Opens a session that also accepts FD frames."""
     client = plain(server, name)
     assert client.answer("< fdframes 1 >") == "< ok >"
     return client
 
 
 def received(client: Plain) -> int:
-    """The moment of the next frame, in microseconds."""
+    """Returns the time of the next frame, in microseconds."""
     return micros(re.search(r" (\d+\.\d{6}) ", client.text())[1])
 
 
 @patiently
 @pytest.mark.parametrize("nominal", [5_000, 125_000, 1_000_000])
 def test_moments_are_those_of_the_bench(nominal: int, rng: random.Random) -> None:
-    """Frames that wait go one right after another, as on a bench whose moment is set to when the first was sent."""
+    """waiting frames follow one another without gaps, as on a bench whose time is set to the first send"""
     rates = Rates(nominal, rng.choice([None, nominal, 8 * nominal]))
     frames = [random_frame(rng) for _ in range(12)]
     with serving(*rate_options(rates), "--txqueue", "1024", "can0,can1") as server:
@@ -118,13 +118,13 @@ def test_moments_are_those_of_the_bench(nominal: int, rng: random.Random) -> Non
     options = [*rate_options(rates), "--txqueue", "1024"]
     written = [line.split(" at ")[1] for line in bench(program(), options, ["can0", "can1"], lines)]
     assert moments == made == [micros(text) for text in written]
-    # All of the time but the last intermission, and what the rounding of moments leaves open.
+    # The wire is busy all the time, except for the last intermission and the rounding of times.
     assert re.match(r"load (?:100\.0|99\.\d) %: ", said), said
 
 
 @patiently
 def test_each_bus_has_bit_rates_of_its_own(rng: random.Random) -> None:
-    """By any of its names: a value is of one bus, and the one without a name of those that have none of their own."""
+    """a value belongs to the bus of its name, and the value without a name to the buses without their own"""
     buses = {"can0": Rates(500_000, 2_000_000), "body0": Rates(125_000, 2_000_000), "fd0": Rates(500_000, 8_000_000)}
     words = "--bitrate 500000 --dbitrate fd1=8000000 --bitrate body1=125000 --dbitrate 2000000 --txqueue 1024".split()
     frames = [random_frame(rng) for _ in range(12)]
@@ -140,7 +140,7 @@ def test_each_bus_has_bit_rates_of_its_own(rng: random.Random) -> None:
             assert moments[name] == [when for when, _ in attempts(server, name)]
             replayed(server.path(f"{name}.rec"), rates)
     for name, rates in buses.items():
-        # Each frame begins where the attempt before it is over.
+        # Each frame begins at the end of the attempt before it.
         nanos = [rates.frame_nanos(frames[0])]
         for before, frame in itertools.pairwise(frames):
             nanos.append(nanos[-1] + rates.attempt_nanos(before) - rates.frame_nanos(before) + rates.frame_nanos(frame))
@@ -151,7 +151,7 @@ def test_each_bus_has_bit_rates_of_its_own(rng: random.Random) -> None:
 @pytest.mark.quiet
 @patiently
 def test_a_bus_without_bit_rate_is_beside_one_with_it() -> None:
-    """It goes on by --pace, and its load is 0."""
+    """the bus continues by --pace, and its load is 0"""
     with serving("--bitrate", "body0=5000", "can0,can1", "body0,body1") as server:
         can0, can1, body0 = plain(server, "can0"), plain(server, "can1"), plain(server, "body0")
         assert [one.answer("< load >") for one in (can0, body0)] == ["< load 0 0 0 0 >", "< load 0 0 5000 5000 >"]
@@ -166,7 +166,7 @@ def test_a_bus_without_bit_rate_is_beside_one_with_it() -> None:
 
 @patiently
 def test_random_frames_and_faults(rng: random.Random) -> None:
-    """Two nodes send with pauses, and some attempts fail: no attempt begins before the one before it is over."""
+    """two nodes send with pauses, and some attempts fail: no attempt begins before the end of the one before"""
     rates = Rates(500_000, 2_000_000)
     with serving(*rate_options(rates), "--txqueue", "100", "--auto-restart", "128", "can0,can1") as server:
         clients = [quiet(server, "can0"), quiet(server, "can1")]
@@ -187,7 +187,7 @@ def test_random_frames_and_faults(rng: random.Random) -> None:
 @patiently
 @pytest.mark.parametrize("nominal", [5_000, 500_000])
 def test_nobody_gets_a_frame_before_its_end(nominal: int) -> None:
-    """A client gets a frame when it is over, and so an answer begins after that."""
+    """a client gets a frame after its end, and so an answer begins after that"""
     rates, frame = Rates(nominal), EIGHT_BYTES
     lasts = rates.frame_nanos(frame) / SECOND
     with serving(*rate_options(rates), "can0,can1") as server:
@@ -208,7 +208,7 @@ def test_nobody_gets_a_frame_before_its_end(nominal: int) -> None:
 @pytest.mark.quiet
 @patiently
 def test_sender_gets_its_frame_at_its_end() -> None:
-    """Also what is looped back, and the reply to a send comes at once."""
+    """this also holds for loopback, and the reply to a send comes at once"""
     rates, frame = Rates(5_000), Frame.read("123#11")
     with serving("--bitrate", "5000", "can0") as server:
         can0 = plain(server, "can0")
@@ -223,7 +223,7 @@ def test_sender_gets_its_frame_at_its_end() -> None:
 
 @patiently
 def test_recovery_takes_128_times_11_bits() -> None:
-    """An interface that went bus off on a bus on which nobody sends comes back 128 * 11 bits after its last attempt."""
+    """an interface that went bus off on an idle bus returns 128 * 11 bits after its last attempt"""
     rates, frame = Rates(20_000), Frame.read("123#11")
     with serving("--bitrate", "20000", "--auto-restart", "128", "can0,can1") as server:
         can0 = plain(server, "can0")
@@ -243,12 +243,12 @@ def test_recovery_takes_128_times_11_bits() -> None:
 
 
 def test_late_server_leaves_out_what_it_missed() -> None:
-    """One that was stopped reports by how much it was late, once in a minute and by the bus, and goes on from then."""
+    """a stopped server reports its delay, once a minute for each bus, and continues from then"""
     rates = Rates(50_000)
     usual = rates.attempt_nanos(EIGHT_BYTES) // MICRO
     with serving_alone(*rate_options(rates), "--txqueue", "1024", "--verbose", "car0", "can0,can1") as server:
         can0, can1 = plain(server, "can0"), plain(server, "can1")
-        # More than two seconds of frames, so that some wait at each stop.
+        # These are more than two seconds of frames, so that some wait at each stop.
         can0.write(1000 * send(EIGHT_BYTES))
         moments = [received(can1)]
         for _ in range(2):
@@ -272,7 +272,8 @@ def test_late_server_leaves_out_what_it_missed() -> None:
 @pytest.mark.skipif(not shutil.which("cc"), reason="no C compiler: cc")
 @pytest.mark.parametrize("words, later", [(["--bitrate", "500000"], 0), ([], 3600)])
 def test_a_clock_that_is_set(words: Sequence[str], later: int, tmp_path: pathlib.Path) -> None:
-    """By an hour (set_clock.c): moments with bit rates go on as before, and others are the clock's."""
+    """the clock is set by an hour (set_clock.c): times with bit rates continue as before, and others follow the
+    clock"""
     library, changed = tmp_path / "set_clock.so", tmp_path / "changed"
     source = os.path.join(ROOT, "tests", "helpers", "set_clock.c")
     subprocess.run(["cc", "-O2", "-Wall", "-Werror", "-fPIC", "-shared", "-o", library, source], check=True)
@@ -295,7 +296,7 @@ def test_a_clock_that_is_set(words: Sequence[str], later: int, tmp_path: pathlib
 @pytest.mark.quiet
 @patiently
 def test_end_waits_for_no_frame() -> None:
-    """What waits is tried at the end with the moments that it would have had, and the server ends at once."""
+    """waiting frames are tried at the end with the times that they would have had, and the server ends at once"""
     rates = Rates(5_000)
     with serving(*rate_options(rates), "--txqueue", "1024", "can0,can1") as server:
         can0 = quiet(server, "can0")
@@ -314,7 +315,7 @@ def test_end_waits_for_no_frame() -> None:
 @patiently
 @pytest.mark.parametrize("words", [[], ["--record", "none"]])
 def test_nothing_spins(words: Sequence[str]) -> None:
-    """No thread runs where no frame waits, and few while one lasts."""
+    """no thread runs while no frame waits, and few run during a frame"""
     with serving_alone("--bitrate", "5000", *words, "can0,can1") as server:
         can0 = plain(server, "can0")
         can0.write(send(EIGHT_BYTES))
@@ -330,7 +331,7 @@ def test_nothing_spins(words: Sequence[str]) -> None:
 
 
 class Filling:
-    """A client that keeps the queue of its interface full, and one that counts what arrives."""
+    """A client that keeps the queue of its interface full, and a client that counts arriving frames."""
 
     def __init__(self, server: Server, frame: Frame) -> None:
         self.sender, self.receiver = plain(server, "can0"), plain(server, "can1")
@@ -341,7 +342,8 @@ class Filling:
         self.sender.socket.sendall(count * self.text)
 
     def take(self) -> tuple[float, float]:
-        """Takes what is there, waits for it, and sends as much. Returns when the last of it came, and the moment that it has."""
+        """Waits for frames, reads the available ones, and sends as many. Returns the time of the last arrival, and
+        its timestamp."""
         whole = 0
         while not whole:
             self.left += self.receiver.socket.recv(1 << 20)
@@ -351,7 +353,7 @@ class Filling:
         return came, float(taken.split()[-3])
 
     def run(self, seconds: float) -> list[tuple[float, float]]:
-        """When frames came in these seconds, once the bus is full, and their moments."""
+        """Returns the arrival times and timestamps of frames in these seconds, after the bus is full."""
         self.send(WINDOW)
         begun, arrivals = time.monotonic() + 1, [self.take()]
         while arrivals[-1][0] < begun + seconds:
@@ -360,8 +362,8 @@ class Filling:
 
 
 def least_late(arrivals: list[tuple[float, float]]) -> tuple[float, float]:
-    """Of these frames, when the one came that was the least late, and by how much, but for what two clocks differ by. On a busy
-    machine others wait, and none comes early."""
+    """Returns the arrival of the frame that was least late, and its delay, except for the difference of two clocks. On
+    a busy machine others are later, and none comes early."""
     late, came = min((came - moment, came) for came, moment in arrivals)
     return came, late
 
@@ -372,7 +374,7 @@ def least_late(arrivals: list[tuple[float, float]]) -> tuple[float, float]:
     "nominal", [500_000, *(pytest.param(rate, marks=pytest.mark.slow) for rate in (125_000, 1_000_000))]
 )
 def test_mean_rate(nominal: int) -> None:
-    """A full bus has its bit rate, within 0.1 % over ten seconds: the moments that follow from it are those of the clock."""
+    """a full bus has its bit rate, within 0.1 % over ten seconds: the times by the bit rate agree with the clock"""
     rates, sizes = Rates(nominal), ["--txqueue", str(WINDOW), "--rxqueue", "65536", "--write", "16384"]
     with serving(*rate_options(rates), *sizes, "can0,can1") as server:
         arrivals = Filling(server, EIGHT_BYTES).run(11)

@@ -1,7 +1,8 @@
-"""A page in a browser can't put frames on a bus: its requests to the server's port begin as no client does.
+"""A page in a browser can't put frames on a bus: its requests to the server's port do not begin like a client.
 
-A page of another site needs nobody's leave to send by `fetch` with mode `no-cors`, and may not read what comes back: that is
-all that it needs to send messages. After DNS rebinding a page is of the server's own site, and may choose any method.
+A page of another site needs nobody's leave to send by `fetch` with mode `no-cors`, and may not read what comes back:
+that is all that it needs to send messages. After DNS rebinding a page is of the server's own site, and may choose any
+method.
 """
 
 import contextlib
@@ -17,10 +18,10 @@ import pytest
 from commands import BROWSER
 from serving import WAIT, come_true, plain, serving
 
-# Half a minute of Chromium's start on a machine that is busy.
+# The start of Chromium takes up to half a minute on a busy machine.
 PATIENCE = 60
 MESSAGES = "< open can0 >< rawmode >< send 123 1 11 >"
-# Chromium opens no connection to ports below 1024 and some others, and the server's is none of them.
+# Chromium opens no connection to ports below 1024 and some others; the server's port is none of these.
 PAGE = """<!DOCTYPE html>
 <script>
 async function tries() {
@@ -42,7 +43,7 @@ tries();
 
 
 class Pages(http.server.ThreadingHTTPServer):
-    """Serves the page, and learns when its script runs, and when it has done all it can."""
+    """Serves the page, and notes when its script runs, and when the script has ended."""
 
     daemon_threads = True
 
@@ -84,7 +85,7 @@ def page_of(text):
 
 @contextlib.contextmanager
 def browsing(port, folder):
-    """Opens the page that is served at this port in a browser."""
+    """Opens the page at this port in a browser."""
     words = ["--headless=new", "--no-sandbox", "--disable-gpu", "--no-first-run", f"--user-data-dir={folder}"]
     browser = subprocess.Popen(
         [BROWSER, *words, f"http://127.0.0.1:{port}/"],
@@ -100,7 +101,7 @@ def browsing(port, folder):
 
 
 def sent(server):
-    """How many frames can0 has accepted, as the server replies to a session on it."""
+    """Returns the number of frames that can0 has accepted, from the server's reply to a session there."""
     client = plain(server, "can0")
     counts = client.answer("< stats >").split()
     client.close()
@@ -116,7 +117,7 @@ def test_a_page_sends_no_frames(server, tmp_path):
     assert sent(server) == 0
 
 
-# A page whose origin the server takes over, as after DNS rebinding: then requests of any method need nobody's leave.
+# The server takes over the page's origin, as after DNS rebinding: requests of any method then need no permission.
 REBOUND = """<!DOCTYPE html>
 <script>
 async function is_said(address) {
@@ -153,7 +154,7 @@ def test_a_page_of_the_same_origin_sends_no_frames(tmp_path):
 
 
 METHODS = ("GET", "POST", "OPTIONS", "PUT", "HEAD", "DELETE", "PATCH", "CONNECT", "TRACE", "get", "patch", "FOO", "x")
-# The first bytes of others than clients, up to where the messages begin.
+# The first bytes of other programs than clients, up to the messages.
 STRANGERS = {
     **{f"{method} of HTTP": f"{method} / HTTP/1.1\r\nHost: x\r\n\r\n".encode() for method in METHODS},
     "HTTP after blank lines": b"\r\n\r\nGET / HTTP/1.1\r\n\r\n",
@@ -173,7 +174,7 @@ STRANGERS = {
 
 
 def heard_after(server, pieces):
-    """All that a connection gets that sends these pieces, up to its end or the first reply."""
+    """Returns the answer to a connection that sends these pieces, up to its end or the first reply."""
     heard = b""
     with socket.create_connection((server.host, server.port), WAIT) as connection:
         connection.setsockopt(socket.IPPROTO_TCP, socket.TCP_NODELAY, 1)
@@ -189,7 +190,7 @@ def heard_after(server, pieces):
 @pytest.mark.parametrize("size", [4096, 1], ids=["whole", "cut"])
 @pytest.mark.parametrize("first", STRANGERS.values(), ids=STRANGERS)
 def test_a_stranger_is_not_heard(server, first, size):
-    """its connection ends without a reply to any message in it; and others are served as before"""
+    """its connection ends without a reply to any message in it, and others are served as before"""
     text = first + MESSAGES.encode()
     heard = heard_after(server, [text[start : start + size] for start in range(0, len(text), size)])
     assert heard in (b"", b"< hi >")
@@ -210,7 +211,7 @@ CLIENTS = {
 @pytest.mark.parametrize("size", [4096, 1], ids=["whole", "cut"])
 @pytest.mark.parametrize("first", CLIENTS.values(), ids=CLIENTS)
 def test_a_client_is_heard(server, first, size):
-    """also if blanks and control bytes come after its first message"""
+    """this also holds if blanks and control bytes come after its first message"""
     text = first + b"< open can0 > GET / \0 < rawmode >< send 123 1 11 >"
     with socket.create_connection((server.host, server.port), WAIT) as connection:
         for start in range(0, len(text), size):
@@ -219,7 +220,7 @@ def test_a_client_is_heard(server, first, size):
 
 
 def test_curl_and_openssl_are_not_heard(server):
-    """requests and handshakes as these programs make them, where they are installed"""
+    """requests and handshakes of these programs are refused, if they are installed"""
     address = f"{server.host}:{server.port}"
     commands = [
         ["curl", "-s", "-m", "10", "-X", word, "-d", MESSAGES, f"http://{address}/"] for word in ("POST", "get", "FOO")

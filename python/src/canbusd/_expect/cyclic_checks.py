@@ -85,7 +85,7 @@ class Change(NamedTuple):
 def first_change(
     before: Optional[object], frames: Iterable[Seen], content: Callable[[Seen], Optional[object]]
 ) -> Optional[Change]:
-    """Returns the first change of the values in frames, compared with earlier values; None stands for no value."""
+    """Returns the first change of the values in frames, compared with earlier values; None means no value."""
     for seen in frames:
         now = content(seen)
         if now is not None and before is not None and now != before:

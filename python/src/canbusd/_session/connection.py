@@ -91,7 +91,7 @@ class Connection:
             raise
 
     def ask(self, messages: Sequence[str]) -> list[str]:
-        """Writes these messages at once, and returns the answer to each; the empty text stands for no answer or an
+        """Writes these messages at once, and returns the answer to each; the empty text means no answer or an
         accepted frame."""
         written: list[str] = []
         ends = ""
