@@ -1,8 +1,8 @@
 """A run: its steps, its items, its interfaces and its sockets, from the lines of its events.
 
-The program has the rules, and says in these lines what each entry of a record brought about. Here is kept what they say,
-and what follows of it: which frames wait, who takes part in arbitration, and what became of each item. There are millions
-of lines, so they are taken as columns, which `_run/chunks.py` reads.
+The program has the rules, and reports the effects of each entry of a record in these lines. This module stores these
+effects and their consequences: the waiting frames, the participants of arbitration, and the outcome of each item. There
+are millions of lines, so they are taken as columns, which `_run/chunks.py` reads.
 """
 
 from array import array
