@@ -155,8 +155,7 @@ class Client(NamesWhatThereIs):
         return content
 
     def inject(self, fault: SegmentFault) -> None:
-        """Adds a fault to a segment of a request, or to a flow control: ``inject(uds.fault("flow control",
-        "lost"))``."""
+        """Adds a fault to a request or a flow control: ``inject(uds.fault("flow control", "lost"))``."""
         self.end.inject(fault)
 
     def close(self) -> None:
