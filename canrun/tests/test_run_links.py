@@ -144,10 +144,19 @@ def test_bus_off(tmp_path):
 
 
 def relay(source, target):
-    """Hands on what comes, the items of a server after the last reply to what a keeper asks."""
+    """Hands on all messages, and the items of a server after the next reply to a keeper, or once nothing else comes."""
     text = items = b""
+    source.settimeout(0.1)
     with contextlib.suppress(OSError):
-        while piece := source.recv(65536):
+        while True:
+            try:
+                piece = source.recv(65536)
+            except socket.timeout:
+                target.sendall(items)
+                items = b""
+                continue
+            if not piece:
+                break
             *texts, text = re.split(rb"(?<=>)", text + piece)
             for one in texts:
                 if re.search(rb"< error [0-9A-F]+ \d", one):
@@ -175,9 +184,11 @@ def overtaken(server):
     with socket.create_server(("127.0.0.1", 0)) as door:
         thread = threading.Thread(target=accept)
         thread.start()
-        yield types.SimpleNamespace(address=f"127.0.0.1:{door.getsockname()[1]}")
-        door.shutdown(socket.SHUT_RDWR)
-        join([thread])
+        try:
+            yield types.SimpleNamespace(address=f"127.0.0.1:{door.getsockname()[1]}")
+        finally:
+            door.shutdown(socket.SHUT_RDWR)
+            join([thread])
 
 
 @needs_gcc

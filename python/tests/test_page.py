@@ -514,7 +514,7 @@ def test_parts_have_names_and_the_focus_goes_down_the_page(shown):
       .map(one => one.closest('.tools, #timeline, #tabs, #filters, .kinds, .rolling, #chosen')).map(one => one.id || one.className)
       .filter((one, k, all) => one !== all[k - 1])"""
     )
-    assert places == ["tools", "timeline", "tabs", "filters", "kinds", "events"]
+    assert places == ["tools", "timeline", "tabs", "filters", "kinds", "events", "chosen"]
 
 
 def test_tabs_are_chosen_by_arrow_keys(shown):

@@ -56,8 +56,8 @@ def test_what_is_on_the_bus(car, tester):
 
 
 def test_sessions(ecu, tester):
-    # P2 is 20 seconds, in milliseconds; P2* is 5 seconds, in units of 10 milliseconds.
-    assert tester.request(b"\x10\x03") == bytes.fromhex("5003 4E20 01F4")
+    # P2 is 60 seconds, in milliseconds; P2* is 5 seconds, in units of 10 milliseconds.
+    assert tester.request(b"\x10\x03") == bytes.fromhex("5003 EA60 01F4")
     assert ecu.session == 3
     assert refused(tester.session, 0x44) == 0x12
     assert refused(tester.request, b"\x10") == 0x13
