@@ -62,6 +62,11 @@ impl<
         + Sync,
 > ServerRuntime for R {}
 
+/// An input, which a thread of its own reads.
+trait Input: Read + Drop + Send + 'static {}
+
+impl<R: Read + Drop + Send + 'static> Input for R {}
+
 /// Serves the buses that the options describe until their sessions have come and ended, or, if that
 /// is asked for, until the input has ended. It puts out its address, and at the end the number of
 /// entries of each bus's record; then it writes the records and logs. Returns whether all of that
@@ -120,7 +125,7 @@ struct ServerRun<'r, 'a, H: ServerRuntime> {
 
 impl<'r, 'a, H: ServerRuntime> ServerRun<'r, 'a, H> {
     // Serves, and writes the files.
-    fn serve_buses<R: Read + Drop + Send + 'static, W: Write, E: Write + Send>(
+    fn serve_buses<R: Input, W: Write, E: Write + Send>(
         &self,
         input: R,
         output: &mut W,
@@ -241,12 +246,7 @@ impl<'r, 'a, H: ServerRuntime> ServerRun<'r, 'a, H> {
     }
 
     // Serves the buses that are made of these, and writes what they leave. Returns whether a fault was reported.
-    fn run_whole<
-        N: RollName + MeterName + Send + Sync,
-        R: Read + Drop + Send + 'static,
-        W: Write,
-        E: Write + Send,
-    >(
+    fn run_whole<N: RollName + MeterName + Send + Sync, R: Input, W: Write, E: Write + Send>(
         &self,
         benches: Vec<Bench<Perfect, Open>>,
         input: R,
@@ -282,12 +282,7 @@ impl<'r, 'a, H: ServerRuntime> ServerRun<'r, 'a, H> {
 
     // Serves the buses of long runs that are made of these, and ends their files, which it returns. Before them it returns
     // whether a fault was reported.
-    fn run_live<
-        N: RollName + MeterName + Send + Sync,
-        R: Read + Drop + Send + 'static,
-        W: Write,
-        E: Write + Send,
-    >(
+    fn run_live<N: RollName + MeterName + Send + Sync, R: Input, W: Write, E: Write + Send>(
         &self,
         benches: Vec<Bench<Perfect, Open>>,
         input: R,
@@ -330,13 +325,7 @@ impl<'r, 'a, H: ServerRuntime> ServerRun<'r, 'a, H> {
 
     // Serves the buses that are made of these parts, and settles them. Returns the rest of each,
     // and the files that were written meanwhile.
-    fn settle<
-        N: BusName + Send + Sync,
-        L: Leaves,
-        R: Read + Drop + Send + 'static,
-        W: Write,
-        E: Write + Send,
-    >(
+    fn settle<N: BusName + Send + Sync, L: Leaves, R: Input, W: Write, E: Write + Send>(
         &self,
         benches: Vec<Bench<Perfect, Open>>,
         input: R,
@@ -387,13 +376,7 @@ impl<'r, 'a, H: ServerRuntime> ServerRun<'r, 'a, H> {
     }
 
     // Listens, and serves the buses of a hub.
-    fn serve_hub<
-        N: BusName + Send + Sync,
-        L: Leaves,
-        R: Read + Drop + Send + 'static,
-        W: Write,
-        E: Write + Send,
-    >(
+    fn serve_hub<N: BusName + Send + Sync, L: Leaves, R: Input, W: Write, E: Write + Send>(
         &self,
         hub: &Hub<N, Perfect, Open, L>,
         scrolls: Vec<Scroll<N>>,
@@ -423,13 +406,7 @@ impl<'r, 'a, H: ServerRuntime> ServerRun<'r, 'a, H> {
     }
 
     // Checks the other needs of the server, puts out its address, and serves.
-    fn serve_acceptors<
-        N: BusName + Send + Sync,
-        L: Leaves,
-        R: Read + Drop + Send + 'static,
-        W: Write,
-        E: Write + Send,
-    >(
+    fn serve_acceptors<N: BusName + Send + Sync, L: Leaves, R: Input, W: Write, E: Write + Send>(
         &self,
         hub: &Hub<N, Perfect, Open, L>,
         scrolls: Vec<Scroll<N>>,
@@ -606,7 +583,7 @@ impl<'r, 'a, H: ServerRuntime> ServerRun<'r, 'a, H> {
 
     // A stream that ends with the input. Its reader is a thread that is never joined, since a read
     // of the input may wait for longer than the run.
-    fn end_of<R: Read + Drop + Send + 'static>(&self, input: R) -> Result<UnixStream, Report<'a>>
+    fn end_of<R: Input>(&self, input: R) -> Result<UnixStream, Report<'a>>
         ensures { IfErr result (λ failure. IsOfServing failure.error) }
     {
         let (ours, theirs) = match UnixStream::pair(self.rt) {
