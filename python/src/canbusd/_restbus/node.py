@@ -90,8 +90,10 @@ class Node(NamesWhatThereIs):
     def unplugged(self) -> Iterator[None]:
         """Unplugs the node's cable in the `with` block; its programs continue. A node that slept before sleeps again
         afterwards."""
-        was_off, wake_up = self._is_off, self._wake_up
-        self._leave(None)
+        # A frame may wake the node at this moment: its interface is up before the rest is done.
+        with self._run._sleepers.lock:
+            was_off, wake_up = self._is_off, self._wake_up
+            self._leave(None)
         kind = None
         try:
             yield
