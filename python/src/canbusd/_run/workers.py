@@ -1,4 +1,4 @@
-"""Reads the lines of the events of a large run by several processes, and takes what they say in turn."""
+"""Reads the lines of the events of a large run by several processes, and adds their chunks to the run in order."""
 
 import contextlib
 import itertools
@@ -14,14 +14,14 @@ from canbusd._run.chunks import Reader, opened_in
 from canbusd._run.run_parts import Bus
 from canbusd.replay import Replay
 
-# How many texts of events one process reads, before others help: a small run needs none.
+# The number of texts that this process reads before others help: a small run needs none.
 FEW = 32
-# More are no quicker: one takes what they say.
+# The most processes that help. More are no quicker, since this process adds all chunks to the run.
 MOST = 3
 
 
 def take_all(run: Replay, texts: Iterable[str]) -> None:
-    """Has a run take the lines of its events, as many in each text as come together."""
+    """Has a run take the lines of its events; each text has whole lines."""
     all_texts = iter(texts)
     run.take_texts(itertools.islice(all_texts, FEW))
     count = min(len(os.sched_getaffinity(0)) - 1, MOST)
@@ -54,7 +54,7 @@ def take_by(workers: "Workers", run: Replay, texts: Iterator[str]) -> None:
 
 
 class Workers:
-    """Processes that read lines; each gets these at its pipe."""
+    """Processes that read lines, each from its pipe."""
 
     def __init__(self, bus: Bus, count: int) -> None:
         self.pipes: list[Connection] = []
@@ -66,7 +66,7 @@ class Workers:
             its.close()
 
     def close(self) -> None:
-        """Lets them end."""
+        """Ends the processes."""
         for pipe in self.pipes:
             pipe.close()
         multiprocessing.active_children()
