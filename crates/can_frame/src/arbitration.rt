@@ -4,8 +4,8 @@ ghost use Rattle.can_frame.specs.Arbitration.{key_of};
 use crate::frame::Frame;
 
 impl Frame {
-    /// The frame's place in arbitration as one number, the lesser going first: its arbitration bits from
-    /// the highest bit down. Two frames have one key exactly where all these bits are equal.
+    /// Returns the frame's arbitration bits as one number, highest bit first. The frame with the lower key wins arbitration. Two
+    /// frames have the same key exactly if all their arbitration bits are equal.
     pub fn arbitration_key(self) -> u32
         ensures { result ≡ key_of self }
     {

@@ -1,9 +1,9 @@
 ghost use Rattle.std.specs.Prelude.{◌≡◌, ◌≤◌, ◌==◌, length, count_by};
 
-/// How many bytes are counted at once: no more than a byte can count.
+/// The size of a block of bytes. The count of a whole block has to fit a `u8`.
 const BLOCK: usize = 128;
 
-/// How many of these bytes a text has.
+/// Returns how often the byte `mark` occurs in a text.
 #[tactic(auto, using(crate::proofs::Counts::counted_parts, crate::proofs::Counts::counted_few))]
 pub fn count_of(text: &[u8], mark: u8) -> usize
     ensures { result ≡ count_by (λ b. b == mark) text.now }
@@ -18,7 +18,8 @@ pub fn count_of(text: &[u8], mark: u8) -> usize
     count
 }
 
-/// How many of these bytes a text of at most 128 has. Branch-free, so that it vectorises.
+/// Returns how often the byte `mark` occurs in a block of at most 128 bytes. The loop has no branch, so the compiler can vectorise
+/// it.
 #[tactic(auto, using(crate::proofs::Counts::counted_more))]
 fn count_in_block(block: &[u8], mark: u8) -> u8
     requires { length block.now ≤ 128 }

@@ -4,7 +4,7 @@ ghost use Rattle.can_frame.specs.Frames.{Identifier, IsIdentifier};
 use std::marker::Model;
 use thiserror::Error;
 
-/// An identifier number that its kind has no room for.
+/// The number is too large for an identifier of its kind.
 #[derive(Debug, Clone, Copy, PartialEq, Eq, Error)]
 #[error("id too large")]
 pub struct IdTooLarge;
@@ -63,7 +63,7 @@ impl CanId {
         self.extended
     }
 
-    /// The identifier's number, without marks.
+    /// The number of the identifier, without flag bits.
     pub fn number(self) -> u32
         ensures number { result ≡ self.number }
         ensures below { IsIdentifier self }

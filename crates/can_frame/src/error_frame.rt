@@ -4,13 +4,13 @@ ghost use Rattle.can_frame.specs.Frames.{ErrorMessage};
 use std::marker::Model;
 use thiserror::Error;
 
-/// An error class that does not fit 29 bits.
+/// The error class does not fit 29 bits.
 #[derive(Debug, Clone, Copy, PartialEq, Eq, Error)]
 #[error("class too large")]
 pub struct ClassTooLarge;
 
-/// An error message frame: its class of 29 bits and its 8 bytes (linux/can/error.h). It reports an
-/// error to sockets, and is never on the bus.
+/// An error message frame: an error class of 29 bits and 8 bytes of data (linux/can/error.h). It reports an error to sockets and is
+/// never sent on the bus.
 #[derive(Debug, Clone, Copy, PartialEq, Eq)]
 pub struct ErrorFrame {
     class: u32,
@@ -31,7 +31,7 @@ impl Model for ErrorFrame {
 }
 
 impl ErrorFrame {
-    /// An error message frame of a class, `0x00000000` to `0x1FFFFFFF`.
+    /// Creates an error message frame with a class from `0x00000000` to `0x1FFFFFFF`.
     pub fn new(class: u32, bytes: [u8; 8]) -> Result<ErrorFrame, ClassTooLarge>
         ensures { OkIff result (class < 2 ^ 29) (record { class = class; bytes = bytes }) }
     {
@@ -41,7 +41,7 @@ impl ErrorFrame {
         Ok(ErrorFrame { class, bytes })
     }
 
-    /// The class bits, without the mark of bit 29.
+    /// The bits of the error class, without bit 29, which marks an error message frame.
     pub fn class(self) -> u32
         ensures class { result ≡ self.class }
         ensures below { result < 2 ^ 29 }
@@ -49,7 +49,7 @@ impl ErrorFrame {
         self.class
     }
 
-    /// The eight bytes.
+    /// The eight data bytes.
     pub fn data(self) -> [u8; 8]
         ensures { result ≡ self.bytes }
     {

@@ -1,18 +1,17 @@
 ghost use Rattle.std.specs.Prelude.{◌≡◌, ◌<◌, Some};
 ghost use Rattle.can_frame.specs.Frames.{no_flags, has_no_flags, flags_number, flags_of};
 
-/// What an FD frame says on the wire besides its identifier and its data (CANFD_BRS and CANFD_ESI of linux/can.h).
-/// Classic frames say neither.
+/// The two flags of an FD frame: CANFD_BRS and CANFD_ESI of linux/can.h. Classic frames have neither flag.
 #[derive(Debug, Clone, Copy, PartialEq, Eq)]
 pub struct FdFlags {
-    /// From the next bit to the end of its CRC it goes at the data bit rate.
+    /// The bits after this flag, up to the end of the CRC, are sent at the data bit rate.
     pub brs: bool,
-    /// Its sender is error passive.
+    /// The sender of the frame is error passive.
     pub esi: bool,
 }
 
 impl FdFlags {
-    /// No flag.
+    /// Neither flag is set.
     pub fn none() -> FdFlags
         ensures { result ≡ no_flags }
     {
@@ -22,7 +21,7 @@ impl FdFlags {
         }
     }
 
-    /// The flags of a number: CANFD_BRS is 1, CANFD_ESI 2. `None` from 4 on.
+    /// Returns the flags with this number: CANFD_BRS is 1, CANFD_ESI is 2. Returns `None` for numbers above 3.
     pub fn from_number(number: u8) -> Option<FdFlags>
         ensures { result ≡ flags_of number }
     {
@@ -36,7 +35,7 @@ impl FdFlags {
         Some(FdFlags { brs, esi })
     }
 
-    /// Their number, 0 to 3.
+    /// The flags as a number from 0 to 3.
     pub fn number(self) -> u8
         ensures number { result ≡ flags_number self }
         ensures below { result < 4 }
@@ -50,7 +49,7 @@ impl FdFlags {
         }
     }
 
-    /// Whether there is none.
+    /// Whether neither flag is set.
     pub fn is_none(self) -> bool
         ensures { result ≡ has_no_flags self }
     {

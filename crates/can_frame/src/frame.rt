@@ -7,17 +7,17 @@ use crate::fd_flags::FdFlags;
 use std::marker::Model;
 use thiserror::Error;
 
-/// More bytes than a frame carries or asks for.
+/// The frame would carry, or request, too many bytes.
 #[derive(Debug, Clone, Copy, PartialEq, Eq, Error)]
 #[error("too long")]
 pub struct TooLong;
 
-/// A number of bytes that no FD frame has.
+/// The number of bytes is not a valid length of an FD frame.
 #[derive(Debug, Clone, Copy, PartialEq, Eq, Error)]
 #[error("bad fd length")]
 pub struct BadFdLength;
 
-/// Which kind of frame it is.
+/// The kind of a frame.
 #[derive(Debug, Clone, Copy, PartialEq, Eq)]
 enum Kind {
     Data,
@@ -25,8 +25,8 @@ enum Kind {
     Fd(FdFlags),
 }
 
-/// A data frame of 0 to 8 bytes, a remote frame that asks for 0 to 8 bytes, or an FD frame of 0 to 8, 12, 16, 20, 24, 32,
-/// 48 or 64 bytes (linux/can.h). It takes 76 bytes of its own, and no other memory.
+/// A data frame of 0 to 8 bytes, a remote frame that requests 0 to 8 bytes, or an FD frame of 0 to 8, 12, 16, 20, 24, 32, 48 or 64
+/// bytes (linux/can.h). A frame takes 76 bytes and no heap memory.
 #[derive(Debug, Clone, Copy, PartialEq, Eq)]
 pub struct Frame {
     id: CanId,
@@ -52,7 +52,7 @@ impl Model for Frame {
 }
 
 impl Frame {
-    /// A data frame of at most 8 bytes.
+    /// Creates a data frame of at most 8 bytes.
     pub fn data(id: CanId, bytes: &[u8]) -> Result<Frame, TooLong>
         ensures { OkIff result (length bytes.now ≤ 8)
             (record { id = id; payload = Data bytes.now }) }
@@ -68,7 +68,7 @@ impl Frame {
         })
     }
 
-    /// A remote frame, which asks for a data frame of `len` bytes, at most 8.
+    /// Creates a remote frame, which requests a data frame of `len` bytes, at most 8.
     pub fn remote(id: CanId, len: u8) -> Result<Frame, TooLong>
         ensures { OkIff result (len ≤ 8) (record { id = id; payload = Remote len }) }
     {
@@ -83,7 +83,7 @@ impl Frame {
         })
     }
 
-    /// An FD frame without flags, of 0 to 8, 12, 16, 20, 24, 32, 48 or 64 bytes.
+    /// Creates an FD frame without flags, of 0 to 8, 12, 16, 20, 24, 32, 48 or 64 bytes.
     pub fn fd(id: CanId, bytes: &[u8]) -> Result<Frame, BadFdLength>
         ensures { OkIff result (IsTrue (is_fd_length (length bytes.now)))
             (record { id = id; payload = Fd no_flags bytes.now }) }
@@ -91,7 +91,7 @@ impl Frame {
         Frame::fd_with(id, FdFlags::none(), bytes)
     }
 
-    /// An FD frame with these flags, of as many bytes as one may have.
+    /// Creates an FD frame with these flags. The number of bytes has to be a valid FD length.
     pub fn fd_with(id: CanId, flags: FdFlags, bytes: &[u8]) -> Result<Frame, BadFdLength>
         ensures { OkIff result (IsTrue (is_fd_length (length bytes.now)))
             (record { id = id; payload = Fd flags bytes.now }) }
@@ -114,7 +114,7 @@ impl Frame {
         self.id
     }
 
-    /// How many bytes it carries, or asks for: 0 to 8, in an FD frame up to 64.
+    /// The number of bytes that the frame carries or requests: 0 to 8, or up to 64 in an FD frame.
     pub fn len(self) -> u8
         ensures length { result ≡ payload_len self.payload }
         ensures short { result ≤ 64 }
@@ -124,7 +124,7 @@ impl Frame {
         self.len
     }
 
-    /// The bytes that it carries; a remote frame carries none.
+    /// The bytes that the frame carries. A remote frame carries none.
     pub fn bytes(&self) -> &[u8]
         ensures { result.now ≡ payload_bytes self.now.payload }
     {
@@ -134,7 +134,7 @@ impl Frame {
         }
     }
 
-    /// Whether it asks for data in place of carrying some.
+    /// Whether the frame is a remote frame, which requests data instead of carrying it.
     pub fn is_remote(self) -> bool
         ensures { result ≡ is_remote self.payload }
     {
@@ -144,7 +144,7 @@ impl Frame {
         }
     }
 
-    /// Whether it is an FD frame.
+    /// Whether the frame is an FD frame.
     pub fn is_fd(self) -> bool
         ensures { result ≡ is_fd self.payload }
     {
@@ -164,14 +164,14 @@ impl Frame {
         }
     }
 
-    /// Whether it is an FD frame with a flag.
+    /// Whether the frame is an FD frame with at least one flag.
     pub fn is_flagged(self) -> bool
         ensures { result ≡ is_flagged self.payload }
     {
         !self.flags().is_none()
     }
 
-    /// The identifier word of linux/can.h: the number, with bit 31 at 29-bit identifiers and bit 30 at
+    /// The identifier word of linux/can.h: the identifier's number, with bit 31 set for 29-bit identifiers and bit 30 set for
     /// remote frames.
     pub fn word(self) -> u32
         ensures { result ≡ word_of self }
@@ -187,14 +187,14 @@ impl Frame {
     }
 }
 
-/// Whether an FD frame may have this many bytes.
+/// Whether this number of bytes is a valid length of an FD frame.
 pub fn is_fd_length(len: usize) -> bool
     ensures { result ≡ is_fd_length len }
 {
     matches!(len, 0..=8 | 12 | 16 | 20 | 24 | 32 | 48 | 64)
 }
 
-/// At most 64 bytes, then zeros.
+/// Copies at most 64 bytes and fills the rest with zeros.
 fn padded(bytes: &[u8]) -> [u8; 64]
     requires { length bytes.now ≤ 64 }
     ensures front { take (length bytes.now) result ≡ bytes.now }

@@ -13,12 +13,12 @@ use crate::item::Item;
 use crate::numbers::read_hexadecimal;
 use hex::decode_to_slice;
 
-/// The item that an upper-case text spells, if it spells one; the text may also be at fault, as where a
-/// number has a lower-case digit.
+/// Guesses the item that an upper-case text spells. If the text spells an item, the guess is that item. A malformed text may give a
+/// guess too, for example a text with a lower-case digit in a number.
 ///
-/// It is for callers that write the item again and compare it, or all that they read, with the text: where the
-/// two are equal the text spells the item, and where they differ, or there is `None`, it spells none. To know of
-/// a single text at once what it spells, in either case, use `read_frame_text`. It takes no memory.
+/// The caller has to write the item again and compare it with the text. It may also compare everything that it has read at once. If
+/// the two are equal, the text spells the item; if they differ, or the guess is `None`, the text spells no item. To read a single
+/// text, in either case, use `read_frame_text`. This function allocates nothing.
 pub fn guess_item(text: &[u8]) -> Option<Item>
     ensures guess { result ≡ item_in text.now }
     ensures good { IfSome result IsItem }
@@ -27,7 +27,7 @@ pub fn guess_item(text: &[u8]) -> Option<Item>
     by_mark(text)
 }
 
-/// The item of a text with the mark after 3 digits, or after 8.
+/// Guesses the item of a text with `#` after 3 or 8 digits.
 #[tactic(auto, unfolding(crate::specs::FrameGuess::item_in))]
 fn by_mark(text: &[u8]) -> Option<Item>
     ensures { result ≡ item_in text.now }
@@ -41,7 +41,7 @@ fn by_mark(text: &[u8]) -> Option<Item>
     None
 }
 
-/// Whether the text has this byte at a place.
+/// Whether the text has the byte `mark` at this place.
 fn has_byte_at(mark: u8, place: usize, text: &[u8]) -> bool
     ensures test { result ≡ has_byte_at mark place text.now }
     ensures within { IsTrue result → place < length text.now }
@@ -49,7 +49,7 @@ fn has_byte_at(mark: u8, place: usize, text: &[u8]) -> bool
     place < text.len() && text[place] == mark
 }
 
-/// With 3 digits before the `#`.
+/// Guesses the item of a text with 3 digits before the `#`.
 #[tactic(auto, unfolding(crate::specs::FrameGuess::short_item_in))]
 fn with_three(text: &[u8]) -> Option<Item>
     requires { 3 < length text.now }
@@ -59,7 +59,7 @@ fn with_three(text: &[u8]) -> Option<Item>
     standard(number, &text[4..])
 }
 
-/// With 8 digits before the `#`.
+/// Guesses the item of a text with 8 digits before the `#`.
 #[tactic(auto, unfolding(crate::specs::FrameGuess::long_item_in))]
 fn with_eight(text: &[u8]) -> Option<Item>
     requires { 8 < length text.now }
@@ -80,7 +80,7 @@ fn standard(number: u32, text: &[u8]) -> Option<Item>
     frame(id, text)
 }
 
-/// A number of 8 digits: bit 29 marks an error message frame.
+/// Guesses the item after a number of 8 digits. If bit 29 of the number is set, the item is an error message frame.
 #[tactic(auto, unfolding(crate::specs::FrameGuess::long_in))]
 fn long(number: u32, text: &[u8]) -> Option<Item>
     ensures { result ≡ long_in number text.now }
@@ -113,7 +113,7 @@ fn remote_frame(id: CanId, text: &[u8]) -> Option<Frame>
     Frame::remote(id, requested_len(text)?).ok()
 }
 
-/// The length that a remote frame asks for.
+/// Reads the length that a remote frame requests.
 #[tactic(auto, unfolding(crate::specs::FrameGuess::request_in))]
 fn requested_len(text: &[u8]) -> Option<u8>
     ensures value { result ≡ request_in text.now }
@@ -143,7 +143,7 @@ fn data_frame(id: CanId, text: &[u8]) -> Option<Frame>
     Frame::data(id, bytes).ok()
 }
 
-/// What follows the second mark: flags, and data.
+/// Reads the text after the second `#` of an FD frame: the flags and the data.
 #[tactic(auto, unfolding(crate::specs::FrameGuess::fd_in))]
 fn fd_frame(id: CanId, text: &[u8]) -> Option<Frame>
     ensures { result ≡ option_map (λ payload. record { id = id; payload = payload })
@@ -153,7 +153,7 @@ fn fd_frame(id: CanId, text: &[u8]) -> Option<Frame>
     fd_of_data(id, flags, &text[1..])
 }
 
-/// The flags of an FD frame: a digit.
+/// Reads the flags of an FD frame, which are one digit.
 #[tactic(auto, unfolding(crate::specs::FrameGuess::flags_in))]
 fn flags(text: &[u8]) -> Option<FdFlags>
     ensures value { result ≡ flags_in text.now }

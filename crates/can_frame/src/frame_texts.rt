@@ -8,17 +8,17 @@ use crate::item::Item;
 use crate::text::Text;
 use thiserror::Error;
 
-/// A text that spells no item.
+/// The text spells no item.
 #[derive(Debug, Clone, Copy, PartialEq, Eq, Error)]
 #[error("bad text")]
 pub struct BadText;
 
-/// The written form of an item. The longest has 139 bytes: 8 digits, `##0` and 128 digits.
+/// The text of an item. The longest text has 139 bytes: 8 digits, `##0` and 128 digits.
 pub type FrameText = Text<144>;
 
-/// An item in the shape of candump's logs, upper case: `123#1122`, `12345678#`, `123#R4`, `123##01122` for an FD frame,
-/// where the digit after the second mark has its flags (BRS is 1, ESI 2), and `20000080#0000000000000000` for an error
-/// message frame of class 0x80. It takes no memory.
+/// Writes an item in the format of candump's logs, in upper case, for example `123#1122`, `12345678#` or `123#R4`. An FD frame is
+/// written `123##01122`; the digit after the second `#` holds the flags (BRS is 1, ESI is 2). An error message frame of class 0x80
+/// is written `20000080#0000000000000000`. This function allocates nothing.
 #[tactic(auto, unfolding(crate::specs::FrameText::frame_spelling))]
 pub fn frame_text(item: &Item) -> FrameText
     ensures text { result ≡ frame_spelling item.now }
@@ -40,7 +40,8 @@ pub fn frame_text(item: &Item) -> FrameText
     text
 }
 
-/// Adds the data of a frame, what a remote frame asks for, or the second mark, the flags and the data of an FD frame.
+/// Appends the payload of a frame: the data, or `R` and the requested length, or a second `#`, the flags and the data of an FD
+/// frame.
 fn push_payload(text: &mut FrameText, frame: Frame)
     requires { length text.old + 130 ≤ 144 }
     ensures text { text.new ≡ text.old ++ payload_text frame.payload }
@@ -61,11 +62,11 @@ fn push_payload(text: &mut FrameText, frame: Frame)
     text.push_pairs(frame.bytes());
 }
 
-/// The item without flags that a text spells, in either case; `BadText` where it spells none. `ID#R0` is read as
+/// Reads an item without flags from a text in either case. Returns `BadText` if the text spells no such item. `ID#R0` is read as
 /// `ID#R`.
 ///
-/// It is for those who know no flags: FD frames are `ID##0DATA`, and another digit is refused.
-/// `read_flagged_frame_text` reads all items.
+/// It is meant for callers that do not know the flags of FD frames: an FD frame has to be `ID##0DATA`, and every other digit is
+/// refused. `read_flagged_frame_text` reads all items.
 pub fn read_frame_text(text: &str) -> Result<Item, BadText>
     ensures found { IfOk result (λ item. IsItem item × Spells text.now item) }
     ensures plain { IfOk result (λ item. is_plain item ≡ true) }
@@ -81,7 +82,7 @@ pub fn read_frame_text(text: &str) -> Result<Item, BadText>
     }
 }
 
-/// Whether an item is no FD frame with a flag.
+/// Whether an item has no flag. Only an FD frame can have one.
 fn is_plain(item: &Item) -> bool
     ensures { result ≡ is_plain item.now }
 {
@@ -91,11 +92,11 @@ fn is_plain(item: &Item) -> bool
     }
 }
 
-/// The item that a text spells, in either case, as `123##1` an FD frame with BRS; `BadText` where it spells none.
+/// Reads an item from a text in either case; `123##1` is an FD frame with BRS. Returns `BadText` if the text spells no item.
 /// `ID#R0` is read as `ID#R`.
 ///
-/// What the text seems to be is written again and compared with it. A text of more than 144 bytes is refused
-/// unread, so the cost has a bound. It takes no memory.
+/// The function guesses the item, writes it again and compares the result with the text. A text of more than 144 bytes is refused
+/// without being read, so the cost is bounded. It allocates nothing.
 pub fn read_flagged_frame_text(text: &str) -> Result<Item, BadText>
     ensures found { IfOk result (λ item. IsItem item × Spells text.now item) }
     ensures only { (i : AnItem) → IsItem i → Spells text.now i → result ≡ Ok i }
@@ -109,7 +110,7 @@ pub fn read_flagged_frame_text(text: &str) -> Result<Item, BadText>
     read_upper(raised.as_bytes()).ok_or(BadText)
 }
 
-/// The item that an upper-case text spells.
+/// Reads an item from an upper-case text.
 fn read_upper(text: &[u8]) -> Option<Item>
     ensures found { IfSome result (λ item. IsItem item × IsSpelling text.now item) }
     ensures only { (i : AnItem) → IsItem i → IsSpelling text.now i → result ≡ Some i }
@@ -122,8 +123,7 @@ fn read_upper(text: &[u8]) -> Option<Item>
     }
 }
 
-/// Whether an upper-case text is the item's written form, or that of a remote frame of length 0 with
-/// this length after it.
+/// Whether an upper-case text is the written form of the item. A remote frame of length 0 may also have the digit 0 after its `R`.
 fn spells(text: &[u8], item: &Item) -> bool
     ensures { IsTrue result ↔ IsSpelling text.now item.now }
 {
@@ -138,7 +138,7 @@ fn spells(text: &[u8], item: &Item) -> bool
     text == written.as_bytes()
 }
 
-/// Whether an item is a remote frame of length 0, whose text may have the length or leave it out.
+/// Whether an item is a remote frame of length 0. The text of such a frame may have or omit the length.
 fn asks_for_nothing(item: &Item) -> bool
     ensures { IsTrue result ↔ AsksForNothing item.now }
 {

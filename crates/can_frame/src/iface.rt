@@ -2,7 +2,7 @@ ghost use Rattle.std.specs.Prelude.{◌≡◌, ◌<◌, ℕ, SomeIff};
 
 use std::marker::Model;
 
-/// An interface of a bus, by its number from 0 to 15.
+/// An interface of a bus, identified by its number from 0 to 15.
 #[derive(Debug, Clone, Copy, PartialEq, Eq)]
 pub struct Iface {
     number: u8,
@@ -21,7 +21,7 @@ impl Model for Iface {
 }
 
 impl Iface {
-    /// The interface with this number, or `None` from 16 on.
+    /// Returns the interface with this number, or `None` if the number is above 15.
     pub fn new(number: u8) -> Option<Iface>
         ensures { SomeIff result (number < 16) number }
     {
@@ -32,7 +32,7 @@ impl Iface {
         }
     }
 
-    /// The interface's number, below 16.
+    /// The number of the interface, from 0 to 15.
     pub fn number(self) -> u8
         ensures number { result ≡ self }
         ensures below { result < 16 }
@@ -41,7 +41,7 @@ impl Iface {
     }
 }
 
-/// A set of interfaces: bit `i` is interface `i`.
+/// A set of interfaces. Bit `i` is set if interface `i` is in the set.
 #[derive(Debug, Clone, Copy, PartialEq, Eq)]
 pub struct IfaceSet(pub u16);
 
@@ -49,14 +49,14 @@ impl IfaceSet {
     ghost use Rattle.std.specs.Prelude.{◌≡◌, ◌==◌, ◌^◌, bit_or};
     ghost use Rattle.can_frame.specs.Sets.{is_in, no_ifaces};
 
-    /// The set of no interface.
+    /// Returns the empty set.
     pub fn empty() -> IfaceSet
         ensures { result ≡ no_ifaces }
     {
         IfaceSet(0)
     }
 
-    /// Whether no interface is in the set.
+    /// Whether the set is empty.
     pub fn is_empty(self) -> bool
         ensures { result ≡ (self.0 == 0) }
     {
@@ -70,7 +70,7 @@ impl IfaceSet {
         (self.0 >> iface.number()) & 1 == 1
     }
 
-    /// The set with one interface more.
+    /// Returns the set with this interface added.
     pub fn with(self, iface: Iface) -> IfaceSet
         ensures { result.0 ≡ bit_or self.0 (2 ^ iface) }
     {

@@ -1,7 +1,7 @@
 use crate::error_frame::ErrorFrame;
 use crate::frame::Frame;
 
-/// What a socket receives: a frame from the bus, or an error message frame of its interface.
+/// An item that a socket receives: a frame from the bus, or an error message frame from its interface.
 #[derive(Debug, Clone, Copy, PartialEq, Eq)]
 pub enum Item {
     /// A data frame, a remote frame or an FD frame.

@@ -1,18 +1,16 @@
-//! What travels on a CAN bus and where: identifiers, frames, error message frames, moments, and the
-//! interfaces of a bus with their names.
+//! The basic types of a CAN bus: identifiers, frames, error message frames, moments, and the interfaces of a bus with their names.
+//! The fields of these types are private, and each constructor checks its arguments, so every value is within its limits. In
+//! contracts a frame is an identifier with a payload, a moment and an interface are numbers, and the names of a bus are a list of
+//! texts.
 //!
-//! A type here has private parts and one constructor for each way to make it, so a value that exists
-//! is within its limits. Contracts see a frame as an identifier with a payload, a moment and an
-//! interface as a number, and the names of a bus as a list of texts.
+//! A frame's `arbitration_key` is a number that orders frames in the same way as the bits by which they compete on the bus. The
+//! laws state this order: which frame wins, that exactly one wins if all bits differ, and that only frames with the same identifier
+//! and kind can have equal bits.
 //!
-//! A frame's `arbitration_key` is a number whose order is that of the bits by which frames compete on the
-//! bus. The laws say what this order is: who wins, that exactly one does where all bits differ, and that only
-//! frames of one identifier and kind can have equal bits.
-//!
-//! `frame_text` writes an item in the shape of candump's logs, and `read_flagged_frame_text` reads it in either case:
-//! it returns an item exactly where the text spells one, and no text spells two; `read_frame_text` reads only items
-//! without flags. A `Text` is a text kept in place, to which identifiers, moments, numbers and data are added;
-//! `read_decimal` and `read_hexadecimal` read words of digits, and `read_moment` a moment.
+//! `frame_text` writes an item in the format of candump's logs, and `read_flagged_frame_text` reads it in either case. It returns
+//! an item exactly if the text spells one, and no text spells two; `read_frame_text` reads only items without flags. A `Text` is a
+//! text with a fixed capacity and no heap memory, to which identifiers, moments, numbers and data can be appended. `read_decimal`
+//! and `read_hexadecimal` read numbers, and `read_moment` reads a moment.
 #![tactic(auto)]
 
 pub mod arbitration;

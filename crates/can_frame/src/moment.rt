@@ -5,12 +5,12 @@ use crate::numbers::read_decimal;
 use std::marker::Model;
 use thiserror::Error;
 
-/// A moment from 10^16 microseconds on.
+/// The moment is 10^16 microseconds or more.
 #[derive(Debug, Clone, Copy, PartialEq, Eq, Error)]
 #[error("moment too large")]
 pub struct MomentTooLarge;
 
-/// A moment in microseconds, below 10^16.
+/// A point in time in microseconds, below 10^16.
 #[derive(Debug, Clone, Copy, PartialEq, Eq)]
 pub struct Moment {
     micros: u64,
@@ -29,7 +29,7 @@ impl Model for Moment {
 }
 
 impl Moment {
-    /// The moment at a number of microseconds, below 10^16.
+    /// Creates a moment from a number of microseconds below 10^16.
     pub fn new(micros: u64) -> Result<Moment, MomentTooLarge>
         ensures { OkIff result (micros < 10 ^ 16) micros }
     {
@@ -48,7 +48,7 @@ impl Moment {
     }
 }
 
-/// The moment of 1 to 10 digits of seconds, a point and 6 digits of microseconds; `None` for other words.
+/// Reads a moment: 1 to 10 digits of seconds, a point and 6 digits of microseconds. Returns `None` for every other word.
 #[tactic(auto, unfolding(crate::specs::Moments::moment_in))]
 pub fn read_moment(word: &[u8]) -> Option<Moment>
     ensures { result ≡ moment_in word.now }

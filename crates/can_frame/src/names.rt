@@ -8,25 +8,25 @@ use std::alloc::Global;
 use std::marker::Model;
 use thiserror::Error;
 
-/// Why a text does not give the names of a bus.
+/// The reason why the names of a bus could not be read from a text.
 #[derive(Debug, Clone, Copy, PartialEq, Eq, Error)]
 pub enum NamesError {
-    /// No name, more than 16, two alike, or one that no interface may have.
+    /// There is no name, there are more than 16, two are equal, or one is not a valid interface name.
     #[error("bad names")]
     BadNames,
-    /// The names are good, and there is no memory for them.
+    /// The names are valid, but there is not enough memory to store them.
     #[error("no memory")]
     NoMemory,
 }
 
-/// The names of a bus's interfaces, 1 to 16 of them and all different; the first is interface 0's. They
-/// are kept as they were read, joined by commas, in at most 255 bytes. To find a name reads these bytes;
-/// an interface's name is answered in constant time.
+/// The names of a bus's interfaces: 1 to 16 names, all different. The first name belongs to interface 0. They are stored as they
+/// were read, joined by commas, in at most 255 bytes. Finding a name scans these bytes; looking up the name of an interface takes
+/// constant time.
 #[derive(Debug, Drop)]
 pub struct Names {
     text: String,
     count: u8,
-    // Where each name begins in the text, and where one more would begin.
+    // Where each name begins in the text, and where another name after the last would begin.
     starts: [u16; 17],
 }
 
@@ -43,8 +43,8 @@ impl Model for Names {
 }
 
 impl Names {
-    /// The names that a text joins by commas: 1 to 16, each of 1 to 15 ASCII letters, digits, `_`, `-`
-    /// and `.`, all different. Memory is asked for only where the names are good.
+    /// Reads names that are joined by commas: 1 to 16 different names, each of 1 to 15 ASCII letters, digits, `_`, `-` and `.`.
+    /// Memory is only allocated if the names are valid.
     pub fn read(alloc: Global, text: &str) -> Result<Names, NamesError>
         ensures names { IfOk result (λ names. names ≡ names_in text.now) }
         ensures good { OnOk result (AreNames (names_in text.now)) }
@@ -64,7 +64,7 @@ impl Names {
         })
     }
 
-    /// How many names there are, 1 to 16.
+    /// The number of names, 1 to 16.
     pub fn count(&self) -> u8
         ensures count { result ≡ length self.now }
         ensures some { 1 ≤ result }
@@ -74,7 +74,7 @@ impl Names {
         self.count
     }
 
-    /// The interface with this name, or `None` where no interface has it.
+    /// Returns the interface with this name, or `None` if no interface has it.
     pub fn find(&self, name: &str) -> Option<Iface>
         ensures place { result ≡ place_of self.now name.now }
         ensures found { IfSome result (λ iface. slice_get self.now iface ≡ Some name.now) }
@@ -83,7 +83,7 @@ impl Names {
         self.find_bytes(name.as_bytes())
     }
 
-    /// The interface with this name, or `None` where no interface has it; bytes that are no UTF-8 are no name.
+    /// Returns the interface with this name, or `None` if no interface has it. Bytes that are not UTF-8 match no name.
     pub fn find_bytes(&self, name: &[u8]) -> Option<Iface>
         ensures place { result ≡ place_of self.now name.now }
         ensures found { IfSome result (λ iface. slice_get self.now iface ≡ Some name.now) }
@@ -93,7 +93,7 @@ impl Names {
         Iface::new(place as u8)
     }
 
-    /// The interface's name, in constant time, or `None` where the bus has no such interface.
+    /// Returns the name of the interface in constant time, or `None` if the bus has no such interface.
     pub fn name(&self, iface: Iface) -> Option<&str>
         ensures { option_map (λ name. name.now) result ≡ slice_get self.now iface }
     {
@@ -106,7 +106,7 @@ impl Names {
         Some(&self.text[start..end])
     }
 
-    /// The names from one place up to another, joined by commas, in constant time.
+    /// Returns the names from place `first` up to but not including `end`, joined by commas, in constant time.
     pub fn run(&self, first: u8, end: u8) -> &str
         requires some { first < end }
         requires within { end ≤ length self.now }
@@ -118,7 +118,7 @@ impl Names {
     }
 }
 
-/// Whether the text is a name that an interface may have: 1 to 15 ASCII letters, digits, `_`, `-` and `.`.
+/// Whether the text is a valid interface name: 1 to 15 ASCII letters, digits, `_`, `-` and `.`.
 pub fn is_name(text: &str) -> bool
     ensures { result ≡ is_name_of text.now }
 {
@@ -131,7 +131,7 @@ fn is_name_byte(byte: u8) -> bool
     byte.is_ascii_alphanumeric() || matches!(byte, b'_' | b'-' | b'.')
 }
 
-// Whether the pieces between the commas are names that a bus may have.
+// Whether the pieces between the commas are valid names of a bus.
 fn are_names(text: &str) -> bool
     ensures { IsTrue result ↔ AreNames (names_in text.now) }
 {
@@ -144,7 +144,7 @@ fn are_good(text: &str) -> bool
     text.split(',').all(|name| is_name(name))
 }
 
-// Each piece is first at its own place.
+// Whether all the pieces between the commas are different: each piece has its first occurrence at its own place.
 fn are_distinct(text: &str) -> bool
     ensures { IsTrue result ↔ AllPairs ◌≢◌ (names_in text.now) }
 {
@@ -157,7 +157,7 @@ fn count_in(text: &str) -> usize
     text.split(',').count()
 }
 
-// Where each piece begins in the text, and where one more would begin.
+// Returns where each piece begins in the text, and where another piece after the last would begin.
 fn starts_in(text: &str) -> [u16; 17]
     requires { AreNames (names_in text.now) }
     ensures { (k : ℕ) →
@@ -172,7 +172,7 @@ fn starts_in(text: &str) -> [u16; 17]
     starts
 }
 
-// The first place of a name among the pieces between the commas.
+// Returns the first place of a name among the pieces between the commas.
 fn place_in(text: &str, name: &[u8]) -> Option<usize>
     ensures { result ≡ place_of (names_in text.now) name.now }
 {

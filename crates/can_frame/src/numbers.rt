@@ -1,7 +1,7 @@
 ghost use Rattle.std.specs.Prelude.{◌≡◌, ◌≤◌, ◌<◌, ◌^◌, IfSome};
 ghost use Rattle.can_frame.specs.Numbers.{digit_in, number_in};
 
-/// The value of 1 to `most` decimal digits; `None` for other words. `most` is at most 19.
+/// Reads a number of 1 to `most` decimal digits. Returns `None` for every other word. `most` is at most 19.
 pub fn read_decimal(word: &[u8], most: usize) -> Option<u64>
     requires { most ≤ 19 }
     ensures value { result ≡ number_in 10 most word.now }
@@ -10,8 +10,7 @@ pub fn read_decimal(word: &[u8], most: usize) -> Option<u64>
     read_number::<10>(word, most)
 }
 
-/// The value of 1 to `most` hexadecimal digits of either case; `None` for other words.
-/// `most` is at most 8.
+/// Reads a number of 1 to `most` hexadecimal digits of either case. Returns `None` for every other word. `most` is at most 8.
 pub fn read_hexadecimal(word: &[u8], most: usize) -> Option<u32>
     requires { most ≤ 8 }
     ensures value { result ≡ number_in 16 most word.now }
@@ -21,7 +20,7 @@ pub fn read_hexadecimal(word: &[u8], most: usize) -> Option<u32>
     Some(number as u32)
 }
 
-/// The value of 1 to `most` digits of a base.
+/// Reads a number of 1 to `most` digits in base `BASE`.
 fn read_number<const BASE: u64>(word: &[u8], most: usize) -> Option<u64>
     requires low { 2 ≤ BASE }
     requires fits { BASE ^ most ≤ 2 ^ 64 }
@@ -38,7 +37,7 @@ fn read_number<const BASE: u64>(word: &[u8], most: usize) -> Option<u64>
     Some(number)
 }
 
-/// The value of a digit of a base, in either case; `None` for another byte. No digit is above 15.
+/// Returns the value of a digit in this base, in either case, or `None` if the byte is no such digit. The value is at most 15.
 pub fn read_digit(byte: u8, base: u64) -> Option<u64>
     ensures value { result ≡ digit_in base byte }
     ensures below { IfSome result (λ v. v < base) }

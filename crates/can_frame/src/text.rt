@@ -8,7 +8,7 @@ use crate::digit_writing::{write_decimals, write_hexadecimals, write_pairs};
 use crate::moment::Moment;
 use std::marker::Model;
 
-/// A text of at most `N` bytes, kept in place.
+/// A text of at most `N` bytes, without heap memory.
 #[derive(Debug, Drop)]
 pub struct Text<const N: usize> {
     bytes: [u8; N],
@@ -26,7 +26,7 @@ impl<const N: usize> Model for Text<N> {
 }
 
 impl<const N: usize> Text<N> {
-    /// The empty text.
+    /// Returns the empty text.
     pub fn new() -> Text<N>
         ensures { result ≡ [] }
     {
@@ -36,7 +36,7 @@ impl<const N: usize> Text<N> {
         }
     }
 
-    /// Makes the text empty. Its bytes are not cleared, so that a room lent to a loop costs nothing in each turn.
+    /// Makes the text empty. Its bytes are not cleared, so a loop can reuse the text at no cost.
     pub fn clear(&mut self)
         ensures { self.new ≡ [] }
     {
@@ -50,7 +50,7 @@ impl<const N: usize> Text<N> {
         &self.bytes[..self.len]
     }
 
-    /// One byte more.
+    /// Appends one byte.
     pub fn push(&mut self, byte: u8)
         requires { length self.old < N }
         ensures text { self.new ≡ self.old ++ byte ∷ [] }
@@ -60,7 +60,7 @@ impl<const N: usize> Text<N> {
         self.len += 1;
     }
 
-    /// These bytes more.
+    /// Appends these bytes.
     pub fn push_all(&mut self, more: &[u8])
         requires { length self.old + length more.now ≤ N }
         ensures text { self.new ≡ self.old ++ more.now }
@@ -72,7 +72,7 @@ impl<const N: usize> Text<N> {
         self.len = end;
     }
 
-    /// The last `count` hexadecimal digits of a number, upper case.
+    /// Appends the last `count` hexadecimal digits of a number, in upper case.
     pub fn push_hex(&mut self, count: usize, number: u64)
         requires { length self.old + count ≤ N }
         ensures text { self.new ≡ self.old ++ digits 16 count number }
@@ -84,7 +84,7 @@ impl<const N: usize> Text<N> {
         self.len = end;
     }
 
-    /// The last `count` decimal digits of a number.
+    /// Appends the last `count` decimal digits of a number.
     pub fn push_decimals(&mut self, count: usize, number: u64)
         requires { length self.old + count ≤ N }
         ensures text { self.new ≡ self.old ++ digits 10 count number }
@@ -96,7 +96,7 @@ impl<const N: usize> Text<N> {
         self.len = end;
     }
 
-    /// A number in decimal, without leading zeros.
+    /// Appends a number in decimal, without leading zeros.
     #[tactic(auto, using(crate::proofs::Lengths::count_fits))]
     pub fn push_count(&mut self, number: u64)
         requires room { length self.old + 20 ≤ N }
@@ -106,7 +106,7 @@ impl<const N: usize> Text<N> {
         self.push_number(number);
     }
 
-    /// A number in decimal, where there is room for its digits.
+    /// Appends a number in decimal. There only has to be room for the digits of this number.
     #[tactic(auto, using(crate::proofs::Decimals::eight_pushed, crate::proofs::Decimals::eight_longer, crate::proofs::Decimals::sixteen_pushed, crate::proofs::Decimals::sixteen_longer))]
     fn push_number(&mut self, number: u64)
         requires { length self.old + length (decimal number) ≤ N }
@@ -126,7 +126,7 @@ impl<const N: usize> Text<N> {
         }
     }
 
-    /// A number of at most eight digits in decimal.
+    /// Appends a number of at most eight decimal digits.
     #[tactic(auto, using(crate::proofs::Decimals::four_pushed, crate::proofs::Decimals::four_longer))]
     fn push_up_to_eight(&mut self, number: u64)
         requires small { number < 10 ^ 8 }
@@ -142,7 +142,7 @@ impl<const N: usize> Text<N> {
         }
     }
 
-    /// A number of at most four digits in decimal.
+    /// Appends a number of at most four decimal digits.
     #[tactic(auto, using(crate::proofs::Decimals::one_digit, crate::proofs::Decimals::two_digits, crate::proofs::Decimals::three_digits, crate::proofs::Decimals::four_digits))]
     fn push_up_to_four(&mut self, number: u64)
         requires small { number < 10 ^ 4 }
@@ -158,7 +158,7 @@ impl<const N: usize> Text<N> {
         }
     }
 
-    /// An identifier: 3 hexadecimal digits, or 8 where it has 29 bits.
+    /// Appends an identifier: 3 hexadecimal digits, or 8 if the identifier has 29 bits.
     pub fn push_id(&mut self, id: CanId)
         requires { length self.old + 8 ≤ N }
         ensures text { self.new ≡ self.old ++ id_text id }
@@ -172,7 +172,7 @@ impl<const N: usize> Text<N> {
         }
     }
 
-    /// A moment: seconds without leading zeros, a point and 6 digits of microseconds.
+    /// Appends a moment: seconds without leading zeros, a point and 6 digits of microseconds.
     #[tactic(auto, using(crate::proofs::Lengths::seconds_fit))]
     pub fn push_moment(&mut self, moment: Moment)
         requires { length self.old + 17 ≤ N }
@@ -185,7 +185,7 @@ impl<const N: usize> Text<N> {
         self.push_decimals(6, micros % 1_000_000);
     }
 
-    /// Bytes as pairs of hexadecimal digits, upper case.
+    /// Appends each byte as two upper-case hexadecimal digits.
     pub fn push_pairs(&mut self, bytes: &[u8])
         requires { length self.old + 2 * length bytes.now ≤ N }
         ensures text { self.new ≡ self.old ++ pairs bytes.now }
@@ -197,7 +197,7 @@ impl<const N: usize> Text<N> {
         self.len = end;
     }
 
-    /// These bytes more, letters in upper case.
+    /// Appends these bytes, with letters in upper case.
     pub(crate) fn push_upper(&mut self, more: &[u8])
         requires { length self.old + length more.now ≤ N }
         ensures text { self.new ≡ self.old ++ upper more.now }
@@ -210,7 +210,7 @@ impl<const N: usize> Text<N> {
     }
 }
 
-/// Copies bytes, letters in upper case.
+/// Copies bytes to `room`, with letters in upper case.
 fn copy_upper(bytes: &[u8], room: &mut [u8])
     requires { length room.old ≡ length bytes.now }
     ensures text { room.new ≡ upper bytes.now }
