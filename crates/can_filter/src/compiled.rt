@@ -10,11 +10,11 @@ use crate::joining::some_match;
 use crate::lookup::{EXTENDED, Parts, STANDARD, is_extended};
 use std::alloc::{AllocError, Global};
 
-/// A list of filters compiled for frames that have to match some filter.
+/// A compiled list of filters, for frames that have to match at least one of them.
 #[derive(Drop)]
 pub struct Compiled {
     parts: Parts,
-    // A gate of all the filters, and one of those that are neither marked nor listed nor inverted.
+    // `gate` is a gate for all the filters. `masked_gate` is a gate for the filters in `parts.masked` only.
     gate: Filter,
     masked_gate: Filter,
     ghost in_order: { IsNonDecreasing parts.extended.items },
@@ -25,7 +25,7 @@ pub struct Compiled {
 impl Compiled {
     ghost use Rattle.can_filter.specs.Compiled.{FindsMatchesOf, finds};
 
-    /// These filters, compiled. The time grows with their number `n` as `n log n`.
+    /// Compiles these filters. For `n` filters the time grows as `n log n`.
     pub fn of(alloc: Global, filters: &[Filter]) -> Result<Compiled, AllocError>
         ensures { IfOk result (FindsMatchesOf filters.now) }
     {
@@ -43,9 +43,9 @@ impl Compiled {
         })
     }
 
-    /// Whether some filter matches the word, asked in the order of what it costs. The time grows with the
-    /// filters that are neither marked nor listed, and with the logarithm of those that are listed; a word that differs
-    /// in a bit that all filters compare alike is known at once.
+    /// Whether at least one filter matches the word. The cheapest tests come first. The time grows with the number of masked
+    /// filters and with the logarithm of the number of listed identifiers. A word that differs in a bit that all filters compare
+    /// with the same value is rejected at once.
     #[inline]
     pub fn finds(&self, word: u32) -> bool
         ensures { result ≡ finds self.now word }

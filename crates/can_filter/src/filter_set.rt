@@ -9,27 +9,27 @@ use std::fmt;
 use std::marker::Model;
 use thiserror::Error;
 
-/// How many filters a socket may have (CAN_RAW_FILTER_MAX of linux/can.h).
+/// The maximum number of filters of a socket (CAN_RAW_FILTER_MAX of linux/can.h).
 pub const MAX_FILTERS: usize = 512;
 
-/// Why no set of filters was made.
+/// The reason why a set of filters could not be created.
 #[derive(Debug, Clone, Copy, PartialEq, Eq, Error)]
 pub enum FilterError {
-    /// More than 512 filters.
+    /// There are more than 512 filters.
     #[error("too many filters")]
     TooManyFilters,
-    /// Memory was refused.
+    /// There is not enough memory.
     #[error("no memory")]
     NoMemory,
 }
 
-/// The filters of a socket, at most 512, in the order given: 8 bytes a filter. Who asks often whether frames pass has
-/// them compiled as well.
+/// The filters of a socket, at most 512, in the order given. They take 8 bytes a filter. A set that is tested often can also hold
+/// the filters in compiled form.
 #[derive(Drop)]
 pub struct FilterSet {
     filters: Vec<Filter>,
     compiled: Option<Box<Compiled>>,
-    // Whether it is known to be the one filter that receives everything.
+    // Whether this is known to be the set of the one filter that receives everything.
     is_open: bool,
 }
 
@@ -51,7 +51,7 @@ impl fmt::Debug for FilterSet {
     }
 }
 
-// Of the same filters, in the same order.
+// Two sets are equal if they have the same filters in the same order.
 impl PartialEq for FilterSet {
     ghost use Rattle.std.proofs.Common.{rules};
     ghost use Rattle.std.specs.Cmp.Rules.{comparing};
@@ -76,7 +76,7 @@ impl Eq for FilterSet {
 }
 
 impl FilterSet {
-    /// The one filter that receives everything, as a socket has it when it is opened.
+    /// Returns the filters of a newly opened socket: one filter that receives everything.
     pub fn all(alloc: Global) -> Result<FilterSet, AllocError>
         ensures { IfOk result (λ set. set ≡ receives_all) }
     {
@@ -85,7 +85,7 @@ impl FilterSet {
         Ok(set)
     }
 
-    /// No filters, so that no data frame passes. It takes no memory.
+    /// Returns a set without filters, which no data frame passes. It allocates nothing.
     pub fn none(alloc: Global) -> FilterSet
         ensures { result ≡ [] }
     {
@@ -96,8 +96,8 @@ impl FilterSet {
         }
     }
 
-    /// These filters, at most 512, compiled, so that `passes` is quick: some 2,200 bytes and at most 16 a filter.
-    /// `NoMemory` comes only where memory was really refused. The time grows with their number `n` as `n log n`.
+    /// Creates a set of at most 512 filters and compiles it, so that `passes` is fast. It takes about 2,200 bytes and at most 16
+    /// bytes a filter. `NoMemory` is only returned if an allocation failed. For `n` filters the time grows as `n log n`.
     pub fn from_slice(alloc: Global, filters: &[Filter]) -> Result<FilterSet, FilterError>
         ensures ok { IfOk result (λ set. set ≡ filters.now) }
         ensures too_many { (result ≡ Err FilterError.TooManyFilters) ↔ (512 < length filters.now) }
@@ -106,7 +106,7 @@ impl FilterSet {
         set.compiled(alloc).map_err(|_| FilterError::NoMemory)
     }
 
-    /// The same, as a list only, to be kept: 8 bytes a filter.
+    /// Creates a set of at most 512 filters without compiling it. It takes 8 bytes a filter, which suits sets that are only stored.
     pub fn listed(alloc: Global, filters: &[Filter]) -> Result<FilterSet, FilterError>
         ensures ok { IfOk result (λ set. set ≡ filters.now) }
         ensures too_many { (result ≡ Err FilterError.TooManyFilters) ↔ (512 < length filters.now) }
@@ -125,23 +125,23 @@ impl FilterSet {
         &self.filters
     }
 
-    /// Another set of the same filters, as a list only.
+    /// Returns a copy of the set that is not compiled.
     pub fn try_copy(&self, alloc: Global) -> Result<FilterSet, AllocError>
         ensures { IfOk result (λ set. set ≡ self.now) }
     {
         FilterSet::list(alloc, &self.filters)
     }
 
-    /// Another set of the same filters, compiled as by `from_slice`.
+    /// Returns a copy of the set that is compiled as by `from_slice`.
     pub fn try_compile(&self, alloc: Global) -> Result<FilterSet, AllocError>
         ensures { IfOk result (λ set. set ≡ self.now) }
     {
         self.try_copy(alloc)?.compiled(alloc)
     }
 
-    /// Whether a data frame with this identifier word passes the filters, which are joined by AND where
-    /// `join` says so and else by OR. The time grows with the number of filters; joined by OR, compiled filters that
-    /// single out one data identifier each are looked up all at once. The filter that receives everything is not looked at.
+    /// Whether a data frame with this identifier word passes the filters. If `join` is true, every filter has to match, otherwise
+    /// at least one. The time grows with the number of filters. In a compiled set without `join`, all the filters that match a
+    /// single data identifier are tested with one look-up. For the set that receives everything, no filter is tested.
     #[inline]
     pub fn passes(&self, word: u32, join: bool) -> bool
         ensures { result ≡ passes self.now join word }
@@ -169,7 +169,7 @@ impl FilterSet {
         })
     }
 
-    // The set with its filters compiled.
+    // Compiles the filters of the set.
     fn compiled(mut self, alloc: Global) -> Result<FilterSet, AllocError>
         ensures { IfOk result (λ set. set ≡ self) }
     {

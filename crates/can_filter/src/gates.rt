@@ -2,8 +2,8 @@ ghost use Rattle.can_filter.specs.Gates.{IsGate};
 
 use crate::filter::Filter;
 
-/// A gate of these filters: it compares the bits that all of them compare, with the same value. A word that
-/// differs there is matched by none of them, so that they need not be looked at.
+/// Returns a gate for these filters: a filter that compares only the bits that all of them compare with the same value. If a word
+/// does not agree with the gate, no filter matches it, so the filters need not be tested.
 pub fn gate_of(filters: &[Filter]) -> Filter
     ensures { IsGate result filters.now }
 {

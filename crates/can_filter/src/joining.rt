@@ -4,11 +4,11 @@ ghost use Rattle.can_filter.specs.Filters.{matches};
 
 use crate::filter::Filter;
 
-/// How many filters are compared before the answer is looked at. There is no branch within a block, so that
-/// the compiler can compare its filters side by side.
+/// The number of filters that are compared before the result is tested. There is no branch within a block, so the compiler can
+/// compare the filters of a block in parallel.
 const BLOCK: usize = 8;
 
-/// Whether some filter matches the word.
+/// Whether at least one filter matches the word.
 #[inline(never)]
 pub fn some_match(filters: &[Filter], word: u32) -> bool
     ensures { result ≡ list_any (λ f. matches f word) filters.now }
@@ -26,7 +26,7 @@ pub fn some_match(filters: &[Filter], word: u32) -> bool
     some_one_by_one(rest, word)
 }
 
-/// Whether each filter matches the word.
+/// Whether every filter matches the word.
 #[inline(never)]
 pub fn all_match(filters: &[Filter], word: u32) -> bool
     ensures { result ≡ list_all (λ f. matches f word) filters.now }
@@ -44,7 +44,7 @@ pub fn all_match(filters: &[Filter], word: u32) -> bool
     all_one_by_one(rest, word)
 }
 
-/// `some_match` without a branch at each filter.
+/// Does the same as `some_match`, without a branch for each filter.
 fn some_of_block(block: &[Filter], word: u32) -> bool
     ensures { result ≡ list_any (λ f. matches f word) block.now }
 {
@@ -55,7 +55,7 @@ fn some_of_block(block: &[Filter], word: u32) -> bool
     some
 }
 
-/// `all_match` without a branch at each filter.
+/// Does the same as `all_match`, without a branch for each filter.
 fn all_of_block(block: &[Filter], word: u32) -> bool
     ensures { result ≡ list_all (λ f. matches f word) block.now }
 {
@@ -66,14 +66,14 @@ fn all_of_block(block: &[Filter], word: u32) -> bool
     all
 }
 
-/// `some_match`, which ends at the first filter that matches.
+/// Does the same as `some_match`, and stops at the first filter that matches.
 fn some_one_by_one(filters: &[Filter], word: u32) -> bool
     ensures { result ≡ list_any (λ f. matches f word) filters.now }
 {
     filters.iter().any(|filter| filter.matches(word))
 }
 
-/// `all_match`, which ends at the first filter that does not match.
+/// Does the same as `all_match`, and stops at the first filter that does not match.
 fn all_one_by_one(filters: &[Filter], word: u32) -> bool
     ensures { result ≡ list_all (λ f. matches f word) filters.now }
 {

@@ -5,26 +5,26 @@ ghost use Rattle.can_filter.specs.Lookups.{IsLookedUpAs, is_extended};
 use crate::filter::Filter;
 use std::alloc::{AllocError, Global};
 
-/// The mask of a filter that singles out one 11-bit data identifier: no remote frame, nor a 29-bit identifier.
+/// The mask of a filter that matches exactly one 11-bit data identifier, and neither remote frames nor 29-bit identifiers.
 pub const STANDARD: u32 = 0xC000_07FF;
 
-/// The mask of a filter that singles out one 29-bit data identifier.
+/// The mask of a filter that matches exactly one 29-bit data identifier.
 pub const EXTENDED: u32 = 0xDFFF_FFFF;
 
-/// How a word is looked up in a filter.
+/// The way in which a word is tested against a filter.
 #[derive(Clone, Copy)]
 pub enum Lookup {
     /// The word has to be this 11-bit data identifier.
     Standard(u32),
     /// The word has to be this 29-bit data identifier.
     Extended(u32),
-    /// The word has to agree in the masked bits.
+    /// The word has to be equal to the filter's identifier in the masked bits.
     Masked,
-    /// The word has to differ in the masked bits.
+    /// The word has to differ from the filter's identifier in the masked bits.
     Inverted,
 }
 
-/// How a word is looked up in the filter.
+/// Returns the way in which a word is tested against this filter.
 pub fn lookup_of(filter: Filter) -> Lookup
     ensures { IsLookedUpAs filter result }
 {
@@ -39,14 +39,14 @@ pub fn lookup_of(filter: Filter) -> Lookup
     }
 }
 
-/// Whether a word is that of a 29-bit identifier, and of no remote frame.
+/// Whether a word belongs to a data frame with a 29-bit identifier.
 pub fn is_extended(word: u32) -> bool
     ensures { result ≡ is_extended word }
 {
     word & 0xC000_0000 == 0x8000_0000
 }
 
-/// Filters, parted by how a word is looked up among them.
+/// Filters, grouped by the way in which a word is tested against them.
 #[derive(Drop)]
 pub struct Parts {
     pub standard: [bool; 2048],
@@ -71,7 +71,7 @@ impl Parts {
         }
     }
 
-    /// Puts one more filter where its word is looked up.
+    /// Adds a filter to the group it belongs to.
     pub fn add(&mut self, filter: Filter) -> Result<(), AllocError>
         ensures { OnOk result ((word : ℕ) →
             is_found_in self.new word ≡ (is_found_in self.old word || matches filter word)) }

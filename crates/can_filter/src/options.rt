@@ -1,15 +1,15 @@
 /// The options of a socket (linux/can/raw.h).
 #[derive(Debug, Clone, Copy, PartialEq, Eq)]
 pub struct Options {
-    /// Frames that the socket sends are given to the sockets of its own interface.
+    /// Frames that the socket sends are also delivered to the other sockets of its own interface.
     pub loopback: bool,
-    /// The socket gets its own frames too.
+    /// The socket also receives its own frames.
     pub recv_own: bool,
-    /// A frame has to match each filter in place of some filter.
+    /// A frame has to match every filter, instead of at least one.
     pub join: bool,
-    /// The error classes whose message frames the socket gets. Bits 29 to 31 are ignored.
+    /// The mask of the error classes whose error message frames the socket receives. Bits 29 to 31 are ignored.
     pub err_mask: u32,
-    /// The socket may send FD frames, and gets them.
+    /// The socket may send and receive FD frames.
     pub fd: bool,
 }
 
@@ -17,7 +17,7 @@ impl Options {
     ghost use Rattle.std.specs.Prelude.{◌≡◌};
     ghost use Rattle.can_filter.specs.Passing.{default_options};
 
-    /// The options of a socket when it is opened: loopback on, all else off.
+    /// The options of a newly opened socket: loopback is on, and all other options are off.
     pub fn at_open() -> Options
         ensures { result ≡ default_options }
     {
