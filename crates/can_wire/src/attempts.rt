@@ -7,28 +7,29 @@ use can_attempt::Class;
 use can_fault::{GlobalKind, LocalKind, Verdict};
 use can_frame::Frame;
 
-/// From the end of the CRC to the ACK slot: CRC delimiter and ACK slot.
+/// The number of bits from the end of the CRC to the end of the ACK slot: the CRC delimiter and the ACK slot.
 const TO_ACK_SLOT: u32 = 2;
 
-/// And to the ACK delimiter.
+/// The number of bits from the end of the CRC to the end of the ACK delimiter.
 const TO_ACK_DELIMITER: u32 = 3;
 
-/// An error flag that nobody answers.
+/// The length in bits of an error flag that no other node answers.
 const FLAG: u32 = 6;
 
-/// One that receivers answer by an overload flag, which begins a bit later.
+/// The length in bits of an error flag and the overload flag with which receivers answer it. The overload flag begins one bit
+/// later.
 const OVERLOAD_ANSWERED_FLAG: u32 = 7;
 
-/// One that others answer by theirs, which begin after it.
+/// The length in bits of an error flag and the error flags with which other nodes answer it. Their flags begin when it ends.
 const ANSWERED_FLAG: u32 = 12;
 
-/// What ends an error frame or an overload frame.
+/// The length in bits of the delimiter that ends an error frame or an overload frame.
 const DELIMITER: u32 = 8;
 
-/// What is between frames.
+/// The length in bits of the intermission between two frames.
 const INTERMISSION: u32 = 3;
 
-/// Whether the fault is seen by the end of the data, and not after the CRC.
+/// Whether the fault is detected by the end of the data. Other faults are detected after the CRC.
 fn is_early(verdict: Verdict) -> bool
     ensures { result ≡ is_early verdict }
 {
@@ -40,7 +41,7 @@ fn is_early(verdict: Verdict) -> bool
     }
 }
 
-/// How many bits of a frame are sent before its fault is answered by flags.
+/// Returns how many bits of a frame are sent before error flags answer its fault.
 fn bits_to_fault(frame: &Frame, verdict: Verdict) -> WireBits
     ensures bits { result ≡ bits_to_fault frame.now verdict }
     ensures few { result.nominal ≤ 1400 }
@@ -52,9 +53,9 @@ fn bits_to_fault(frame: &Frame, verdict: Verdict) -> WireBits
     }
 }
 
-/// How many bits an attempt to send a frame takes, from start of frame until the next one may begin, if it was struck
-/// by this verdict and ended in this class. A verdict names no bit, so where a failed attempt ends is a choice of this
-/// project. The 8 bits for which an error passive sender waits after it are not counted.
+/// Returns how many bits an attempt to send a frame takes, from start of frame until the next attempt may begin. `verdict` is the
+/// fault that struck the attempt, and `class` is its outcome. A verdict does not name a bit, so this project chooses where a failed
+/// attempt ends. The 8 bits for which an error passive sender waits after an attempt are not counted.
 pub fn attempt_bits(frame: &Frame, class: Class, verdict: Verdict) -> WireBits
     ensures { result ≡ attempt_bits_of frame.now class verdict }
 {

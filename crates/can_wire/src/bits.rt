@@ -3,7 +3,7 @@ ghost use Rattle.std.specs.Int.{bit_at};
 ghost use Rattle.can_frame.specs.Arbitration.{low_bits};
 ghost use Rattle.can_wire.specs.inner.Sending.{bits_of};
 
-/// At most 64 bits, the first sent first.
+/// A sequence of at most 64 bits. The highest bit of `number` is sent first.
 #[derive(Clone, Copy)]
 pub(crate) struct Bits {
     pub count: u32,
@@ -11,7 +11,7 @@ pub(crate) struct Bits {
 }
 
 impl Bits {
-    /// No bits.
+    /// Returns the empty sequence.
     pub fn none() -> Bits
         ensures bits { bits_of result ≡ [] }
         ensures count { result.count ≡ 0 }
@@ -22,7 +22,7 @@ impl Bits {
         }
     }
 
-    /// These bits, and then the lowest of a number, the highest of them first.
+    /// Returns these bits followed by the lowest `count` bits of `number`, highest bit first.
     pub fn then(self, count: u32, number: u32) -> Bits
         requires room { self.count + count ≤ 64 }
         requires narrow { count ≤ 32 }
@@ -36,7 +36,7 @@ impl Bits {
         }
     }
 
-    /// The bit that `after` bits follow.
+    /// Returns the bit that is followed by `after` other bits.
     pub fn bit(self, after: u32) -> u8
         requires { after < 64 }
         ensures bit { result ≡ bit_at self.number after }

@@ -6,13 +6,13 @@ ghost use Rattle.can_wire.specs.inner.Sending.{bits_of, shifted, shifted_all};
 use crate::bits::Bits;
 use std::marker::Model;
 
-/// How many bits the CRC of a classic frame has.
+/// The number of bits of a classic frame's CRC.
 const WIDTH: u32 = 15;
 
-/// Its generator polynomial, x^15 + x^14 + x^10 + x^8 + x^7 + x^4 + x^3 + 1, without the first term.
+/// The generator polynomial of a classic frame's CRC, x^15 + x^14 + x^10 + x^8 + x^7 + x^4 + x^3 + 1, without its first term.
 const GENERATOR: u16 = 0x4599;
 
-/// The shift register that makes the CRC of a classic frame: the lowest 15 bits count.
+/// The shift register that computes the CRC of a classic frame. Only its lowest 15 bits matter.
 #[derive(Drop)]
 struct Register {
     bits: u16,
@@ -28,7 +28,7 @@ impl Model for Register {
 }
 
 impl Register {
-    /// The register before the first bit.
+    /// Returns the register before the first bit.
     #[tactic(auto, using(crate::proofs::Divided::register_zero))]
     fn new() -> Register
         ensures { result ≡ replicate 15 0 }
@@ -36,7 +36,7 @@ impl Register {
         Register { bits: 0 }
     }
 
-    /// Takes a bit in.
+    /// Shifts one bit into the register.
     fn take_bit(&mut self, bit: u8)
         requires { bit < 2 }
         ensures { self.new ≡ shifted generator_15 bit self.old }
@@ -48,7 +48,7 @@ impl Register {
         }
     }
 
-    /// Takes bits in.
+    /// Shifts bits into the register.
     fn take(&mut self, bits: Bits)
         requires { bits.count ≤ 64 }
         ensures { self.new ≡ shifted_all generator_15 (bits_of bits) self.old }
@@ -59,7 +59,7 @@ impl Register {
     }
 }
 
-/// The CRC sequence of bits that bytes follow.
+/// Returns the CRC sequence of the bits in `head` followed by `bytes`.
 pub(crate) fn check_sequence(head: Bits, bytes: &[u8]) -> Bits
     requires { head.count ≤ 64 }
     ensures bits { bits_of result ≡ check_of generator_15 (bits_of head ++ byte_bits bytes.now) }

@@ -5,7 +5,7 @@ ghost use Rattle.can_wire.specs.inner.Sending.{bits_of, nothing_sent, flushed, a
 use crate::bits::Bits;
 use std::marker::Model;
 
-/// The bits that were sent, counted with their stuff bits. The one that is due after five equal bits is counted with
+/// Counts the bits that are sent, including stuff bits. The stuff bit that is due after five equal bits is counted together with
 /// the bit that follows it.
 #[derive(Drop)]
 pub(crate) struct Counter {
@@ -26,7 +26,7 @@ impl Model for Counter {
 }
 
 impl Counter {
-    /// Nothing was sent.
+    /// Returns a counter before the first bit.
     pub fn new() -> Counter
         ensures { result ≡ nothing_sent }
     {
@@ -37,14 +37,14 @@ impl Counter {
         }
     }
 
-    /// How many bits were sent.
+    /// The number of bits that were sent, without a stuff bit that is still due.
     pub fn count(&self) -> u32
         ensures { result ≡ self.now.count }
     {
         self.count
     }
 
-    /// How many bits were sent, with the stuff bit that is due.
+    /// Returns the number of bits that were sent, including a stuff bit that is still due.
     pub fn finish(mut self) -> u32
         requires { self.count + 1 < 2 ^ 32 }
         ensures bits { result ≡ (flushed self).count }
@@ -54,7 +54,7 @@ impl Counter {
         self.count
     }
 
-    /// Sends the stuff bit that is due.
+    /// Sends the stuff bit if one is due.
     fn flush(&mut self)
         requires { self.old.count + 1 < 2 ^ 32 }
         ensures sent { self.new ≡ flushed self.old }
@@ -69,7 +69,7 @@ impl Counter {
         }
     }
 
-    /// Sends a bit, after the stuff bit that is due.
+    /// Sends a bit, after the stuff bit if one is due.
     fn send_bit(&mut self, bit: u8)
         requires bit { bit < 2 }
         requires room { self.old.count + 2 < 2 ^ 32 }

@@ -13,10 +13,10 @@ use crate::counter::Counter;
 use crate::wire_bits::WireBits;
 use can_frame::Frame;
 
-/// What follows the CRC of a frame: CRC delimiter, ACK slot, ACK delimiter, and seven bits of end of frame.
+/// The number of bits of a frame after its CRC: the CRC delimiter, the ACK slot, the ACK delimiter and seven bits of end of frame.
 const AFTER_CHECK: u32 = 10;
 
-/// A flag as a bit.
+/// Returns a flag as a bit, 0 or 1.
 fn bit(flag: bool) -> u32
     ensures value { result ≡ bit_of flag }
     ensures below { result < 2 }
@@ -24,7 +24,7 @@ fn bit(flag: bool) -> u32
     u32::from(flag)
 }
 
-/// Start of frame and the bits by which a frame competes whose identifier has 11 bits.
+/// Returns start of frame and the arbitration bits of a frame with an 11-bit identifier.
 fn standard_bits(number: u32, rtr: u32) -> Bits
     requires { rtr < 2 }
     ensures bits { bits_of result ≡ 0 ∷ standard_bits number rtr }
@@ -37,7 +37,7 @@ fn standard_bits(number: u32, rtr: u32) -> Bits
         .then(1, 0)
 }
 
-/// The same with 29 bits.
+/// Returns start of frame and the arbitration bits of a frame with a 29-bit identifier.
 fn extended_bits(number: u32, rtr: u32) -> Bits
     requires { rtr < 2 }
     ensures bits { bits_of result ≡ 0 ∷ extended_bits number rtr }
@@ -51,7 +51,7 @@ fn extended_bits(number: u32, rtr: u32) -> Bits
         .then(1, rtr)
 }
 
-/// Start of frame and the bits by which a frame competes.
+/// Returns start of frame and the arbitration bits of a frame.
 #[tactic(auto, unfolding(can_frame::specs::Arbitration::arbitration_bits))]
 fn first_bits(frame: &Frame) -> Bits
     ensures bits { bits_of result ≡ 0 ∷ arbitration_bits frame.now }
@@ -66,7 +66,7 @@ fn first_bits(frame: &Frame) -> Bits
     }
 }
 
-/// A classic frame from start of frame to its data length code.
+/// Returns the bits of a classic frame from start of frame to its data length code.
 #[tactic(auto, using(crate::proofs::Bounds::bytes_within))]
 fn classic_head(frame: &Frame) -> Bits
     ensures bits { bits_of result ≡ classic_head frame.now }
@@ -90,7 +90,7 @@ fn send_covered(frame: &Frame) -> Counter
     counter
 }
 
-/// How many bits a classic frame has to the end of its CRC, which is stuffed like what it covers.
+/// Returns how many bits a classic frame has from its start to the end of its CRC. The CRC is stuffed like the bits that it covers.
 fn classic_to_check_end(frame: &Frame) -> u32
     ensures bits { result ≡ length (stuffed (checked_bits frame.now)) }
     ensures few { result ≤ 1200 }
@@ -100,7 +100,7 @@ fn classic_to_check_end(frame: &Frame) -> u32
     counter.finish()
 }
 
-/// The data length code of an FD frame.
+/// Returns the data length code of an FD frame.
 fn fd_code(len: u8) -> u32
     ensures { result ≡ fd_code len }
 {
@@ -116,8 +116,8 @@ fn fd_code(len: u8) -> u32
     }
 }
 
-/// How many bits of an FD frame follow its data to the end of its CRC: a stuff count of four bits and a CRC of 17 or
-/// 21, with six or seven fixed stuff bits.
+/// Returns how many bits an FD frame has from the end of its data to the end of its CRC: a stuff count of four bits, a CRC of 17 or
+/// 21 bits, and six or seven fixed stuff bits.
 fn fd_check_width(len: u8) -> u32
     ensures width { result ≡ fd_check_width len }
     ensures few { result ≤ 32 }
@@ -125,7 +125,7 @@ fn fd_check_width(len: u8) -> u32
     if len <= 16 { 4 + 17 + 6 } else { 4 + 21 + 7 }
 }
 
-/// An FD frame from start of frame to the bit that says whether it switches to the data bit rate.
+/// Returns the bits of an FD frame from start of frame to BRS, the bit that switches to the data bit rate.
 fn fd_head(frame: &Frame) -> Bits
     ensures bits { bits_of result ≡ fd_head frame.now }
     ensures few { result.count ≤ 36 }
@@ -135,7 +135,7 @@ fn fd_head(frame: &Frame) -> Bits
         .then(1, bit(frame.flags().brs))
 }
 
-/// Its bits after that one and before its data.
+/// Returns the bits of an FD frame between BRS and its data.
 #[tactic(auto, using(crate::proofs::Bounds::bytes_within))]
 fn fd_control(frame: &Frame) -> Bits
     ensures bits { bits_of result
@@ -149,7 +149,7 @@ fn fd_control(frame: &Frame) -> Bits
         .then(4, fd_code(frame.len()))
 }
 
-/// How many bits of an FD frame are sent to BRS, and to its last data bit.
+/// The number of bits of an FD frame from its start to BRS, and from its start to its last data bit.
 #[derive(Drop)]
 struct FdSent {
     to_brs: u32,
@@ -174,7 +174,7 @@ fn send_fd(frame: &Frame) -> FdSent
     }
 }
 
-/// The bits of an FD frame by their rates: if it switches, those after the first few go at the data bit rate.
+/// Splits the bits of an FD frame by bit rate. If the frame switches, all bits after the first `few` are sent at the data bit rate.
 fn by_rates(switches: bool, few: u32, all: u32) -> WireBits
     requires { few ≤ all }
     ensures { result ≡ by_rates switches few all }
@@ -192,7 +192,7 @@ fn by_rates(switches: bool, few: u32, all: u32) -> WireBits
     }
 }
 
-/// How many bits a frame has to its last data bit.
+/// Returns how many bits a frame has from its start to its last data bit.
 #[tactic(auto, unfolding(crate::specs::FrameBits::bits_to_data_end))]
 pub(crate) fn bits_to_data_end(frame: &Frame) -> WireBits
     ensures bits { result ≡ bits_to_data_end frame.now }
@@ -209,7 +209,7 @@ pub(crate) fn bits_to_data_end(frame: &Frame) -> WireBits
     }
 }
 
-/// How many it has to the end of its CRC.
+/// Returns how many bits a frame has from its start to the end of its CRC.
 #[tactic(auto, unfolding(crate::specs::FrameBits::bits_to_check_end))]
 pub(crate) fn bits_to_check_end(frame: &Frame) -> WireBits
     ensures bits { result ≡ bits_to_check_end frame.now }
@@ -230,8 +230,8 @@ pub(crate) fn bits_to_check_end(frame: &Frame) -> WireBits
     }
 }
 
-/// How many bits a frame has on the wire, from start of frame to end of frame, with its stuff bits. An FD frame with
-/// BRS sends those after it, to the end of its CRC, at the data bit rate; all others go at the nominal one.
+/// Returns how many bits a frame has on the wire, from start of frame to end of frame, including stuff bits. In an FD frame with
+/// BRS the bits after BRS, to the end of the CRC, are sent at the data bit rate. All other bits are sent at the nominal bit rate.
 pub fn frame_bits(frame: &Frame) -> WireBits
     ensures bits { result ≡ frame_bits_of frame.now }
     ensures few { result.nominal ≤ 1400 }

@@ -1,12 +1,10 @@
-//! Time on the wire: how many bits a frame has with its stuff bits, how many an attempt takes, and how long they last.
+//! Time on the wire: how many bits a frame has with its stuff bits, how many bits an attempt takes, and how long these bits last.
+//! The bits are counted as the Bosch CAN Specification 2.0 and ISO 11898-1 define them: a frame is a list of bits, the CRC of a
+//! classic frame is the remainder of a long division, and stuffing is a rule over the list. This crate allocates nothing, because
+//! bits are counted and not stored. A verdict does not name a bit, so this project chooses how long a failed attempt lasts.
 //!
-//! The bits are counted as the Bosch CAN Specification 2.0 and ISO 11898-1 define them: a frame is a list of bits, the
-//! CRC of a classic frame is the remainder of a long division, and stuffing is a rule over the list. Nothing here takes
-//! memory: bits are counted, not kept. How long an attempt lasts that fails is a choice of this project, since a
-//! verdict names no bit.
-//!
-//! [`Wire`] says when attempts begin and end on a bus with bit rates, and [`Schedule`] when those of a server's driver, or
-//! of a bench, do one after another; [`Load`] is how busy they keep it.
+//! [`Wire`] says when attempts begin and end on a bus with bit rates. [`Schedule`] says when the successive attempts of a server's
+//! driver or of a bench take place, and [`Load`] says how busy they keep the wire.
 #![tactic(auto)]
 
 pub mod attempts;

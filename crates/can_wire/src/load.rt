@@ -5,18 +5,18 @@ use crate::recent_load::RecentLoad;
 use crate::units::{NANOS_PER_MICRO, NANOS_PER_MILLI, NANOS_PER_SECOND};
 use std::marker::Model;
 
-/// How busy a wire is: for how many nanoseconds in each of the last three seconds, and in all.
+/// How busy a wire is: the busy nanoseconds in each of the last three seconds, and in total.
 #[derive(Debug, Clone, Copy, PartialEq, Eq)]
 pub struct Load {
-    /// The second in which the last attempt ended.
+    /// The number of the second in which the last attempt ended.
     second: u64,
-    /// For how long the wire was busy in it.
+    /// The busy nanoseconds in that second.
     latest: u64,
-    /// In the second before that.
+    /// The busy nanoseconds in the second before it.
     before: u64,
-    /// In the second before `before`.
+    /// The busy nanoseconds two seconds before it.
     earlier: u64,
-    /// In all.
+    /// The busy nanoseconds in total.
     total: u64,
 }
 
@@ -51,7 +51,7 @@ impl Model for Load {
 }
 
 impl Load {
-    /// The load of a wire before the first attempt.
+    /// Returns the load of a wire before the first attempt.
     pub fn none() -> Load
         ensures { result ≡ no_load }
     {
@@ -64,8 +64,8 @@ impl Load {
         }
     }
 
-    /// Notes an attempt, which takes the wire from one nanosecond to another, less than a second later. What is after
-    /// the boundary between two seconds counts for the second one.
+    /// Records an attempt that takes the wire from nanosecond `begin` to nanosecond `end`, for less than a second. If the attempt
+    /// crosses the boundary between two seconds, the time after the boundary counts for the second one.
     pub fn note(&mut self, begin: u64, end: u64)
         requires begin { begin < 10 ^ 19 }
         requires end { end < 10 ^ 19 }
@@ -80,14 +80,14 @@ impl Load {
         }
     }
 
-    /// For how many microseconds the wire was busy.
+    /// The total busy time of the wire in microseconds.
     pub fn busy_micros(self) -> u64
         ensures { result ≡ self.total / 1000 }
     {
         self.total / NANOS_PER_MICRO
     }
 
-    /// The last three seconds in thousandths.
+    /// Returns the load of the last three seconds in thousandths.
     pub fn recent(self) -> RecentLoad
         ensures { result ≡ recent_of self }
     {
@@ -99,7 +99,7 @@ impl Load {
         )
     }
 
-    /// Adds nanoseconds of a second that is not before the last.
+    /// Adds busy nanoseconds to a second, which is not before the last recorded second.
     fn add(&mut self, second: u64, nanos: u64)
         requires second { second < 2 ^ 34 }
         requires nanos { nanos < 10 ^ 19 }
@@ -110,7 +110,7 @@ impl Load {
         self.total = self.total.saturating_add(nanos);
     }
 
-    /// Goes on to a second: those before it become older.
+    /// Moves on to a later second, so that the recorded seconds become older.
     fn move_to(&mut self, second: u64)
         requires { second < 2 ^ 34 }
         ensures { self.new ≡ moved_to second self.old }
@@ -135,7 +135,7 @@ impl Load {
     }
 }
 
-/// The busy nanoseconds of a second and others of it: no more than the second has.
+/// Adds two numbers of busy nanoseconds in the same second. The sum is limited to the length of a second.
 fn more(nanos: u64, others: u64) -> u64
     requires { nanos ≤ 10 ^ 9 }
     ensures more { result ≡ more nanos others }

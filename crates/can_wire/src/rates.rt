@@ -5,12 +5,12 @@ use crate::wire_bits::WireBits;
 use std::marker::Model;
 use thiserror::Error;
 
-/// Bit rates that a bus may not have.
+/// The bit rates are outside the range that a bus may have.
 #[derive(Debug, Clone, Copy, PartialEq, Eq, Error)]
 #[error("bad bit rates")]
 pub struct BadBitRates;
 
-/// The bit rates of a bus: the nominal one, and the one of the data phase of FD frames that switch.
+/// The bit rates of a bus: the nominal bit rate, and the bit rate in the data phase of FD frames with BRS.
 #[derive(Debug, Clone, Copy, PartialEq, Eq)]
 pub struct Rates {
     nominal: u32,
@@ -30,7 +30,8 @@ impl Model for Rates {
 }
 
 impl Rates {
-    /// A nominal bit rate of 5,000 to 1,000,000 bits a second, and one for data, up to 20,000,000 and no slower.
+    /// Creates bit rates. The nominal bit rate is 5,000 to 1,000,000 bits a second. The data bit rate is at least the nominal bit
+    /// rate and at most 20,000,000 bits a second.
     pub fn new(nominal: u32, fast: u32) -> Result<Rates, BadBitRates>
         ensures { OkIff result (AreBitRates (rates_of nominal fast)) (rates_of nominal fast) }
     {
@@ -47,14 +48,14 @@ impl Rates {
         self.nominal
     }
 
-    /// The bit rate for data, in bits a second.
+    /// The data bit rate, in bits a second.
     pub fn fast(self) -> u32
         ensures { result ≡ self.fast }
     {
         self.fast
     }
 
-    /// How many nanoseconds bits take, rounded up.
+    /// Returns how many nanoseconds these bits take, rounded up.
     pub fn nanos(self, bits: WireBits) -> u64
         ensures { result ≡ nanos_of bits self }
     {
@@ -64,7 +65,7 @@ impl Rates {
     }
 }
 
-/// A product that cannot overflow.
+/// Returns a product that cannot overflow.
 #[tactic(auto, using(crate::proofs::Rounded::product_below))]
 fn times(a: u32, b: u32) -> u128
     ensures product { result ≡ a * b }

@@ -5,13 +5,13 @@ use crate::units::MICROS_PER_SECOND;
 use can_frame::Moment;
 use std::marker::Model;
 
-/// How many values the ten bits of a load have.
+/// The number of values that the ten bits of a load can have.
 const SHARE: u64 = 1_024;
 
-/// How busy a wire was in the last seconds, in thousandths of each, as one word, which threads can share.
+/// How busy a wire was in each of the last three seconds, in thousandths, packed in one word that threads can share.
 #[derive(Debug, Drop)]
 pub struct RecentLoad {
-    /// The number of a second in 34 bits, its load and those of the two seconds before it in 10 bits each.
+    /// The number of a second in 34 bits, then the load of that second and of the two seconds before it in 10 bits each.
     word: u64,
 }
 
@@ -24,7 +24,7 @@ impl Model for RecentLoad {
 }
 
 impl RecentLoad {
-    /// The load of a second, of the second before it and of the one before that.
+    /// Packs the load of a second, of the second before it, and of the one before that.
     pub fn new(second: u64, latest: u16, before: u16, earlier: u16) -> RecentLoad
         requires second { second < 2 ^ 34 }
         requires latest { latest ≤ 1000 }
@@ -43,22 +43,22 @@ impl RecentLoad {
         }
     }
 
-    /// What a word says.
+    /// Unpacks the load from a word.
     pub fn of_word(word: u64) -> RecentLoad
         ensures { result ≡ recent_in word }
     {
         RecentLoad { word }
     }
 
-    /// Its word.
+    /// The packed word.
     pub fn word(&self) -> u64
         ensures { recent_in result ≡ self.now }
     {
         self.word
     }
 
-    /// The load of the last whole second before a moment. It is 0 where that is after the seconds that are known, since
-    /// nothing was attempted since, and where it is before them.
+    /// Returns the load of the last whole second before a moment. It is 0 if that second is after the known seconds, because
+    /// nothing has been attempted since. It is also 0 if that second is before the known seconds.
     pub fn permille_at(&self, now: Moment) -> u16
         ensures { result ≡ permille_at now self.now }
     {

@@ -10,12 +10,12 @@ use can_fault::Verdict;
 use can_frame::{Frame, Moment};
 use std::marker::Model;
 
-/// When the attempts are that a driver or a bench makes on a bus with bit rates, one after another: each begins once there
-/// is something to attempt and the wire is free, so that a driver that is late loses nothing.
+/// When the attempts of a driver or a bench take place on a bus with bit rates. Each attempt begins as soon as there is something
+/// to attempt and the wire is free, so a driver that is late loses no time on the wire.
 #[derive(Debug, Clone, Copy, PartialEq, Eq)]
 pub struct Schedule {
     wire: Wire,
-    /// Since when there is something to attempt.
+    /// The moment since which there is something to attempt.
     since: Moment,
     /// The moment of the last attempt.
     last: Moment,
@@ -34,7 +34,7 @@ impl Model for Schedule {
 }
 
 impl Schedule {
-    /// A schedule before the first attempt.
+    /// Returns a schedule before the first attempt.
     pub fn new(timing: Timing) -> Schedule
         ensures { result ≡ nothing_yet timing }
     {
@@ -47,44 +47,44 @@ impl Schedule {
         }
     }
 
-    /// Its wire.
+    /// The wire of the bus.
     pub fn wire(&self) -> Wire
         ensures { result ≡ self.now.wire }
     {
         self.wire
     }
 
-    /// How busy its attempts keep the wire. Those for which no frame waited do not.
+    /// How busy the attempts keep the wire. Attempts without a waiting frame do not count as busy.
     pub fn load(&self) -> Load
         ensures { result ≡ self.now.load }
     {
         self.load
     }
 
-    /// Sets since when there is something to attempt: the next attempt begins then, or once the wire is free.
+    /// Sets the moment since which there is something to attempt. The next attempt begins at that moment, or when the wire is free
+    /// if that is later.
     pub fn set_since(&mut self, moment: Moment)
         ensures { self.new ≡ record self.old { since = moment } }
     {
         self.since = moment;
     }
 
-    /// How many nanoseconds it is from a moment until the next attempt begins: 0 if that is due.
+    /// Returns how many nanoseconds after `now` the next attempt begins, or 0 if it is already due.
     pub fn early(&self, now: Moment) -> u64
         ensures { result ≡ next_begin self.now - now * 1000 }
     {
         self.wire.begin(self.since).saturating_sub(nanos_of(now))
     }
 
-    /// How many nanoseconds ago the next attempt would have begun, as seen from a moment: 0 if it is not due before
-    /// that.
+    /// Returns how many nanoseconds before `now` the next attempt was due, or 0 if it is not due before `now`.
     pub fn late(&self, now: Moment) -> u64
         ensures { result ≡ now * 1000 - next_begin self.now }
     {
         nanos_of(now).saturating_sub(self.wire.begin(self.since))
     }
 
-    /// The moment of the next attempt: the end of the frame that it tries, or of the attempt where it tries none. It is
-    /// never before that of the last.
+    /// Returns the moment of the next attempt: the end of the frame, or the end of the attempt if there is no frame. It is never
+    /// before the moment of the last attempt.
     pub fn next_moment(&self, frame: Option<&Frame>) -> Moment
         ensures moment { result ≡ next_moment (option_map (λ f. f.now) frame.entry) self.now }
         ensures rising { self.now.last ≤ result }
@@ -97,7 +97,8 @@ impl Schedule {
         later_of(self.last, self.wire.moment_after(self.since, lasts))
     }
 
-    /// The moment of the next attempt where it takes no time: that of its begin. It is never before that of the last.
+    /// Returns the moment of the next attempt if the attempt takes no time: the moment at which it begins. It is never before the
+    /// moment of the last attempt.
     pub fn begin_moment(&self) -> Moment
         ensures moment { result ≡ begin_moment self.now }
         ensures rising { self.now.last ≤ result }
@@ -105,7 +106,8 @@ impl Schedule {
         later_of(self.last, self.wire.moment_after(self.since, 0))
     }
 
-    /// Goes on after an attempt to send a frame, which was struck by this verdict and ended in this class.
+    /// Advances the schedule past an attempt to send a frame. `verdict` is the fault that struck the attempt, and `class` is its
+    /// outcome.
     pub fn note_tried(&mut self, frame: &Frame, class: Class, verdict: Verdict)
         ensures { self.new ≡ after_tried frame.now class verdict self.old }
     {
@@ -116,7 +118,7 @@ impl Schedule {
         self.load.note(begin, self.wire.free());
     }
 
-    /// Goes on after an attempt for which no frame waited.
+    /// Advances the schedule past an attempt for which no frame was waiting.
     pub fn note_idle(&mut self)
         ensures { self.new ≡ after_idle self.old }
     {
@@ -125,7 +127,7 @@ impl Schedule {
         self.wire = self.wire.taken_for(self.since, lasts);
     }
 
-    /// Goes on after an attempt that took no time.
+    /// Advances the schedule past an attempt that took no time.
     pub fn note_no_time(&mut self)
         ensures { self.new ≡ after_no_time self.old }
     {
@@ -134,7 +136,7 @@ impl Schedule {
     }
 }
 
-/// The later of two moments.
+/// Returns the later of two moments.
 fn later_of(one: Moment, other: Moment) -> Moment
     ensures { result ≡ max one other }
 {

@@ -11,10 +11,10 @@ use can_fault::Verdict;
 use can_frame::Frame;
 use std::marker::Model;
 
-/// The bits of an attempt for which no frame waits.
+/// The number of bits of an attempt for which no frame is waiting.
 const IDLE_BITS: u32 = 11;
 
-/// How fast the bits of a bus go.
+/// The bit rates of a bus, from which the duration of frames and attempts follows.
 #[derive(Debug, Clone, Copy, PartialEq, Eq)]
 pub struct Timing {
     rates: Rates,
@@ -31,8 +31,8 @@ impl Model for Timing {
 }
 
 impl Timing {
-    /// A nominal bit rate, and one for data, to which FD frames with BRS switch. Without the second all bits go at the
-    /// nominal bit rate.
+    /// Creates a timing with a nominal bit rate and a data bit rate, to which FD frames with BRS switch. Without a data bit rate
+    /// all bits are sent at the nominal bit rate.
     pub fn new(nominal: u32, fast: Option<u32>) -> Result<Timing, BadBitRates>
         ensures { OkIff result (AreBitRates (timing_of nominal fast).rates)
             (timing_of nominal fast) }
@@ -42,37 +42,36 @@ impl Timing {
         })
     }
 
-    /// Its nominal bit rate, in bits a second.
+    /// The nominal bit rate, in bits a second.
     pub fn nominal(self) -> u32
         ensures { result ≡ self.rates.nominal }
     {
         self.rates.nominal()
     }
 
-    /// Its bit rate for data, in bits a second: the nominal one where it has none.
+    /// The data bit rate, in bits a second. It is the nominal bit rate if the bus has no data bit rate.
     pub fn fast(self) -> u32
         ensures { result ≡ self.rates.fast }
     {
         self.rates.fast()
     }
 
-    /// How many nanoseconds a frame takes, from start of frame to end of frame, rounded up.
+    /// Returns how many nanoseconds a frame takes, from start of frame to end of frame, rounded up.
     pub fn frame_nanos(self, frame: &Frame) -> u64
         ensures { result ≡ frame_nanos_of self frame.now }
     {
         self.rates.nanos(frame_bits(frame))
     }
 
-    /// How many nanoseconds an attempt to send a frame takes, from start of frame until the next one may begin, if it
-    /// was struck by this verdict and ended in this class: rounded up.
+    /// Returns how many nanoseconds an attempt to send a frame takes, from start of frame until the next attempt may begin, rounded
+    /// up. `verdict` is the fault that struck the attempt, and `class` is its outcome.
     pub fn attempt_nanos(self, frame: &Frame, class: Class, verdict: Verdict) -> u64
         ensures { result ≡ attempt_nanos_of self frame.now class verdict }
     {
         self.rates.nanos(attempt_bits(frame, class, verdict))
     }
 
-    /// How many nanoseconds an attempt takes for which no frame waits, where such attempts take time: 11 bits, rounded
-    /// up.
+    /// Returns how many nanoseconds an attempt takes if no frame is waiting and such attempts take time: 11 bits, rounded up.
     pub fn idle_nanos(self) -> u64
         ensures { result ≡ idle_nanos_of self }
     {

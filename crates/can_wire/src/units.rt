@@ -1,13 +1,13 @@
-//! How many of one unit of time another has.
+//! Conversion factors between units of time.
 
-/// How many nanoseconds a second has.
+/// The number of nanoseconds in a second.
 pub const NANOS_PER_SECOND: u64 = 1_000_000_000;
 
-/// How many nanoseconds a thousandth of a second has.
+/// The number of nanoseconds in a millisecond.
 pub const NANOS_PER_MILLI: u64 = 1_000_000;
 
-/// How many nanoseconds a microsecond has.
+/// The number of nanoseconds in a microsecond.
 pub const NANOS_PER_MICRO: u64 = 1_000;
 
-/// How many microseconds a second has.
+/// The number of microseconds in a second.
 pub const MICROS_PER_SECOND: u64 = 1_000_000;

@@ -9,7 +9,7 @@ use std::marker::Model;
 /// The last nanosecond of the last moment.
 const LAST: u64 = 9_999_999_999_999_999_999;
 
-/// The wire of a bus: how fast its bits go, and from when on it is free.
+/// The wire of a bus: the timing of its bits, and the time at which the wire is free.
 #[derive(Debug, Clone, Copy, PartialEq, Eq)]
 pub struct Wire {
     timing: Timing,
@@ -30,21 +30,21 @@ impl Model for Wire {
 }
 
 impl Wire {
-    /// The wire of a bus before its first frame.
+    /// Returns the wire of a bus before its first frame.
     pub fn new(timing: Timing) -> Wire
         ensures { result ≡ unused timing }
     {
         Wire { timing, free: 0 }
     }
 
-    /// How fast its bits go.
+    /// The timing of the bits on the wire.
     pub fn timing(self) -> Timing
         ensures { result ≡ self.timing }
     {
         self.timing
     }
 
-    /// The nanosecond from which on it is free.
+    /// The nanosecond from which the wire is free.
     pub fn free(self) -> u64
         ensures free { result ≡ self.free }
         ensures below { result < 10 ^ 19 }
@@ -52,14 +52,15 @@ impl Wire {
         self.free
     }
 
-    /// The moment at which it is free.
+    /// The moment at which the wire is free.
     pub fn free_at(self) -> Moment
         ensures { result ≡ moment_of self.free }
     {
         moment_of(self.free)
     }
 
-    /// The nanosecond at which the next attempt begins, if this moment is set.
+    /// Returns the nanosecond at which the next attempt begins. It begins at the moment `set`, or when the wire is free if that is
+    /// later.
     pub fn begin(self, set: Moment) -> u64
         ensures begin { result ≡ begin_of set self }
         ensures below { result < 10 ^ 19 }
@@ -67,21 +68,21 @@ impl Wire {
         self.free.max(nanos_of(set))
     }
 
-    /// Whether the next attempt would begin before a moment, if this one is set.
+    /// Whether the next attempt begins before a moment, if it begins at `set` or when the wire is free.
     pub fn begins_before(self, set: Moment, moment: Moment) -> bool
         ensures { result ≡ is_before set self moment }
     {
         self.begin(set) < nanos_of(moment)
     }
 
-    /// The moment this many nanoseconds after the next attempt begins.
+    /// Returns the moment that is `nanos` nanoseconds after the next attempt begins.
     pub fn moment_after(self, set: Moment, nanos: u64) -> Moment
         ensures { result ≡ moment_after set nanos self }
     {
         moment_of(later(self.begin(set), nanos))
     }
 
-    /// The wire after that attempt, which takes this many nanoseconds.
+    /// Returns the wire after the next attempt, which takes `nanos` nanoseconds.
     pub fn taken_for(self, set: Moment, nanos: u64) -> Wire
         ensures { result ≡ taken_for set nanos self }
     {
@@ -92,7 +93,7 @@ impl Wire {
     }
 }
 
-/// This many nanoseconds later, but no later than the last moment.
+/// Returns the time that is `nanos` nanoseconds after `start`, but no later than the last moment.
 fn later(start: u64, nanos: u64) -> u64
     ensures later { result ≡ later start nanos }
     ensures below { result < 10 ^ 19 }
@@ -100,7 +101,7 @@ fn later(start: u64, nanos: u64) -> u64
     start.saturating_add(nanos).min(LAST)
 }
 
-/// The nanosecond at which a moment begins.
+/// Returns the nanosecond at which a moment begins.
 pub(crate) fn nanos_of(moment: Moment) -> u64
     ensures nanos { result ≡ moment * 1000 }
     ensures below { result < 10 ^ 19 }
@@ -108,7 +109,7 @@ pub(crate) fn nanos_of(moment: Moment) -> u64
     moment.micros() * NANOS_PER_MICRO
 }
 
-/// The moment of a nanosecond.
+/// Returns the moment in which a nanosecond lies.
 fn moment_of(nanos: u64) -> Moment
     requires { nanos < 10 ^ 19 }
     ensures { result ≡ moment_of nanos }
