@@ -1,23 +1,22 @@
 use crate::verdict::Verdict;
 
-/// Where the verdicts of a bus's attempts come from: a finite map from the numbers of attempts to
-/// verdicts. An attempt's number is its place among the attempts that were tried, from 0; an idle
-/// attempt has none.
+/// A source of the verdicts on a bus's attempts: a finite map from attempt numbers to verdicts. Attempts that try a frame are
+/// numbered from 0. An idle attempt has no number.
 pub trait FaultSource {
     ghost use Rattle.std.specs.Prelude.{◌≡◌};
     ghost use Rattle.can_fault.specs.Sources.{VerdictMap, verdict_in};
 
-    /// The source's map.
+    /// The map of the source.
     ghost verdicts: { Self → VerdictMap };
 
-    /// The verdict of the attempt with this number: what the source's map has there, and `Good`
-    /// where it has nothing. Asking changes nothing.
+    /// Returns the verdict on the attempt with this number: the verdict in the source's map, or `Good` if the map has none. The
+    /// call does not change the map.
     fn verdict(&mut self, attempt: u64) -> Verdict
         ensures answer { result ≡ verdict_in (verdicts self.old) attempt }
         ensures keeps { verdicts self.new ≡ verdicts self.old };
 }
 
-/// The source without faults: every attempt is `Good`.
+/// A source without faults: the verdict on every attempt is `Good`.
 #[derive(Debug, Clone, Copy, PartialEq, Eq)]
 pub struct Perfect;
 

@@ -12,22 +12,22 @@ ghost use Rattle.can_fault.specs.declared.verdict.Verdict.{Verdict};
 
 use crate::script_lines::LineFault;
 
-/// A line gives an attempt a verdict exactly where it is the attempt's number, a space, and one of the
-/// verdict's spellings.
+/// A line gives a verdict on an attempt exactly if it consists of the attempt's number, a space, and one of the spellings of the
+/// verdict.
 pub fn a_line_is_read_as_it_is_spelled()
     ensures { (names : List (List ℕ)) (line : List ℕ) (attempt : ℕ) (verdict : Verdict) →
         (line_spelling names line ≡ Ok (Some (attempt, verdict)))
         ↔ SpellsEntry names line attempt verdict }
 {}
 
-/// A line names an unknown interface exactly where all else is right: a number, a local fault, and
-/// well-formed names, of which the bus lacks some.
+/// A line has an unknown interface exactly if the rest of the line is valid: it has a number, a local fault, and well-formed names,
+/// of which the bus lacks at least one.
 pub fn an_unknown_interface_is_the_only_fault_of_its_line()
     ensures { (names : List (List ℕ)) (line : List ℕ) →
         (line_spelling names line ≡ Err LineFault.UnknownInterface) ↔ LacksInterface names line }
 {}
 
-/// A set that names spell has an interface exactly where one of them is the interface's.
+/// The set that a list of names spells contains an interface exactly if one of the names belongs to the interface.
 pub fn a_set_has_the_interfaces_that_are_named()
     ensures { (names pieces : List (List ℕ)) (iface : ℕ) →
         iface < length names →
@@ -35,7 +35,7 @@ pub fn a_set_has_the_interfaces_that_are_named()
         ≡ list_any (λ piece. option_eq nat_eq (place_of names piece) (Some iface)) pieces }
 {}
 
-/// A script has for an attempt exactly the verdict that one of its lines gives.
+/// A script has a verdict on an attempt exactly if one of its lines gives that verdict.
 pub fn a_script_is_what_its_lines_say()
     ensures { (names : List (List ℕ)) (text : List ℕ)
         (verdicts : VerdictMap) (attempt : ℕ) (verdict : Verdict) →
@@ -43,7 +43,7 @@ pub fn a_script_is_what_its_lines_say()
         (get verdicts attempt ≡ Some verdict) ↔ Gives (sayings names text) attempt verdict }
 {}
 
-/// No two lines of a script give a verdict to one attempt.
+/// No two lines of a script give a verdict on the same attempt.
 pub fn no_attempt_has_two_verdicts()
     ensures { (names : List (List ℕ)) (text : List ℕ) (verdicts : VerdictMap)
         (first second attempt : ℕ) (one other : Verdict) →
@@ -52,13 +52,13 @@ pub fn no_attempt_has_two_verdicts()
         slice_get (sayings names text) second ≡ Some (Ok (Some (attempt, other))) → first ≡ second }
 {}
 
-/// A text has a fault exactly where this is the fault of its first faulty line.
+/// The fault that is reported for a text is always the fault of its first faulty line.
 pub fn the_first_fault_is_reported()
     ensures { (names : List (List ℕ)) (text : List ℕ) (fault : ScriptError) →
         (script_spelling names text ≡ Err fault) ↔ IsFirstFault (sayings names text) fault }
 {}
 
-/// The empty text spells the perfect source.
+/// The empty text spells the source without faults.
 pub fn the_empty_text_is_perfect()
     ensures { (names : List (List ℕ)) → script_spelling names [] ≡ Ok no_verdicts }
 {}

@@ -1,7 +1,6 @@
-//! The faults of a bus: the verdict of each attempt, and the sources that verdicts come from.
-//!
-//! A source is a finite map from the numbers of attempts to verdicts. It returns what that map has
-//! at the attempt's number, and `Good` elsewhere, however often it is asked.
+//! The faults of a bus: the verdict on each attempt, and the sources of these verdicts. A source is a finite map from attempt
+//! numbers to verdicts. It returns the verdict that the map has for an attempt, or `Good` if the map has none. Asking twice gives
+//! the same verdict.
 #![tactic(auto)]
 
 pub mod fault_source;

@@ -11,16 +11,16 @@ use std::collections::HashMap;
 use std::marker::Model;
 use thiserror::Error;
 
-/// Why a text is no script. Lines are numbered from 1.
+/// The reason why a text is not a valid script. Lines are numbered from 1.
 #[derive(Debug, Clone, Copy, PartialEq, Eq, Error)]
 pub enum ScriptError {
-    /// The line of this number is none that a script has.
+    /// The line with this number is malformed.
     #[error("script line {0}: bad line")]
     BadLine(usize),
-    /// The line of this number names an interface that the bus does not have.
+    /// The line with this number names an interface that the bus does not have.
     #[error("script line {0}: unknown interface")]
     UnknownInterface(usize),
-    /// The line of this number gives a verdict to an attempt that has one.
+    /// The line with this number gives a second verdict on the same attempt.
     #[error("script line {0}: repeated attempt")]
     RepeatedAttempt(usize),
     #[error("no memory")]
@@ -41,8 +41,8 @@ impl LineFault {
     }
 }
 
-/// A source of verdicts that was read from a text: the verdicts of the attempts that it names, and
-/// `Good` for every other.
+/// A source of verdicts that was read from a text. It has a verdict on each attempt that the text lists, and `Good` for every other
+/// attempt.
 #[derive(Debug, Drop)]
 pub struct Script {
     verdicts: HashMap<u64, Verdict>,
@@ -64,7 +64,7 @@ impl Script {
     ghost use Rattle.can_fault.specs.Sources.{no_verdicts};
     ghost use Rattle.can_fault.specs.Scripts.{line_spelling, TakesLine};
 
-    /// The script without lines.
+    /// Returns a script without lines.
     pub fn new(alloc: Global) -> Script
         ensures { result ≡ no_verdicts }
     {
@@ -73,13 +73,12 @@ impl Script {
         }
     }
 
-    /// The script that a text spells, for a bus with these names, or the first fault of the text. The
-    /// time grows with the text's length.
+    /// Reads a script from a text, for a bus with these names. Returns the first fault if the text has one. The time grows with the
+    /// length of the text.
     ///
-    /// A line is `NUMBER VERDICT`, with one space between words: `NUMBER` is 1 to 8 decimal digits, and
-    /// `VERDICT` is `good`, `lastbit`, `global bit`, `global form`, or one of `local stuff NAMES`,
-    /// `local crc NAMES` and `local form NAMES` with names of interfaces joined by commas. Empty lines
-    /// and lines that begin with `#` say nothing.
+    /// A line is `NUMBER VERDICT`, with one space between words. `NUMBER` is 1 to 8 decimal digits. `VERDICT` is `good`, `lastbit`,
+    /// `global bit`, `global form`, or one of `local stuff NAMES`, `local crc NAMES` and `local form NAMES`, with names of
+    /// interfaces joined by commas. Empty lines and lines that begin with `#` are ignored.
     pub fn read(alloc: Global, text: &str, names: &Names) -> Result<Script, ScriptError>
         ensures { Reads names.now text.now result }
     {
@@ -94,8 +93,8 @@ impl Script {
         Ok(script)
     }
 
-    /// Takes what a line says, which has this number in its text. After an error the script is not
-    /// meant to be used.
+    /// Adds the verdict of a line to the script. `number` is the number of the line in the text. After an error the script should
+    /// not be used.
     pub fn take_line(&mut self, line: &str, number: usize, names: &Names) -> Result<(), ScriptError>
         ensures { TakesLine (line_spelling names.now line.now) number self.old result self.new }
     {
@@ -112,7 +111,7 @@ impl Script {
         Ok(())
     }
 
-    /// The verdict that a line gives the attempt with this number, if one does.
+    /// Returns the verdict that a line of the script gives on the attempt with this number, if there is such a line.
     pub fn line(&self, attempt: u64) -> Option<Verdict>
         ensures { result ≡ get self.now attempt }
     {
@@ -126,7 +125,7 @@ impl FaultSource for Script {
 
     ghost verdicts = { λ script. script };
 
-    /// The verdict of the attempt with this number.
+    /// Returns the verdict on the attempt with this number.
     fn verdict(&mut self, attempt: u64) -> Verdict
         ensures answer { result ≡ verdict_in self.old attempt }
         ensures keeps { self.new ≡ self.old }

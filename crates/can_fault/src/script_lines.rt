@@ -6,14 +6,14 @@ ghost use Rattle.can_fault.specs.Scripts.{word, after, number_spelling, set_spel
 use crate::verdict::{GlobalKind, LocalKind, Verdict};
 use can_frame::{IfaceSet, Names, is_name, read_decimal};
 
-/// What is wrong with a line of a script, or a part of one, by itself.
+/// A fault in a single line of a script, or in a part of a line.
 #[derive(Debug, Clone, Copy, PartialEq, Eq)]
 pub enum LineFault {
     BadLine,
     UnknownInterface,
 }
 
-/// What a line of a script says: nothing, or the verdict of the attempt with a number.
+/// Reads a line of a script. Returns the number of an attempt and the verdict on it, or `None` for an empty line or a comment.
 pub fn read_line(line: &str, names: &Names) -> Result<Option<(u64, Verdict)>, LineFault>
     ensures { result ≡ line_spelling names.now line.now }
 {
@@ -33,7 +33,7 @@ fn read_entry(line: &str, names: &Names) -> Result<Option<(u64, Verdict)>, LineF
     Ok(Some((number, verdict)))
 }
 
-/// The verdict that a text spells, for a bus with these names.
+/// Reads a verdict, for a bus with these names.
 #[tactic(auto, unfolding(crate::specs::Scripts::verdict_spelling))]
 pub fn read_verdict(text: &str, names: &Names) -> Result<Verdict, LineFault>
     ensures { result ≡ verdict_spelling names.now text.now }
@@ -54,7 +54,7 @@ pub fn read_verdict(text: &str, names: &Names) -> Result<Verdict, LineFault>
     }
 }
 
-// What follows `local`.
+// Reads the part of a verdict after `local`.
 #[tactic(auto, unfolding(crate::specs::Scripts::local_spelling))]
 fn read_local(text: &str, names: &Names) -> Result<Verdict, LineFault>
     ensures { result ≡ local_spelling names.now text.now }
@@ -79,7 +79,7 @@ fn read_kind(word: &str) -> Option<LocalKind>
     }
 }
 
-/// The interfaces whose names a text joins by commas.
+/// Reads a set of interfaces from a list of names that are joined by commas.
 pub fn read_set(list: &str, names: &Names) -> Result<IfaceSet, LineFault>
     ensures { result ≡ set_spelling names.now list.now }
 {
@@ -96,21 +96,22 @@ pub fn read_set(list: &str, names: &Names) -> Result<IfaceSet, LineFault>
     Ok(set)
 }
 
-// Whether the pieces between the commas are names that interfaces may have.
+// Whether the pieces between the commas are valid interface names.
 fn are_good(list: &str) -> bool
     ensures { result ≡ list_all is_name_of (names_in list.now) }
 {
     list.split(',').all(|name| is_name(name))
 }
 
-// 1 to 8 decimal digits.
+// Reads a number of 1 to 8 decimal digits.
 fn read_number(text: &str) -> Option<u64>
     ensures { result ≡ number_spelling text.now }
 {
     read_decimal(text.as_bytes(), 8)
 }
 
-/// The text before the first space, and the text after it; the whole and nothing where there is no space.
+/// Splits a text at its first space and returns the text before and after the space. If there is no space, returns the whole text
+/// and an empty text.
 pub fn cut(text: &str) -> (&str, &str)
     ensures word { result.0.now ≡ word text.now }
     ensures after { result.1.now ≡ after text.now }

@@ -1,35 +1,35 @@
 use can_frame::IfaceSet;
 
-/// A fault that every interface sees, as the transmitter's error flag destroys the frame for all.
+/// A fault that every interface sees, because the transmitter's error flag destroys the frame for all of them.
 #[derive(Debug, Clone, Copy, PartialEq, Eq)]
 pub enum GlobalKind {
-    /// A bit was read back otherwise than it was sent.
+    /// The transmitter read back a bit that differs from the bit it had sent.
     Bit,
-    /// A fixed part of the frame had a wrong bit.
+    /// A bit in a fixed part of the frame was wrong.
     Form,
 }
 
-/// A fault that only the interfaces named with it see.
+/// A fault that only the interfaces in the verdict's set see.
 #[derive(Debug, Clone, Copy, PartialEq, Eq)]
 pub enum LocalKind {
-    /// Six equal bits in a row where stuffing allows five.
+    /// There were six equal bits in a row, but stuffing allows only five.
     Stuff,
-    /// The checksum was another.
+    /// The received checksum was wrong.
     Crc,
-    /// A fixed part of the frame had a wrong bit.
+    /// A bit in a fixed part of the frame was wrong.
     Form,
 }
 
-/// What becomes of one attempt to send a frame.
+/// The faults that strike one attempt to send a frame.
 #[derive(Debug, Clone, Copy, PartialEq, Eq)]
 pub enum Verdict {
     /// No fault.
     Good,
     /// A fault for the whole bus.
     Global(GlobalKind),
-    /// A fault for the receivers among these interfaces only.
+    /// A fault that strikes only the receivers in this set.
     Local(IfaceSet, LocalKind),
-    /// Only the transmitter sees a fault, in the last bit of end of frame: the receivers have the
-    /// frame already, and it is sent again.
+    /// Only the transmitter sees a fault, in the last bit of end of frame. The receivers already have the frame, and it is sent
+    /// again.
     LastBit,
 }
