@@ -1,8 +1,8 @@
-/// Who acknowledges the frames of a bus.
+/// The nodes that acknowledge the frames of a bus.
 #[derive(Debug, Clone, Copy, PartialEq, Eq)]
 pub enum AckMode {
-    /// Each frame that is not destroyed is acknowledged, as by a node that is always there.
+    /// Every frame that is not destroyed is acknowledged, as if another node were always present.
     Always,
-    /// The receivers acknowledge, so a frame that none of them got right is not acknowledged.
+    /// Only the receivers acknowledge. A frame that no receiver got without a fault is not acknowledged.
     Peers,
 }

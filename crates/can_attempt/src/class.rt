@@ -1,13 +1,12 @@
 ghost use Rattle.std.specs.Prelude.{◌≡◌};
 ghost use Rattle.can_attempt.specs.Words.{class_word};
 
-/// What becomes of a frame in one attempt.
+/// The outcome of an attempt to send a frame.
 #[derive(Debug, Clone, Copy, PartialEq, Eq)]
 pub enum Class {
-    /// The frame went over the bus whole, and leaves its queue.
+    /// The whole frame was sent. It leaves its queue.
     Done,
-    /// The receivers have the frame, but its transmitter saw a fault in the last bit of end of frame
-    /// and sends it again.
+    /// The receivers have the frame, but the transmitter saw a fault in the last bit of end of frame and sends it again.
     LastBit,
     /// An error flag destroyed the frame for everybody. It is sent again.
     Destroyed,
@@ -16,7 +15,7 @@ pub enum Class {
 }
 
 impl Class {
-    /// The word for it in records and in what the bench puts out: at most 9 bytes, all lower case letters.
+    /// The word for this outcome in records and in the output of the bench. It has at most 9 bytes, all lower-case letters.
     pub fn word(self) -> &'static [u8]
         ensures { result.now ≡ class_word self }
     {

@@ -2,10 +2,10 @@ use crate::class::Class;
 use can_confine::Counters;
 use can_frame::IfaceSet;
 
-/// All that follows from an attempt.
+/// The result of an attempt.
 #[derive(Debug, Clone, Copy, PartialEq, Eq)]
 pub struct Judgement {
-    /// What becomes of the frame.
+    /// The outcome of the attempt.
     pub class: Class,
     /// The receivers that accept the frame.
     pub accepted: IfaceSet,
@@ -13,6 +13,6 @@ pub struct Judgement {
     pub hit: IfaceSet,
     /// The error counters after the attempt, by interface number.
     pub counters: [Counters; 16],
-    /// The winner, if the attempt took it off the bus.
+    /// The winner, if the attempt took it off the bus. Otherwise the set is empty.
     pub off: IfaceSet,
 }

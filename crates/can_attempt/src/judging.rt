@@ -14,7 +14,7 @@ use can_confine::Counters;
 use can_fault::Verdict;
 use can_frame::{Iface, IfaceSet};
 
-/// What becomes of the frame.
+/// Returns the outcome of the attempt.
 fn class_of(verdict: Verdict, ack: AckMode, seen: &Survey) -> Class
     ensures { result ≡ class_when (is_global verdict || seen.now.is_hit_active)
         (is_always ack || seen.now.is_heard) (is_last_bit verdict) }
@@ -30,7 +30,7 @@ fn class_of(verdict: Verdict, ack: AckMode, seen: &Survey) -> Class
     }
 }
 
-/// The winner's counters after an attempt of this class.
+/// Returns the winner's counters after an attempt with this outcome.
 fn winner_after(class: Class, counters: Counters) -> Counters
     requires { counters.tec < 256 }
     ensures { result ≡ all_stepped counters (winner_step class (state_of counters)) }
@@ -42,7 +42,7 @@ fn winner_after(class: Class, counters: Counters) -> Counters
     }
 }
 
-/// A receiver's counters after an attempt of this class, which a local fault struck or not.
+/// Returns a receiver's counters after an attempt with this outcome. `is_hit` is true if a local fault struck the receiver.
 fn receiver_after(class: Class, is_hit: bool, counters: Counters) -> Counters
     ensures { result ≡ all_stepped counters (receiver_step class is_hit) }
 {
@@ -55,7 +55,7 @@ fn receiver_after(class: Class, is_hit: bool, counters: Counters) -> Counters
     }
 }
 
-/// The counters of the interface after an attempt of this class.
+/// Returns an interface's counters after an attempt with this outcome.
 fn counters_after(
     nodes: &Nodes,
     winner: Iface,
@@ -78,7 +78,7 @@ fn counters_after(
     }
 }
 
-/// All counters after an attempt of this class: those of interfaces that are not there stay.
+/// Returns all counters after an attempt with this outcome. Counters that belong to no interface do not change.
 fn all_counters_after(
     nodes: &Nodes,
     winner: Iface,
@@ -100,7 +100,8 @@ fn all_counters_after(
     counters
 }
 
-/// The receivers that accept the frame in an attempt of this class, of those that got every bit right.
+/// Returns the receivers that accept the frame in an attempt with this outcome. `unharmed` is the set of receivers that no local
+/// fault struck.
 fn accepted_of(class: Class, unharmed: IfaceSet) -> IfaceSet
     ensures { (t : Transmission) → unharmed ≡ set_of (unhurt t) →
         result ≡ set_of (accepted_in class t) }
@@ -111,7 +112,7 @@ fn accepted_of(class: Class, unharmed: IfaceSet) -> IfaceSet
     }
 }
 
-/// The winner, if these are counters of an interface that is bus off.
+/// Returns a set with the winner if these counters are bus off, and the empty set otherwise.
 fn off_of(winner: Iface, counters: Counters) -> IfaceSet
     ensures { result ≡ set_of (if is_off (state_of counters) then winner ∷ [] else []) }
 {
@@ -122,8 +123,8 @@ fn off_of(winner: Iface, counters: Counters) -> IfaceSet
     }
 }
 
-/// Whether nothing can go wrong in an attempt: no fault, somebody who acknowledges, and all counts 0.
-/// It looks at all 16 places.
+/// Whether nothing can go wrong in an attempt: there is no fault, at least one node acknowledges, and all counts are 0. The
+/// function looks at all 16 places.
 pub fn is_fault_free(nodes: &Nodes, verdict: Verdict, ack: AckMode) -> bool
     ensures { IsTrue result → IsFaultFree nodes.now verdict ack }
 {
@@ -132,7 +133,7 @@ pub fn is_fault_free(nodes: &Nodes, verdict: Verdict, ack: AckMode) -> bool
         && nodes.are_at_start()
 }
 
-/// All interfaces of a bus but one.
+/// Returns all interfaces of a bus except one.
 fn others(count: u8, one: Iface) -> IfaceSet
     requires count { count ≤ 16 }
     requires there { one < count }
@@ -142,7 +143,7 @@ fn others(count: u8, one: Iface) -> IfaceSet
     IfaceSet(all ^ (1 << one.number()))
 }
 
-/// What follows where nothing can go wrong: the others accept the frame, and all counts stay.
+/// Judges an attempt in which nothing can go wrong: all other interfaces accept the frame, and the counts do not change.
 fn judge_fault_free(nodes: &Nodes, winner: Iface) -> Judgement
     requires count { nodes.now.count ≤ 16 }
     requires there { winner < nodes.now.count }
@@ -157,7 +158,7 @@ fn judge_fault_free(nodes: &Nodes, winner: Iface) -> Judgement
     }
 }
 
-/// What follows where each interface has to be looked at.
+/// Judges an attempt by looking at each interface.
 #[inline(never)]
 fn judge_each(nodes: &Nodes, winner: Iface, verdict: Verdict, ack: AckMode) -> Judgement
     requires count { nodes.now.count ≤ 16 }
@@ -177,9 +178,10 @@ fn judge_each(nodes: &Nodes, winner: Iface, verdict: Verdict, ack: AckMode) -> J
     }
 }
 
-/// Judges an attempt of the winner to send a frame: what becomes of it, who accepts it and who was hit, the
-/// error counters after it, and whether the winner went off the bus. The winner is below `count`, which is
-/// 1 to 16, and is neither bus off nor down. It looks at each interface three times at most and takes no memory.
+/// Judges an attempt of the winner to send a frame. The result has the outcome, the receivers that accept the frame, the receivers
+/// that a local fault struck, the error counters after the attempt, and whether the winner went bus off. The winner's number is
+/// below `count`, which is 1 to 16, and the winner is neither bus off nor down. The function looks at each interface at most three
+/// times and allocates nothing.
 pub fn judge(nodes: &Nodes, winner: Iface, verdict: Verdict, ack: AckMode) -> Judgement
     requires count { nodes.now.count ≤ 16 }
     requires there { winner < nodes.now.count }
@@ -190,7 +192,7 @@ pub fn judge(nodes: &Nodes, winner: Iface, verdict: Verdict, ack: AckMode) -> Ju
     judge_known(nodes, winner, verdict, ack, is_fault_free)
 }
 
-/// Judges an attempt as `judge` does, where it was asked before whether nothing can go wrong (`is_fault_free`).
+/// Judges an attempt as `judge` does. The caller has already called `is_fault_free` and passes its result.
 pub fn judge_known(
     nodes: &Nodes,
     winner: Iface,

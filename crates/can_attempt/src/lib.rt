@@ -1,8 +1,6 @@
-//! One attempt to send a frame: what becomes of it, who accepts it, and what it does to each
-//! interface's error counters.
-//!
-//! `judge` answers exactly what the definitions in `specs/Attempts.antt` say of the winner, the live
-//! receivers, the verdict and the acknowledgement mode. It takes no memory.
+//! One attempt to send a frame: its outcome, the receivers that accept the frame, and the change to each interface's error
+//! counters. `judge` returns exactly the result that `specs/Attempts.antt` defines for the winner, the live receivers, the verdict
+//! and the acknowledgement mode. It allocates nothing.
 #![tactic(auto)]
 
 pub mod ack_mode;

@@ -1,13 +1,13 @@
 use can_confine::Counters;
 use can_frame::Iface;
 
-/// The interfaces of a bus as an attempt finds them: how many there are, 1 to 16, and their error
-/// counters by interface number. From place `count` on, counters belong to nobody.
+/// The interfaces of a bus at the start of an attempt: their number, 1 to 16, and their error counters by interface number.
+/// Counters from place `count` on belong to no interface.
 #[derive(Debug, Clone, Copy, PartialEq, Eq)]
 pub struct Nodes {
-    /// How many interfaces the bus has.
+    /// The number of interfaces of the bus.
     pub count: u8,
-    /// Their error counters.
+    /// The error counters of the interfaces.
     pub counters: [Counters; 16],
 }
 
@@ -23,14 +23,14 @@ impl Nodes {
         self.counters[iface.number() as usize]
     }
 
-    /// Whether an interface is bus off or down, so that it takes no part.
+    /// Whether an interface is bus off or down, and so takes no part in attempts.
     pub fn is_silent(&self, iface: Iface) -> bool
         ensures { result ≡ is_silent (state_of (counts_at self.now iface)) }
     {
         self.counters_of(iface).state().is_silent()
     }
 
-    /// Whether all counts are 0 and no interface is down, as on a bus without faults. There is no branch for each interface.
+    /// Whether all counts are 0 and no interface is down, as on a bus without faults. The loop has no branch for each interface.
     pub fn are_at_start(&self) -> bool
         ensures { IsTrue result → All (λ c. c ≡ at_start) self.now.counters }
     {

@@ -7,20 +7,20 @@ use crate::nodes::Nodes;
 use can_fault::Verdict;
 use can_frame::{Iface, IfaceSet};
 
-/// The receivers of an attempt, by what they see of its faults.
+/// The receivers of an attempt, grouped by whether a local fault strikes them.
 #[derive(Debug, Drop)]
 pub(crate) struct Survey {
-    /// Those that a local fault strikes.
+    /// The receivers that a local fault strikes.
     pub hit: IfaceSet,
-    /// The others.
+    /// The receivers that no local fault strikes.
     pub unhurt: IfaceSet,
-    /// Whether one that is hit is not error passive.
+    /// Whether at least one receiver in `hit` is not error passive.
     pub is_hit_active: bool,
-    /// Whether there is one that is not hit.
+    /// Whether there is at least one receiver in `unhurt`.
     pub is_heard: bool,
 }
 
-/// Whether the interface is a receiver: not the winner, and neither bus off nor down.
+/// Whether the interface is a receiver: it is not the winner, and neither bus off nor down.
 pub(crate) fn can_hear(nodes: &Nodes, winner: Iface, iface: Iface) -> bool
     ensures { (v : _) → (a : AckMode) →
         result ≡ can_hear (attempt_between nodes.now winner v a) iface }
@@ -28,7 +28,7 @@ pub(crate) fn can_hear(nodes: &Nodes, winner: Iface, iface: Iface) -> bool
     iface != winner && !nodes.is_silent(iface)
 }
 
-/// Whether a local fault of the verdict strikes the interface.
+/// Whether the verdict is a local fault that strikes the interface.
 pub(crate) fn is_struck(verdict: Verdict, iface: Iface) -> bool
     ensures { result ≡ is_struck verdict iface }
 {
@@ -38,7 +38,7 @@ pub(crate) fn is_struck(verdict: Verdict, iface: Iface) -> bool
     }
 }
 
-/// Asks each interface below `count` what it sees.
+/// Surveys all interfaces below `count`.
 pub(crate) fn survey_of(nodes: &Nodes, winner: Iface, verdict: Verdict) -> Survey
     requires { nodes.now.count ≤ 16 }
     ensures { (a : AckMode) → IsSurveyOf (attempt_between nodes.now winner verdict a) result }
