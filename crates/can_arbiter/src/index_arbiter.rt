@@ -7,24 +7,24 @@ use crate::arbiter::Arbiter;
 use arrayvec::ArrayVec;
 use can_frame::Iface;
 
-/// An arbiter that keeps the interfaces that hold a key in a row, in the order in which they go: who is
-/// first is read and not looked for, and `set` and `clear` move at most 15 of them. A rank in the row is moved
-/// from its place.
+/// An arbiter that stores the interfaces that hold a key in a row, sorted by rank. The winner is at the front of the row, so no
+/// search is needed, and `set` and `clear` move at most 15 entries. If an interface already has a rank in the row, its new rank is
+/// moved from that place.
 #[derive(Debug, Drop)]
 pub struct IndexArbiter {
-    // The rank of each interface that holds a key.
+    // The ranks of the interfaces that hold a key, in ascending order.
     row: ArrayVec<u64, 16>,
     ghost in_order: { AllPairs GoesBefore row.items },
 }
 
-/// A key and its interface as one number, so that the lesser of two goes first.
+/// Returns a key and its interface as one number. The lower number wins.
 fn rank(iface: Iface, key: u32) -> u64
     ensures { result ≡ key * 16 + iface }
 {
     u64::from(key) * 16 + u64::from(iface.number())
 }
 
-/// The place of the interface's rank in a row, if it has one there.
+/// Returns the place of the interface's rank in a row, or `None` if the row has none.
 fn place_of(row: &[u64], iface: Iface) -> Option<usize>
     ensures some { IfSome result (λ place. (place < length row.now)
         × (slice_index row.now place % 16 ≡ iface)) }
@@ -39,7 +39,7 @@ fn place_of(row: &[u64], iface: Iface) -> Option<usize>
     None
 }
 
-/// Puts a rank over the one at this place, and moves it to where it belongs among the others, which are in order.
+/// Overwrites the rank at this place with a new one and moves it to its sorted position. The other ranks are already sorted.
 fn put_over(row: &mut [u64], place: usize, rank: u64)
     requires within { place < length row.old }
     requires in_order { IsNonDecreasing (remove row.old place) }

@@ -1,9 +1,7 @@
-//! Who goes first among the interfaces that hold a key: the one with the least key, and with equal keys the
-//! one with the lower number.
-//!
-//! An arbiter is a finite map from the 16 interfaces to keys. Callers know it only by the trait: `set` and
-//! `clear` change one interface's key, and `winner` returns the one interface that goes first. Where the keys
-//! are those of frames, the laws hold for the frames' arbitration bits too.
+//! Decides which of the interfaces that hold a key wins arbitration: the interface with the lowest key, or with the lowest number
+//! if keys are equal. An arbiter is a finite map from the 16 interfaces to keys. Callers use it only through the trait: `set` and
+//! `clear` change the key of one interface, and `winner` returns the interface that wins. If the keys are the keys of frames, the
+//! laws also hold for the arbitration bits of these frames.
 #![tactic(auto)]
 
 pub mod arbiter;

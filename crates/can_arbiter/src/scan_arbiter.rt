@@ -3,7 +3,7 @@ ghost use Rattle.std.specs.Prelude.{◌≡◌, Option, length};
 use crate::arbiter::Arbiter;
 use can_frame::Iface;
 
-/// An arbiter that looks at all 16 interfaces each time it is asked who goes first.
+/// An arbiter that looks at all 16 interfaces each time the winner is requested.
 #[derive(Debug, Drop)]
 pub struct ScanArbiter {
     keys: [Option<u32>; 16],
