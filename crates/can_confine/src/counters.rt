@@ -5,23 +5,23 @@ ghost use Rattle.can_confine.specs.Confinement.Step.{TransmitError, ReceiveError
 use crate::state::State;
 use std::marker::Model;
 
-/// The most that a transmit count reaches: bus off from 255 by one error more.
+/// The maximum transmit count. A count of 255 is not yet bus off, and one more transmit error makes it 263.
 pub const MAX_TEC: u16 = 263;
 
-/// The most that a receive count reaches.
+/// The maximum receive count.
 pub const MAX_REC: u16 = 255;
 
-/// The transmit count from which an interface is bus off.
+/// The lowest transmit count of an interface that is bus off.
 const BUS_OFF: u16 = 256;
 
-/// The count from which an interface is error passive.
+/// The lowest count of an interface that is error passive.
 const ERROR_PASSIVE: u16 = 128;
 
-/// The count from which an interface is at its warning limit.
+/// The warning limit: the lowest count of an interface in the warning state.
 const WARNING_LIMIT: u16 = 96;
 
-/// An interface's error counters: the transmit count, at most 263, and the receive count, at most 255; and whether the
-/// interface was taken down.
+/// The error counters of an interface: a transmit count of at most 263, a receive count of at most 255, and whether the interface
+/// was taken down.
 #[derive(Debug, Clone, Copy, PartialEq, Eq)]
 pub struct Counters {
     tec: u16,
@@ -43,8 +43,8 @@ impl Model for Counters {
 }
 
 impl Counters {
-    /// Counters with these counts, of an interface that is not down, or `None` for a transmit count above 263 or a receive
-    /// count above 255.
+    /// Creates the counters of an interface that is not down. Returns `None` if the transmit count is above 263 or the receive
+    /// count is above 255.
     pub fn new(tec: u16, rec: u16) -> Option<Counters>
         ensures { SomeIff result ((tec ≤ 263) × (rec ≤ 255))
             (record { tec = tec; rec = rec; down = false }) }
@@ -59,7 +59,7 @@ impl Counters {
         })
     }
 
-    /// Both counts 0, as at the start.
+    /// Returns counters with both counts 0, as at the start.
     pub fn zero() -> Counters
         ensures { result ≡ at_start }
     {
@@ -93,7 +93,7 @@ impl Counters {
         self.is_down
     }
 
-    /// The fault confinement state that the counts give, or that it is down.
+    /// Returns the fault confinement state for these counts, or `Down` if the interface was taken down.
     pub fn state(self) -> State
         ensures { result ≡ state_of self }
     {
@@ -110,7 +110,7 @@ impl Counters {
         }
     }
 
-    /// The counters after a transmit error, which adds 8.
+    /// Returns the counters after a transmit error, which adds 8 to the transmit count.
     pub fn tx_error(self) -> Counters
         requires { self.tec < 256 }
         ensures { result ≡ stepped self TransmitError }
@@ -121,8 +121,7 @@ impl Counters {
         }
     }
 
-    /// The counters after a missing acknowledgement: a transmit error, unless the interface is error
-    /// passive.
+    /// Returns the counters after a missing acknowledgement. It counts as a transmit error, unless the interface is error passive.
     pub fn ack_error(self) -> Counters
         requires { self.tec < 256 }
         ensures { result
@@ -135,7 +134,7 @@ impl Counters {
         }
     }
 
-    /// The counters after a receive error, which adds 1 up to 255.
+    /// Returns the counters after a receive error, which adds 1 to the receive count, up to 255.
     pub fn rx_error(self) -> Counters
         ensures { result ≡ stepped self ReceiveError }
     {
@@ -145,7 +144,7 @@ impl Counters {
         }
     }
 
-    /// The counters after a good transmission, which takes 1 off the transmit count.
+    /// Returns the counters after a good transmission, which subtracts 1 from the transmit count.
     pub fn tx_good(self) -> Counters
         ensures { result ≡ stepped self GoodTransmission }
     {
@@ -155,8 +154,7 @@ impl Counters {
         }
     }
 
-    /// The counters after a good reception, which takes 1 off a receive count up to 127 and sets a
-    /// higher one to 127.
+    /// Returns the counters after a good reception. A receive count of up to 127 is decreased by 1, and a higher count becomes 127.
     pub fn rx_good(self) -> Counters
         ensures { result ≡ stepped self GoodReception }
     {
@@ -168,7 +166,7 @@ impl Counters {
         Counters { rec, ..self }
     }
 
-    /// The counters of an interface that is taken down: both counts stay.
+    /// Returns the counters after the interface is taken down. Both counts stay the same.
     pub fn take_down(self) -> Counters
         ensures { result ≡ stepped self TakenDown }
     {
@@ -178,7 +176,7 @@ impl Counters {
         }
     }
 
-    /// The counters after a restart: both 0, whatever they were, and not down.
+    /// Returns the counters after a restart: both counts are 0 and the interface is not down.
     pub fn restart(self) -> Counters
         ensures { result ≡ at_start }
     {

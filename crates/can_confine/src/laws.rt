@@ -2,19 +2,19 @@ ghost use Rattle.std.specs.Prelude.{◌≡◌, ◌<◌, ◌≤◌, ℕ, List, tr
 ghost use Rattle.can_confine.specs.Confinement.{ErrorCounts, Step, stepped, all_stepped, at_start, state_of, is_off, is_down, severity};
 ghost use Rattle.can_confine.specs.Confinement.Step.{TransmitError, ReceiveError, GoodTransmission, GoodReception, TakenDown};
 
-/// From 0/0, transmit errors in a row take an interface off exactly from the thirty-second on.
+/// If both counts start at 0, the interface is bus off after 32 or more transmit errors in a row, and not after fewer.
 pub fn thirty_two_errors_take_off()
     ensures { (n : ℕ) →
         is_off (state_of (all_stepped at_start (replicate n TransmitError))) ≡ nat_le 32 n }
 {}
 
-/// After any step of a live interface its counts are within the limits.
+/// The counts of an interface that is not bus off stay within their limits after every step.
 pub fn counts_stay_in_limits()
     ensures transmit { (c : ErrorCounts) → (s : Step) → c.tec < 256 → (stepped c s).tec ≤ 263 }
     ensures receive { (c : ErrorCounts) → (s : Step) → c.rec ≤ 255 → (stepped c s).rec ≤ 255 }
 {}
 
-/// What goes well never makes the state worse.
+/// A good transmission or reception never makes the state worse.
 pub fn good_steps_never_worsen()
     ensures transmission { (c : ErrorCounts) →
         severity (state_of (stepped c GoodTransmission)) ≤ severity (state_of c) }
@@ -30,13 +30,13 @@ pub fn errors_never_better()
         c.rec ≤ 255 → severity (state_of c) ≤ severity (state_of (stepped c ReceiveError)) }
 {}
 
-/// The receive count by itself never takes an interface off.
+/// The receive count alone never makes an interface bus off.
 pub fn receive_count_never_takes_off()
     ensures { (c : ErrorCounts) → (r : ℕ) →
         is_off (state_of (record c { rec = r })) ≡ is_off (state_of c) }
 {}
 
-/// An interface that was taken down stays down, whatever steps come after it, and keeps its counts as it goes down.
+/// An interface that was taken down stays down through all later steps. Its counts do not change when it goes down.
 pub fn only_a_restart_brings_up()
     ensures stays { (c : ErrorCounts) → (ss : List Step) → c.down ≡ true →
         is_down (state_of (all_stepped c ss)) ≡ true }

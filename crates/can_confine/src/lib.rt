@@ -1,7 +1,6 @@
-//! Fault confinement: an interface's error counters and the state that they give.
-//!
-//! A `Counters` keeps its transmit count at most 263 and its receive count at most 255. Each method
-//! returns the counters after one step; the contracts see counters as the two counts.
+//! Fault confinement: the error counters of an interface and the state that follows from them. In a `Counters` the transmit count
+//! is at most 263 and the receive count at most 255. Each method returns the counters after one step. In contracts counters are the
+//! two counts and whether the interface is down.
 #![tactic(auto)]
 
 pub mod counters;
