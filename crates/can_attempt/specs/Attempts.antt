@@ -16,19 +16,19 @@ use Rattle.can_attempt.specs.declared.ack_mode.AckMode.TheVariants.{Always, Peer
 use Rattle.can_attempt.specs.declared.nodes.Nodes.{Nodes}
 use Rattle.can_attempt.specs.declared.judgement.Judgement.{Judgement}
 
--- One attempt to send a frame: who hears it, what becomes of it, and what it does to each interface's error
--- counts. Own choice throughout, resting on the fault confinement and the message validation of the Bosch CAN
--- Specification 2.0.
+-- One attempt to send a frame: its receivers, its outcome, and its effect on each interface's error counts. This is own
+-- choice throughout, based on the fault confinement and the message validation of the Bosch CAN Specification 2.0.
 
--- interface i is one of these
+-- interface i is in this list
 abbrev pub is_among : ℕ → List ℕ → Bool
 is_among i is = list_any (λ j. j == i) is
 
--- the set of these interfaces: bit i exactly for each i among them
+-- the set of these interfaces: bit i is set exactly if i is in the list
 abbrev pub set_of : List ℕ → IfaceSet
 set_of is = set_where (λ i. is_among i is) 16
 
--- an attempt: how many interfaces there are, their error counts, who sends, the faults, and who acknowledges
+-- an attempt: the number of interfaces, their error counts, the interface that sends, the faults, and the
+-- acknowledgement mode
 pub record Transmission : Type 0 where
   pub count : ℕ
   pub counts : ℕ → ErrorCounts
@@ -40,11 +40,11 @@ pub record Transmission : Type 0 where
 abbrev pub state_at : Transmission → ℕ → State
 state_at t i = state_of (t.counts i)
 
--- another interface than the winner, and neither bus off nor down
+-- an interface other than the winner that is neither bus off nor down
 abbrev pub can_hear : Transmission → ℕ → Bool
 can_hear t i = not (i == t.winner) && not (is_silent (state_at t i))
 
--- the receivers: the live others
+-- the receivers: all live interfaces except the winner
 abbrev pub receivers : Transmission → List ℕ
 receivers t = filter (can_hear t) (range_with_len 0 t.count)
 
@@ -67,32 +67,32 @@ is_struck _ i = false
 abbrev pub hit : Transmission → List ℕ
 hit t = filter (is_struck t.verdict) (receivers t)
 
--- the receivers that got every bit right
+-- the receivers that no local fault strikes
 abbrev pub unhurt : Transmission → List ℕ
 unhurt t = filter (λ i. not (is_struck t.verdict i)) (receivers t)
 
--- a receiver that is hit is not error passive
+-- at least one receiver that is hit is not error passive
 abbrev pub is_hit_active : Transmission → Bool
 is_hit_active t = list_any (λ i. not (is_passive (state_at t i))) (hit t)
 
--- an active error flag is seen by all: of a fault for the whole bus, or of a receiver that is not error passive
+-- all interfaces see an active error flag, because the fault is global or strikes a receiver that is not error passive
 abbrev pub is_destroyed : Transmission → Bool
 is_destroyed t = is_global t.verdict || is_hit_active t
 
--- frames are acknowledged whoever is there
+-- every frame that is not destroyed is acknowledged, even without receivers
 abbrev pub is_always : AckMode → Bool
 is_always Always = true
 is_always Peers = false
 
--- some receiver got every bit right
+-- at least one receiver is not hit
 abbrev pub is_heard : Transmission → Bool
 is_heard t = not (length (unhurt t) == 0)
 
--- the acknowledge slot is dominant: always, or where a receiver got every bit right
+-- the ACK slot is dominant: always, or if at least one receiver is not hit
 abbrev pub is_acknowledged : Transmission → Bool
 is_acknowledged t = is_always t.ack || is_heard t
 
--- the first case that holds
+-- the first outcome that applies
 abbrev pub class_when : Bool → Bool → Bool → Class
 class_when destroyed acknowledged last_bit =
     if destroyed then class.Destroyed
@@ -100,60 +100,60 @@ class_when destroyed acknowledged last_bit =
     else if last_bit then class.LastBit
     else class.Done
 
--- what becomes of the frame
+-- the outcome of the attempt
 abbrev pub class_of : Transmission → Class
 class_of t = class_when (is_destroyed t) (is_acknowledged t) (is_last_bit t.verdict)
 
--- the frame went over the bus whole
+-- the whole frame was sent
 abbrev pub is_done : Class → Bool
 is_done class.Done = true
 is_done _ = false
 
--- who accepts the frame in an attempt of this class
+-- the receivers that accept the frame in an attempt with this outcome
 abbrev pub accepted_in : Class → Transmission → List ℕ
 accepted_in class.Done t = unhurt t
 accepted_in class.LastBit t = unhurt t
 accepted_in class.Destroyed t = []
 accepted_in class.NoAck t = []
 
--- the step of the winner, whose state is this; an error passive one doesn't count a missing acknowledgement
+-- the step of a winner in this state; an error passive winner does not count a missing acknowledgement
 abbrev pub winner_step : Class → State → List Step
 winner_step class.Done state = GoodTransmission ∷ []
 winner_step class.LastBit state = TransmitError ∷ []
 winner_step class.Destroyed state = TransmitError ∷ []
 winner_step class.NoAck state = if is_passive state then [] else TransmitError ∷ []
 
--- the step of a receiver, hit or not
+-- the step of a receiver, which was hit or not
 abbrev pub receiver_step : Class → Bool → List Step
 receiver_step class.Done is_hit = if is_hit then ReceiveError ∷ [] else GoodReception ∷ []
 receiver_step class.LastBit is_hit = GoodReception ∷ []
 receiver_step class.Destroyed is_hit = ReceiveError ∷ []
 receiver_step class.NoAck is_hit = if is_hit then ReceiveError ∷ [] else []
 
--- what an attempt of this class does to interface i
+-- the steps of interface i in an attempt with this outcome
 abbrev pub steps_in : Class → Transmission → ℕ → List Step
 steps_in c t i =
     if i == t.winner then winner_step c (state_at t i)
     else if is_among i (receivers t) then receiver_step c (is_struck t.verdict i)
     else []
 
--- the error counts of interface i after an attempt of this class
+-- the error counts of interface i after an attempt with this outcome
 abbrev pub counts_in : Class → Transmission → ℕ → ErrorCounts
 counts_in c t i = all_stepped (t.counts i) (steps_in c t i)
 
--- what the attempt does to interface i
+-- the steps of interface i in the attempt
 abbrev pub steps_at : ℕ → Transmission → List Step
 steps_at i t = steps_in (class_of t) t i
 
--- the error counts of interface i after it
+-- the error counts of interface i after the attempt
 abbrev pub counts_after : Transmission → ℕ → ErrorCounts
 counts_after t i = all_stepped (t.counts i) (steps_at i t)
 
--- the winner, if the attempt takes it off
+-- the winner, if the attempt takes it off the bus
 abbrev pub off_after : Transmission → List ℕ
 off_after t = if is_off (state_of (counts_after t t.winner)) then t.winner ∷ [] else []
 
--- two attempts on one bus that differ at most in the counts of interfaces that are silent in both: bus off or down
+-- two attempts on one bus that differ at most in the counts of interfaces that are bus off or down in both
 pub record SameToTheLive (t u : Transmission) : Type 0 where
   pub count : t.count ≡ u.count
   pub winner : t.winner ≡ u.winner
@@ -162,7 +162,7 @@ pub record SameToTheLive (t u : Transmission) : Type 0 where
   pub silent : (i : ℕ) → i < t.count → is_silent (state_at t i) ≡ is_silent (state_at u i)
   pub live : (i : ℕ) → i < t.count → is_silent (state_at t i) ≡ false → t.counts i ≡ u.counts i
 
--- two attempts that differ at most in counts from place 16 on, where no interface is
+-- two attempts that differ at most in counts from place 16 on, which belong to no interface
 pub record SameToSixteen (t u : Transmission) : Type 0 where
   pub within : t.count ≤ 16
   pub count : t.count ≡ u.count
@@ -180,7 +180,7 @@ counts_at nodes i = slice_index_or nodes.counters i at_start
 abbrev pub attempt_between : Nodes → ℕ → Verdict → AckMode → Transmission
 attempt_between nodes w v a = record { count = nodes.count; counts = counts_at nodes; winner = w; verdict = v; ack = a }
 
--- all that follows from an attempt
+-- the result of an attempt
 abbrev pub judged : Transmission → Judgement
 judged t = record {
   class = class_of t;
@@ -190,13 +190,14 @@ judged t = record {
   off = set_of (off_after t);
 }
 
--- nothing can go wrong between these nodes: no fault, somebody who acknowledges, and all counts 0 (own choice)
+-- nothing can go wrong between these nodes: there is no fault, at least one node acknowledges, and all counts are 0
+-- (own choice)
 pub record IsFaultFree (nodes : Nodes) (v : Verdict) (a : AckMode) : Type 0 where
   pub good : v ≡ verdict.Good
   pub acknowledged : IsTrue (is_always a || nat_lt 1 nodes.count)
   pub zeros : All (λ c. c ≡ at_start) nodes.counters
 
--- this follows from an attempt of w between these nodes, where nothing can go wrong (own choice)
+-- the result of an attempt of w between these nodes in which nothing can go wrong (own choice)
 abbrev pub IsCalmJudgement : Nodes → ℕ → Judgement → Type 0
 IsCalmJudgement nodes w j =
     (v : Verdict) (a : AckMode) → IsFaultFree nodes v a → j ≡ judged (attempt_between nodes w v a)

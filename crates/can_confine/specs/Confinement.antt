@@ -2,7 +2,8 @@ use Rattle.std.specs.Prelude.{ℕ, ◌+◌, ◌-◌, nat_le, min, Bool, true, fa
 use Rattle.can_confine.specs.declared.state.State.{State}
 use Rattle.can_confine.specs.declared.state.State.TheVariants.{Active, Warning, Passive, Off, Down}
 
--- Fault confinement: error counters, and the state that they give (Bosch CAN Specification 2.0, part B, section 8).
+-- Fault confinement: error counters and the state that follows from them (Bosch CAN Specification 2.0, part B, section
+-- 8).
 
 -- a node's transmit error count and receive error count, and whether it was taken down (`ip link set down`)
 pub record ErrorCounts : Type 0 where
@@ -10,7 +11,7 @@ pub record ErrorCounts : Type 0 where
   pub rec : ℕ
   pub down : Bool
 
--- what an attempt does to a node's counts, and what takes it down
+-- a change to a node's counts in an attempt, or the node being taken down
 pub data Step : Type 0 where
   TransmitError : Step
   ReceiveError : Step
@@ -18,8 +19,8 @@ pub data Step : Type 0 where
   GoodReception : Step
   TakenDown : Step
 
--- the counts after a step (rules 1, 3, 7 and 8); own choices: a receive count stops at 255, and a good
--- reception sets one above 127 to 127; a node that is taken down keeps its counts
+-- the counts after a step (rules 1, 3, 7 and 8). Own choices: a receive count stops at 255; a good reception changes a
+-- receive count above 127 to 127; a node that is taken down keeps its counts
 abbrev pub stepped : ErrorCounts → Step → ErrorCounts
 stepped c TransmitError = record c { tec = c.tec + 8 }
 stepped c ReceiveError = record c { rec = min 255 (c.rec + 1) }
@@ -27,7 +28,7 @@ stepped c GoodTransmission = record c { tec = c.tec - 1 }
 stepped c GoodReception = record c { rec = if nat_le 128 c.rec then 127 else c.rec - 1 }
 stepped c TakenDown = record c { down = true }
 
--- the counts after these steps, the first of them first
+-- the counts after these steps, in order
 abbrev pub all_stepped : ErrorCounts → List Step → ErrorCounts
 all_stepped c [] = c
 all_stepped c (s ∷ ss) = all_stepped (stepped c s) ss
@@ -36,8 +37,8 @@ all_stepped c (s ∷ ss) = all_stepped (stepped c s) ss
 abbrev pub at_start : ErrorCounts
 at_start = record { tec = 0; rec = 0; down = false }
 
--- down while it is taken down; else bus off from transmit count 256, error passive from 128, the warning limit at 96
--- (linux/can/error.h)
+-- the state for these counts: down if the node was taken down, bus off from a transmit count of 256, error passive from
+-- a count of 128, and at the warning limit from 96 (linux/can/error.h)
 abbrev pub state_of : ErrorCounts → State
 state_of c =
     if c.down then Down
@@ -56,7 +57,7 @@ abbrev pub is_down : State → Bool
 is_down Down = true
 is_down _ = false
 
--- bus off or down: it neither sends nor hears anything
+-- bus off or down: the node neither sends nor receives anything
 abbrev pub is_silent : State → Bool
 is_silent Off = true
 is_silent Down = true

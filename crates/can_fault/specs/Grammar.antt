@@ -10,9 +10,9 @@ use Rattle.can_fault.specs.declared.verdict.LocalKind.TheVariants as local
 use Rattle.can_fault.specs.declared.verdict.Verdict.{Verdict}
 use Rattle.can_fault.specs.declared.verdict.Verdict.TheVariants.{Good, Global, Local, LastBit}
 
--- The grammar of a script's lines, from what a line says to its texts (own choice).
+-- The grammar of the lines of a script: which texts spell a given value (own choice).
 
--- the word of a fault that only some interfaces see
+-- the word for a fault that only some interfaces see
 abbrev pub kind_word : LocalKind → List ℕ
 kind_word local.Stuff = codes "stuff"
 kind_word local.Crc = codes "crc"
@@ -25,8 +25,8 @@ SpellsSet names text set =
     × IsTrue (are_known names (names_in text))
     × (set ≡ set_named names (names_in text))
 
--- how a verdict is spelled: `good`, `lastbit`, `global bit`, `global form`, or `local`, the fault's word
--- and the interfaces that see it, with one space between them
+-- the spellings of a verdict: `good`, `lastbit`, `global bit`, `global form`, or `local`, the word for the fault and
+-- the interfaces that see it, with one space between them
 abbrev pub SpellsVerdict : List (List ℕ) → List ℕ → Verdict → Type 0
 SpellsVerdict names text Good = text ≡ codes "good"
 SpellsVerdict names text LastBit = text ≡ codes "lastbit"
@@ -35,7 +35,7 @@ SpellsVerdict names text (Global global.Form) = text ≡ codes "global form"
 SpellsVerdict names text (Local set kind) =
     (list : List ℕ) × (text ≡ codes "local " ++ (kind_word kind ++ 32 ∷ list)) × SpellsSet names list set
 
--- how a line gives an attempt its verdict: 1 to 8 decimal digits, a space, and the verdict
+-- the spelling of a line that gives a verdict on an attempt: 1 to 8 decimal digits, a space, and the verdict
 abbrev pub SpellsEntry : List (List ℕ) → List ℕ → ℕ → Verdict → Type 0
 SpellsEntry names text attempt verdict =
     (digits : List ℕ) × (rest : List ℕ)
@@ -44,7 +44,7 @@ SpellsEntry names text attempt verdict =
     × (attempt ≡ digits_value 10 digits)
     × SpellsVerdict names rest verdict
 
--- a line that is a number and a local fault for well-formed names, of which the bus lacks some
+-- a line with a number, a local fault and well-formed names, of which the bus lacks at least one
 abbrev pub LacksInterface : List (List ℕ) → List ℕ → Type 0
 LacksInterface names text =
     (digits : List ℕ) × (kind : LocalKind) × (list : List ℕ)

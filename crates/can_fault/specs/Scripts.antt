@@ -21,7 +21,7 @@ use Rattle.can_fault.specs.declared.verdict.LocalKind.TheVariants as local
 use Rattle.can_fault.specs.declared.verdict.Verdict.{Verdict}
 use Rattle.can_fault.specs.declared.verdict.Verdict.TheVariants.{Good, Global, Local, LastBit}
 
--- Fault scripts: the verdicts of attempts as a text of lines (own choice).
+-- Fault scripts: the verdicts on attempts, written as lines of text (own choice).
 
 infixl 10 ◌>>=◌
 abbrev pub ◌>>=◌ : {A B : Type 0} → Result A LineFault → (A → Result B LineFault) → Result B LineFault
@@ -53,8 +53,8 @@ set_named names pieces =
 abbrev pub are_known : List (List ℕ) → List (List ℕ) → Bool
 are_known names pieces = list_all (λ piece. is_some (place_of names piece)) pieces
 
--- a set of interfaces: their names joined by commas. A piece that no name can be makes a bad line
--- before any name is looked up
+-- a set of interfaces: their names joined by commas. If a piece is not a valid name, the line is bad before any name is
+-- looked up
 abbrev pub set_spelling : List (List ℕ) → List ℕ → Result IfaceSet LineFault
 set_spelling names text =
     if list_all is_name (names_in text)
@@ -86,24 +86,23 @@ verdict_spelling names text =
     else if bytes_eq (word text) (codes "local") then local_spelling names (after text)
     else Err line.BadLine
 
--- what a line says: nothing, or a number with its verdict
+-- what a line says: nothing, or the number of an attempt and the verdict on it
 abbrev pub Saying : Type 0
 Saying = Result (Option (ℕ × Verdict)) LineFault
 
--- a number, a space, and its verdict
+-- a line with a number, a space, and a verdict
 unfoldable pub entry_spelling : List (List ℕ) → List ℕ → Saying
 entry_spelling names text = do
   number ← ok_or (number_spelling (word text)) line.BadLine
   verdict ← verdict_spelling names (after text)
   Ok (Some (number, verdict))
 
--- a line: it says nothing where it is empty or begins with `#`
+-- a line, which says nothing if it is empty or begins with `#`
 abbrev pub line_spelling : List (List ℕ) → List ℕ → Saying
 line_spelling names [] = Ok None
 line_spelling names (b ∷ bs) = if b == 35 then Ok None else entry_spelling names (b ∷ bs)
 
--- the lines of a text: the pieces between its line feeds. After a last line feed comes an empty
--- one, which says nothing
+-- the lines of a text: the pieces between its line feeds. The piece after a final line feed is empty and says nothing
 abbrev pub lines_in : List ℕ → List (List ℕ)
 lines_in text = slice_split (λ b. b == 10) text
 
@@ -111,19 +110,19 @@ lines_in text = slice_split (λ b. b == 10) text
 abbrev pub sayings : List (List ℕ) → List ℕ → List Saying
 sayings names text = map (line_spelling names) (lines_in text)
 
--- a line's fault with the line's number
+-- the fault of a line, together with the line's number
 abbrev pub at_line : ℕ → LineFault → ScriptError
 at_line n line.BadLine = script.BadLine n
 at_line n line.UnknownInterface = script.UnknownInterface n
 
--- the verdicts after a line with number `n`, where the lines before it gave `known`
+-- the verdicts after a line with number `n`, if the lines before it gave `known`
 abbrev pub line_after : VerdictMap → ℕ → Saying → Result VerdictMap ScriptError
 line_after known n (Err fault) = Err (at_line n fault)
 line_after known n (Ok None) = Ok known
 line_after known n (Ok (Some entry)) =
     if contains_key known entry.0 then Err (script.RepeatedAttempt n) else Ok (insert known entry.0 entry.1)
 
--- what lines spell, the first of them with number `n`, where the lines before them gave `known`
+-- the verdicts after these lines, the first of which has number `n`, if the lines before them gave `known`
 abbrev pub spelled_after : VerdictMap → ℕ → List Saying → Result VerdictMap ScriptError
 spelled_after known n [] = Ok known
 spelled_after known n (Err fault ∷ more) = Err (at_line n fault)
@@ -136,29 +135,29 @@ spelled_after known n (Ok (Some entry) ∷ more) =
 abbrev pub script_spelling : List (List ℕ) → List ℕ → Result VerdictMap ScriptError
 script_spelling names text = spelled_after no_verdicts 1 (sayings names text)
 
--- before any fault a line gives a verdict, and to keep it takes memory
+-- a line gives a verdict before any line has a fault; storing the verdict takes memory
 abbrev pub takes_memory : List Saying → Bool
 takes_memory [] = false
 takes_memory (Err fault ∷ more) = false
 takes_memory (Ok None ∷ more) = takes_memory more
 takes_memory (Ok (Some entry) ∷ more) = true
 
--- taking a line with number `n` gives the verdicts after it, or its fault, or NoMemory where that takes memory
+-- adding a line with number `n` gives the verdicts after it, or its fault, or NoMemory if the line takes memory
 abbrev pub TakesLine : Saying → ℕ → VerdictMap → Result (Unit {0}) ScriptError → VerdictMap → Type 0
 TakesLine saying n known (Ok done) new = line_after known n saying ≡ Ok new
 TakesLine saying n known (Err script.NoMemory) new = IsTrue (takes_memory (saying ∷ []))
 TakesLine saying n known (Err why) new = line_after known n saying ≡ Err why
 
--- what reading a text returns: what the text spells, or NoMemory where that takes memory
+-- reading a text returns the verdicts that the text spells, or its first fault, or NoMemory if the text takes memory
 abbrev pub Reads : List (List ℕ) → List ℕ → Result VerdictMap ScriptError → Type 0
 Reads names text (Err script.NoMemory) = IsTrue (takes_memory (sayings names text))
 Reads names text answer = script_spelling names text ≡ answer
 
--- some line gives an attempt this verdict
+-- at least one line gives this verdict on the attempt
 abbrev pub Gives : List Saying → ℕ → Verdict → Type 0
 Gives lines attempt verdict = (place : ℕ) × (slice_get lines place ≡ Some (Ok (Some (attempt, verdict))))
 
--- the line at a place, counted from 0, has this fault, which names the line by its number, from 1
+-- the line at this place, counted from 0, has this fault, which contains the line's number, counted from 1
 abbrev pub HasFault : List Saying → ℕ → ScriptError → Type 0
 HasFault lines place (script.BadLine n) = (n ≡ place + 1) × (slice_get lines place ≡ Some (Err line.BadLine))
 HasFault lines place (script.UnknownInterface n) =
@@ -170,7 +169,7 @@ HasFault lines place (script.RepeatedAttempt n) =
     × Gives (take place lines) attempt before)
 HasFault lines place script.NoMemory = ⊥
 
--- the first faulty line has this fault: the lines before it are a script
+-- this is the fault of the first faulty line: the lines before it are a valid script
 abbrev pub IsFirstFault : List Saying → ScriptError → Type 0
 IsFirstFault lines fault =
     (place : ℕ) × IsOk (spelled_after no_verdicts 1 (take place lines)) × HasFault lines place fault

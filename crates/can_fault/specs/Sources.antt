@@ -10,15 +10,15 @@ use Rattle.can_fault.specs.declared.verdict.Verdict.TheVariants.{Good, Global, L
 
 -- Sources of verdicts, as finite maps (own choice).
 
--- the verdicts of attempts, by the attempts' numbers
+-- the verdicts on attempts, by attempt number
 abbrev pub VerdictMap : Type 0
 VerdictMap = FinMap nat_cmp Verdict
 
--- the map of no attempt
+-- the map without verdicts
 abbrev pub no_verdicts : VerdictMap
 no_verdicts = empty
 
--- the verdict of an attempt: what the map has at its number, and Good elsewhere
+-- the verdict on an attempt: the map's entry, or Good if there is none
 abbrev pub verdict_in : VerdictMap → ℕ → Verdict
 verdict_in verdicts attempt = unwrap_or (get verdicts attempt) Good
 

@@ -15,7 +15,7 @@ standard_mask = 3221227519
 abbrev pub extended_mask : ℕ
 extended_mask = 3758096383
 
--- a word of a 29-bit identifier, and of no remote frame
+-- the word belongs to a data frame with a 29-bit identifier
 abbrev pub is_extended : ℕ → Bool
 is_extended word = bit_and word 3221225472 == 2147483648
 
@@ -31,7 +31,7 @@ is_listed ids word = list_any (λ id. bit_and word extended_mask == id) ids
 abbrev pub is_matched : List CanFilter → ℕ → Bool
 is_matched filters word = list_any (λ f. matches f word) filters
 
--- the word is found in one of the four parts
+-- the word is found in at least one of the four parts
 abbrev pub is_found : List Bool → List ℕ → List CanFilter → List CanFilter → ℕ → Bool
 is_found marks ids masked inverted word =
     is_marked marks word || (is_listed ids word || (is_matched masked word || is_matched inverted word))

@@ -6,21 +6,21 @@ use Rattle.can_filter.specs.declared.options.Options.{Options}
 pub use Rattle.can_filter.specs.Filters.{CanFilter, is_inverted, inverse_of, agrees}
 pub use Rattle.can_filter.specs.Filters.{matches, passes, everything, receives_all}
 
--- What a socket receives, as the kernel's networking/can document and linux/can/raw.h have it.
+-- The frames that a socket receives, as the kernel's networking/can document and linux/can/raw.h define them.
 
 -- an error class and an error mask share a bit (can_err_mask_t of linux/can.h)
 abbrev pub shares_class : ℕ → ℕ → Bool
 shares_class class mask = not (bit_and class mask == 0)
 
--- what a socket takes: a data frame, a remote one too, that passes its filters, if it is the socket's own only
--- with recv_own (CAN_RAW_RECV_OWN_MSGS), and an FD frame only with fd (CAN_RAW_FD_FRAMES); an error message frame
--- whose class shares a bit with the error mask (CAN_RAW_ERR_FILTER), whatever filters and join are (own choice)
+-- the items that a socket receives: a data frame or remote frame that passes its filters, but the socket's own frames
+-- only with recv_own (CAN_RAW_RECV_OWN_MSGS) and FD frames only with fd (CAN_RAW_FD_FRAMES); an error message frame if
+-- its class shares a bit with the error mask (CAN_RAW_ERR_FILTER), whatever filters and join are (own choice)
 abbrev pub wants : List CanFilter → Options → Item → Bool → Bool
 wants filters options (Data frame) is_own =
     (passes filters options.join (word_of frame) && (not is_own || options.recv_own))
     && (not (is_fd frame.payload) || options.fd)
 wants filters options (Error message) is_own = shares_class message.class options.err_mask
 
--- the options of a socket just opened (linux/can/raw.h)
+-- the options of a newly opened socket (linux/can/raw.h)
 abbrev pub default_options : Options
 default_options = record { loopback = true; recv_own = false; join = false; err_mask = 0; fd = false }

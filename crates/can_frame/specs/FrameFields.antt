@@ -6,25 +6,25 @@ use Rattle.can_frame.specs.declared.frame.Frame.TheInside.{Inside}
 use Rattle.can_frame.specs.declared.frame.Kind.{Kind}
 use Rattle.can_frame.specs.declared.frame.Kind.TheVariants as kind
 
--- How a frame is kept: 64 bytes, of which the first few count.
+-- How a frame is stored: in 64 bytes, of which only the first ones are used.
 
--- the payload of this kind and length, of the first bytes that are kept
+-- the payload of this kind and length, taken from the first stored bytes
 abbrev pub payload_of : Kind → ℕ → List ℕ → Payload
 payload_of kind.Data len bytes = Data (take len bytes)
 payload_of kind.Remote len bytes = Remote len
 payload_of (kind.Fd flags) len bytes = Fd flags (take len bytes)
 
--- the frame that the fields spell
+-- the frame that the stored fields mean
 abbrev pub frame_of : Inside → CanFrame
 frame_of f = record { id = f.id; payload = payload_of f.kind f.len f.bytes }
 
--- how many of the 64 bytes count
+-- how many of the 64 bytes are used
 abbrev pub used : Kind → ℕ → ℕ
 used kind.Data len = len
 used kind.Remote len = 0
 used (kind.Fd flags) len = len
 
--- a length that frames of this kind have
+-- whether a frame of this kind can have this length
 abbrev pub is_length : Kind → ℕ → Bool
 is_length kind.Data len = nat_le len 8
 is_length kind.Remote len = nat_le len 8
@@ -43,13 +43,13 @@ kind_of (Data bytes) = kind.Data
 kind_of (Remote len) = kind.Remote
 kind_of (Fd flags bytes) = kind.Fd flags
 
--- its bytes, with zeros after them up to 64
+-- the bytes of a payload, filled up with zeros to 64 bytes
 abbrev pub padded : Payload → List ℕ
 padded (Data bytes) = bytes ++ replicate (64 - length bytes) 0
 padded (Remote len) = replicate 64 0
 padded (Fd flags bytes) = bytes ++ replicate (64 - length bytes) 0
 
--- the fields that a frame is kept in
+-- the fields in which a frame is stored
 abbrev pub fields_of : CanFrame → Inside
 fields_of v = record { id = v.id; kind = kind_of v.payload; len = payload_len v.payload; bytes = padded v.payload }
 

@@ -10,17 +10,17 @@ use Rattle.can_frame.specs.declared.fd_flags.FdFlags.{FdFlags}
 use Rattle.can_frame.specs.declared.item.Item.{Item}
 use Rattle.can_frame.specs.declared.item.Item.TheVariants as item
 
--- The item that an upper-case text may spell: what was guessed is written again, and compared (own choice).
+-- The item that an upper-case text may spell. The guess is written again and compared with the text (own choice).
 
--- the bytes of pairs of digits
+-- the bytes that pairs of hexadecimal digits spell
 unfoldable pub bytes_in : ℕ → List ℕ → Option (List ℕ)
 bytes_in n text = result_ok (decode_sized text n)
 
--- the text has this byte at a place
+-- whether the text has this byte at this place
 abbrev pub has_byte_at : ℕ → ℕ → List ℕ → Bool
 has_byte_at mark k text = nat_lt k (length text) && slice_index text k == mark
 
--- what a remote frame asks for: 0 where nothing is said, else one digit up to 8
+-- the length that a remote frame requests: 0 if the text is empty, otherwise one digit up to 8
 unfoldable pub request_in : List ℕ → Option ℕ
 request_in text =
     if length text == 0 then Some 0
@@ -31,22 +31,23 @@ request_in text =
 unfoldable pub data_in : List ℕ → Option (List ℕ)
 data_in text = if nat_le (length text / 2) 8 then bytes_in (length text / 2) text else None
 
--- the data of an FD frame: as many bytes as one may have
+-- the data of an FD frame: its number of bytes has to be a valid FD length
 unfoldable pub fd_data_in : List ℕ → Option (List ℕ)
 fd_data_in text = if is_fd_length (length text / 2) then bytes_in (length text / 2) text else None
 
--- its flags: a digit from 0 (48) on
+-- the flags of an FD frame: a digit from 0 (48) on
 unfoldable pub flags_in : List ℕ → Option FdFlags
 flags_in text =
     if length text == 0 then None
     else if nat_le 48 (slice_index text 0) then flags_of (slice_index text 0 - 48)
     else None
 
--- what follows the second mark of an FD frame: flags, and data
+-- the text after the second `#` of an FD frame: flags and data
 unfoldable pub fd_in : List ℕ → Option Payload
 fd_in text = option_and_then (λ flags. option_map (Fd flags) (fd_data_in (drop 1 text))) (flags_in text)
 
--- what follows the mark of a frame: `R` (82) and a length, a second `#` (35) and an FD frame's data, or data
+-- the text after the first `#` of a frame: `R` (82) and a length, or a second `#` (35) and the flags and data of an FD
+-- frame, or data
 unfoldable pub payload_in : List ℕ → Option Payload
 payload_in text =
     if has_byte_at 82 0 text then option_map Remote (request_in (drop 1 text))
@@ -73,11 +74,11 @@ unfoldable pub long_in : ℕ → List ℕ → Option Item
 long_in n text =
     if nat_lt n (2 ^ 29) then frame_in (record { extended = true; number = n }) text else error_in (n - 2 ^ 29) text
 
--- 3 digits, the mark, and the rest
+-- 3 digits, the `#`, and the rest
 unfoldable pub short_item_in : List ℕ → Option Item
 short_item_in text = option_and_then (λ n. standard_in n (drop 4 text)) (number_in 16 3 (take 3 text))
 
--- 8 digits, the mark, and the rest
+-- 8 digits, the `#`, and the rest
 unfoldable pub long_item_in : List ℕ → Option Item
 long_item_in text = option_and_then (λ n. long_in n (drop 9 text)) (number_in 16 8 (take 8 text))
 

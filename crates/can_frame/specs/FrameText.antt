@@ -10,7 +10,7 @@ use Rattle.can_frame.specs.declared.item.Item.TheVariants as item
 
 -- Frames as text, in the shape of candump's log files (can-utils).
 
--- a digit, upper case
+-- an upper-case digit
 abbrev pub digit_of : ℕ → ℕ
 digit_of v = if nat_lt v 10 then 48 + v else 55 + v
 
@@ -19,23 +19,23 @@ abbrev pub digits : ℕ → ℕ → ℕ → List ℕ
 digits base zero n = []
 digits base (suc count) n = digits base count (n / base) ++ digit_of (n % base) ∷ []
 
--- bytes as joined pairs of hexadecimal digits
+-- the bytes as pairs of hexadecimal digits, without separators
 abbrev pub pairs : List ℕ → List ℕ
 pairs [] = []
 pairs (b ∷ bs) = digits 16 2 b ++ pairs bs
 
--- an identifier: 3 hexadecimal digits, or 8 where it has 29 bits
+-- an identifier: 3 hexadecimal digits, or 8 if it has 29 bits
 abbrev pub id_text : Identifier → List ℕ
 id_text id = digits 16 (if id.extended then 8 else 3) id.number
 
--- the data; of a remote frame `R` (82), and the length that it asks for where this is not 0; of an FD frame a
--- second `#` (35), a digit of its flags from 0 (48) on, and the data
+-- the text of a payload: the data; for a remote frame `R` (82) and the requested length if it is not 0; for an FD frame
+-- a second `#` (35), a digit for its flags from 0 (48) on, and the data
 abbrev pub payload_text : Payload → List ℕ
 payload_text (Data bytes) = pairs bytes
 payload_text (Remote len) = 82 ∷ (if len == 0 then [] else decimal len)
 payload_text (Fd flags bytes) = 35 ∷ (48 + flags_number flags) ∷ pairs bytes
 
--- the written spelling of an item: what comes before the `#` (35) says what it is. An error message frame has
+-- the written form of an item. The part before the `#` (35) says what kind of item it is: an error message frame has
 -- its class there, with bit 29 set (CAN_ERR_FLAG of linux/can.h)
 unfoldable pub frame_spelling : Item → List ℕ
 frame_spelling (item.Data f) = id_text f.id ++ 35 ∷ payload_text f.payload
@@ -50,7 +50,8 @@ abbrev pub AsksForNothing : Item → Type 0
 AsksForNothing (item.Data f) = f.payload ≡ Remote 0
 AsksForNothing (item.Error e) = ⊥
 
--- a payload that a frame may carry: at most 8 bytes, a request for at most 8, or as many bytes as an FD frame may have
+-- a payload that a frame may carry: at most 8 bytes, a request for at most 8 bytes, or a valid number of bytes of an FD
+-- frame
 abbrev pub IsPayload : Payload → Type 0
 IsPayload (Data bytes) = (length bytes ≤ 8) × IsBytes bytes
 IsPayload (Remote len) = len ≤ 8
@@ -61,12 +62,13 @@ abbrev pub is_plain : Item → Bool
 is_plain (item.Data f) = not (is_flagged f.payload)
 is_plain (item.Error e) = true
 
--- an item that there is
+-- a valid item: its identifier, payload or class is within the limits
 abbrev pub IsItem : Item → Type 0
 IsItem (item.Data f) = IsIdentifier f.id × IsPayload f.payload
 IsItem (item.Error e) = (e.class < 2 ^ 29) × (length e.bytes ≡ 8) × IsBytes e.bytes
 
--- an upper-case text is the written spelling, or that of a remote frame of length 0 with this length after it, `0` (48)
+-- an upper-case text is the written form of the item; for a remote frame of length 0 it may also end in the length `0`
+-- (48)
 abbrev pub IsSpelling : List ℕ → Item → Type 0
 IsSpelling text i = (text ≡ frame_spelling i) ⊎ (AsksForNothing i × (text ≡ frame_spelling i ++ 48 ∷ []))
 

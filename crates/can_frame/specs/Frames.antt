@@ -2,9 +2,9 @@ use Rattle.std.specs.Prelude.{ℕ, Bool, true, false, not, ◌||◌, ◌&&◌, �
 use Rattle.std.specs.Prelude.{[], length, ◌+◌, ◌^◌, ◌<◌, Option, Some, None, if◌then◌else◌}
 use Rattle.can_frame.specs.declared.fd_flags.FdFlags.{FdFlags}
 
--- Frames as linux/can.h and the Bosch CAN Specification 2.0 know them.
+-- Frames as linux/can.h and the Bosch CAN Specification 2.0 define them.
 
--- an identifier: whether it has 29 bits in place of 11, and its number
+-- an identifier: its number, and whether it has 29 bits instead of 11
 pub record Identifier : Type 0 where
   pub extended : Bool
   pub number : ℕ
@@ -13,7 +13,7 @@ pub record Identifier : Type 0 where
 abbrev pub IsIdentifier : Identifier → Type 0
 IsIdentifier id = id.number < (if id.extended then 2 ^ 29 else 2 ^ 11)
 
--- no flag of an FD frame
+-- the flags of an FD frame without BRS and ESI
 abbrev pub no_flags : FdFlags
 no_flags = record { brs = false; esi = false }
 
@@ -34,8 +34,8 @@ flags_of n =
     else if n == 3 then Some (record { brs = true; esi = true })
     else None
 
--- what a frame carries: bytes, in a remote frame how many it asks for, or the flags and the bytes of an FD frame
--- (struct canfd_frame of linux/can.h)
+-- the payload of a frame: the bytes of a data frame, the number of bytes that a remote frame requests, or the flags and
+-- bytes of an FD frame (struct canfd_frame of linux/can.h)
 pub data Payload : Type 0 where
   Data : List ℕ → Payload
   Remote : ℕ → Payload
@@ -51,13 +51,13 @@ pub record ErrorMessage : Type 0 where
   pub class : ℕ
   pub bytes : List ℕ
 
--- a request in place of data
+-- whether the payload is a request instead of data
 abbrev pub is_remote : Payload → Bool
 is_remote (Data bytes) = false
 is_remote (Remote len) = true
 is_remote (Fd flags bytes) = false
 
--- an FD frame
+-- whether the payload belongs to an FD frame
 abbrev pub is_fd : Payload → Bool
 is_fd (Data bytes) = false
 is_fd (Remote len) = false
@@ -67,13 +67,13 @@ is_fd (Fd flags bytes) = true
 abbrev pub is_fd_length : ℕ → Bool
 is_fd_length n = nat_le n 8 || (n == 12 || (n == 16 || (n == 20 || (n == 24 || (n == 32 || (n == 48 || n == 64))))))
 
--- how many bytes are carried, or asked for
+-- the number of bytes that the payload carries or requests
 abbrev pub payload_len : Payload → ℕ
 payload_len (Data bytes) = length bytes
 payload_len (Remote len) = len
 payload_len (Fd flags bytes) = length bytes
 
--- the bytes carried
+-- the bytes that the payload carries
 abbrev pub payload_bytes : Payload → List ℕ
 payload_bytes (Data bytes) = bytes
 payload_bytes (Remote len) = []
@@ -85,11 +85,11 @@ payload_flags (Data bytes) = no_flags
 payload_flags (Remote len) = no_flags
 payload_flags (Fd flags bytes) = flags
 
--- an FD frame with a flag
+-- whether the payload belongs to an FD frame with at least one flag
 abbrev pub is_flagged : Payload → Bool
 is_flagged payload = not (has_no_flags (payload_flags payload))
 
--- the identifier word: bit 31 marks 29-bit identifiers, bit 30 remote requests (linux/can.h); that of an FD frame is
--- a data frame's
+-- the identifier word: bit 31 marks 29-bit identifiers, bit 30 marks remote frames (linux/can.h); an FD frame has the
+-- same word as a data frame
 abbrev pub word_of : CanFrame → ℕ
 word_of f = f.id.number + (if f.id.extended then 2 ^ 31 else 0) + (if is_remote f.payload then 2 ^ 30 else 0)

@@ -14,7 +14,7 @@ names_in text = slice_split (λ b. b == 44) text
 abbrev pub is_name_byte : ℕ → Bool
 is_name_byte b = is_ascii_alphanumeric b || list_any (λ mark. b == mark) (codes "_-.")
 
--- 1 to 15 such bytes (a Linux interface's name has at most 15: IFNAMSIZ of linux/if.h)
+-- 1 to 15 bytes that a name may hold (a Linux interface's name has at most 15: IFNAMSIZ of linux/if.h)
 abbrev pub is_name : List ℕ → Bool
 is_name name = nat_le 1 (length name) && nat_le (length name) 15 && list_all is_name_byte name
 
@@ -25,11 +25,11 @@ pub record AreNames (names : List (List ℕ)) : Type 0 where
   pub good : AllPass is_name names
   pub distinct : AllPairs ◌≢◌ names
 
--- where a name begins in the text: past the names before it and their commas
+-- the place in the text where a name begins: after the names before it and their commas
 abbrev pub start_of : List (List ℕ) → ℕ → ℕ
 start_of names place = sum_by (λ name. length name + 1) (take place names)
 
--- what is kept beside the text: how many names there are, and where each and one more would begin
+-- the values stored together with the text: the number of names, the start of each name, and the start of one more name
 pub record AreKept (names : List (List ℕ)) (count : ℕ) (starts : List ℕ) : Type 0 where
   pub good : AreNames names
   pub all : count ≡ length names

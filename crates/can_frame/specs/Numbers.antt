@@ -11,7 +11,7 @@ hex_digit b =
     else if nat_le 97 b && nat_le b 102 then Some (b - 87)
     else None
 
--- it is a digit of the base
+-- a digit's value if it is a digit of this base
 abbrev pub in_base : ℕ → Option ℕ → Option ℕ
 in_base base None = None
 in_base base (Some v) = if nat_lt v base then Some v else None
@@ -20,18 +20,18 @@ in_base base (Some v) = if nat_lt v base then Some v else None
 abbrev pub digit_in : ℕ → ℕ → Option ℕ
 digit_in base b = in_base base (hex_digit b)
 
--- a number with one more digit
+-- the value of a number followed by one more digit
 abbrev pub one_more : ℕ → ℕ → Option ℕ → Option ℕ
 one_more base n None = None
 one_more base n (Some v) = Some (n * base + v)
 
--- a number with more digits
+-- the value of a number followed by more digits
 abbrev pub number_after : ℕ → Option ℕ → List ℕ → Option ℕ
 number_after base None ds = None
 number_after base (Some n) [] = Some n
 number_after base (Some n) (d ∷ ds) = number_after base (one_more base n (digit_in base d)) ds
 
--- the number of 1 to `most` digits of a base
+-- the value of 1 to `most` digits of a base
 abbrev pub number_in : ℕ → ℕ → List ℕ → Option ℕ
 number_in base most word =
     if nat_lt 0 (length word) && nat_le (length word) most then number_after base (Some 0) word else None

@@ -10,11 +10,11 @@ is_in i set = bit_at set.0 i == 1
 abbrev pub no_ifaces : IfaceSet
 no_ifaces = record { 0 = 0 }
 
--- the bits below n whose place passes
+-- the bits below n at the places that pass the test
 abbrev pub bits_where : (ℕ → Bool) → ℕ → ℕ
 bits_where p zero = 0
 bits_where p (suc n) = if p n then bit_or (bits_where p n) (2 ^ n) else bits_where p n
 
--- the interfaces below n that pass
+-- the set of the interfaces below n that pass the test
 abbrev pub set_where : (ℕ → Bool) → ℕ → IfaceSet
 set_where p n = record { 0 = bits_where p n }

@@ -2,9 +2,9 @@ use Rattle.std.specs.Prelude.{ℕ, true, false, List, [], ◌∷◌, ◌++◌, r
 use Rattle.can_frame.specs.Frames.{CanFrame}
 use Rattle.can_frame.specs.Frames.Payload.{Data, Fd}
 
--- What others know the bits of.
+-- Values whose bits are known from other sources.
 
--- the bytes of "123456789", by which catalogues compare CRCs
+-- the bytes of "123456789", which catalogues use to compare CRCs
 abbrev pub known_bytes : List ℕ
 known_bytes = 49 ∷ 50 ∷ 51 ∷ 52 ∷ 53 ∷ 54 ∷ 55 ∷ 56 ∷ 57 ∷ []
 
@@ -22,7 +22,7 @@ known_short_fd = record {
   payload = Fd (record { brs = true; esi = true }) (0x00 ∷ 0x01 ∷ 0x02 ∷ []);
 }
 
--- one with the long CRC: 555 with BRS, 4 bytes 00 and 16 bytes 55
+-- an FD frame with the long CRC: 555 with BRS, 4 bytes 00 and 16 bytes 55
 abbrev pub known_long_fd : CanFrame
 known_long_fd = record {
   id = record { extended = false; number = 0x555 };

@@ -6,31 +6,32 @@ use Rattle.can_wire.specs.FrameBits.{frame_bits_of}
 use Rattle.can_wire.specs.AttemptBits.{attempt_bits_of}
 use Rattle.can_wire.specs.Times.{BitRates, rates_of, nanos_of}
 
--- How long frames and attempts last on a bus (own choice; how many bits they have is that of FrameBits and
+-- How long frames and attempts last on a bus (own choice; their numbers of bits are defined in FrameBits and
 -- AttemptBits).
 
--- how fast the bits of a bus go
+-- the bit rates of a bus
 pub record BusTiming : Type 0 where
   pub rates : BitRates
 
--- a nominal bit rate, and one for data, to which FD frames with BRS switch; without it all bits go at the nominal one
+-- a nominal bit rate and a data bit rate, to which FD frames with BRS switch; without a data bit rate all bits are sent
+-- at the nominal bit rate
 abbrev pub timing_of : ℕ → Option ℕ → BusTiming
 timing_of nominal None = record { rates = rates_of nominal nominal }
 timing_of nominal (Some fast) = record { rates = rates_of nominal fast }
 
--- the nanoseconds of a frame, from start of frame to end of frame, rounded up
+-- the duration of a frame in nanoseconds, from start of frame to end of frame, rounded up
 abbrev pub frame_nanos_of : BusTiming → CanFrame → ℕ
 frame_nanos_of t f = nanos_of (frame_bits_of f) t.rates
 
--- the nanoseconds of an attempt, from start of frame until the next one may begin, rounded up
+-- the duration of an attempt in nanoseconds, from start of frame until the next attempt may begin, rounded up
 abbrev pub attempt_nanos_of : BusTiming → CanFrame → Class → Verdict → ℕ
 attempt_nanos_of t f class v = nanos_of (attempt_bits_of f class v) t.rates
 
--- the bits of an attempt for which no frame waits, of which an interface that is off counts its restart: 11 recessive
--- ones (Bosch, section 8, rule 12; that an attempt is as many of them is own choice)
+-- the bits of an attempt for which no frame is waiting, which a bus-off interface counts for its restart: 11 recessive
+-- bits (Bosch, section 8, rule 12; that an idle attempt has this many bits is own choice)
 abbrev pub idle_bits : ℕ
 idle_bits = 11
 
--- the nanoseconds of such an attempt, rounded up
+-- the duration of an idle attempt in nanoseconds, rounded up
 abbrev pub idle_nanos_of : BusTiming → ℕ
 idle_nanos_of t = nanos_of (record { nominal = idle_bits; fast = 0 }) t.rates
