@@ -6,7 +6,7 @@ use Rattle.std.proofs.lemmas.List.Edits.{length-insert, length-remove, get_or-in
 use Rattle.can_arbiter.specs.Ranks.{key_in, keys_in, GoesBefore, IsPutAmong}
 use Rattle.can_arbiter.proofs.Ranking.{is_others, kept, left_out, key_in-behind, keys_in-set, clears, keeps_order, non_decreasing, absent_where_cleared, sets, in_order-put, parts}
 
--- A rank that is moved among the others, place by place.
+-- A rank is moved among the others, one place at a time.
 
 pub put_first : (ranks : List ℕ) (place rank : ℕ) → place < length ranks → slice_set ranks place rank ≡ insert (remove ranks place) place rank
 put_first [] place rank inside = absurd (omega arith)
@@ -51,7 +51,7 @@ steps_behind others ranks new at behind rank next inside put is =
     is ∙ (ap (λ (r : List ℕ). slice_set (slice_set r at (get_or r behind 0)) behind rank) put
     ∙ subst (λ (n : ℕ). slice_set (slice_set (insert others at rank) at (get_or (insert others at rank) n 0)) n rank ≡ insert others n rank) next (put_behind others at rank inside))
 
--- what is next to the rank
+-- the ranks next to the moved rank
 next_before : (others ranks : List ℕ) (at rank : ℕ) → 0 < at → at ≤ length others → ranks ≡ insert others at rank → get_or ranks (at - 1) 0 ≡ get_or others (at - 1) 0
 next_before others ranks at rank after inside put = ap (λ (r : List ℕ). get_or r (at - 1) 0) put ∙ get_or-insert_below others at rank 0 (at - 1) (omega arith) inside
 
@@ -115,14 +115,14 @@ refilled xs ws same =
     let within : length xs ≤ length ws = omega (arith, same) in
     rw take-append-le (take_all (length xs) ws (omega (arith, same)))
 
--- a key that is set where another was held, in the row
+-- a new key for an interface that already holds one, in the row
 pub moves_in : (old new : List ℕ) (n key place rank : ℕ) → n < 16 → rank ≡ key * 16 + n → AllPairs GoesBefore old → place < length old → get_or old place 0 % 16 ≡ n → IsPutAmong (remove old place) rank new
     → (keys_in (refill (length old) old new) ≡ slice_set (keys_in old) n (Some key)) × AllPairs GoesBefore (refill (length old) old new)
 moves_in old new n key place rank below is ordered inside held put =
     let long : length new ≡ length old = omega (arith, ap length put.2, length-insert (remove old place) put.0 rank put.1, length-remove old place inside) in
     subst (λ (row : List ℕ). (keys_in row ≡ slice_set (keys_in old) n (Some key)) × AllPairs GoesBefore row) (sym (refilled old new long)) (moves old new n key place rank below is ordered inside held put)
 
--- where a rank belongs in a row, which a search saw
+-- the place of a rank in a row, as found by a search
 pub belongs : (seen ranked : List ℕ) (rank place : ℕ) → AllPairs GoesBefore ranked → seen ≡ ranked → place ≤ length seen
     → (IsPartitionedBy (λ other. ltb other rank) seen → IsPartitionPoint (λ other. ltb other rank ≡ true) (λ other. ltb other rank ≡ false) seen place)
     → (place ≤ length ranked) × IsPartitionPoint (λ other. ltb other rank ≡ true) (λ other. ltb other rank ≡ false) ranked place

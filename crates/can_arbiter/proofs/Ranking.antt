@@ -15,7 +15,7 @@ use Rattle.std_collections.proofs.IndexTableLemmas.Probe.{pigeonhole}
 use Rattle.can_arbiter.specs.Keys.{no_keys, IsIdle, IsWinner}
 use Rattle.can_arbiter.specs.Ranks.{key_in, keys_in, length-keys_in, GoesBefore}
 
--- Rows of ranks, and the keys that they stand for.
+-- Rows of ranks, and the keys that they represent.
 
 -- ---- the keys of a row
 
@@ -27,7 +27,7 @@ keys_in-from : (ranks : List ℕ) (keys : List (Option ℕ)) → length keys ≡
 unfolding keys_in
 keys_in-from ranks keys long each = sym (fill_by_all (key_in ranks) keys 16 None long each)
 
--- two rows that differ only in interface n
+-- two rows that differ only in the rank of interface n
 pub keys_in-set : (old new : List ℕ) (n : ℕ) (held : Option ℕ) → n < 16 → key_in new n ≡ held → ((i : ℕ) → i ≢ n → key_in new i ≡ key_in old i) → keys_in new ≡ slice_set (keys_in old) n held
 keys_in-set old new n held inside at others =
     keys_in-from new (slice_set (keys_in old) n held) (length-set (keys_in old) n held ∙ length-keys_in old) each
@@ -54,7 +54,7 @@ absent_behind rank ranks n absent =
     let other : rank % 16 ≢ n = λ is. let held : Some (rank / 16) ≡ None = sym (key_in-here rank ranks n is) ∙ absent in absurd (cc) in
     (other, sym (key_in-behind rank ranks n other) ∙ absent)
 
--- no rank of the row is the interface's
+-- no rank of the row belongs to the interface
 pub absent_at : (ranks : List ℕ) (n : ℕ) → key_in ranks n ≡ None → (k d : ℕ) → k < length ranks → get_or ranks k d % 16 ≢ n
 absent_at [] n absent k d inside = absurd (omega arith)
 absent_at (rank ∷ ranks) n absent zero d inside = (absent_behind rank ranks n absent).0
@@ -120,7 +120,7 @@ get_or-insert_beyond xs place y d j beyond inside =
     let next : j ≡ (j - 1) + 1 = omega arith in
     ap (λ (n : ℕ). get_or (insert xs place y) n d) next ∙ get_or-insert_above xs place y d (j - 1) (omega arith) inside
 
--- a rank between the lesser and the greater ones leaves the row in order
+-- inserting a rank between the lower and the higher ones keeps the row in order
 pub in_order-put : (ranks : List ℕ) (place rank : ℕ) → AllPairs GoesBefore ranks → place ≤ length ranks → key_in ranks (rank % 16) ≡ None
     → ((k d : ℕ) → k < place → get_or ranks k d < rank) → ((k d : ℕ) → place ≤ k → k < length ranks → rank ≤ get_or ranks k d)
     → AllPairs GoesBefore (insert ranks place rank)
@@ -158,7 +158,7 @@ in_order-put ranks place rank ordered inside absent below above i j d before wit
         let differs : get_or ranks (j - 1) d ≢ rank = λ same. other (ap (λ (n : ℕ). n % 16) same) in
         subst (λ (x : ℕ). GoesBefore rank x) (sym (get_or-insert_beyond ranks place rank d j higher inside)) (omega (arith, least, differs), λ same. other (sym same))
 
--- a row has a place for each interface
+-- the row has at most one rank for each of the 16 interfaces
 pub at_most_16 : (ranks : List ℕ) → AllPairs GoesBefore ranks → length ranks ≤ 16
 at_most_16 ranks ordered = pigeonhole (length ranks) 16 number (λ i inside. omega arith) one
   where
@@ -186,7 +186,7 @@ rank_of (rank ∷ ranks) i key held = elim (cases_eq (rank % 16) i) [
       (suc found.0, omega (arith, found.1), found.2, found.3)
 ]
 
--- a key that the interfaces' list has, in the row
+-- a key in the list of interfaces is also in the row
 key_from_keys : (ranks : List ℕ) (i key : ℕ) → slice_get (keys_in ranks) i ≡ Some (Some key) → key_in ranks i ≡ Some key
 key_from_keys ranks i key held =
     let inside = slice_get_within (keys_in ranks) i (Some key) held in
@@ -271,7 +271,7 @@ pub absent_where_cleared : (old cleared : List ℕ) (n i : ℕ) → n < 16 → i
 absent_where_cleared old cleared n i inside is without =
     ap (key_in cleared) is ∙ sym (get_or-keys_in cleared n None inside) ∙ ap (λ (keys : List (Option ℕ)). get_or keys n None) without ∙ get_or-set_same (keys_in old) n None None (omega (arith, length-keys_in old))
 
--- in the row without the interface, the rank in between the lesser and the greater ones
+-- the row without the interface, with the rank inserted between the lower and the higher ones
 pub sets : (old cleared new : List ℕ) (n key place rank : ℕ) → n < 16 → rank ≡ key * 16 + n → keys_in cleared ≡ slice_set (keys_in old) n None → new ≡ insert cleared place rank
     → keys_in new ≡ slice_set (keys_in old) n (Some key)
 sets old cleared new n key place rank inside is without put =
@@ -295,11 +295,11 @@ non_decreasing ranked ordered i j d up inside = elim (cases_eq i j) [
   | inr apart ↦ omega (arith, (ordered i j d (omega arith) inside).0)
 ]
 
--- what `partition_point` asks for
+-- the precondition of `partition_point`
 pub parts : (ranked : List ℕ) (rank : ℕ) → AllPairs GoesBefore ranked → IsPartitionedBy (λ other. ltb other rank) ranked
 parts ranked rank ordered = IsPartitionedBy-ltb (λ other. other) ranked rank (non_decreasing ranked ordered)
 
--- the row with the rank put where `partition_point` said
+-- the row with the rank inserted at the place that `partition_point` returned
 pub order_put : (old cleared new : List ℕ) (n key place rank : ℕ) → n < 16 → rank ≡ key * 16 + n → keys_in cleared ≡ slice_set (keys_in old) n None → new ≡ insert cleared place rank
     → AllPairs GoesBefore cleared → place ≤ length cleared → IsPartitionPoint (λ other. ltb other rank ≡ true) (λ other. ltb other rank ≡ false) cleared place → AllPairs GoesBefore new
 order_put old cleared new n key place rank inside is without put ordered within point =
@@ -308,7 +308,7 @@ order_put old cleared new n key place rank inside is without put ordered within 
     absent : key_in cleared (rank % 16) ≡ None
     absent = absent_where_cleared old cleared n (rank % 16) inside (omega (arith, is)) without
 
--- and there is room for it
+-- there is room for one more rank
 pub has_room : (old cleared : List ℕ) (n key place rank : ℕ) → n < 16 → rank ≡ key * 16 + n → keys_in cleared ≡ slice_set (keys_in old) n None
     → AllPairs GoesBefore cleared → place ≤ length cleared → IsPartitionPoint (λ other. ltb other rank ≡ true) (λ other. ltb other rank ≡ false) cleared place → length cleared < 16
 has_room old cleared n key place rank inside is without ordered within point =

@@ -2,14 +2,14 @@ use Rattle.std.proofs.Common.{◌≡◌, ◌≢◌, ℕ, ◌<◌, ◌≤◌, Lis
 use Rattle.std.proofs.lemmas.Bool.{cases_order}
 use Rattle.can_arbiter.specs.Keys.{IsWinner}
 
--- of the interfaces below n, w holds the least key, and nobody below w the same
+-- of the interfaces below n, w holds the lowest key, and no interface below w holds the same key
 pub record WinsBelow (keys : List (Option ℕ)) (n w key : ℕ) : Type 0 where
   pub inside : w < n
   pub holds : slice_get keys w ≡ Some (Some key)
   pub least : (i other : ℕ) → i < n → slice_get keys i ≡ Some (Some other) → key ≤ other
   pub lowest : (i : ℕ) → i < w → slice_get keys i ≢ Some (Some key)
 
--- what a scan of the interfaces below n has found
+-- the result of a scan of the interfaces below n
 abbrev pub IsFirstBelow : List (Option ℕ) → ℕ → Option (ℕ × ℕ) → Type 0
 IsFirstBelow keys n None = (i other : ℕ) → i < n → slice_get keys i ≢ Some (Some other)
 IsFirstBelow keys n (Some p) = WinsBelow keys n p.0 p.1

@@ -23,18 +23,18 @@ use Rattle.can_attempt.proofs.Judged.{same_judgement}
 use Rattle.can_attempt.proofs.Places.{bits_where_below, is_among-unhurt}
 use Rattle.can_attempt.proofs.Standing.{bit_at-bits_where}
 
--- Of frames that go over the bus without a fault, where all counts are 0.
+-- Frames that are sent without a fault while all counts are 0.
 
 abbrev counts_of : ℕ → ℕ → Bool → ErrorCounts
 counts_of t r d = record { tec = t; rec = r; down = d }
 
--- numbers whose bits together are 0 are 0
+-- if the bitwise OR of two numbers is 0, both numbers are 0
 pub zero_of_or : (a b : ℕ) → bit_or a b ≡ 0 → a ≡ 0
 zero_of_or a b none = same_from_bits a 0 (λ i.
     let most : max (bit_at a i) (bit_at b i) ≡ 0 = sym (bit_at_or a b i) ∙ ap (λ n. bit_at n i) none ∙ bit_at-zero i in
     omega (arith, most) ∙ sym (bit_at-zero i))
 
--- counts whose bits together are 0, with the bit of an interface that is down, are those at the start
+-- if the bitwise OR of both counts and the bit for a node that is down is 0, the counts are those at the start
 pub zero_counts : (c : ErrorCounts) (t r d : ℕ) → t ≡ c.tec → r ≡ c.rec → d ≡ from_bool c.down → bit_or (bit_or t r) d ≡ 0 → c ≡ at_start
 zero_counts c t r d tec rec down none =
     let counts : bit_or t r ≡ 0 = zero_of_or (bit_or t r) d none in
@@ -59,7 +59,7 @@ calm_stays t i good calm =
     ap (λ (c : ErrorCounts). all_stepped c (steps_in class.Done t i)) calm
     ∙ stays (state_at t i) (i == t.winner) (is_among i (receivers t)) (is_struck t.verdict i) (ap (λ (v : Verdict). is_struck v i) good)
 
--- the bits of all places below c but one
+-- the bits of all places below c except w
 pub bits-others : (c w : ℕ) → w < c → bit_xor (2 ^ c - 1) (2 ^ w) ≡ bits_where (λ i. not (i == w)) c
 bits-others c w there = same_from_bits _ _ each
   where
@@ -89,7 +89,7 @@ some_among : (i : ℕ) (xs : List ℕ) → is_among i xs ≡ true → not (lengt
 some_among i [] among = absurd (false≢true among)
 some_among i (x ∷ xs) among = grind arith
 
--- another interface of a bus of more than one
+-- an interface other than w, on a bus with more than one interface
 abbrev another : ℕ → ℕ
 another zero = 1
 another (suc w) = 0
@@ -131,7 +131,7 @@ module _ (nodes : Nodes) (w : ℕ) (zeros : All (λ c. c ≡ at_start) nodes.cou
   none_hit : (a : AckMode) → hit (attempt_between nodes w verdict.Good a) ≡ []
   none_hit a = filter_never (is_struck verdict.Good) (λ i. refl) (receivers (attempt_between nodes w verdict.Good a))
 
-  -- a calm attempt is done
+  -- the outcome of an attempt in which nothing can go wrong is `Done`
   pub calm_class : (a : AckMode) → IsTrue (is_always a || nat_lt 1 nodes.count) → class_of (attempt_between nodes w verdict.Good a) ≡ class.Done
   calm_class a some =
       let t : Transmission = attempt_between nodes w verdict.Good a in
@@ -143,7 +143,7 @@ module _ (nodes : Nodes) (w : ℕ) (zeros : All (λ c. c ≡ at_start) nodes.cou
       let t : Transmission = attempt_between nodes w verdict.Good a in
       ap (λ (k : Class). counts_in k t i) (calm_class a some) ∙ calm_stays t i refl (zero_at i)
 
-  -- a calm attempt is judged so
+  -- the judgement of an attempt in which nothing can go wrong
   pub judged_calm : (a : AckMode) (j : Judgement) → IsTrue (is_always a || nat_lt 1 nodes.count) → nodes.count ≤ 16 → length nodes.counters ≡ 16
       → j.class ≡ class.Done → j.accepted ≡ set_where (λ i. not (i == w)) nodes.count → j.hit ≡ no_ifaces → j.counters ≡ nodes.counters → j.off ≡ no_ifaces
       → j ≡ judged (attempt_between nodes w verdict.Good a)

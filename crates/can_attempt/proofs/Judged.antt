@@ -34,7 +34,7 @@ same_to_the_live t u s = record {
   live = λ i below live. s.counts i (omega (arith, below, s.within));
 }
 
--- attempts that are the same to sixteen places are judged alike
+-- attempts that are the same at sixteen places have the same judgement
 pub judged_same : (t u : Transmission) → SameToSixteen t u → judged t ≡ judged u
 judged_same t u s =
     let l : SameToTheLive t u = same_to_the_live t u s in

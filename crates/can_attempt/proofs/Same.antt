@@ -47,7 +47,7 @@ same_class t u s =
     ∙ ap (λ (a : Bool). class_when (is_destroyed u) a (is_last_bit t.verdict)) acknowledged
     ∙ ap (λ (v : Verdict). class_when (is_destroyed u) (is_acknowledged u) (is_last_bit v)) s.verdict
 
--- the counts of i after an attempt, from what they hang on
+-- the counts of interface i after an attempt, as a function of the values that they depend on
 abbrev counts_from : ErrorCounts → ℕ → Class → List ℕ → Verdict → ℕ → ErrorCounts
 counts_from c w k rs v i = all_stepped c (if i == w then winner_step k (state_of c) else if is_among i rs then receiver_step k (is_struck v i) else [])
 

@@ -7,10 +7,10 @@ use Rattle.can_frame.specs.declared.iface.IfaceSet.{IfaceSet}
 use Rattle.can_attempt.specs.Attempts.{is_among, set_of}
 use Rattle.can_attempt.proofs.Places.{range_more, bits_where_below, is_among-filter, is_among-range}
 
--- What a survey has seen of the interfaces below a place: h tells who hears, n who is named, a who is not error
--- passive.
+-- What a survey has seen of the interfaces below a place. `h` says which interfaces can hear, `n` which are named, and
+-- `a` which are not error passive.
 
--- the interfaces below i that hear and pass
+-- the interfaces below i that can hear and pass the test
 abbrev pub heard : (ℕ → Bool) → (ℕ → Bool) → ℕ → List ℕ
 heard h n i = filter n (filter h (range_with_len 0 i))
 
@@ -20,7 +20,7 @@ pub record Seen (h n a : ℕ → Bool) (i hit unhurt : ℕ) (is_hit_active is_he
   pub active : is_hit_active ≡ list_any a (heard h n i)
   pub some : is_heard ≡ not (length (heard h (λ k. not (n k)) i) == 0)
 
--- nothing was seen of none
+-- a survey of no interfaces has seen nothing
 pub seen_none : (h n a : ℕ → Bool) → Seen h n a 0 0 0 false false
 seen_none h n a = record { hit_bits = refl; unhurt_bits = refl; active = refl; some = refl }
 
@@ -28,7 +28,7 @@ filter_one : (x : Bool) (n : ℕ → Bool) (i : ℕ) → filter n (if x then i �
 filter_one true n i = refl
 filter_one false n i = refl
 
--- one interface more
+-- a survey of one more interface
 heard_more : (h n : ℕ → Bool) (i : ℕ) → heard h n (suc i) ≡ heard h n i ++ (if h i && n i then i ∷ [] else [])
 heard_more h n i =
     ap (λ ks. filter n (filter h ks)) (range_more 0 i i (omega arith))
@@ -63,10 +63,10 @@ seen_more h n a i hit unhurt x y s hit' unhurt' x' y' eh eu ex ey =
       some = ey ∙ ap (λ b. b || (h i && not (n i))) s.some ∙ sym (some_more h (λ k. not (n k)) i);
     })
 
--- who is among them
+-- membership among these interfaces
 pub is_among-heard : (h n : ℕ → Bool) (c i : ℕ) → is_among i (heard h n c) ≡ ((h i && n i) && nat_lt i c)
 is_among-heard h n c i = rw (is_among-filter n i (filter h (range_with_len 0 c)), is_among-filter h i (range_with_len 0 c), is_among-range i 0 c) (grind arith)
 
--- the set of those below c that hear and pass
+-- the set of the interfaces below c that can hear and pass the test
 pub set_of-heard : (h n : ℕ → Bool) (c : ℕ) (set : IfaceSet) → c ≤ 16 → set.0 ≡ bits_where (λ k. h k && n k) c → set ≡ set_of (heard h n c)
 set_of-heard h n c set within e = ap (λ (b : ℕ). record { 0 = b }) (e ∙ sym (bits_where_below (λ i. is_among i (heard h n c)) (λ k. h k && n k) c 16 within (is_among-heard h n c)))

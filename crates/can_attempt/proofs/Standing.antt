@@ -8,7 +8,7 @@ use Rattle.can_attempt.specs.declared.class.Class.{Class}
 use Rattle.can_attempt.specs.declared.class.Class.TheVariants.{Done, LastBit, Destroyed, NoAck}
 use Rattle.can_attempt.specs.Attempts.{Transmission, state_at, is_among, set_of, receivers, is_struck, receiver_step, class_of, counts_after}
 
--- Who stands in a set, and who goes off the bus.
+-- Membership in sets of interfaces, and which interfaces go off the bus.
 
 -- the bit that a step sets
 set_bit : (x : Bool) (b n i : ℕ) → i ≡ n → bit_at b i ≡ 0 → bit_at (if x then bit_or b (2 ^ n) else b) i ≡ (if x then 1 else 0)
@@ -17,14 +17,14 @@ set_bit true b n i same clear =
     let one : bit_at (2 ^ n) i ≡ 1 = rw same (bit_at-pow_same n) in
     bit_at_or b (2 ^ n) i ∙ rw (clear, one) refl
 
--- the bits that it leaves
+-- the other bits do not change
 other_bit : (x : Bool) (b n i : ℕ) → i ≢ n → bit_at (if x then bit_or b (2 ^ n) else b) i ≡ bit_at b i
 other_bit false b n i other = refl
 other_bit true b n i other =
     let none : bit_at (2 ^ n) i ≡ 0 = bit_at-pow_other n i other in
     bit_at_or b (2 ^ n) i ∙ rw none (omega arith)
 
--- the bits below n are those of the places that pass
+-- the bits below n are those at the places that pass the test
 pub bit_at-bits_where : (p : ℕ → Bool) (n i : ℕ) → bit_at (bits_where p n) i ≡ (if nat_lt i n && p i then 1 else 0)
 bit_at-bits_where p zero i =
     let past : nat_lt i 0 ≡ false = grind arith in
@@ -45,7 +45,7 @@ one_if : (x : Bool) → ((if x then 1 else 0) == 1) ≡ x
 one_if true = refl
 one_if false = refl
 
--- an interface is in the set of some interfaces exactly where it is one of them
+-- an interface is in the set of a list exactly if it is in the list
 pub is_in-of : (is : List ℕ) (i : ℕ) → is_in i (set_of is) ≡ (nat_lt i 16 && is_among i is)
 is_in-of is i = ap (λ (b : ℕ). b == 1) (bit_at-bits_where (λ k. is_among k is) 16 i) ∙ one_if (nat_lt i 16 && is_among i is)
 
@@ -65,7 +65,7 @@ others_stay : (x : Bool) (k : Class) (b : Bool) (c : ErrorCounts) → is_off (st
 others_stay true k b c = receivers_stay k b c
 others_stay false k b c = refl
 
--- an attempt takes nobody but its winner off the bus
+-- an attempt takes no interface except its winner off the bus
 pub winner-alone-off : (t : Transmission) (i : ℕ) → i ≢ t.winner → is_off (state_of (counts_after t i)) ≡ is_off (state_at t i)
 winner-alone-off t i other =
     let apart : (i == t.winner) ≡ false = ne_eqb i t.winner other in

@@ -23,12 +23,12 @@ use Rattle.can_fault.specs.declared.verdict.LocalKind.TheVariants as local
 use Rattle.can_fault.specs.declared.verdict.Verdict.{Verdict}
 use Rattle.can_fault.specs.declared.verdict.Verdict.TheVariants.{Good, Global, Local, LastBit}
 
--- What is read of a line is what the grammar says.
+-- Reading a line gives exactly what the grammar says.
 
 abbrev is_space : ℕ → Bool
 is_space b = b == 32
 
--- a text is its first word, a space and what follows, or nothing follows
+-- a text is its first word, a space and the rest, or nothing follows its first word
 spaced : (text : List ℕ) → (text ≡ word text ++ 32 ∷ after text) ⊎ (after text ≡ [])
 spaced text = ⊎_elim (λ h. inl (parts h)) (λ h. inr (at_drop_all (λ l. l) text (position_or_len is_space text + 1) (omega (arith, h)))) (cases_lt (position_or_len is_space text) (length text))
   where
@@ -92,7 +92,7 @@ verdict-spelled names text v e =
         let whole : text ≡ word text ++ 32 ∷ after text = ⊎_elim (λ h. h) (λ none. let bad = ap (local_spelling names) none in cc) (spaced text) in
         subst (SpellsVerdict names text) same (list, whole ∙ ap (λ (w : List ℕ). w ++ 32 ∷ after text) first ∙ ap (λ (r : List ℕ). codes "local" ++ 32 ∷ r) spelled, of_set)
 
--- a number and its verdict, if both are good
+-- a number and its verdict, if both are valid
 abbrev entry_from : Option ℕ → Result Verdict LineFault → Saying
 entry_from number verdict = do
   n ← ok_or number line.BadLine
@@ -201,7 +201,7 @@ local_missing (Some kind) (Err line.BadLine) e = cc
 local_missing (Some kind) (Err line.UnknownInterface) e = (kind, refl, refl)
 local_missing (Some kind) (Ok set) e = cc
 
--- a text after which nothing is missing but an interface
+-- a text in which only an interface is missing
 abbrev LacksAfter : List (List ℕ) → List ℕ → Type 0
 LacksAfter names text = (kind : LocalKind) × (list : List ℕ) × (text ≡ kind_word kind ++ 32 ∷ list) × (list_all is_name (names_in list) ≡ true) × (list_all (λ piece. is_some (place_of names piece)) (names_in list) ≡ false)
 

@@ -16,9 +16,9 @@ use Rattle.can_fault.specs.Scripts.{set_named, set_spelling}
 use Rattle.can_fault.specs.declared.script_lines.LineFault.{LineFault}
 use Rattle.can_fault.specs.declared.script_lines.LineFault.TheVariants.{BadLine, UnknownInterface}
 
--- The set that names give, read one after another.
+-- The set that a list of names gives, read one name after another.
 
--- a set with one interface more
+-- a set with one more interface
 abbrev pub with_iface : IfaceSet → ℕ → IfaceSet
 with_iface set i = record { 0 = bit_or set.0 (2 ^ i) }
 
@@ -42,7 +42,7 @@ added-turn names pieces set n piece h =
     at_drop_more (added names set) pieces n piece h.0
     ∙ ap (λ (p : List ℕ). option_map_or (λ i. added names (with_iface set i) (drop (n + 1) pieces)) (place_of names p) (Err UnknownInterface)) (sym h.1)
 
--- 1 where a test is met
+-- 1 if the test is true, otherwise 0
 abbrev bit : Bool → ℕ
 bit true = 1
 bit false = 0
@@ -142,7 +142,7 @@ added-named names set (piece ∷ pieces) =
 none-or : (a : ℕ) → bit_or 0 a ≡ a
 none-or a = refl
 
--- the names of a text, added to no interface, are its set
+-- adding the names of a text to the empty set gives the set that the text spells
 pub set_spelling-added : (names : List (List ℕ)) (text : List ℕ) → list_all is_name (names_in text) ≡ true → set_spelling names text ≡ added names no_ifaces (names_in text)
 set_spelling-added names text good =
     let pieces = names_in text in
@@ -150,7 +150,7 @@ set_spelling-added names text good =
     ∙ ap (λ (n : ℕ). if list_all (is_known names) pieces then Ok (record { 0 = n }) else Err UnknownInterface) (sym (none-or (set_named names pieces).0))
     ∙ sym (added-named names no_ifaces pieces)
 
--- an interface is in the set where a piece names it
+-- an interface is in the set exactly if a piece names it
 pub is_in-set_named : (names pieces : List (List ℕ)) (iface : ℕ) → iface < length names → is_in iface (set_named names pieces) ≡ list_any (λ piece. option_eq nat_eq (place_of names piece) (Some iface)) pieces
 unfolding set_named
 is_in-set_named names pieces iface h =

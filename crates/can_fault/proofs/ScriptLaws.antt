@@ -26,7 +26,7 @@ get-apart m k v q apart =
 contains-here : (m : VerdictMap) (k : ℕ) (v : Verdict) → contains_key (insert m k v) k ≡ true
 contains-here m k v = ap is_some (get-here m k v)
 
--- what a line gives is one number and one verdict
+-- a line gives only one number and one verdict
 same_entry : (p q : ℕ × Verdict) → ◌≡◌ {A = Saying} (Ok (Some p)) (Ok (Some q)) → p ≡ q
 same_entry p q e = cc
 
@@ -46,7 +46,7 @@ after_entry known n a w more verdicts e =
       | false ↦ λ r. (refl, r)
     ] e
 
--- what a script has is known before its lines, or a line gives it
+-- each verdict of a script was known before its lines, or one of its lines gives it
 pub found : (known : VerdictMap) (n : ℕ) (lines : List Saying) (verdicts : VerdictMap) (k : ℕ) (v : Verdict) → spelled_after known n lines ≡ Ok verdicts → get verdicts k ≡ Some v → (get known k ≡ Some v) ⊎ Gives lines k v
 found known n [] verdicts k v e h = inl (let same : known ≡ verdicts = cc in ap (λ m. get m k) same ∙ h)
 found known n (Err fault ∷ more) verdicts k v e h = cc
@@ -66,7 +66,7 @@ given_here : (known : VerdictMap) (a : ℕ) (w : Verdict) (k : ℕ) (v : Verdict
 given_here known a w k v same =
     ap (λ (x : ℕ × Verdict). get (insert known a w) x.0) (sym same) ∙ get-here known a w ∙ ap (λ (x : ℕ × Verdict). Some x.1) same
 
--- what is known before a script's lines, or a line gives, the script has
+-- the script has every verdict that was known before its lines or that a line gives
 pub kept : (known : VerdictMap) (n : ℕ) (lines : List Saying) (verdicts : VerdictMap) (k : ℕ) (v : Verdict) → spelled_after known n lines ≡ Ok verdicts → (get known k ≡ Some v) ⊎ Gives lines k v → get verdicts k ≡ Some v
 kept known n [] verdicts k v e h = ⊎_elim (λ g. let same : verdicts ≡ known = cc in ap (λ m. get m k) same ∙ g) (λ (p, at). let none : None ≡ Some (Ok (Some (k, v))) = at in cc) h
 kept known n (Err fault ∷ more) verdicts k v e h = cc
@@ -77,7 +77,7 @@ kept known n (Ok (Some (a, w)) ∷ more) verdicts k v e h =
     kept (insert known a w) (n + 1) more verdicts k v rest.1
     (⊎_elim (λ g. inl (get-apart known a w k (known_apart known a k v rest.0 g) ∙ g)) (λ given. ⊎_elim (λ same. inl (given_here known a w k v (same_entry (a, w) (k, v) same))) inr (Gives-cons (Ok (Some (a, w))) more k v given)) h)
 
--- an attempt that a script's line gives a verdict had none before
+-- if a line of a script gives a verdict on an attempt, the attempt had none before
 fresh : (known : VerdictMap) (n : ℕ) (lines : List Saying) (verdicts : VerdictMap) (k : ℕ) (v : Verdict) → spelled_after known n lines ≡ Ok verdicts → Gives lines k v → contains_key known k ≡ false
 fresh known n [] verdicts k v e (p, at) = let none : ◌≡◌ {A = Option Saying} None (Some (Ok (Some (k, v)))) = at in cc
 fresh known n (Err fault ∷ more) verdicts k v e given = cc
@@ -90,7 +90,7 @@ fresh known n (Ok (Some (a, w)) ∷ more) verdicts k v e given =
     earlier known a w k none =
         ⊎_elim (λ same. absurd (false≢true (sym none ∙ ap (contains_key (insert known a w)) same ∙ contains-here known a w))) (λ apart. ap is_some (sym (get-apart known a w k apart)) ∙ none) (cases_eq k a)
 
--- two lines that give one attempt a verdict are one line
+-- two lines with a verdict on the same attempt are the same line
 pub one_line : (known : VerdictMap) (n : ℕ) (lines : List Saying) (verdicts : VerdictMap) (i j k : ℕ) (v w : Verdict) → spelled_after known n lines ≡ Ok verdicts → slice_get lines i ≡ Some (Ok (Some (k, v))) → slice_get lines j ≡ Some (Ok (Some (k, w))) → i ≡ j
 one_line known n [] verdicts i j k v w e p q = let none : ◌≡◌ {A = Option Saying} None (Some (Ok (Some (k, v)))) = p in cc
 one_line known n (Err fault ∷ more) verdicts i j k v w e p q = cc
@@ -110,7 +110,7 @@ one_line known n (Ok (Some (a, u)) ∷ more) verdicts (suc i) (suc j) k v w e p 
     let rest = after_entry known n a u more verdicts e in
     ap suc (one_line (insert known a u) (n + 1) more verdicts i j k v w rest.1 p q)
 
--- as `HasFault`, for lines from number n on after lines that gave `known`
+-- like `HasFault`, for lines from number n on, after lines that gave `known`
 abbrev pub HasFaultAfter : VerdictMap → ℕ → List Saying → ℕ → ScriptError → Type 0
 HasFaultAfter known n lines place (script.BadLine m) = (m ≡ n + place) × (slice_get lines place ≡ Some (Err line.BadLine))
 HasFaultAfter known n lines place (script.UnknownInterface m) = (m ≡ n + place) × (slice_get lines place ≡ Some (Err line.UnknownInterface))
@@ -227,7 +227,7 @@ again known n a w more (script.RepeatedAttempt m) (number, (attempt, now, there,
 again known n a w more (script.RepeatedAttempt m) (number, (attempt, now, there, inr (before, given))) = let none : ◌≡◌ {A = Option Saying} None (Some (Ok (Some (attempt, before)))) = given.1 in cc
 again known n a w more script.NoMemory h = absurd h
 
--- what the first faulty line has is what is reported
+-- the fault of the first faulty line is the fault that is reported
 pub fault_told : (known : VerdictMap) (n : ℕ) (lines : List Saying) (place : ℕ) (fault : ScriptError) → IsOk (spelled_after known n (take place lines)) → HasFaultAfter known n lines place fault → spelled_after known n lines ≡ Err fault
 fault_told known n [] place fault good has = absurd (no_line known n place fault has)
 fault_told known n (Err own ∷ more) zero fault good has = ap Err (own_fault known n own more fault has)

@@ -40,7 +40,7 @@ abbrev pub set_in : Verdict → ℕ
 set_in (Local set kind) = set.0
 set_in _ = 0
 
--- the verdict of a kind's number and a set
+-- the verdict with this kind's number and this set
 abbrev pub verdict_from : ℕ × ℕ → Verdict
 verdict_from p =
     let set : IfaceSet = record { 0 = p.1 } in

@@ -4,7 +4,7 @@ use Rattle.std.specs.Prelude.{◌&&◌, ◌||◌}
 use Rattle.std.proofs.lemmas.List.{take-append-drop}
 use Rattle.std.proofs.lemmas.List.Folds.{list_any-append, list_all-append}
 
--- Of a list and its first elements, a block.
+-- A list, and the block of its first elements.
 
 module _ {X : Type 0} (p : X → Bool) where
   any_parts : (n : ℕ) (xs : List X) → list_any p xs ≡ (list_any p (take n xs) || list_any p (drop n xs))
@@ -13,15 +13,15 @@ module _ {X : Type 0} (p : X → Bool) where
   all_parts : (n : ℕ) (xs : List X) → list_all p xs ≡ (list_all p (take n xs) && list_all p (drop n xs))
   all_parts n xs = ap (list_all p) (sym (take-append-drop n xs)) ∙ list_all-append p (take n xs) (drop n xs)
 
-  -- a block that has such an element settles the answer
+  -- a block with an element that passes decides the answer
   pub block_has : (n : ℕ) (xs : List X) → list_any p (take n xs) ≡ true → list_any p xs ≡ true
   block_has n xs has = any_parts n xs ∙ ap (λ b. b || list_any p (drop n xs)) has
 
-  -- and else the rest has to be looked at
+  -- otherwise the rest has to be tested
   pub block_has_none : (n : ℕ) (xs : List X) → list_any p (take n xs) ≡ false → list_any p xs ≡ list_any p (drop n xs)
   block_has_none n xs none = any_parts n xs ∙ ap (λ b. b || list_any p (drop n xs)) none
 
-  -- so does one with an element that is not such
+  -- a block with an element that does not pass decides the answer
   pub block_lacks : (n : ℕ) (xs : List X) → list_all p (take n xs) ≡ false → list_all p xs ≡ false
   block_lacks n xs lacks = all_parts n xs ∙ ap (λ b. b && list_all p (drop n xs)) lacks
 

@@ -8,13 +8,13 @@ use Rattle.std.proofs.lemmas.Nat.{and_assoc}
 use Rattle.can_filter.specs.Filters.{CanFilter, matches}
 use Rattle.can_filter.specs.Lookups.{extended_mask, is_extended, is_marked, is_listed, is_matched, is_found}
 
--- Filters parted by how a word is looked up, and put together again.
+-- Filters are grouped by how a word is looked up, and the groups match the same words.
 
 or_false : (a : Bool) → (a || false) ≡ a
 or_false true = refl
 or_false false = refl
 
--- one more at the end of a list
+-- one more element at the end of a list
 list_any-more : {X : Type 0} (p : X → Bool) (xs : List X) (x : X) → list_any p (xs ++ x ∷ []) ≡ (list_any p xs || p x)
 list_any-more p xs x = list_any-append p xs (x ∷ []) ∙ ap (λ (b : Bool). list_any p xs || b) (or_false (p x))
 
@@ -69,7 +69,7 @@ found-none marks ids masked inverted e f g h word =
     ∙ ap (λ (l : List CanFilter). is_found (replicate 2048 false) [] l inverted word) g ∙ ap (λ (l : List CanFilter). is_found (replicate 2048 false) [] [] l word) h
     ∙ ap (λ (b : Bool). b || false) (unmarked 2048 (bit_and word 3221227519))
 
--- sorted, the ids are those that they were
+-- after sorting, the list has the same ids
 pub found-sorted : (marks : List Bool) (old new : List ℕ) (masked inverted : List CanFilter) → IsPermutation old new → (word : ℕ) → is_found marks new masked inverted word ≡ is_found marks old masked inverted word
 found-sorted marks old new masked inverted moved word =
     ap (λ (b : Bool). is_marked marks word || (b || (is_matched masked word || is_matched inverted word))) (sym (list_any-IsPermutation (λ i. bit_and word extended_mask == i) old new moved))

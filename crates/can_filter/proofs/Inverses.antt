@@ -6,9 +6,9 @@ use Rattle.std.proofs.lemmas.Nat.Bits.{and_pow, bit_at_xor, bit_at-pow_same, bit
 use Rattle.std.proofs.Math.Nat.{mod-eq_of_lt}
 use Rattle.can_filter.specs.Filters.{CanFilter, inverse_of, agrees, matches}
 
--- Of a filter and its inverse, and of the bits of an error mask.
+-- A filter and its inverse, and the bits of an error mask.
 
--- a bit that is turned is 0 exactly where it was 1
+-- a flipped bit is 0 exactly if the bit was 1
 turned_bit : (b : ℕ) → b < 2 → (((b + 1) % 2) * 2 ^ 29 == 0) ≡ not (b * 2 ^ 29 == 0)
 turned_bit zero below = refl
 turned_bit (suc zero) below = refl
@@ -21,7 +21,7 @@ turned id =
     ∙ turned_bit (bit_at id 29) (bit_at-lt id 29)
     ∙ ap (λ n. not (n == 0)) (sym (and_pow id 29))
 
--- the mark is not compared
+-- the bit that marks inversion is not compared
 same_bits : (f : CanFilter) (received : ℕ) → bit_and f.mask (2 ^ 29) ≡ 0 → agrees (inverse_of f) received ≡ agrees f received
 same_bits f received unmarked =
     ap (λ n. bit_and received f.mask == n) (and_xor_apart f.mask f.id (2 ^ 29) (and_comm (2 ^ 29) f.mask ∙ unmarked))

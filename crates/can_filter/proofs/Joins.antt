@@ -7,7 +7,7 @@ use Rattle.std.proofs.lemmas.Bool.{true≢false, ne_eqb, and_parts, and_from}
 use Rattle.std.specs.Int.Bits.{and_zero_r}
 use Rattle.can_filter.specs.Filters.{CanFilter, matches, passes, everything}
 
--- Of filters joined by OR and by AND.
+-- Filters that are joined by OR and by AND.
 
 -- two tests that pass in the same cases give the same answer
 same_answer : (a b : Bool) → (IsTrue a → IsTrue b) → (IsTrue b → IsTrue a) → a ≡ b
@@ -33,12 +33,12 @@ all_match (f ∷ filters) received =
       λ both. and_from _ _ (ap not (some_filter f filters)) (list_all-from_AllPass matched (f ∷ filters) both.1),
     )
 
--- a fact of each filter of one list is one of each that stands in it
+-- a fact about every filter of one list holds for every filter of another list if these filters are all in the first
 all_within : (P : CanFilter → Type 0) (one other : List CanFilter) → All (Contains one) other → All P one → All P other
 all_within P one other within all k d below =
     All-contains P one (slice_index_or other k d) all (within k d below)
 
--- some filter of one list stands in the other
+-- a fact about at least one filter of one list holds for at least one filter of another list that contains them all
 some_within : (P : CanFilter → Type 0) (one other : List CanFilter) → All (Contains other) one → Any P one → Any P other
 some_within P one other within some =
     let there : Contains other some.1 = subst (Contains other) some.3 (within some.0 some.1 some.2) in

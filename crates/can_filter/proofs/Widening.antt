@@ -5,13 +5,13 @@ use Rattle.std.proofs.lemmas.Nat.{and_comm, and_assoc, and_xor_apart, xor_comm}
 use Rattle.std.proofs.lemmas.Grind.{and-not_self}
 use Rattle.std.proofs.lemmas.Bool.{eqb-true, eq-eqb}
 
--- Of the bits that two filters compare with the same value.
+-- The bits that two filters compare with the same value.
 
--- what agrees in the bits of a mask agrees in some of them
+-- words that agree in all bits of a mask agree in some of these bits
 fewer : (mask some a b : ℕ) → bit_and a mask ≡ bit_and b mask → bit_and a (bit_and mask some) ≡ bit_and b (bit_and mask some)
 fewer mask some a b same = sym (and_assoc some a mask) ∙ ap (λ n. bit_and n some) same ∙ and_assoc some b mask
 
--- the bits of both masks, but for those where the identifiers differ
+-- the bits of both masks, except those in which the identifiers differ
 abbrev pub both_bits : ℕ → ℕ → ℕ → ℕ → ℕ
 both_bits one_mask other_mask one other = bit_and (bit_and one_mask other_mask) (4294967295 - bit_xor one other)
 
@@ -19,7 +19,7 @@ undone : (one other : ℕ) → bit_xor other (bit_xor one other) ≡ one
 undone one other =
     ap (bit_xor other) (xor_comm one other) ∙ sym (xor_assoc other other one) ∙ ap (λ n. bit_xor n one) (xor_self other) ∙ xor_zero_l one
 
--- there the identifiers are the same
+-- in these bits the identifiers are the same
 same_there : (one_mask other_mask one other : ℕ) → bit_xor one other ≤ 4294967295 → bit_and other (both_bits one_mask other_mask one other) ≡ bit_and one (both_bits one_mask other_mask one other)
 same_there one_mask other_mask one other fits =
     let bits : ℕ = both_bits one_mask other_mask one other in
@@ -40,7 +40,7 @@ agrees_too one_mask other_mask one other received fits h =
     let parts : bits ≡ bit_and other_mask rest = ap (λ n. bit_and n (4294967295 - bit_xor one other)) (and_comm one_mask other_mask) ∙ and_assoc (4294967295 - bit_xor one other) other_mask one_mask in
     eq-eqb _ _ (ap (bit_and received) parts ∙ fewer other_mask rest received other (eqb-true _ _ h) ∙ ap (bit_and other) (sym parts) ∙ same_there one_mask other_mask one other fits)
 
--- a bit that the first mask lacks is still not there
+-- a bit that the first mask lacks is also lacking afterwards
 pub lacks_still : (bit one_mask other_mask one other : ℕ) → bit_and one_mask bit ≡ 0 → bit_and (both_bits one_mask other_mask one other) bit ≡ 0
 lacks_still bit one_mask other_mask one other lacks =
     let rest : ℕ = bit_and other_mask (4294967295 - bit_xor one other) in

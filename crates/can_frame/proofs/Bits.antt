@@ -5,7 +5,7 @@ use Rattle.std.proofs.lemmas.Bool.Decides.{Decides-eqb}
 use Rattle.std.proofs.lemmas.Nat.{pow_pos, mul-le, mod-pow-add, pow-add}
 use Rattle.can_frame.specs.Arbitration.{low_bits, goes_before, GoesBefore, bits_number}
 
--- Lists of bits, their order and their numbers.
+-- Lists of bits, their order, and the numbers that they stand for.
 
 abbrev pub IsBits : List ℕ → Type 0
 IsBits [] = Unit {0}
@@ -34,7 +34,7 @@ both_true : (a b : Bool) → (a && b) ≡ true → (a ≡ true) × (b ≡ true)
 both_true true b h = (refl, h)
 both_true false b h = absurd (false≢true h)
 
--- what it takes to go before, seen at the first bit
+-- `goes_before` is decided by the first bits, or by the rest if these are equal
 before_at : (x y : ℕ) (later : Bool) → cond (eqb x y) later (eqb x 0 && eqb y 1) ≡ true → ((x ≡ y) × (later ≡ true)) ⊎ ((x ≡ 0) × (y ≡ 1))
 before_at x y later h = elim (cases_Bool (eqb x y)) [
   | inl same ↦ inl ((Decides-eqb x y).0 same, rw same at h)
@@ -43,7 +43,7 @@ before_at x y later h = elim (cases_Bool (eqb x y)) [
       inr ((Decides-eqb x 0).0 both.0, (Decides-eqb y 1).0 both.1)
 ]
 
--- the list that goes before is the lesser number
+-- the list that goes before the other has the lower number
 pub bits_number-before : (k : ℕ) (xs ys : List ℕ) → IsBits xs → IsBits ys → length xs ≤ k → length ys ≤ k → goes_before xs ys ≡ true → bits_number k xs < bits_number k ys
 bits_number-before k [] ys p q m n h = absurd (false≢true h)
 bits_number-before k (x ∷ xs) [] p q m n h = absurd (false≢true h)
@@ -143,7 +143,7 @@ AreCompared-after : (fs xs ys : List ℕ) → AreCompared xs ys → AreCompared 
 AreCompared-after [] xs ys h = h
 AreCompared-after (f ∷ fs) xs ys h = AreCompared-cons f (fs ++ xs) (fs ++ ys) (AreCompared-after fs xs ys h)
 
--- fronts are compared first
+-- lists that begin with different parts are compared by these parts first
 pub AreCompared-append : (fs gs xs ys : List ℕ) → AreCompared fs gs → AreCompared xs ys → AreCompared (fs ++ xs) (gs ++ ys)
 AreCompared-append fs gs xs ys (inl same) h = rw same (AreCompared-after gs xs ys h)
 AreCompared-append fs gs xs ys (inr (inl before)) h = inr (inl (goes_before-append fs gs xs ys before))
@@ -154,7 +154,7 @@ AreCompared-sym xs ys (inl same) = inl (sym same)
 AreCompared-sym xs ys (inr (inl before)) = inr (inr before)
 AreCompared-sym xs ys (inr (inr after)) = inr (inl after)
 
--- lists of bits of one length are compared
+-- two lists of bits of the same length can be compared
 pub AreCompared-bits : (xs ys : List ℕ) → IsBits xs → IsBits ys → length xs ≡ length ys → AreCompared xs ys
 AreCompared-bits [] [] p q e = inl refl
 AreCompared-bits [] (y ∷ ys) p q e = absurd (omega arith)
@@ -170,7 +170,7 @@ AreCompared-bits (x ∷ xs) (y ∷ ys) p q e =
     first (suc (suc x)) y p q h = absurd (omega arith)
     first x (suc (suc y)) p q h = absurd (omega arith)
 
--- the number that low bits begin
+-- the number of a bit list that begins with the lowest bits of n
 pub bits_number-low_bits : (j m n k : ℕ) (rest : List ℕ) → k ≡ j + m → bits_number k (low_bits j n ++ rest) ≡ n % 2 ^ j * 2 ^ m + bits_number m rest
 bits_number-low_bits zero m n k rest e =
     let same : k ≡ m = omega arith in

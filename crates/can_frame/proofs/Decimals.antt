@@ -6,7 +6,7 @@ use Rattle.std.proofs.lemmas.Fmt.{decimal_digit, decimal_step}
 use Rattle.std.proofs.lemmas.List.{append-nil}
 use Rattle.can_frame.specs.FrameText.{digit_of, digits}
 
--- Numbers in decimal as so many digits.
+-- Numbers in decimal, written with a given number of digits.
 
 glyph : (v : ℕ) → v < 10 → digit_of v ≡ 48 + v
 glyph v lt = grind arith
@@ -16,7 +16,7 @@ one_digit n lt =
     let whole : n % 10 ≡ n = omega arith in
     decimal_digit n lt ∙ rw (whole, glyph n lt) refl
 
--- a digit more
+-- a number with one more digit
 next_digit : (count n : ℕ) → 10 ≤ n → n < 2 ^ 64 → decimal (n / 10) ≡ digits 10 count (n / 10) → decimal n ≡ digits 10 (suc count) n
 next_digit count n lo hi before = decimal_step n lo hi ∙ rw (before, glyph (n % 10) (omega arith)) refl
 
@@ -29,7 +29,7 @@ three_digits n lo hi = next_digit 2 n (omega (arith, lo)) (omega (arith, hi)) (t
 pub four_digits : (n : ℕ) → 1000 ≤ n → n < 10000 → decimal n ≡ digits 10 4 n
 four_digits n lo hi = next_digit 3 n (omega (arith, lo)) (omega (arith, hi)) (three_digits (n / 10) (omega (arith, lo)) (omega (arith, hi)))
 
--- a digit more of those that stand apart
+-- splitting off one more of the last digits
 next_apart : (count n front rest : ℕ) → 10 ≤ n → n < 2 ^ 64 → n % 10 ≡ rest % 10 → decimal (n / 10) ≡ decimal front ++ digits 10 count (rest / 10) → decimal n ≡ decimal front ++ digits 10 (suc count) rest
 next_apart count n front rest lo hi same before =
     decimal_step n lo hi ∙ rw (before, same, glyph (rest % 10) (omega arith)) (append_assoc (decimal front) (digits 10 count (rest / 10)) ((48 + rest % 10) ∷ []))
@@ -40,7 +40,7 @@ power_pos k =
     let more : zero ≤ k = omega arith in
     pow-le-pow_right {n = 10} some more
 
--- the last digits stand apart
+-- the last digits can be split off from the rest
 apart : (k n : ℕ) → 10 ^ k ≤ n → n < 2 ^ 64 → decimal n ≡ decimal (n / 10 ^ k) ++ digits 10 k (n % 10 ^ k)
 apart zero n lo hi =
     let whole : n / 10 ^ 0 ≡ n = omega arith in

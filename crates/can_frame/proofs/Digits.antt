@@ -6,7 +6,7 @@ use Rattle.can_frame.specs.Frames.Payload.{Remote}
 use Rattle.std.specs.Fmt.{decimal}
 use Rattle.std.proofs.lemmas.Fmt.{decimal_digit}
 
--- Hexadecimal digits: the table of `hex`, and ours.
+-- Hexadecimal digits: the table of the `hex` crate and the table of this crate.
 
 -- two functions have the same values below n
 abbrev pub agree : (ℕ → ℕ) → (ℕ → ℕ) → ℕ → Bool
@@ -42,6 +42,6 @@ pairs-upper (b ∷ bs) h =
 not_zero : (len : ℕ) (rest : List ℕ) → 0 < len → cond (eqb len 0) [] rest ≡ rest
 not_zero len rest h = grind arith
 
--- the text of a request for some bytes
+-- the text of a request for at least one byte
 pub request-text : (len : ℕ) → 0 < len → len ≤ 8 → payload_text (Remote len) ≡ 82 ∷ (48 + len) ∷ []
 request-text len some few = ap (λ (t : List ℕ). 82 ∷ t) (not_zero len (decimal len) some ∙ decimal_digit len (omega (arith, few)))

@@ -11,7 +11,7 @@ use Rattle.can_frame.specs.FrameText.{IsPayload, IsItem}
 use Rattle.can_frame.specs.Numbers.{number_in}
 use Rattle.can_frame.specs.FrameGuess.{bytes_in, has_byte_at, request_in, data_in, fd_data_in, flags_in, fd_in, payload_in, frame_in, error_in, standard_in, long_in, short_item_in, long_item_in, item_in}
 
--- What is guessed is an item that there is.
+-- Every guess is a valid item.
 
 map_some : {A B : Type 0} (f : A → B) (o : Option A) (y : B) → option_map f o ≡ Some y → (x : A) × (o ≡ Some x) × (Some (f x) ≡ Some y)
 map_some f (Some x) y h = (x, refl, h)

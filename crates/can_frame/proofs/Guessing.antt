@@ -14,13 +14,13 @@ use Rattle.can_frame.specs.Numbers.{number_in}
 use Rattle.can_frame.proofs.Digits.{pairs-upper, request-text}
 use Rattle.can_frame.proofs.Numerals.{value-digits}
 
--- What is spelled is guessed.
+-- If a text spells an item, the guess is that item.
 
 abbrev get_some : Item → Option Item → Item
 get_some d (Some i) = i
 get_some d None = d
 
--- the bytes of pairs
+-- reading the pairs of hexadecimal digits gives the bytes back
 bytes_again : (n : ℕ) (bytes : List ℕ) → length bytes ≡ n → IsBytes bytes → bytes_in n (pairs bytes) ≡ Some bytes
 unfolding bytes_in
 bytes_again n bytes len h =
@@ -32,7 +32,7 @@ length-pairs : (bytes : List ℕ) → length (pairs bytes) ≡ 2 * length bytes
 length-pairs [] = refl
 length-pairs (b ∷ bs) = let again = length-pairs bs in omega (arith, again)
 
--- a number's digits are its own
+-- reading the digits of a number gives the number back
 number_again : (n : ℕ) → n < 2 ^ 32 → number_in 16 8 (digits 16 8 n) ≡ Some n
 number_again n h = value-digits 16 8 n (omega arith) (omega arith) (omega (arith, h))
 
@@ -48,19 +48,19 @@ lt-false a b h = grind arith
 le-true : (a b : ℕ) → a ≤ b → leb a b ≡ true
 le-true a b h = grind arith
 
--- no digit is a mark
+-- no digit is a `#`
 no-hash : (v : ℕ) → eqb (digit_of v) 35 ≡ false
 no-hash v = grind arith
 
 no-request : (v : ℕ) → v < 16 → eqb (digit_of v) 82 ≡ false
 no-request v h = grind arith
 
--- three bytes before the mark
+-- three bytes before the `#`
 at_three : (a b c : ℕ) (rest : List ℕ) → item_in (a ∷ b ∷ c ∷ 35 ∷ rest) ≡ option_and_then (λ n. standard_in n rest) (number_in 16 3 (a ∷ b ∷ c ∷ []))
 unfolding item_in short_item_in
 at_three a b c rest = rw (lt-true 3 (length (a ∷ b ∷ c ∷ 35 ∷ rest)) (omega arith)) refl
 
--- eight bytes before it
+-- eight bytes before the `#`
 at_eight : (a b c d e f g h : ℕ) (rest : List ℕ) → eqb d 35 ≡ false → item_in (a ∷ b ∷ c ∷ d ∷ e ∷ f ∷ g ∷ h ∷ 35 ∷ rest) ≡ option_and_then (λ n. long_in n rest) (number_in 16 8 (a ∷ b ∷ c ∷ d ∷ e ∷ f ∷ g ∷ h ∷ []))
 unfolding item_in long_item_in
 at_eight a b c d e f g h rest k =
@@ -116,7 +116,7 @@ fd-data-again bytes h fits =
     let half : length (pairs bytes) / 2 ≡ length bytes = omega (arith, len) in
     rw (half, h) (bytes_again (length bytes) bytes refl fits)
 
--- a digit of flags
+-- the digit for the flags of an FD frame
 flags-again : (flags : FdFlags) (rest : List ℕ) → flags_in ((48 + flags_number flags) ∷ rest) ≡ Some flags
 unfolding flags_in
 flags-again flags rest =
@@ -160,7 +160,7 @@ zero-payload : (p : Payload) → p ≡ Remote 0 → payload_in (payload_text p +
 unfolding payload_in request_in
 zero-payload p asks = rw asks refl
 
--- and that of a remote frame with its length of 0
+-- the text of a remote frame with the length 0 written out is guessed
 zero_again : (i : Item) → IsItem i → AsksForNothing i → item_in (frame_spelling i ++ 48 ∷ []) ≡ Some i
 unfolding frame_spelling frame_in
 zero_again (item.Data f) h asks =
@@ -174,14 +174,14 @@ pub guessed : (text : List ℕ) (i : Item) → IsItem i → IsSpelling text i �
 guessed text i h (inl e) = rw e (item_again i h)
 guessed text i h (inr z) = rw z.1 (zero_again i h z.0)
 
--- so it spells one item
+-- so a text spells at most one item
 pub one_item : (text : List ℕ) (a b : Item) → IsItem a → IsItem b → IsSpelling text a → IsSpelling text b → a ≡ b
 one_item text a b ha hb sa sb = Some-injective a b (sym (guessed text a ha sa) ∙ guessed text b hb sb)
   where
     Some-injective : (x y : Item) → Some x ≡ Some y → x ≡ y
     Some-injective x y e = ap (get_some x) e
 
--- no text that spells an item is long
+-- every text that spells an item is short
 length-id : (extended : Bool) (n : ℕ) → length (id_text (record { extended = extended; number = n })) ≤ 8
 length-id false n = omega arith
 length-id true n = omega arith

@@ -67,7 +67,7 @@ AreCompared-frames a b = by_kind a.id.extended b.id.extended
     by_kind false true = AreCompared-kinds a.id.number b.id.number (rtr_of a.payload) (rtr_of b.payload) (rtr-below a.payload)
     by_kind true false = AreCompared-sym (standard_bits b.id.number (rtr_of b.payload)) (extended_bits a.id.number (rtr_of a.payload)) (AreCompared-kinds b.id.number a.id.number (rtr_of b.payload) (rtr_of a.payload) (rtr-below b.payload))
 
--- they are bits, and at most 32
+-- arbitration bits are bits, and there are at most 32 of them
 pub IsBits-arbitration_bits : (f : CanFrame) → IsBits (arbitration_bits f) × (length (arbitration_bits f) ≤ 32)
 unfolding arbitration_bits
 IsBits-arbitration_bits f = by_kind f.id.extended

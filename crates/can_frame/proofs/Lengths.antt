@@ -2,7 +2,7 @@ use Rattle.std.proofs.Common.{◌≤◌, ◌<◌, ◌/◌, ◌^◌, ℕ, length,
 use Rattle.std.specs.Fmt.{decimal}
 use Rattle.std.proofs.lemmas.Fmt.{length-decimal-le}
 
--- How long numbers in decimal are.
+-- The lengths of numbers in decimal.
 
 pub count_fits : (n : ℕ) → n < 2 ^ 64 → length (decimal n) ≤ 20
 count_fits n h = length-decimal-le 20 n (omega arith) (omega (arith, h)) h

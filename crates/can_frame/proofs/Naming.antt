@@ -12,7 +12,7 @@ use Rattle.std.proofs.lemmas.List.Quantifiers.{position-Some}
 use Rattle.std.proofs.lemmas.Option.{slice_get-get_or, slice_get_within, get_or_from_slice_get}
 use Rattle.can_frame.specs.Names.{place_of}
 
--- the place that is found is the name's
+-- the place that is found has the name
 pub place_of-Some : (names : List (List ℕ)) (name : List ℕ) (i : ℕ) → place_of names name ≡ Some i → slice_get names i ≡ Some name
 place_of-Some names name i e =
     let at = position-Some (λ other. bytes_eq other name) names i name e in
@@ -26,7 +26,7 @@ place_of-is names name d i inside before here =
     let test : ltb i (length names) ≡ true = search (rules, nat_tests) in
     rw at (rw test refl)
 
--- where no place is found the name is not there
+-- if no place is found, the name is not in the list
 place_of-None : (names : List (List ℕ)) (name : List ℕ) → place_of names name ≡ None → Contains names name → ⊥
 place_of-None names name e (k, inside, here) =
     let past : length names ≤ position_or_len (λ other. bytes_eq other name) names = past_all (position_or_len (λ other. bytes_eq other name) names) (length names) e in
@@ -46,7 +46,7 @@ missing-place_of names name (Some i) e =
     let at = place_of-Some names name i (sym e) in
     (λ h. absurd (search rules), λ h. absurd (h (i, slice_get_within names i name at, get_or_from_slice_get names i name name at)))
 
--- the name stands first at its place
+-- the first occurrence of the name is at its own place
 abbrev pub stands_first : List (List ℕ) → ℕ × List ℕ → Bool
 stands_first names p = option_eq nat_eq (place_of names p.1) (Some p.0)
 

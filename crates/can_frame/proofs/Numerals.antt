@@ -4,9 +4,9 @@ use Rattle.std.proofs.lemmas.Fmt.{decimal_by_steps}
 use Rattle.can_frame.specs.FrameText.{digit_of, digits}
 use Rattle.can_frame.specs.Numbers.{digit_in, number_after, one_more}
 
--- Digits that were written are read back.
+-- Reading digits that were written gives the number back.
 
--- what is left of a number without its last digits
+-- the number without its last digits
 abbrev pub left : ℕ → ℕ → ℕ → ℕ
 left base zero n = n
 left base (suc count) n = left base count (n / base)
@@ -14,7 +14,7 @@ left base (suc count) n = left base count (n / base)
 pub digit-again : (base v : ℕ) → base ≤ 16 → v < base → digit_in base (digit_of v) ≡ Some v
 digit-again base v h lt = grind arith
 
--- a digit behind a number that there may be
+-- an optional number followed by one more digit
 abbrev more : ℕ → Option ℕ → Option ℕ → Option ℕ
 more base None digit = None
 more base (Some n) digit = one_more base n digit

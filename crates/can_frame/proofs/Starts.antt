@@ -39,7 +39,7 @@ start_of-rises names j (suc k) up inside =
           omega (arith, next, ap (start_of names) same)
     ]
 
--- a name stands where it begins
+-- a name is at the place where it begins
 pub stands : (names : List (List ℕ)) (k : ℕ) → k < length names → start_of names k + length (get_or names k []) ≤ length (join_with_byte 44 names)
 stands [] k inside = elim inside [ ]
 stands (x ∷ []) zero inside = grind (arith, common_steps)
@@ -76,7 +76,7 @@ up_to (b ∷ x) rest n =
     let more : length (b ∷ x) + 1 + n ≡ suc (length x + 1 + n) = omega arith in
     ap (λ m. take m ((b ∷ x) ++ 44 ∷ rest)) more ∙ ap (λ t. b ∷ t) (up_to x rest n)
 
--- the first names are joined where they begin
+-- the first names, joined by commas, are the front of the text
 front-run : (names : List (List ℕ)) (n : ℕ) → n < length names → take (start_of names (suc n) - 1) (join_with_byte 44 names) ≡ join_with_byte 44 (take (suc n) names)
 front-run [] n inside = elim inside [ ]
 front-run (x ∷ []) zero inside = grind (arith, common_steps)
@@ -90,7 +90,7 @@ front-run (x ∷ y ∷ r) (suc n) inside =
     ∙ up_to x rest (start_of (y ∷ r) (suc n) - 1)
     ∙ ap (λ t. x ++ 44 ∷ t) (front-run (y ∷ r) n (omega arith))
 
--- some names in a row are joined where the first of them begins
+-- several names in a row, joined by commas, begin where the first of them begins
 pub run-at : (names : List (List ℕ)) (k n e : ℕ) → suc (k + n) ≡ e → e ≤ length names → take (start_of names e - 1 - start_of names k) (drop (start_of names k) (join_with_byte 44 names)) ≡ join_with_byte 44 (take (suc n) (drop k names))
 run-at names zero n e is inside =
     let same : e ≡ suc n = omega (arith, is) in
@@ -134,11 +134,11 @@ ascii-joined (x ∷ y ∷ r) good i = ascii-both x (join_with_byte 44 (y ∷ r))
     ascii-both (b ∷ x) rest first then zero = first 0
     ascii-both (b ∷ x) rest first then (suc i) = ascii-both x rest (λ k. first (suc k)) then i
 
--- names hold ASCII bytes alone, and so does the text that joins them
+-- names hold only ASCII bytes, and so does the text that joins them
 pub ascii-text : (text : List ℕ) → AllPass is_name (names_in text) → IsAscii text
 ascii-text text good = subst IsAscii (join_with_byte-slice_split 44 text) (ascii-joined (names_in text) good)
 
--- what the next name adds to the starts so far
+-- the start that the next name adds to the starts so far
 pub turn : (names : List (List ℕ)) (starts name : List ℕ) (place : ℕ) → AreNames names → place < length names → name ≡ get_or names place name → ((k : ℕ) → k ≤ place → slice_index starts k ≡ start_of names k)
     → (place < 16) × (slice_index starts place + length name + 1 ≤ 256) × (slice_index starts place + length name + 1 ≡ start_of names (place + 1))
 turn names starts name place good inside here before =
@@ -157,7 +157,7 @@ added names starts place next all room before is k within = elim (cases_lt k (pl
       get_or-set_at starts (place + 1) k next 0 same (omega arith) ∙ is ∙ ap (start_of names) (sym same)
 ]
 
--- what the kept starts say of the name at a place
+-- the stored starts give the name at a place
 pub record IsCut (text : List ℕ) (start end : ℕ) (name : List ℕ) : Type 0 where
   pub before : start + 1 ≤ end
   pub within : end - 1 ≤ length text
@@ -180,7 +180,7 @@ cut text starts count place kept below =
       is = ap (λ n. take n (drop (slice_index starts place) text)) len ∙ ap (λ n. take (length name) (drop n text)) start ∙ ap (λ t. take (length name) (drop (start_of names place) t)) (sym joined) ∙ name-at names place inside;
     }
 
--- what the kept starts say of the names from one place up to another
+-- the stored starts give the names from one place up to another
 pub record IsRun (text : List ℕ) (start end : ℕ) (names : List (List ℕ)) : Type 0 where
   pub before : start + 1 ≤ end
   pub within : end - 1 ≤ length text

@@ -9,7 +9,7 @@ use Rattle.can_frame.specs.declared.item.Item.TheVariants as item
 use Rattle.can_frame.specs.FrameText.{digit_of, digits, pairs, id_text, payload_text, frame_spelling, upper, IsPayload, IsItem, Spells}
 use Rattle.can_frame.proofs.Digits.{request-text}
 
--- What is written is in upper case.
+-- Written texts are in upper case.
 
 upper-digit : (v : ℕ) → v < 16 → to_ascii_uppercase (digit_of v) ≡ digit_of v
 upper-digit v h = grind arith

@@ -13,12 +13,12 @@ use crate::item::Item;
 use crate::numbers::read_hexadecimal;
 use hex::decode_to_slice;
 
-/// Guesses the item that an upper-case text spells. If the text spells an item, the guess is that item. A malformed text may give a
-/// guess too, for example a text with a lower-case digit in a number.
+/// Guesses the item that an upper-case text spells. If the text spells an item, the guess is that item. A malformed text may also
+/// give a guess, for example a text with a lower-case digit in a number.
 ///
-/// The caller has to write the item again and compare it with the text. It may also compare everything that it has read at once. If
-/// the two are equal, the text spells the item; if they differ, or the guess is `None`, the text spells no item. To read a single
-/// text, in either case, use `read_frame_text`. This function allocates nothing.
+/// The caller has to write the item again and compare it with the text. A caller that reads many items may write and compare them
+/// all at once. If the two are equal, the text spells the item; if they differ, or the guess is `None`, the text spells no item. To
+/// read a single text, in either case, use `read_frame_text`. This function allocates nothing.
 pub fn guess_item(text: &[u8]) -> Option<Item>
     ensures guess { result ≡ item_in text.now }
     ensures good { IfSome result IsItem }

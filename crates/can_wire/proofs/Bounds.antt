@@ -37,7 +37,7 @@ head_extended : (f : CanFrame) → f.id.extended ≡ true → length (classic_he
 unfolding classic_head arbitration_bits
 head_extended f h = rw h refl
 
--- and all its stuffed bits
+-- all stuffed bits of a classic frame
 length-checked : (f : CanFrame) (head : ℕ) → length (classic_head f) ≡ head → length (checked_bits f) ≡ head + 8 * length (payload_bytes f.payload) + 15
 length-checked f head h =
     let bytes : List ℕ = byte_bits (payload_bytes f.payload) in
@@ -51,7 +51,7 @@ pub classic_fast : (f : CanFrame) → is_fd f.payload ≡ false → (frame_bits_
 unfolding bits_to_check_end
 classic_fast f h = rw h refl
 
--- few and many bits of a frame with this many before its data
+-- the minimum and maximum number of bits of a frame with this many bits before its data
 bounded : (f : CanFrame) (head n : ℕ) → is_fd f.payload ≡ false → length (classic_head f) ≡ head → length (payload_bytes f.payload) ≡ n → (head + 28 + 8 * n ≤ length (wire_of f) + 3) × (length (wire_of f) + 3 ≤ head + 28 + 8 * n + (head + 15 + 8 * n - 1) / 4)
 bounded f head n classic long bytes =
     let all = classic_wire f classic in
@@ -68,7 +68,7 @@ bounded_extended f n classic extended bytes = bounded f 39 n classic (head_exten
 
 -- ---- FD frames
 
--- with the stuff bits between bits
+-- the bits with stuff bits, but without one after the last bit
 inside_least : (bits : List ℕ) → length bits ≤ length (stuffed_inside bits)
 inside_least bits =
     let k : ℕ = length bits - 1 in

@@ -4,7 +4,7 @@ use Rattle.std.proofs.lemmas.Bool.Decides.{Decides-eqb}
 use Rattle.can_wire.specs.Stuffing.{stuffed, stuffed_after, stuffed_inside}
 use Rattle.can_wire.specs.inner.Sending.{Sent, nothing_sent, flushed, added, sent_all}
 
--- What is counted is the length of the stuffed list.
+-- The counter counts the length of the stuffed list.
 
 pub sent_all-append : (xs ys : List ℕ) (s : Sent) → sent_all (xs ++ ys) s ≡ sent_all ys (sent_all xs s)
 sent_all-append [] ys s = refl
@@ -38,7 +38,7 @@ one_more b bits s h = elim (cases_Bool (b == s.last)) [
   | inr other ↦ rw other (omega arith)
 ]
 
--- as many as are on the wire, also the stuff bit after the last
+-- the count is the number of bits on the wire, including the stuff bit after the last one
 pub counted : (bits : List ℕ) (s : Sent) → s.run ≤ 5 → (flushed (sent_all bits s)).count ≡ (flushed s).count + length (stuffed_after (flushed s).last (flushed s).run bits)
 counted [] s h = omega arith
 counted (b ∷ bits) s h =
@@ -48,7 +48,7 @@ counted (b ∷ bits) s h =
 pub counted_all : (bits : List ℕ) → (flushed (sent_all bits nothing_sent)).count ≡ length (stuffed bits)
 counted_all bits = omega (arith, counted bits nothing_sent (omega arith))
 
--- all but the one after the last
+-- the count without the stuff bit after the last bit
 with_last : (front back : List ℕ) → length back ≡ 1 → (sent_all (front ++ back) nothing_sent).count ≡ length (stuffed front ++ back)
 with_last front [] one = absurd (omega (arith, one))
 with_last front (x ∷ []) one = rw (sent_all-append front (x ∷ []) nothing_sent) (omega (arith, counted_all front, length-append (stuffed front) (x ∷ [])))

@@ -16,7 +16,7 @@ use Rattle.can_wire.proofs.Words.{low_bits_append, moved_high, moved_low}
 
 -- ---- subtracting
 
--- subtracting leaves as many bits
+-- subtracting does not change the number of bits
 pub length-subtracted : (g xs : List ℕ) → length (subtracted g xs) ≡ length xs
 length-subtracted [] xs = refl
 length-subtracted (g ∷ gs) [] = refl
@@ -51,7 +51,7 @@ bits-subtracted [] xs a = a
 bits-subtracted (g ∷ gs) [] a = tt
 bits-subtracted (g ∷ gs) (x ∷ xs) a = (bits-xor x g, bits-subtracted gs xs a.1)
 
--- a zero more at the end of what is subtracted changes nothing
+-- one more zero at the end of the subtracted bits changes nothing
 subtracted-zero : (r xs : List ℕ) → IsBits xs → length r < length xs → subtracted (r ++ 0 ∷ []) xs ≡ subtracted r xs
 subtracted-zero [] [] bits h = absurd (omega (arith, h))
 subtracted-zero [] (x ∷ xs) bits h = ap (λ y. y ∷ xs) (xor_zero x bits.0)
@@ -68,7 +68,7 @@ subtracted-twice (x ∷ g) (y ∷ r) (z ∷ xs) a b c within =
     let rest = subtracted-twice g r xs a.1 b.1 c.1 (omega (arith, within)) in
     ap (λ w. w ∷ subtracted g (subtracted r xs)) here ∙ ap (λ l. xor z (xor y x) ∷ l) rest
 
--- zeros that are subtracted change nothing, and what is subtracted from zeros is left
+-- subtracting zeros changes nothing, and subtracting from zeros gives the subtracted bits
 bits-zeros : (n : ℕ) → IsBits (replicate n 0)
 bits-zeros zero = tt
 bits-zeros (suc n) = (omega arith, bits-zeros n)
@@ -118,7 +118,7 @@ pub length-generator : length generator_15 ≡ 15
 unfolding generator_15
 length-generator = refl
 
--- from zeros it is the check sequence
+-- a register that begins with zeros ends with the check sequence
 pub divided : (bits : List ℕ) → IsBits bits → shifted_all generator_15 bits (replicate 15 0) ≡ check_of generator_15 bits
 unfolding check_of
 divided bits h =
@@ -165,7 +165,7 @@ subtracted-swapped (x ∷ g) (y ∷ r) (z ∷ xs) a b c =
     let here : xor (xor z y) x ≡ xor (xor z x) y = xor_xor z y x c.0 b.0 a.0 ∙ (ap (xor z) (xor_comm y x b.0 a.0) ∙ sym (xor_xor z x y c.0 a.0 b.0)) in
     ap (λ w. w ∷ subtracted g (subtracted r xs)) here ∙ ap (λ l. xor (xor z x) y ∷ l) (subtracted-swapped g r xs a.1 b.1 c.1)
 
--- and the same twice
+-- subtracting the same bits twice changes nothing
 subtracted-back : (g xs : List ℕ) → IsBits g → IsBits xs → subtracted g (subtracted g xs) ≡ xs
 subtracted-back [] xs a b = refl
 subtracted-back (x ∷ g) [] a b = refl
@@ -177,7 +177,7 @@ subtracted-self : (xs : List ℕ) → subtracted xs xs ≡ replicate (length xs)
 subtracted-self [] = refl
 subtracted-self (x ∷ xs) = ap (λ w. w ∷ subtracted xs xs) (xor_same x) ∙ ap (λ l. 0 ∷ l) (subtracted-self xs)
 
--- what is left of a sum is the sum of what is left
+-- the remainder of a sum is the sum of the remainders
 remainder-sum : (g : List ℕ) (n : ℕ) (xs ys : List ℕ) → IsBits g → IsBits xs → IsBits ys → length xs ≡ length ys → n + length g ≤ length xs → remainder g n (subtracted xs ys) ≡ subtracted (remainder g n xs) (remainder g n ys)
 remainder-sum g zero xs ys a b c same long = refl
 remainder-sum g (suc n) [] ys a b c same long = absurd (omega (arith, long))
@@ -197,7 +197,7 @@ remainder-sum g (suc n) (suc zero ∷ xs) (suc zero ∷ ys) a b c same long =
 remainder-sum g (suc n) (suc (suc x) ∷ xs) (y ∷ ys) a b c same long = absurd (omega (arith, b.0))
 remainder-sum g (suc n) (x ∷ xs) (suc (suc y) ∷ ys) a b c same long = absurd (omega (arith, c.0))
 
--- of zeros nothing is left but what comes after them
+-- the remainder of zeros followed by other bits is these other bits
 remainder-zeros : (g : List ℕ) (n : ℕ) (q : List ℕ) → remainder g n (replicate n 0 ++ q) ≡ q
 remainder-zeros g zero q = refl
 remainder-zeros g (suc n) q = remainder-zeros g n q
@@ -210,7 +210,7 @@ bits-remainder g (suc n) (x ∷ xs) b = elim (cases_Bool (x == 0)) [
   | inr one ↦ rw one (bits-remainder g n (subtracted g xs) (bits-subtracted g xs b.1))
 ]
 
--- bits and others after them are a sum
+-- bits followed by others are a sum
 summed : (bits q : List ℕ) (m : ℕ) → IsBits bits → IsBits q → length q ≡ m → subtracted (replicate (length bits) 0 ++ q) (bits ++ replicate m 0) ≡ bits ++ q
 summed [] q m a b long = subtracted-zeros q m b long
 summed (x ∷ bits) q m a b long = ap (λ w. w ∷ subtracted (replicate (length bits) 0 ++ q) (bits ++ replicate m 0)) (xor_zero x a.0) ∙ ap (λ l. x ∷ l) (summed bits q m a.1 b long)
@@ -271,7 +271,7 @@ pub register_zero : register_bits 0 ≡ replicate 15 0
 unfolding register_bits
 register_zero = refl
 
--- a bit like the first
+-- a bit that is equal to the first bit of the register
 pub shifted_same : (n b : ℕ) → b ≡ bit_at n 14 → register_bits (n * 2 % 65536) ≡ shifted generator_15 b (register_bits n)
 unfolding register_bits
 shifted_same n b h =
@@ -279,7 +279,7 @@ shifted_same n b h =
     let none : (xor b (bit_at n 14) == 0) ≡ true = (Decides-eqb (xor b (bit_at n 14)) 0).1 same in
     rw none (moved_on n)
 
--- another
+-- a bit that differs from the first bit of the register
 pub shifted_other : (n b : ℕ) → b ≢ bit_at n 14 → register_bits (bit_xor (n * 2 % 65536) 17817) ≡ shifted generator_15 b (register_bits n)
 unfolding register_bits
 shifted_other n b h =

@@ -42,7 +42,7 @@ control_sent false code = refl
 
 -- ---- what is counted of them
 
--- bits after others
+-- bits that are sent after others
 pub sent_two : (xs ys zs : List ℕ) (s t : Sent) → s ≡ sent_all xs nothing_sent → t ≡ sent_all ys s → zs ≡ xs ++ ys → t ≡ sent_all zs nothing_sent
 sent_two xs ys zs s t one two all = rw all (two ∙ (ap (sent_all ys) one ∙ sym (sent_all-append xs ys nothing_sent)))
 
@@ -54,13 +54,13 @@ all_count bits s t h k = rw k (rw h (counted_all bits))
 
 -- ---- bytes, one after another
 
--- a byte more of those that are sent
+-- sending one more byte
 pub sent_byte : (bytes : List ℕ) (i : ℕ) (s t : Sent) → i < length bytes → t ≡ sent_all (low_bits 8 (get_or bytes i 0)) s → sent_all (byte_bits (drop (i + 1) bytes)) t ≡ sent_all (byte_bits (drop i bytes)) s
 sent_byte bytes i s t inside step =
     let next : i + 1 ≡ suc i = omega arith in
     rw (drop-cons bytes i 0 inside, next, step) (sym (sent_all-append (low_bits 8 (get_or bytes i 0)) (byte_bits (drop (suc i) bytes)) s))
 
--- and of those that are checked
+-- checking one more byte
 pub checked_byte : (g bytes : List ℕ) (i : ℕ) (r q : List ℕ) → i < length bytes → q ≡ shifted_all g (low_bits 8 (get_or bytes i 0)) r → shifted_all g (byte_bits (drop (i + 1) bytes)) q ≡ shifted_all g (byte_bits (drop i bytes)) r
 checked_byte g bytes i r q inside step =
     let next : i + 1 ≡ suc i = omega arith in

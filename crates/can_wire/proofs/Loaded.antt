@@ -2,9 +2,9 @@ use Rattle.std.proofs.Common.{◌≡◌, inl, inr, ℕ, zero, suc, ◌+◌, ◌-
 use Rattle.std.proofs.lemmas.Bool.{cases_eq}
 use Rattle.can_wire.specs.Loads.{Taken, busy_in, busy, over_at, AreInOrder, Load, moved_by, moved_to, more_of, added, boundary, noted, load_of, recent_of, permille_at}
 
--- What is kept of a load is for how long attempts took the wire.
+-- The stored load is the time for which attempts took the wire.
 
--- of a second no more than what of it is before the end of the last one
+-- only the part of a second before the end of the last attempt can be busy
 busy_before : (second : ℕ) (xs : List Taken) → AreInOrder xs → busy_in second xs ≤ min (over_at xs) ((second + 1) * 10 ^ 9) - second * 10 ^ 9
 busy_before second [] h = omega arith
 busy_before second (t ∷ past) h = let rest = busy_before second past h.3 in omega (arith, h.0, h.1, rest)
@@ -15,29 +15,29 @@ busy_within second xs h = let few = busy_before second xs h in omega (arith, few
 none_after : (second : ℕ) (xs : List Taken) → AreInOrder xs → over_at xs ≤ second * 10 ^ 9 → busy_in second xs ≡ 0
 none_after second xs h over = let few = busy_before second xs h in omega (arith, few, over)
 
--- a load, seen from a second in which nothing is after it
+-- a load, seen from a second after which nothing is busy
 record IsSeen (second : ℕ) (xs : List Taken) (l : Load) : Type 0 where
   is : l.second ≡ second
   latest : l.latest ≡ busy_in second xs
   before : (k : ℕ) → second ≡ k + 1 → l.before ≡ busy_in k xs
   earlier : (k : ℕ) → second ≡ k + 2 → l.earlier ≡ busy_in k xs
 
--- the second in which the last one was over
+-- the second in which the last attempt ended
 abbrev last_second : List Taken → ℕ
 last_second xs = over_at xs / 10 ^ 9
 
--- of another second by its number
+-- the busy time of a second depends only on the number of the second
 same_second : (j k : ℕ) (xs : List Taken) → j ≡ k → busy_in j xs ≡ busy_in k xs
 same_second j k xs e = ap (λ (n : ℕ). busy_in n xs) e
 
--- whether two numbers are one
+-- equal numbers pass the test of equality
 equal : (a b : ℕ) → a ≡ b → (a == b) ≡ true
 equal a b h = grind arith
 
 unequal : (a b : ℕ) → (a ≡ b → ⊥) → (a == b) ≡ false
 unequal a b h = grind arith
 
--- three seconds on and more nothing is left
+-- after three seconds or more nothing of the load remains
 far : (gap second : ℕ) (l : Load) → moved_by (suc (suc (suc gap))) second l ≡ record { second = second; latest = 0; before = 0; earlier = 0; total = l.total }
 far gap second l =
     let n : ℕ = suc (suc (suc gap)) in
@@ -84,7 +84,7 @@ inside t past l h seen within =
       earlier = λ k next. let old = now.earlier k next in omega (arith, old, next, h.1, within);
     }
 
--- one that goes on in the next second
+-- an attempt that continues into the next second
 across : (t : Taken) (past : List Taken) (l : Load) → AreInOrder (t ∷ past) → IsSeen (last_second past) past l → t.begin < boundary t.end
     → IsSeen (t.end / 10 ^ 9) (t ∷ past) (added (t.end / 10 ^ 9) (t.end - boundary t.end) (added (t.begin / 10 ^ 9) (boundary t.end - t.begin) l))
 across t past l h seen over =
@@ -126,7 +126,7 @@ kept : (xs : List Taken) → AreInOrder xs → IsSeen (last_second xs) xs (load_
 kept [] h = record { is = refl; latest = refl; before = λ k next. refl; earlier = λ k next. refl }
 kept (t ∷ past) h = one_more t past (load_of past) h (kept past h.3)
 
--- and what is shown
+-- the load that is reported
 
 in_thousandths : (m n : ℕ) → m ≡ n → m / 10 ^ 6 ≡ n / 10 ^ 6
 in_thousandths m n e = ap (λ (x : ℕ). x / 10 ^ 6) e
@@ -150,7 +150,7 @@ seen_at current second xs l h seen next known = elim (cases_eq current (l.second
 pub shown : (xs : List Taken) (now second : ℕ) → AreInOrder xs → now / 10 ^ 6 ≡ second + 1 → over_at xs < (second + 3) * 10 ^ 9 → permille_at now (recent_of (load_of xs)) ≡ busy_in second xs / 10 ^ 6
 shown xs now second h next known = seen_at (now / 10 ^ 6) second xs (load_of xs) h (kept xs h) next known
 
--- and all together
+-- the total busy time
 
 moved_total : (second : ℕ) (l : Load) → (moved_to second l).total ≡ l.total
 moved_total second l = by_gap (second - l.second)

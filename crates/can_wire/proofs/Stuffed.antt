@@ -12,11 +12,11 @@ use Rattle.can_wire.specs.Stuffing.{stuffed, stuffed_after, stuffed_inside, unst
 eqb_same : (x : ℕ) → (x == x) ≡ true
 eqb_same x = (Decides-eqb x x).1 refl
 
--- a bit at most
+-- a list of at most one bit
 abbrev pub IsShort : List ℕ → Type 0
 IsShort tail = length tail ≤ 1
 
--- stuffed bits, and at most one after them that is not followed by a stuff bit, are given back
+-- unstuffing gives back stuffed bits, and at most one bit after them that has no stuff bit
 pub unstuffed_back : (bits tail : List ℕ) (last run : ℕ) → IsShort tail → run ≤ 4 → unstuffed_after last run (stuffed_after last run bits ++ tail) ≡ bits ++ tail
 unstuffed_back [] [] last run one h = refl
 unstuffed_back [] (x ∷ []) last run one h =
@@ -42,7 +42,7 @@ unstuffed_back (b ∷ bits) tail last run one h =
 
 -- ---- how many there are
 
--- at least as many as there were, and at most one more for each four
+-- stuffing never removes a bit, and adds at most one bit for each four
 pub stuffed_least : (bits : List ℕ) (last run : ℕ) → length bits ≤ length (stuffed_after last run bits)
 stuffed_least [] last run = omega arith
 stuffed_least (b ∷ bits) last run = elim (cases_Bool (b == last)) [
@@ -69,7 +69,7 @@ stuffed_most (b ∷ bits) last run h = elim (cases_Bool (b == last)) [
 
 -- ---- no six equal bits
 
--- no bit follows five of its value, where `run` of the value `last` came before
+-- five equal bits are never followed by a sixth, if `run` bits of the value `last` came before
 abbrev pub IsBroken : ℕ → ℕ → List ℕ → Type 0
 IsBroken last run [] = Unit {0}
 IsBroken last run (b ∷ bits) = (b ≡ last → run + 1 ≤ 5) × IsBroken b (if b == last then run + 1 else 1) bits
@@ -92,12 +92,12 @@ stuffed_broken (b ∷ bits) tail last run one h = elim (cases_Bool (b == last)) 
   | inr other ↦ rw other (rw other ((λ e. omega (arith, h)), stuffed_broken bits tail b 1 one (omega arith)))
 ]
 
--- what follows bits that are broken is, too
+-- the rest of a list without six equal bits has no six equal bits either
 pub broken_after : (before : List ℕ) (last run : ℕ) (rest : List ℕ) → IsBroken last run (before ++ rest) → (l : ℕ) × (r : ℕ) × IsBroken l r rest
 broken_after [] last run rest h = (last, run, h)
 broken_after (b ∷ before) last run rest h = broken_after before b (if b == last then run + 1 else 1) rest h.1
 
--- equal bits after equal ones: their number is at most five
+-- at most five equal bits come in a row
 again : (b run : ℕ) (rest : List ℕ) → IsBroken b run (b ∷ rest) → (run + 1 ≤ 5) × IsBroken b (run + 1) rest
 again b run rest h = (h.0 refl, rw (eqb_same b) at h.1)
 

@@ -9,7 +9,7 @@ use Rattle.can_wire.specs.inner.Sending.{fd_check_width}
 use Rattle.can_wire.proofs.Divided.{length-check_of}
 use Rattle.can_wire.proofs.Counted.{inside_rises}
 
--- How many bits of an FD frame follow its data.
+-- How many bits an FD frame has after its data.
 
 -- one fixed stuff bit more for each four bits
 length-fixed : (bits : List ℕ) (last due : ℕ) → due ≤ 3 → length (fixed_stuffed_after last due bits) ≡ length bits + (length bits + 3 - due) / 4
@@ -42,14 +42,14 @@ length-fd_to_check_end f =
     let last : ℕ = last_of 1 (fd_to_data_end f) in
     omega (arith, length-append (fd_to_data_end f) (fixed_stuffed_after last 0 (fd_check f)), length-fixed (fd_check f) last 0 (omega arith), length-fd_check f, width (payload_len f.payload))
 
--- its bits by their rates
+-- the bits of an FD frame, split by bit rate
 pub fd_checked : (f : CanFrame) (few carried more : ℕ) → is_fd f.payload ≡ true → few ≡ fd_bits_to_brs f → carried ≡ length (fd_to_data_end f) → more ≡ fd_check_width (payload_len f.payload) → by_rates (payload_flags f.payload).brs few (carried + more) ≡ bits_to_check_end f
 unfolding bits_to_check_end
 fd_checked f few carried more fd head whole end =
     let all : carried + more ≡ length (fd_to_check_end f) = omega (arith, whole, end, length-fd_to_check_end f) in
     rw (fd, head, all) refl
 
--- those of a classic frame, to its last data bit
+-- the bits of a classic frame to its last data bit
 pub classic_carried : (f : CanFrame) (n : ℕ) → is_fd f.payload ≡ false → n ≡ length (stuffed_inside (covered_bits f)) → record { nominal = n; fast = 0 } ≡ bits_to_data_end f
 unfolding bits_to_data_end
 classic_carried f n classic count = rw (classic, count) refl

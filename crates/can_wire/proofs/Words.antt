@@ -11,7 +11,7 @@ pub low_bits_step : (k n : ℕ) → 0 < k → low_bits k n ≡ bit_at n (k - 1) 
 low_bits_step zero n h = absurd (omega arith)
 low_bits_step (suc k) n h = let e : suc k - 1 ≡ k = omega arith in rw e refl
 
--- none of them
+-- the empty list of lowest bits
 pub low_bits_none : (k n : ℕ) → k ≡ 0 → low_bits k n ≡ []
 low_bits_none zero n h = refl
 low_bits_none (suc k) n h = absurd (omega (arith, h))
@@ -30,11 +30,11 @@ low_bits_append (suc i) j m a b high low =
 
 -- ---- words
 
--- a bit below those that are taken off
+-- a bit below the bits that are removed
 bit_at_mod : (n w k : ℕ) → k < w → bit_at (n % 2 ^ w) k ≡ bit_at n k
 bit_at_mod n w k h = sym (bit_at_cat_low (n / 2 ^ w) w (n % 2 ^ w) k h) ∙ ap (λ m. bit_at m k) (div-add-mod' n (2 ^ w))
 
--- a number moved up, in a word of w bits
+-- a number shifted left in a word of w bits
 pub moved_high : (n j w k : ℕ) → k + j < w → bit_at (n * 2 ^ j % 2 ^ w) (k + j) ≡ bit_at n k
 moved_high n j w k h =
     let none : n * 2 ^ j ≡ n * 2 ^ j + 0 = omega arith in
@@ -53,7 +53,7 @@ kept_low x j k h = bit_at_and x (2 ^ j - 1) k ∙ (ap (min (bit_at x k)) (bit_at
 kept_high : (x j k : ℕ) → j ≤ k → bit_at (bit_and x (2 ^ j - 1)) k ≡ 0
 kept_high x j k h = bit_at_and x (2 ^ j - 1) k ∙ (ap (min (bit_at x k)) (bit_at_ones_above j k h) ∙ omega arith)
 
--- a word after which the lowest bits of a number are put
+-- a word with the lowest bits of a number appended
 pub then_bits : (i j n x : ℕ) → i + j ≤ 64 → j ≤ 32 → low_bits (i + j) (bit_or (n * 2 ^ j % 2 ^ 64) (bit_and x (1 * 2 ^ j % 2 ^ 64 - 1))) ≡ low_bits i n ++ low_bits j x
 then_bits i j n x room narrow =
     let one : 1 * 2 ^ j % 2 ^ 64 ≡ 2 ^ j = one_shl j 64 (omega arith) in

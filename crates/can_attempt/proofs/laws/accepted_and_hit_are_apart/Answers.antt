@@ -6,7 +6,7 @@ use Rattle.can_attempt.specs.Attempts.{Transmission, is_among, unhurt, can_hear,
 use Rattle.can_attempt.proofs.Places.{is_among-hit, is_among-unhurt}
 use Rattle.can_attempt.proofs.laws.accepted_and_hit_are_apart.Goals as goal
 
--- who accepts got every bit right
+-- a receiver that accepts the frame was not hit
 accepted_unhurt : (k : Class) (t : Transmission) (i : ℕ) → is_among i (accepted_in k t) ≡ true → is_among i (unhurt t) ≡ true
 accepted_unhurt Done t i among = among
 accepted_unhurt LastBit t i among = among
@@ -20,7 +20,7 @@ apart false h both = refl
 pub returns-clause-apart : goal.returns-clause-apart
 returns-clause-apart c t i among = is_among-hit t i ∙ apart (is_struck t.verdict i) (can_hear t i && nat_lt i t.count) (sym (is_among-unhurt t i) ∙ accepted_unhurt (class_of t) t i among)
 
--- the winner doesn't hear itself
+-- the winner does not hear itself
 deaf : (t : Transmission) → can_hear t t.winner ≡ false
 deaf t = grind arith
 

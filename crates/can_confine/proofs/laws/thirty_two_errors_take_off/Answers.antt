@@ -13,12 +13,12 @@ errors_add_8 (suc n) c =
 off_from_256 : (n t : ℕ) → t ≡ 8 * n → nat_le 256 t ≡ nat_le 32 n
 off_from_256 n t e = grind arith
 
--- errors take nobody down
+-- errors do not take an interface down
 errors_keep_up : (n : ℕ) (c : ErrorCounts) → (all_stepped c (replicate n TransmitError)).down ≡ c.down
 errors_keep_up zero c = refl
 errors_keep_up (suc n) c = errors_keep_up n (stepped c TransmitError)
 
--- of what is not down, only the transmit count decides whether it is off
+-- if an interface is not down, only its transmit count decides whether it is bus off
 off_by_transmit_count : (c : ErrorCounts) → c.down ≡ false → is_off (state_of c) ≡ nat_le 256 c.tec
 off_by_transmit_count c up = rw up (grind arith)
 

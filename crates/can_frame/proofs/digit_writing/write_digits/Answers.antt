@@ -6,7 +6,7 @@ use Rattle.std.proofs.lemmas.List.{drop-set, length-set, set_comm}
 use Rattle.can_frame.specs.FrameText.{digits, digit_of}
 use Rattle.can_frame.proofs.digit_writing.write_digits.Goals as goal
 
--- two bytes that are written stand before the rest
+-- two bytes that are written come just before the rest
 written : (room : List ℕ) (place x y : ℕ) → 2 ≤ place → place ≤ length room → drop (place - 2) (slice_set (slice_set room (place - 2) x) (place - 2 + 1) y) ≡ x ∷ y ∷ drop place room
 written room place x y few le =
     let back : place - 2 + 1 + 1 ≡ place = omega arith in
@@ -14,14 +14,14 @@ written room place x y few le =
     let first : place - 2 < length (slice_set room (place - 2 + 1) y) = omega (arith, length-set room (place - 2 + 1) y) in
     rw (set_comm room (place - 2) (place - 2 + 1) x y (λ e. omega arith), drop-set (slice_set room (place - 2 + 1) y) (place - 2) x first, drop-set room (place - 2 + 1) y second, back) refl
 
--- the two digits of what is left over by a base's square
+-- the two digits of the remainder by the square of the base
 high_digit : (base n : ℕ) → 0 < base → n % (base * base) / base ≡ n / base % base
 high_digit base n pos = rw (mod-mul n {m = base} {c = base} pos pos) (div-mul-add (n / base % base) base (n % base) (mod_below n base pos))
 
 low_digit : (base n : ℕ) → 0 < base → n % (base * base) % base ≡ n % base
 low_digit base n pos = rw (mod-mul n {m = base} {c = base} pos pos) (mul-add-mod_self_right (n / base % base) base (n % base) ∙ mod-mod n base)
 
--- the last two of some digits stand apart
+-- the last two digits can be split off from the others
 last_apart : (base place n : ℕ) → 0 < base → 2 ≤ place → digits base place n ≡ digits base (place - 2) (n / (base * base)) ++ digit_of (n % (base * base) / base) ∷ digit_of (n % (base * base) % base) ∷ []
 last_apart base zero n pos few = absurd (omega (arith, few))
 last_apart base (suc zero) n pos few = absurd (omega (arith, few))
@@ -33,7 +33,7 @@ two_more : (base place n x y : ℕ) (all room : List ℕ) → 0 < base → 2 ≤
 two_more base place n x y all room pos few le high low so_far =
     so_far ∙ rw (last_apart base place n pos few, written room place x y few le, high, low) (append_assoc (digits base (place - 2) (n / (base * base))) (digit_of (n % (base * base) / base) ∷ digit_of (n % (base * base) % base) ∷ []) (drop place room))
 
--- a byte that is written first stands before the rest
+-- a byte that is written first comes before the rest
 first_written : (room : List ℕ) (d : ℕ) → 1 ≤ length room → slice_set room 0 d ≡ d ∷ drop 1 room
 first_written [] d some = absurd (omega (arith, some))
 first_written (x ∷ room) d some = refl

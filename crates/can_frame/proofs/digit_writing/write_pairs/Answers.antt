@@ -5,7 +5,7 @@ use Rattle.can_frame.specs.FrameText.{digit_of, pairs}
 use Rattle.can_frame.proofs.DigitTables.{hexadecimal_pairs}
 use Rattle.can_frame.proofs.digit_writing.write_pairs.Goals as goal
 
--- the pairs of what is left, from one byte on
+-- the pairs of the remaining bytes, from one byte on
 pairs-drop : (bytes : List ℕ) (i : ℕ) → i < length bytes → slice_index bytes i < 256 → pairs (drop i bytes) ≡ digit_of (slice_index bytes i / 16) ∷ digit_of (slice_index bytes i % 16) ∷ pairs (drop (i + 1) bytes)
 pairs-drop bytes i h byte =
     let high : slice_index bytes i / 16 % 16 ≡ slice_index bytes i / 16 = omega arith in

@@ -11,7 +11,7 @@ bounds-starts-place c =
     let at = YieldsList-turn (YieldsList-from_str_split 44 c.args.text.now (lit< tt) (cc) (cc) (cc)) c.loop-name.yielded _ c.loop-name.yielded_by _ _ c.in-Some.name c.in-Some.is c.next.ensures.steps in
     omega (arith, at.0, c.requires.few, c.loop-name.invariant.1)
 
--- the turn's name is the next one, and its start and length are small
+-- the name of this turn is the next one, and its start and length are small
 this : (c : goal.In-Some) → (c.loop-name.place < 16) × (slice_index c.loop-name.starts c.loop-name.place + length c.in-Some.name.now + 1 ≤ 256) × (slice_index c.loop-name.starts c.loop-name.place + length c.in-Some.name.now + 1 ≡ start_of (names_in c.args.text.now) (c.loop-name.place + 1))
 this c =
     let names = names_in c.args.text.now in

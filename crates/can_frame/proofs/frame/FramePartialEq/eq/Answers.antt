@@ -19,7 +19,7 @@ joined : (id kind len bytes a b c d : Bool) → a ≡ len → b ≡ (a && id) �
 joined id kind len bytes a b c d ea eb ec ed =
     ed ∙ ap (λ (x : Bool). x && bytes) (ec ∙ ap (λ (x : Bool). x && kind) (eb ∙ ap (λ (x : Bool). x && id) ea)) ∙ in_order id kind len bytes
 
--- the comparison of kinds, of which each is another's
+-- the comparison of kinds gives the same result for equal kinds
 same_kinds : (f g h k : Kind) → f ≡ h → g ≡ k → kinds.ghosts.eq f g ≡ kinds.ghosts.eq h k
 same_kinds f g h k e i = ap (λ (x : Kind). kinds.ghosts.eq x g) e ∙ ap (λ (x : Kind). kinds.ghosts.eq h x) i
 
