@@ -15,7 +15,7 @@ use can_fault::Verdict;
 use can_frame::{Iface, IfaceSet, Moment};
 use can_queue::BoundedQueue;
 
-/// Returns the result of an attempt for the tried frame.
+/// Returns the tried frame together with the result of its attempt.
 fn tried_as(
     moment: Moment,
     winner: Iface,
@@ -47,7 +47,7 @@ fn tried_as(
     }
 }
 
-/// Returns the error counters of an interface, which are 0 if it is in this set.
+/// Returns the error counters of an interface, or counters of 0 if the interface is in `restarted`.
 fn anew_at(nodes: &Nodes, restarted: IfaceSet, iface: Iface) -> Counters
     ensures { result ≡ (if is_in iface restarted then at_start else counts_at nodes.now iface) }
 {
@@ -58,7 +58,7 @@ fn anew_at(nodes: &Nodes, restarted: IfaceSet, iface: Iface) -> Counters
     }
 }
 
-/// Returns all error counters, which are 0 for the interfaces in this set.
+/// Returns the error counters of all interfaces, with counters of 0 for the interfaces in `restarted`.
 pub fn begun_anew(nodes: &Nodes, restarted: IfaceSet) -> [Counters; 16]
     ensures { result ≡ (begun_anew restarted nodes.now).counters }
 {

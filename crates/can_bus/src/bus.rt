@@ -87,7 +87,7 @@ impl<T: BoundedQueue<Pending>, R: BoundedQueue<Received>, A: Arbiter> Model for 
     ghost invariant = { λ b. IsKept b.record b.state };
 }
 
-/// Returns the entry for setting a socket's filters to a copy of these, in its own memory.
+/// Returns the entry of a call that sets a socket's filters. The entry has its own copy of the filters.
 pub(crate) fn filters_entry(
     alloc: Global,
     id: SocketId,

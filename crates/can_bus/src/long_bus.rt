@@ -25,16 +25,14 @@ use std::mem;
 /// The number of entries that the tail of a long run's bus holds.
 pub const TAIL_SIZE: u32 = 262_144;
 
-/// The bus of a long run. It answers each event as a `Bus` with the same events does. Its memory
-/// holds only its tail, the entries that were not yet handed out.
+/// The bus of a long run. It answers each event as a `Bus` with the same events does.
 ///
-/// A caller that takes entries lends an empty block in exchange for them, and that block becomes
-/// the tail. A call needs a place in the tail (`places`); a full tail is never a reason to refuse.
-/// Contracts see the configuration, the whole history, the number of entries handed out, and the
-/// capacity of the tail.
+/// Its memory holds only its tail: the entries that were not yet handed out. A caller that takes entries lends an empty block in
+/// exchange for them, and that block becomes the tail. A call needs a free place in the tail (`places`); a full tail is never a
+/// reason to refuse.
 ///
-/// `new` reserves the tail (32 bytes per entry and 76 for its FD frame), the transmit queues and
-/// the places of 64 sockets.
+/// Contracts see the configuration, the whole history, the number of entries handed out, and the capacity of the tail. `new`
+/// reserves the tail (32 bytes per entry and 76 for its FD frame), the transmit queues and the places of 64 sockets.
 #[derive(Drop)]
 pub struct LongBus<T: BoundedQueue<Pending>, R: BoundedQueue<Received>, A: Arbiter> {
     alloc: Global,

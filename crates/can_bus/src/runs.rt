@@ -25,7 +25,7 @@ fn note(replies: &mut Vec<Reply>, reply: Reply)
     ensures items { replies.new.items ≡ replies.old.items ++ reply ∷ [] }
     ensures room { vec_capacity replies.old ≤ vec_capacity replies.new }
 {
-    // The checker has to meet the types inside a reply before a vector takes one.
+    // The checker has to see the types inside a reply before a vector stores one.
     let _types: Option<(Attempt, Item, Received)> = None;
     let _ = replies.push(reply);
 }
