@@ -71,8 +71,8 @@ pub fn begun_anew(nodes: &Nodes, restarted: IfaceSet) -> [Counters; 16]
 }
 
 impl<T: BoundedQueue<Pending>, R: BoundedQueue<Received>, A: Arbiter> State<T, R, A> {
-    /// Tries the frame that wins the bus, if there is one, and notifies the sockets. The attempt
-    /// reports these interfaces as restarted.
+    /// Tries the frame that wins the bus, if there is one, and notifies the sockets. The attempt reports `restarted` as the
+    /// restarted interfaces.
     fn try_head(
         &mut self,
         config: BusConfig,
@@ -123,8 +123,7 @@ impl<T: BoundedQueue<Pending>, R: BoundedQueue<Received>, A: Arbiter> State<T, R
         Some(tried)
     }
 
-    /// Restarts these interfaces at the end of an attempt, if there are any, and notifies the
-    /// sockets.
+    /// Restarts these interfaces at the end of an attempt and notifies the sockets. It does nothing for an empty set.
     fn restart_all(&mut self, restarted: IfaceSet, moment: Moment)
         requires sixteen { length self.old.nodes.counters ≡ 16 }
         requires dropped { All (λ v. v.dropped + 1 < 2 ^ 64) self.old.sockets }
@@ -177,8 +176,8 @@ impl<T: BoundedQueue<Pending>, R: BoundedQueue<Received>, A: Arbiter> State<T, R
         Reply::Done
     }
 
-    /// Takes an interface down. Its waiting frames are lost, and it counts no attempts until a
-    /// restart. No socket is notified.
+    /// Takes an interface down. Its waiting frames are lost, and its pending automatic restart is cancelled. It notifies no
+    /// socket.
     pub(crate) fn down(&mut self, iface: Iface) -> Reply
         requires { self.old.nodes.count ≤ length self.old.interfaces }
         ensures { TakesDown self.old iface result self.new }

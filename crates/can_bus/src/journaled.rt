@@ -46,8 +46,8 @@ pub trait Journaled: Drop {
     /// The entries that the bus had handed out, as seen from the value that remains.
     ghost handed_by: { Self.Left → List Entry };
 
-    /// Returns the number of entries that the bus takes before some have to be handed out. It is
-    /// `usize::MAX` if there is always a place.
+    /// Returns the number of entries that the bus can take before the caller has to take some out. It is `usize::MAX` if
+    /// the caller never has to take any out.
     fn places(&self) -> usize
         ensures { result ≡ places_in self.now };
 
@@ -71,9 +71,8 @@ pub trait Journaled: Drop {
         ensures stays { result ≢ Ok true → room.new ≡ room.old }
         ensures out { handed_out self.new ≡ handed_out self.old };
 
-    /// Hands out the entries that were not yet handed out, in order, in exchange for an empty
-    /// block. It returns the number of entries before them. A bus that keeps its whole record hands
-    /// out no entries.
+    /// Hands out the entries that were not handed out before, in order, in exchange for an empty block. It returns the
+    /// number of entries handed out earlier. A bus that keeps its whole record hands out no entries.
     fn hand_out(&mut self, block: &mut PackedRecord) -> u64
         requires { block.old.entries ≡ [] }
         ensures handed { HasTail (journal self.old).history block.new.entries result }
