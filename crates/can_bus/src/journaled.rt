@@ -51,7 +51,7 @@ pub trait Journaled: Drop {
     fn places(&self) -> usize
         ensures { result ≡ places_in self.now };
 
-    /// Returns the number of entries.
+    /// Returns the number of entries in the history.
     fn len(&self) -> u64
         ensures len { result ≡ length (journal self.now).history }
         ensures proper { IsLongConfig (journal self.now).config }

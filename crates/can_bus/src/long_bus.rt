@@ -43,7 +43,7 @@ pub struct LongBus<T: BoundedQueue<Pending>, R: BoundedQueue<Received>, A: Arbit
     handed: u64,
 }
 
-/// The long run's bus of the program, with ring buffers as queues.
+/// The bus of the program for long runs, with ring buffers as queues.
 pub type LongRingBus = LongBus<RingQueue<Pending>, RingQueue<Received>, IndexArbiter>;
 
 impl<T: BoundedQueue<Pending>, R: BoundedQueue<Received>, A: Arbiter> Model for LongBus<T, R, A> {
@@ -111,7 +111,7 @@ impl<T: BoundedQueue<Pending>, R: BoundedQueue<Received>, A: Arbiter> LongBus<T,
         &self.state
     }
 
-    /// Returns the number of entries that the tail still takes.
+    /// Returns the number of entries for which the tail has room.
     pub fn places(&self) -> usize
         ensures { result ≡ places_left self.now }
     {
@@ -204,7 +204,7 @@ impl<T: BoundedQueue<Pending>, R: BoundedQueue<Received>, A: Arbiter> LongBus<T,
         self.handed = handed;
     }
 
-    /// Returns the rest at the end of a run: the entries that were not handed out.
+    /// Returns the remaining entries at the end of a run: those that were not handed out.
     pub fn into_left(self) -> LongEnd
         ensures { result ≡ self }
     {
@@ -225,8 +225,7 @@ impl<T: BoundedQueue<Pending>, R: BoundedQueue<Received>, A: Arbiter> LongBus<T,
     }
 }
 
-/// The rest of a long run's bus: its last entries, which were not handed out. Contracts see it as
-/// the bus.
+/// The remainder of the bus of a long run: its last entries, which were not handed out. Contracts see it as the bus.
 #[derive(Drop)]
 pub struct LongEnd {
     config: BusConfig,

@@ -25,7 +25,7 @@ impl Side {
         }
     }
 
-    /// Returns the severity of a side: 0 for `Active`.
+    /// Returns the severity of a side: 0 for `Active`, 1 for `Warning` and 2 for `Passive`.
     fn level(self) -> u8
         ensures { result ≡ level self }
     {

@@ -12,9 +12,10 @@ use crate::refusal::Refusal;
 use crate::reply::Reply;
 use can_frame::{IfaceSet, Item};
 
-/// Returns whether an entry has a line in the text of a record. The reply has to be of the event's own kind, or a refusal that
-/// leaves an entry, where only a send of an FD frame may be refused as `FdOff`. A frame was tried at the moment of its attempt, and
-/// a received error message frame has the number 0. If the bus has no automatic restart, the reply names no restarted interface.
+/// Returns whether an entry has a line in the text of a record. The reply has to be of the event's own kind, or a refusal
+/// that leaves an entry; `FdOff` is possible only for a send of an FD frame. A tried frame has the moment of its attempt,
+/// and a received error message frame has the number 0. If the bus has no automatic restart, the reply names no restarted
+/// interface.
 pub fn is_spelled(config: BusConfig, entry: &Entry) -> bool
     ensures { IsTrue result ↔ IsSpelled config entry.now }
 {
