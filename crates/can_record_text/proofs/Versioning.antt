@@ -16,7 +16,7 @@ use Rattle.can_record_text.specs.declared.version.Version.TheVariants as version
 use Rattle.can_record_text.specs.Spelling.{all_needs, both_needs, frame_needs, is_needless, needs_of, no_needs, takes, takes_down, takes_fd, takes_flags, version_for, version_of}
 use Rattle.can_record_text.specs.Values.{HasLine, HasBusLine, HasLines, HasText}
 
--- ---- what lines need
+-- ---- the needs of lines
 
 abbrev needs : Bool → Bool → Bool → Needs
 needs fd flags down = record { fd = fd; flags = flags; down = down }
@@ -95,7 +95,7 @@ of_short : (c : BusConfig) (needs : Needs) → c.limit ≤ max_limit → version
 unfolding short_version
 of_short c needs h = rw (is_short c h) refl
 
--- ---- what a version takes
+-- ---- the lines that a version has
 
 not_both : (b : Bool) → b ≡ false → b ≡ true → ⊥
 not_both true e h = absurd cc

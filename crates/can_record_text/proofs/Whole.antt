@@ -20,7 +20,7 @@ use Rattle.can_record_text.proofs.Again.{spell-rest, entry_again, config_again, 
 use Rattle.can_record_text.proofs.LineLists.{lines-rest}
 use Rattle.can_record_text.proofs.Versioning.{not_needless, version_is}
 
--- ---- what follows
+-- ---- the text after some lines
 
 spell-then : (ws : List (List ℕ)) (rest more : List ℕ) → spell ws rest ++ more ≡ spell ws (rest ++ more)
 spell-then [] rest more = refl
@@ -47,7 +47,7 @@ spell-cancel : (ws : List (List ℕ)) (a b : List ℕ) → spell ws a ≡ spell 
 spell-cancel [] a b e = e
 spell-cancel (w ∷ ws) a b e = spell-cancel ws a b (cons-cancel (gap_before ws) (spell ws a) (spell ws b) (append_cancel_left w _ _ e))
 
--- ---- what is read of a text
+-- ---- the faults that reading a text finds
 
 pub first_is_wrong : (v : Version) (text rest : List ℕ) → text ≡ first_line v ++ rest → LacksBus v rest → IsFirstWrong text 2
 first_is_wrong v text rest begins wrong = inl (record { version = v; rest = rest; second = refl; begins = begins; wrong = wrong })
@@ -273,7 +273,7 @@ reads_back text (Err fault.BadVersion) (inr long) c es proper is = absurd (short
 reads_back text (Err (fault.BadLine n)) reads c es proper is = absurd (nothing_wrong text n c es is reads.0)
 reads_back text (Err fault.NoMemory) reads c es proper is = refl
 
--- ---- what is written
+-- ---- the text that is written
 
 pub text_written : (t0 t1 t2 new : List ℕ) (v : Version) (c d : BusConfig) (es hs : List Entry) (n : ℕ) → t0 ≡ [] → t1 ≡ t0 ++ front_lines v c []
     → t2 ≡ t1 ++ entry_lines es [] → new ≡ t2 ++ spell (end_words n) [] → v ≡ version_of c es → c ≡ d → es ≡ reverse hs → n ≡ length hs → new ≡ record_spelling d (reverse hs)
