@@ -49,7 +49,7 @@ use Rattle.can_bus.proofs.Winning.{winner-is, idle-is, holds_key}
 abbrev pub entry : ℕ → Verdict → Attempt → Entry
 entry m v r = record { event = event.Attempt m v; reply = reply.Attempted r }
 
--- ---- the attempt as the kept parts have it, and as the history has it
+-- ---- the attempt as the state gives it, and as the history gives it
 
 beyond : (xs : List ErrorCounts) (n i : ℕ) → length xs ≡ n → n ≤ i → slice_index_or xs i at_start ≡ at_start
 beyond xs n i long le = get_or_past xs i at_start (omega arith)
@@ -77,13 +77,13 @@ between-is c past w v legal few =
     ap (λ (n : ℕ). record { count = n; counts = counts_at (kept_nodes c past); winner = w; verdict = v; ack = c.ack }) (count-kept c past)
     ∙ ap (λ (f : ℕ → ErrorCounts). record { count = c.ifaces; counts = f; winner = w; verdict = v; ack = c.ack }) (fun_ext (counts_at-all c past legal few))
 
--- ---- what the attempt was
+-- ---- the facts about the attempt
 
--- what is kept, with one attempt less before each restart
+-- the state with one attempt fewer until each restart
 abbrev counted : BusConfig → List Entry → Parts
 counted c past = record (kept_parts c past) { left = ticked (kept_left c past) }
 
--- the winner's interface and frame, by the history
+-- the winning interface and its frame, as the history gives them
 record IsCarried (c : BusConfig) (past : List Entry) (m : ℕ) (v : Verdict) (t : Tried) (w : ℕ) (l : InterfaceState) (p : Pending) : Type 0 where
   is_interface : IsInterface c past w l
   won : winner c past ≡ Some w
@@ -144,7 +144,7 @@ pub drop-all : {X : Type 0} (xs : List X) → drop (length xs) xs ≡ []
 drop-all [] = refl
 drop-all (x ∷ xs) = drop-all xs
 
--- the winner's interface, by whether it is done and whether it went off
+-- the winning interface, depending on whether the attempt is done and whether the interface went bus off
 finish_attempt-kept : (room refused gone done : ℕ) (sent : List Pending) (off is_done' : Bool) → ◌≡◌ {A = InterfaceState}
     (record { waiting = if off then [] else if is_done' then drop 1 (drop gone sent) else drop gone sent; room = room; sent = length sent; gone = if off then length sent else if is_done' then gone + 1 else gone; done = if is_done' then done + 1 else done; refused = refused })
     (record { waiting = drop (if off then length sent else if is_done' then gone + 1 else gone) sent; room = room; sent = length sent; gone = if off then length sent else if is_done' then gone + 1 else gone; done = if is_done' then done + 1 else done; refused = refused })
@@ -175,7 +175,7 @@ interfaces-tried c past m v t w l p is =
     ap (slice_set (kept_interfaces c past) w) (interface-tried c past m v t w l p is)
     ∙ sym (kept_interfaces-one c past (entry m v (attempt.Tried t)) w is.is_interface.below (λ j ne. interface-other c past m v t w j p.frame is.tried_is ne))
 
--- ---- the keys
+-- ---- the arbitration keys
 
 keys-tried : (c : BusConfig) (past : List Entry) (m : ℕ) (v : Verdict) (t : Tried) (w : ℕ) (l : InterfaceState) (p : Pending) → c.ifaces ≤ 16
     → IsCarried c past m v t w l p
@@ -189,7 +189,7 @@ keys-tried c past m v t w l p few is =
 
 -- ---- the error counts
 
--- error counts of the first n places, each the same
+-- two functions that give the same error counts for each of these places
 map_below : (f g : ℕ → ErrorCounts) (a n : ℕ) → ((i : ℕ) → i < a + n → f i ≡ g i) → map f (range_with_len a n) ≡ map g (range_with_len a n)
 map_below f g a zero same = refl
 map_below f g a (suc n) same =
@@ -197,7 +197,7 @@ map_below f g a (suc n) same =
     let rest = map_below f g (a + 1) n (λ i lt. same i (omega (arith, lt))) in
     cc
 
--- the counts of an interface that an attempt restarts begin anew
+-- the error counts of an interface that an attempt restarts start from 0
 counts-anew : (restarted : Bool) (before more : List Step) → all_stepped at_start (if restarted then [] else before ++ more) ≡ (if restarted then at_start else all_stepped (all_stepped at_start before) more)
 counts-anew true before more = refl
 counts-anew false before more = all_stepped-append at_start before more
@@ -230,7 +230,7 @@ nodes-idle c past m v rs =
     ap (λ (x : ErrorCounts). if is_in i rs then at_start else x) (index-map (counts_of c past) 0 16 i at_start (omega (arith, lt)) ∙ ap (counts_of c past) (omega arith))
     ∙ sym (counts-kept (is_in i rs) (steps_of c past i))))
 
--- ---- the attempts left
+-- ---- the attempts until restarts
 
 on-tried : (c : BusConfig) (past : List Entry) (m : ℕ) (v : Verdict) (t : Tried) (i : ℕ) → t.restarted ≡ restarted_next c past → is_in i t.off ≡ false → CountsOn c past (entry m v (attempt.Tried t)) i
 on-tried c past m v t i named live =
@@ -263,9 +263,9 @@ left-tried c past m v t w l p legal few is = when (is_in w t.off) refl
         (ap (λ (b : Bool). if b then None else if is_in w t.off then Some 0 else option_map suc (attempts_off past w)) stays ∙ ap (λ (b : Bool). if b then Some 0 else option_map suc (attempts_off past w)) off)
         others
 
--- ---- what the sockets become
+-- ---- the sockets after the attempt
 
--- items that come in are what the longer history leaves
+-- the items after a post are the ones that the longer history gives
 pub filled_at : (c : BusConfig) (past : List Entry) (e : Entry) (o : ℕ) → length (taken_from past o) ≤ length (queued_to c past o)
     → places (e ∷ past) ≡ places past → filters_of (e ∷ past) o ≡ filters_of past o → options_of (e ∷ past) o ≡ options_of past o
     → taken_from (e ∷ past) o ≡ taken_from past o
@@ -289,7 +289,7 @@ map_open c past f g (x ∷ xs) same =
     let rest : map f (map (kept_socket c past) xs) ≡ map g xs = map_open c past f g xs (λ k o at. same (suc k) o at) in
     cc
 
--- every open socket is told the posts of an entry
+-- every open socket gets the posts of an entry
 pub sockets-told : (c : BusConfig) (past : List Entry) (e : Entry) (posts : ℕ → List Post) (old after : List SocketState) → IsLegal c past
     → old ≡ kept_sockets c past → ((i : ℕ) → posts i ≡ posts_of c past i e.event e.reply) → places (e ∷ past) ≡ places past
     → open_sockets (e ∷ past) ≡ open_sockets past → ((o : ℕ) → filters_of (e ∷ past) o ≡ filters_of past o)
@@ -317,7 +317,7 @@ posts-tried c past m v t w l p legal few is i =
     ∙ ap (λ (k : ℕ). attempt_posts c.reporting (transmission c past k v) t (Some p) i) who
     ∙ ap (λ (q : Option Pending). attempt_posts c.reporting (transmission c past t.winner v) t q i) frame)
 
--- sockets that are told two lots of posts, one after the other
+-- sockets that get two groups of posts, one after the other
 reached-both : (p q : ℕ → List Post) (vs : List SocketState) → map (reached q) (map (reached p) vs) ≡ map (reached (λ i. p i ++ q i)) vs
 reached-both p q [] = refl
 reached-both p q (v ∷ vs) =
@@ -331,7 +331,7 @@ idle-same : (c : BusConfig) (past : List Entry) (m : ℕ) (v : Verdict) (rs : If
 unfolding kept_interfaces kept_keys
 idle-same c past m v rs = (refl, refl)
 
--- an attempt, in which a frame was tried or none, leaves what its entry leaves
+-- after an attempt, whether or not it tried a frame, the state is the one that the longer history gives
 came_follows : (c : BusConfig) (past : List Entry) (m : ℕ) (v : Verdict) (o : Option Tried) (between new : Parts) → IsLegal c past → c.ifaces ≤ 16
     → Tries (counted c past) c m v (due_in (kept_left c past)) o between → new ≡ after_auto_restart between (due_in (kept_left c past)) m
     → Follows c past (entry m v (came_to (due_in (kept_left c past)) o)) new
@@ -403,15 +403,15 @@ kept-ready c past legal few w k at =
     clash : (p : Pending) (q : Option Pending) → q ≡ Some p → q ≡ None → ⊥
     clash p q some none = cc
 
--- each interface with a key is there, is live, and has a frame to send
+-- each interface with an arbitration key exists, is live, and has a frame to send
 pub ready : (j : Kept) (parts : Parts) → IsKept j parts → AreReady parts
 ready j parts kept = subst AreReady (sym kept.of_parts) (kept-ready j.config j.history kept.legal kept.proper.few_ifaces)
 
--- there are no fewer interfaces than nodes
+-- the number of interfaces is at least the number of nodes
 pub nodes_there : (j : Kept) (parts : Parts) → IsKept j parts → parts.nodes.count ≤ length parts.interfaces
 nodes_there j parts kept =
     omega (arith, ap (λ (q : Parts). q.nodes.count) kept.of_parts ∙ count-kept j.config j.history, ap (λ (q : Parts). length q.interfaces) kept.of_parts ∙ length-kept_interfaces j.config j.history)
 
--- where no interface restarts by itself none counts
+-- on a bus without automatic restart, no interface counts attempts
 pub never_left : (j : Kept) (parts : Parts) (c : BusConfig) → IsKept j parts → c ≡ j.config → c.auto_restart ≡ 0 → parts.left ≡ replicate 16 0
 never_left j parts c kept same never = ap (λ (q : Parts). q.left) kept.of_parts ∙ left-never j.config j.history (ap (λ (k : BusConfig). k.auto_restart) (sym same) ∙ never)

@@ -18,9 +18,9 @@ use Rattle.can_bus.specs.State.{SocketState, Parts, filled, reached}
 use Rattle.can_bus.proofs.Filling.{filled-dropped, filled-nil, wanted}
 use Rattle.can_bus.proofs.Lawful.{attempt_posts-le}
 
--- Between the frame that an attempt tries and the restarts at its end.
+-- The state between the frame that an attempt tries and the restarts at its end.
 
--- an attempt's own posts leave room to count one more
+-- after the posts of an attempt, the drop counts can still increase by one
 less-dropped : (posts : ℕ → List Post) (vs : List SocketState) → ((i : ℕ) → length (posts i) ≤ 3) → All (λ (v : SocketState). v.dropped + 4 < 2 ^ 64) vs → All (λ (v : SocketState). v.dropped + 1 < 2 ^ 64) (map (reached posts) vs)
 less-dropped posts [] few all = All-nil (λ (v : SocketState). v.dropped + 1 < 2 ^ 64)
 less-dropped posts (v ∷ vs) few all =
@@ -48,16 +48,16 @@ small_between old between c m v rs (Some t) k all =
     subst (λ (p : Parts). All (λ (u : SocketState). u.dropped + 1 < 2 ^ 64) p.sockets) (sym k.after)
     (less-dropped (attempt_posts c.reporting tr t (Some k.pending)) old.sockets (attempt_posts-le c.reporting tr t (Some k.pending)) all)
 
--- there stay 16 places
+-- there are still 16 places
 pub sixteen_between : (old between : Parts) (c : BusConfig) (m : ℕ) (v : Verdict) (rs : IfaceSet) (o : Option Tried) → Tries old c m v rs o between → length old.nodes.counters ≡ 16 → length between.nodes.counters ≡ 16
 sixteen_between old between c m v rs None tries long = ap (λ (p : Parts). length p.nodes.counters) tries.1 ∙ long
 sixteen_between old between c m v rs (Some t) k long = ap (λ (p : Parts). length p.nodes.counters) k.after
 
--- nothing but the attempts that are left was changed
+-- only the numbers of attempts until restarts changed
 pub ready_left : (p : Parts) (left : List ℕ) → AreReady p → AreReady (record p { left = left })
 ready_left p left ready w k at = let r = ready w k at in record { there = r.there; counted = r.counted; live = r.live; has_head = r.has_head }
 
--- the attempt, of its three steps
+-- the attempt, as the result of its three steps
 pub came : (p old : Parts) (c : BusConfig) (m : ℕ) (v : Verdict) (left : List ℕ) (rs : IfaceSet) (o : Option Tried) (a : Attempt) (between new : Parts)
     → p ≡ old → left ≡ ticked p.left → rs ≡ due_in p.left → Tries (record p { left = left }) c m v rs o between → a ≡ came_to rs o
     → new ≡ after_auto_restart between rs m → Attempts old c m v a new
@@ -71,7 +71,7 @@ came p old c m v left rs o a between new same rest due tries came_is after =
       after = after ∙ ap (λ (s : IfaceSet). after_auto_restart between s m) due;
     })
 
--- ---- where no interface is restarted
+-- ---- no interface is restarted
 
 in-none : (i : ℕ) → is_in i no_ifaces ≡ false
 in-none i = is_in-of [] i ∙ and_right _ false refl

@@ -21,7 +21,7 @@ use Rattle.can_bus.specs.State.{InterfaceState, SocketState, Parts, kept_interfa
 use Rattle.can_bus.proofs.InterfaceFacts.{length-kept_interfaces}
 use Rattle.can_bus.proofs.Lawful.{sent_by-le, gone-le-sent, done-le-gone, refused-le, dropped-le, queued-le, taken_from-le-queued, open-iface}
 
--- The counts of a bus are small: it has no more entries than its limit.
+-- The counts of a bus are small, because the number of its entries is at most its limit.
 
 pub legal-short : (c : BusConfig) (past : List Entry) → IsLegal c past → length past ≤ c.limit
 legal-short c [] legal = omega arith
@@ -80,7 +80,7 @@ small_dropped_one j parts kept = all_sockets (λ (v : SocketState). v.dropped + 
 pub known_ifaces : (j : Kept) (parts : Parts) → IsKept j parts → All (λ (v : SocketState). v.iface < length parts.interfaces) parts.sockets
 known_ifaces j parts kept = all_sockets (λ (v : SocketState). v.iface < length parts.interfaces) j parts kept (λ k s at. subst (λ n. iface_of j.history s < n) (sym (count_of_interfaces j parts kept)) (open-iface j.config j.history kept.legal k s at))
 
--- ---- attempts and sockets ever opened
+-- ---- attempts, and sockets ever opened
 
 tape-step : (r : Reply) (before : List Tried) → length (tape_after r before) ≤ length before + 1
 tape-step (reply.Attempted (attempt.Tried t)) before = omega (arith, length_push before t)

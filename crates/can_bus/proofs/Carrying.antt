@@ -19,9 +19,10 @@ use Rattle.can_bus.proofs.Opening.{no_memory, opened_follows}
 use Rattle.can_bus.proofs.Refusing.{never_full, never_no_memory}
 use Rattle.can_bus.proofs.Setting.{filters_follow}
 
--- An event that is carried out has the reply that the entries before it give, and leaves what its entry leaves.
+-- An event has the reply that the entries before it require, and the state after it is the one that the longer history
+-- gives.
 
--- a legal reply is an answer, and is noted
+-- a legal reply is an answer, and enters the record
 record IsNoted (c : BusConfig) (past : List Entry) (e : Event) (r : Reply) : Type 0 where
   answer : IsAnswer c past e r
   after : history_after e r past ≡ record { event = e; reply = r } ∷ past
@@ -31,7 +32,7 @@ noted c past e (reply.Refused refusal.RecordFull) room lawful = absurd (never_fu
 noted c past e (reply.Refused refusal.NoMemory) room lawful = absurd (never_no_memory c past e lawful)
 noted c past e _ room lawful = record { answer = (room, lawful); after = refl }
 
--- the parts changed in this way, and this is the reply
+-- the state changed in this way, and this is the reply
 pub carried : {w r : Reply} {parts parts' : Parts} (c : BusConfig) (past : List Entry) (e called : Event) (Changed : Parts → Type 0)
     → called ≡ e → IsKept (record_of c past) parts → length past < c.limit → Changed parts → w ≡ r
     → (Changed (kept_parts c past) → Follows c past (record { event = e; reply = r }) parts')

@@ -48,7 +48,7 @@ still : (c : BusConfig) (past : List Entry) (s : SocketId) (n : Closed) → IsSt
 unfolding kept_interfaces kept_keys kept_nodes kept_left
 still c past s n = record { of_interfaces = refl; of_keys = refl; of_nodes = refl; of_left = refl }
 
--- a socket that was closed, or a refusal, leaves what its entry leaves
+-- after a socket is closed, or that is refused, the state is the one that the longer history gives
 pub closed_follows : (c : BusConfig) (past : List Entry) (s : SocketId) (r : Reply) (new : Parts) → Closes (kept_parts c past) s.0 r new → Follows c past (entry s r) new
 closed_follows c past s (reply.Closed n) new removes = follows_at_sockets c past (entry s (reply.Closed n)) new _ _ (reply-closed c past s n new removes) (still c past s n) refl refl (sockets-closed c past s n removes.place removes.socket removes.is_at) removes.after
 closed_follows c past s (reply.Refused why) new none = none_follows c past (Close s) s.0 _ why new refl tt none

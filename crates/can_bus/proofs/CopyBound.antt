@@ -32,8 +32,9 @@ use Rattle.can_bus.proofs.OffFacts.{all_stepped-append, winner-contends, off-all
 use Rattle.can_bus.proofs.TurnFacts.{Facts, facts, here, copied, comes-over, gone-grows, count-numbers}
 use Rattle.can_bus.proofs.Silence.{live-not-off}
 
--- A frame is tried again only while it is at the head of its queue. There each fault in the last bit adds 8 to the transmit
--- error count, which nothing lowers, and at 256 the interface is bus off and the frame lost: so 32 such faults are the most.
+-- A frame is tried again only while it is first in its queue. During that time each fault in the last bit adds 8 to the
+-- transmit error count, and nothing lowers the count. At 256 the interface is bus off and the frame is lost. So there
+-- are at most 32 such faults.
 
 abbrev sent_count : List Entry → ℕ → ℕ
 sent_count past i = length (sent_by past i)
@@ -44,9 +45,9 @@ gone_then past i e r = gone_after e r i (sent_count past i) (gone_count past i)
 abbrev count_after : BusConfig → List Entry → ℕ → Event → Reply → ℕ
 count_after c past i e r = (all_stepped at_start (steps_after c e r (counts_of c past) i (steps_of c past i))).tec
 
--- ---- what an attempt does to the transmit error counts
+-- ---- the effect of an attempt on the transmit error counts
 
--- an attempt lowers none but its winner's, and that only where it is done
+-- an attempt lowers only the count of its winner, and only if it is done
 not-lowered : (mine heard struck : Bool) (k : Class) (s : State) (x : ErrorCounts) → (mine && is_done k) ≡ false → x.tec ≤ (all_stepped x (if mine then winner_step k s else if heard then receiver_step k struck else [])).tec
 not-lowered true heard struck class.Done s x other = cc
 not-lowered true heard struck class.LastBit s x other = omega arith
@@ -82,7 +83,7 @@ count-tried c past i m v t stays =
 pub class-is : (c : BusConfig) (past : List Entry) (m : ℕ) (v : Verdict) (t : Tried) → WasTried c past m v t → t.class ≡ class_of (transmission c past t.winner v)
 class-is c past m v t w = subst (λ (u : Tried). u.class ≡ class_of (transmission c past u.winner v)) (sym w.is) refl
 
--- an attempt restarts no interface that is live before it
+-- an attempt does not restart an interface that was live before the attempt
 not-restarted : (c : BusConfig) (past : List Entry) (m : ℕ) (v : Verdict) (t : Tried) (i : ℕ) → IsLegal c past → WasTried c past m v t → is_silent (state_at c past i) ≡ false → is_in i t.restarted ≡ false
 not-restarted c past m v t i legal w live = ap (λ (u : Tried). is_in i u.restarted) w.is ∙ live-restarted-not c past legal i (live-not-off (state_at c past i) live)
 
@@ -101,7 +102,7 @@ last_bit-adds-at c past e r legal law t is failed = subst (λ q. count_after c p
 pub last_bit-adds : (c : BusConfig) (past : List Entry) (e : Entry) → IsLegal c (e ∷ past) → LastBitAdds8 c e past
 last_bit-adds c past e legal t is failed = last_bit-adds-at c past e.event e.reply legal.2 legal.1 t is failed
 
--- ---- while a frame is at the head, the count never falls
+-- ---- while a frame is first in its queue, the count never decreases
 
 not-gone : (sent gone : ℕ) (off here : Bool) → gone < sent → (if off then sent else if here then gone + 1 else gone) ≡ gone → here ≡ false
 not-gone sent gone true here waits same = absurd (omega (arith, waits, same))
@@ -111,7 +112,7 @@ not-gone sent gone false false waits same = refl
 same-other : (i j : ℕ) → (i == j) ≡ (j == i)
 same-other i j = grind arith
 
--- an interface with a frame that waits is live
+-- an interface with a waiting frame is live
 waits-live : (c : BusConfig) (past : List Entry) (i : ℕ) → IsLegal c past → c.ifaces ≤ 16 → gone_count past i < sent_count past i → is_silent (state_at c past i) ≡ false
 waits-live c past i legal few waits = when (is_silent (state_at c past i)) refl
   where
@@ -166,9 +167,10 @@ rises-step c past i (Down k m) _ legal few law waits same = omega arith
 pub rises-at-head : (c : BusConfig) (past : List Entry) (e : Entry) → IsLegal c (e ∷ past) → c.ifaces ≤ 16 → RisesAtTheHead c e past
 rises-at-head c past e legal few i p head same = rises-step c past i e.event e.reply legal.2 few legal.1 (slice_get_within (sent_by past i) (gone_count past i) p head) same
 
--- ---- how often a number was copied
+-- ---- the number of copies of a frame number
 
--- times n: how often number n was copied; the numbers from gone on wait, and those from sent on were not sent
+-- `times n` is the number of copies of frame number n. The numbers from `gone` on are waiting, and those from `sent` on
+-- were not sent.
 record Fits (times : ℕ → ℕ) (gone sent count : ℕ) : Type 0 where
   pub head : 8 * times gone ≤ count
   pub later : (n : ℕ) → gone < n → times n ≡ 0
@@ -195,7 +197,7 @@ fits-none times gone sent count gone' sent' count' f more more' rises = record {
 abbrev one_if : Bool → ℕ
 one_if b = cond b 1 0
 
--- an attempt that copies the frame at the head
+-- an attempt that copies the first frame of the queue
 fits-one : (times times' : ℕ → ℕ) (gone sent count gone' sent' count' : ℕ) → Fits times gone sent count → gone < sent → count < 256 → gone ≤ gone' → sent ≤ sent'
     → (gone' ≡ gone → count + 8 ≤ count') → ((n : ℕ) → times' n ≡ times n + one_if (gone == n)) → Fits times' gone' sent' count'
 fits-one times times' gone sent count gone' sent' count' f waits live more more' adds now = record {
@@ -223,7 +225,7 @@ fits-one times times' gone sent count gone' sent' count' f waits live more more'
     up-to n (inl same) = let was = f.head in let is : times' n ≡ times gone + 1 = ap times' (sym same) ∙ there in omega (arith, is, was, live)
     up-to n (inr other) = let is : times' n ≡ times n + 0 = now n ∙ ap (λ b. times n + one_if b) (ne_eqb gone n other) in let few = f.few n in omega (arith, is, few)
 
--- ---- in every legal history
+-- ---- every legal history
 
 abbrev copies_of : ℕ → List Tried → ℕ
 copies_of n ts = count_by (λ (t : Tried). t.number == n) ts
@@ -231,21 +233,21 @@ copies_of n ts = count_by (λ (t : Tried). t.number == n) ts
 copies-push : (n : ℕ) (ts : List Tried) (t : Tried) → copies_of n (ts ++ t ∷ []) ≡ copies_of n ts + one_if (t.number == n)
 copies-push n ts t = sum_by-append (λ (x : Tried). one_if (x.number == n)) ts (t ∷ []) ∙ omega arith
 
--- these attempts fit a history, and the same history with one entry more
+-- these attempts fit a history, and still fit it after one more entry
 abbrev FitsNow : BusConfig → List Entry → ℕ → List Tried → Type 0
 FitsNow c past i ts = Fits (λ n. copies_of n ts) (gone_count past i) (sent_count past i) (transmit_count c past i)
 
 abbrev FitsThen : BusConfig → List Entry → ℕ → Event → Reply → List Tried → Type 0
 FitsThen c past i e r ts = Fits (λ n. copies_of n ts) (gone_then past i e r) (length (sent_after past i e r (sent_by past i))) (count_after c past i e r)
 
--- the frame that was tried went over, and was not done
+-- the tried frame reached the receivers, but the attempt was not done
 was-last_bit : (k : Class) → went_over k ≡ true → is_done k ≡ false → k ≡ class.LastBit
 was-last_bit class.Done over undone = cc
 was-last_bit class.LastBit over undone = refl
 was-last_bit class.Destroyed over undone = cc
 was-last_bit class.NoAck over undone = cc
 
--- what follows of an attempt that was copied to a socket
+-- facts about an attempt that was copied to a socket
 record IsCopy (c : BusConfig) (past : List Entry) (i : ℕ) (e : Event) (t : Tried) : Type 0 where
   pub number : t.number ≡ gone_count past i
   pub waits : gone_count past i < sent_count past i
@@ -283,7 +285,7 @@ fits-unchanged c past i e r ts legal few law before =
     fits-none (λ n. copies_of n ts) (gone_count past i) (sent_count past i) (transmit_count c past i) _ _ _ before
     (gone-grows past i e r (gone-le-sent c past legal i)) (sent_by-step past i e r (sent_by past i)) (rises-step c past i e r legal few law)
 
--- an attempt that copies one
+-- an attempt that copies a frame of the interface to the socket
 fits-copied : (c : BusConfig) (past : List Entry) (i : ℕ) (e : Event) (t : Tried) (ts : List Tried) → IsLegal c past → IsCopy c past i e t → FitsNow c past i ts → FitsThen c past i e (reply.Attempted (attempt.Tried t)) (ts ++ t ∷ [])
 fits-copied c past i e t ts legal k before =
     fits-one (λ n. copies_of n ts) (λ n. copies_of n (ts ++ t ∷ [])) (gone_count past i) (sent_count past i) (transmit_count c past i) _ _ _ before k.waits k.live

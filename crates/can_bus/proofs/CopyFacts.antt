@@ -30,7 +30,7 @@ use Rattle.can_bus.specs.Copies.{is_data, is_from, received_from, comes_to, has_
 use Rattle.can_bus.proofs.Lawful.{by_attempt}
 use Rattle.can_bus.proofs.Quiet.{take_nil}
 
--- ---- error message frames are no data frames
+-- ---- error message frames are not data frames
 
 abbrev AreErrors : List Post → Type 0
 AreErrors [] = Unit {0}
@@ -65,7 +65,7 @@ none-taken i (suc n) (r ∷ rs) h =
     let rest : filter (is_from i) (take n rs) ≡ [] = none-taken i n rs h.1 in
     ap (λ b. cond (b && (r.from == i)) (r ∷ filter (is_from i) (take n rs)) (filter (is_from i) (take n rs))) h.0 ∙ rest
 
--- ---- what one entry adds
+-- ---- the items that one entry adds
 
 one-taken : (i room : ℕ) (r : Received) (rs : List Received) (b : Bool) → is_data r.item ≡ true → NoData rs → nat_lt 0 room ≡ b → filter (is_from i) (take room (r ∷ rs)) ≡ (if b && (r.from == i) then r ∷ [] else [])
 one-taken i zero r rs true is_sent none is = cc
@@ -93,7 +93,7 @@ room_at c past s = capacity_of past s + length (taken_from past s) - length (que
 room-fits : (a q : ℕ) → nat_lt 0 (a - q) ≡ nat_lt q a
 room-fits a q = grind arith
 
--- an attempt's data frame comes first among what it puts to the sockets of an interface
+-- the data frame of an attempt comes before the other items that the attempt posts on an interface
 abbrev errors_at : IfaceSet → Transmission → Tried → ℕ → ℕ → List Post
 errors_at reporting tr t m i =
     ((if is_in i reporting then error_posts i t.moment (fault_message_for t.class tr.verdict (role_at tr i)) else [])
@@ -115,7 +115,7 @@ AreErrors-at reporting tr t m i =
     (AreErrors-posts i t.moment (state_message (tr.counts i) (counts_after tr i))))
     (errors-auto_restart t.restarted m i)
 
--- what an entry adds to socket s of the data frames of interface i
+-- the data frames of interface i that an entry adds to socket s
 abbrev added : BusConfig → List Entry → ℕ → ℕ → Event → Reply → List Received
 added c past i s e r = filter (is_from i) (take (room_at c past s) (candidates_of c past s e r))
 
@@ -158,7 +158,7 @@ adds-tried c past i s m v t =
 adds-none : (c : BusConfig) (past : List Entry) (i s : ℕ) (e : Event) (r : Reply) → added c past i s e r ≡ [] → map copy_of (copying c past i s) ≡ map copy_of (copying c past i s) ++ added c past i s e r
 adds-none c past i s e r none = sym (ap (λ rs. map copy_of (copying c past i s) ++ rs) none ∙ append-nil (map copy_of (copying c past i s)))
 
--- where only error message frames are put to a socket's interface, no data frame is added
+-- if only error message frames are posted on the interface of a socket, no data frame is added
 added-errors : (c : BusConfig) (past : List Entry) (i s : ℕ) (e : Event) (r : Reply) → AreErrors (posts_of c past (iface_of past s) e r) → added c past i s e r ≡ []
 added-errors c past i s e r errors = when (is_open past s)
   where
@@ -183,7 +183,7 @@ adds c past i s (Attempt x1 x2) r law = adds-none c past i s (Attempt x1 x2) r (
 adds c past i s (Restart x1 x2) r law = adds-none c past i s (Restart x1 x2) r (added-errors c past i s (Restart x1 x2) r tt)
 adds c past i s (Down x1 x2) r law = adds-none c past i s (Down x1 x2) r (added-errors c past i s (Down x1 x2) r tt)
 
--- the data frames of an interface that a socket got are the copies that its attempts made
+-- the data frames of an interface that a socket got are the copies that the interface's attempts made
 pub received-copies : (c : BusConfig) (past : List Entry) → IsLegal c past → (i s : ℕ) → received_from c past i s ≡ map copy_of (copying c past i s)
 received-copies c [] legal i s = refl
 received-copies c (e ∷ past) legal i s =

@@ -40,7 +40,7 @@ OffThen c past i e r = is_some (attempts_off_after e r i (attempts_off past i)) 
 abbrev OffNow : BusConfig → List Entry → ℕ → Type 0
 OffNow c past i = is_some (attempts_off past i) ≡ true → is_off (state_at c past i) ≡ true
 
--- an attempt's reply names as off only an interface that the attempt took off
+-- the reply to an attempt names only interfaces as bus off that went bus off in the attempt
 off-is-off : (tr : Transmission) (i : ℕ) → is_in i (set_of (off_after tr)) ≡ true → is_off (state_of (counts_after tr i)) ≡ true
 off-is-off tr i named = when (is_off (state_of (counts_after tr tr.winner))) refl among
   where
@@ -80,7 +80,7 @@ counting-tried c past i m v t law w before = when (is_in i t.restarted) (is_in i
         ∙ ap (λ ss. is_off (state_of (all_stepped at_start ss))) same
         ∙ was
 
--- these replies change neither
+-- replies that change neither the error counts nor the attempts until restarts
 abbrev is_neutral : Reply → Bool
 is_neutral (reply.Attempted (attempt.Idle restarted)) = false
 is_neutral (reply.Attempted (attempt.Tried t)) = false
@@ -105,7 +105,7 @@ neutral-steps c past i (Receive s) _ h = refl
 neutral : (c : BusConfig) (past : List Entry) (i : ℕ) (e : Event) (r : Reply) → is_neutral r ≡ true → OffNow c past i → is_some (attempts_off past i) ≡ true → is_off (state_of (counts_then c past i e r)) ≡ true
 neutral c past i e r h before some = ap (λ ss. is_off (state_of (all_stepped at_start ss))) (neutral-steps c past i e r h) ∙ before some
 
--- an idle attempt restarts some interfaces, and lets the others be
+-- an idle attempt restarts some interfaces, and does not change the other interfaces
 idle-steps : (c : BusConfig) (past : List Entry) (i : ℕ) (restarted : Bool) → OffNow c past i → is_some (if restarted then None else option_map suc (attempts_off past i)) ≡ true → is_off (state_of (all_stepped at_start (if restarted then [] else steps_of c past i))) ≡ true
 idle-steps c past i true before some = cc
 idle-steps c past i false before some = before (still-some (attempts_off past i) some)
@@ -155,7 +155,7 @@ counting-step c past i e reply.Done law before = elsewhere e
     elsewhere (Send s f) h = before h
     elsewhere (Receive s) h = before h
 
--- an interface that counts is bus off
+-- an interface that counts attempts is bus off
 pub counting-off : (c : BusConfig) (past : List Entry) → IsLegal c past → (i : ℕ) → is_some (attempts_off past i) ≡ true → is_off (state_at c past i) ≡ true
 counting-off c [] legal i some = cc
 counting-off c (e ∷ past) legal i some = counting-step c past i e.event e.reply legal.1 (counting-off c past legal.2 i) some
@@ -164,7 +164,7 @@ due-counts : (n : ℕ) (k : Option ℕ) → is_nth_after n k ≡ true → is_som
 due-counts n None h = cc
 due-counts n (Some k) h = refl
 
--- an interface that is due was named
+-- if the next attempt restarts an interface, the interface's restart is due
 pub restarted-due : (c : BusConfig) (past : List Entry) (i : ℕ) → is_in i (restarted_next c past) ≡ true → is_due c past i ≡ true
 restarted-due c past i named =
     let among = (and_parts (nat_lt i 16) (is_among i (filter (is_due c past) (range_with_len 0 c.ifaces))) (sym (is_in-of (filter (is_due c past) (range_with_len 0 c.ifaces)) i) ∙ named)).1 in
@@ -174,7 +174,7 @@ restarted-due c past i named =
 pub restarted-off : (c : BusConfig) (past : List Entry) → IsLegal c past → (i : ℕ) → is_in i (restarted_next c past) ≡ true → is_off (state_at c past i) ≡ true
 restarted-off c past legal i named = counting-off c past legal i (due-counts c.auto_restart (attempts_off past i) (restarted-due c past i named))
 
--- an interface that is live does not count
+-- an interface that is live counts no attempts
 pub live-counts-not : (c : BusConfig) (past : List Entry) → IsLegal c past → (i : ℕ) → is_off (state_at c past i) ≡ false → attempts_off past i ≡ None
 live-counts-not c past legal i live = when (attempts_off past i) refl
   where
@@ -185,7 +185,7 @@ live-counts-not c past legal i live = when (attempts_off past i) refl
         let clash : true ≡ false = sym off ∙ live in
         cc
 
--- nor is it restarted
+-- an interface that is live is not restarted
 pub live-restarted-not : (c : BusConfig) (past : List Entry) → IsLegal c past → (i : ℕ) → is_off (state_at c past i) ≡ false → is_in i (restarted_next c past) ≡ false
 live-restarted-not c past legal i live = when (is_in i (restarted_next c past)) refl
   where
@@ -195,11 +195,11 @@ live-restarted-not c past legal i live = when (is_in i (restarted_next c past)) 
         let clash : true ≡ false = sym (restarted-off c past legal i is) ∙ live in
         cc
 
--- nor is one that is down
+-- an interface that is down is not restarted
 pub down-restarted-not : (c : BusConfig) (past : List Entry) → IsLegal c past → (i : ℕ) → is_down (state_at c past i) ≡ true → is_in i (restarted_next c past) ≡ false
 down-restarted-not c past legal i down = live-restarted-not c past legal i (down-not-off (state_at c past i) down)
 
--- an idle attempt names those that are due
+-- an idle attempt names the interfaces whose restart is due
 pub idle-restarts : (c : BusConfig) (past : List Entry) (m : ℕ) (v : Verdict) (restarted : IfaceSet) → reply.Attempted (attempt.Idle restarted) ≡ legal_reply c past (Attempt m v) → restarted ≡ restarted_next c past
 idle-restarts c past m v restarted law = when (winner c past) law
   where
@@ -211,6 +211,6 @@ idle-restarts c past m v restarted law = when (winner c past) law
     when None l = cc
     when (Some w) l = at_head w (head_of past w) l
 
--- the place of no interface does not count
+-- a place without an interface counts no attempts
 pub beyond-counts-not : (c : BusConfig) (past : List Entry) → IsLegal c past → (i : ℕ) → c.ifaces ≤ i → attempts_off past i ≡ None
 beyond-counts-not c past legal i above = live-counts-not c past legal i (ap (λ (x : ErrorCounts). is_off (state_of x)) (counts-beyond c past legal i above))

@@ -31,7 +31,7 @@ entry i m r = record { event = Down i m; reply = r }
 abbrev down : ℕ → ℕ → Entry
 down i m = entry i m reply.Done
 
--- ---- its frames are gone
+-- ---- its frames have left the queue
 
 gone-here : (past : List Entry) (i m : ℕ) → gone_count (down i m ∷ past) i ≡ length (sent_by past i)
 gone-here past i m = cond-true (i == i) (length (sent_by past i)) (gone_count past i) (eq-eqb i i refl)
@@ -61,7 +61,7 @@ keys-down past i m lt =
     ap (λ (p : Option Pending). slice_set (kept_keys past) i (key_in p)) (sym (head-here past i m))
     ∙ sym (kept_keys-one past (down i m) i lt (λ j ne. ap (λ (n : ℕ). slice_get (sent_by past j) n) (gone-other past i m j ne)))
 
--- ---- it counts no errors and no attempts
+-- ---- it no longer counts errors or attempts
 
 counts-here : (c : BusConfig) (past : List Entry) (i m : ℕ) → counts_of c (down i m ∷ past) i ≡ stepped (counts_of c past i) TakenDown
 counts-here c past i m =
@@ -82,12 +82,12 @@ left-down : (c : BusConfig) (past : List Entry) (i m : ℕ) → i < 16 → slice
 left-down c past i m lt =
     left-stopped c past (down i m) i lt (cond-true (i == i) None (attempts_off past i) (eq-eqb i i refl)) (λ j ne. cond-false (i == j) None (attempts_off past j) (ne_eqb i j (λ e. ne (sym e))))
 
--- ---- nothing comes to a socket
+-- ---- no socket gets an item
 
 down-quiet : (c : BusConfig) (past : List Entry) (i m : ℕ) → IsQuiet c past (down i m)
 down-quiet c past i m = record { of_places = refl; of_open = refl; of_filters = λ o. refl; of_options = λ o. refl; of_taken = λ o. refl; of_posts = λ o. refl }
 
--- an interface that is taken down, or its refusal, leaves what its entry leaves
+-- after an interface is taken down, or that is refused, the state is the one that the longer history gives
 pub taken_down_follows : (c : BusConfig) (past : List Entry) (i m : ℕ) (r : Reply) (new : Parts) → c.ifaces ≤ 16 → TakesDown (kept_parts c past) i r new → Follows c past (entry i m r) new
 taken_down_follows c past i m reply.Done new few goes =
     let e = down i m in

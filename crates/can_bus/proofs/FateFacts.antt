@@ -25,7 +25,7 @@ use Rattle.can_bus.specs.Fates.Fate.{Waiting, Done, Lost}
 use Rattle.can_bus.proofs.Lawful.{WasTried, tried_by, gone-le-sent, done-le-gone}
 use Rattle.can_bus.proofs.TurnFacts.{Facts, facts, after-le, gone-grows-if, gone-grows}
 
--- ---- how many numbers below m pass
+-- ---- the number of numbers below m that satisfy a condition
 
 abbrev one_if : Bool → ℕ
 one_if b = if b then 1 else 0
@@ -64,7 +64,7 @@ or-false : (b : Bool) → (b || false) ≡ b
 or-false true = refl
 or-false false = refl
 
--- one number more
+-- one more number satisfies the condition
 below-one : (p q : ℕ → Bool) (g m : ℕ) → g < m → p g ≡ false → ((n : ℕ) → q n ≡ (p n || (g == n))) → below q m ≡ below p m + 1
 below-one p q g zero lt fails more = absurd (omega (arith, lt))
 below-one p q g (suc m) lt fails more = choose (cases_eq g m) (below-one p q g m)
@@ -93,7 +93,7 @@ below-from g (suc m) = choose (nat_le g m) refl (below-from g m)
     choose true is rest = let le : g ≤ m = grind (arith, is) in omega (arith, rest, le)
     choose false is rest = let lt : m < g = grind (arith, is) in omega (arith, rest, lt)
 
--- each has one fate
+-- each frame has exactly one fate
 below-fates : (f : ℕ → Fate) (m : ℕ) → below (λ n. is_fate (f n) Waiting) m + below (λ n. is_fate (f n) Done) m + below (λ n. is_fate (f n) Lost) m ≡ m
 below-fates f zero = refl
 below-fates f (suc m) = choose (f m) (below-fates f m)
@@ -103,7 +103,7 @@ below-fates f (suc m) = choose (f m) (below-fates f m)
     choose Done rest = omega (arith, rest)
     choose Lost rest = omega (arith, rest)
 
--- ---- the frames that were done
+-- ---- the frames that are done
 
 abbrev does : ℕ → ℕ → Tried → Bool
 does i n t = (t.winner == i) && (is_done t.class && (t.number == n))
@@ -137,7 +137,7 @@ done-gone-step : (c : BusConfig) (past : List Entry) (i n : ℕ) (e : Event) (r 
 done-gone-step c past i n e (reply.Attempted (attempt.Tried t)) law le before h = tried_by c past e t law (λ m v w. done-gone-tried c past m v t i n w le before h)
 done-gone-step c past i n e r law le before h = let grows = gone-grows past i e r le in let lt = before h in omega (arith, grows, lt)
 
--- a frame that was done is gone
+-- a frame that is done has left the queue
 pub done-gone : (c : BusConfig) (past : List Entry) → IsLegal c past → (i n : ℕ) → was_done past i n ≡ true → n < gone_count past i
 done-gone c [] legal i n h = cc
 done-gone c (e ∷ past) legal i n h = done-gone-step c past i n e.event e.reply legal.1 (gone-le-sent c past legal.2 i) (done-gone c past legal.2 i n) h
@@ -149,7 +149,7 @@ not-done c past legal i n le = choose (was_done past i n) refl
     choose true is = let lt = done-gone c past legal i n is in absurd (omega (arith, lt, le))
     choose false is = refl
 
--- ---- as many are done as attempts were done
+-- ---- the number of frames done is the number of attempts done
 
 does-not : (a d e : Bool) → (a && d) ≡ false → (a && (d && e)) ≡ false
 does-not true true e h = cc

@@ -29,7 +29,7 @@ use Rattle.can_bus.specs.Queues.{passing}
 use Rattle.can_bus.specs.State.{SocketState, filled, reached}
 use Rattle.can_bus.proofs.Lawful.{data_posts-le, passing-le}
 
--- Items come to a socket one after another, or all at once.
+-- Items reach a socket one after another, or all together.
 
 pub passing-append : (fs : List CanFilter) (o : Options) (s : ℕ) (ps qs : List Post) → passing fs o s (ps ++ qs) ≡ passing fs o s ps ++ passing fs o s qs
 passing-append fs o s [] qs = refl
@@ -81,7 +81,7 @@ filled-nil v =
 abbrev pub wanted : SocketState → List Post → List Received
 wanted v ps = passing v.filters v.options v.number ps
 
--- two lots of posts, one after the other
+-- two groups of posts, one after the other
 pub filled-both : (v w x : SocketState) (ps qs : List Post) → w ≡ filled v (wanted v ps) → x ≡ filled w (wanted w qs) → x ≡ filled v (wanted v (ps ++ qs))
 filled-both v w x ps qs first next =
     next
@@ -89,11 +89,11 @@ filled-both v w x ps qs first next =
     ∙ filled-append v (wanted v ps) (wanted v qs)
     ∙ ap (filled v) (sym (passing-append v.filters v.options v.number ps qs))
 
--- what a socket drops of some posts
+-- the items that a socket drops from some posts
 pub filled-dropped : (v w : SocketState) (ps : List Post) → w ≡ filled v (wanted v ps) → w.dropped ≤ v.dropped + length ps
 filled-dropped v w ps is = omega (arith, ap (λ (u : SocketState). u.dropped) is, passing-le v.filters v.options v.number ps, length-drop (v.capacity - length v.waiting) (wanted v ps))
 
--- a fault and a change of state, one after another
+-- a fault and a change of state, one after the other
 pub faults_told : (o : Outcome) (reporting : IfaceSet) (v s2 s3 : SocketState) (i : ℕ) (fault state : Option ErrorMessage) → i ≡ v.iface →
     s2 ≡ filled v (wanted v (if is_in i reporting then error_posts v.iface o.tried.moment fault else [])) →
     fault ≡ fault_message_for o.tried.class o.verdict (role_at (transmission_of o) i) →
@@ -113,7 +113,7 @@ faults_told o reporting v s2 s3 i fault state at two fault_is three state_is =
     let state_list = error_posts v.iface o.tried.moment (state_message (counts_at o.nodes v.iface) (counts_after (transmission_of o) v.iface)) in
     filled-both v s2 s3 fault_list state_list (two ∙ ap (λ (ps : List Post). filled v (wanted v ps)) faults) (three ∙ ap (λ (ps : List Post). filled s2 (wanted s2 ps)) states)
 
--- what comes to all sockets, one after another and at once
+-- the items for all sockets, posted one after another or together
 pub map-reached_both : (f g h : ℕ → List Post) → ((i : ℕ) → h i ≡ f i ++ g i) → (vs : List SocketState) → map (reached g) (map (reached f) vs) ≡ map (reached h) vs
 map-reached_both f g h is [] = refl
 map-reached_both f g h is (v ∷ vs) =
@@ -128,14 +128,14 @@ map-reached_same f g same (v ∷ vs) =
     let rest = map-reached_same f g same vs in
     cc
 
--- what an attempt puts to an interface, in its two parts
+-- the items that an attempt posts on an interface, in two parts
 pub in_two_parts : (reporting : IfaceSet) (o : Outcome) (p : Pending) (i : ℕ) → attempt_posts reporting (transmission_of o) o.tried (Some p) i ≡ frame_posts o.tried p i ++ fault_posts reporting o i
 in_two_parts reporting o p i =
     append_assoc (data_posts i o.tried (Some p))
     (if is_in i reporting then error_posts i o.tried.moment (fault_message_for o.tried.class o.verdict (role_at (transmission_of o) i)) else [])
     (error_posts i o.tried.moment (state_message (counts_at o.nodes i) (counts_after (transmission_of o) i)))
 
--- a frame is one item to drop
+-- a frame is one item that a socket may drop
 pub frame-dropped : (t : Tried) (p : Pending) (vs : List SocketState) → All (λ (v : SocketState). v.dropped + 3 < 2 ^ 64) vs → All (λ (v : SocketState). v.dropped + 2 < 2 ^ 64) (map (reached (frame_posts t p)) vs)
 frame-dropped t p [] few = λ k d h. absurd (omega (arith, h))
 frame-dropped t p (v ∷ vs) few =
@@ -144,7 +144,7 @@ frame-dropped t p (v ∷ vs) few =
     (omega (arith, here, filled-dropped v (reached (frame_posts t p) v) (frame_posts t p v.iface) refl, data_posts-le v.iface t (Some p)))
     (frame-dropped t p vs (λ k d h. few (suc k) d (omega (arith, h))))
 
--- where nothing goes wrong, the frame is all that is put to anybody
+-- without a fault, the frame is the only item that is posted
 silent : (r : Option Role) → fault_message_for class.Done verdict.Good r ≡ None
 silent None = refl
 silent (Some role.Winner) = refl

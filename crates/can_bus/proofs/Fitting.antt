@@ -37,7 +37,7 @@ use Rattle.can_event.specs.Spelled.{IsNumbered, AreNumbered, FitsReply, MayResta
 use Rattle.can_frame.specs.Frames.{CanFrame, is_fd}
 use Rattle.std.proofs.lemmas.Bool.{and_parts}
 
--- Each legal reply fits its event, so that each entry of a legal history has a line.
+-- Each legal reply fits its event, so each entry of a legal history has a line.
 
 pub if-holds : {X : Type 0} (P : X → Type 0) (b : Bool) (x y : X) → P x → P y → P (if b then x else y)
 if-holds P true x y hx hy = hx
@@ -140,18 +140,18 @@ legal-fits c past (Down i m) = if-holds (FitsReply (Down i m)) (nat_le c.ifaces 
 pub legal_is_spelled : (c : BusConfig) (past : List Entry) (e : Event) (r : Reply) → r ≡ legal_reply c past e → FitsReply e r
 legal_is_spelled c past e r law = subst (FitsReply e) (sym law) (legal-fits c past e)
 
--- an answer is of its event's kind
+-- an answer is a reply of its event's kind
 pub answer_suits : (c : BusConfig) (past : List Entry) (e : Event) (r : Reply) → IsAnswer c past e r → Suits e r
 answer_suits c past e (reply.Refused why) answer = tt
 answer_suits c past e r answer = legal_is_spelled c past e r answer.1
 
 -- ---- restarts
 
--- a reply that is no attempt's names no interface as restarted
+-- only the reply to an attempt names restarted interfaces
 none-if : (b : Bool) (x y : Reply) → restarted_in x ≡ no_ifaces → restarted_in y ≡ no_ifaces → restarted_in (if b then x else y) ≡ no_ifaces
 none-if b x y hx hy = if-holds (λ r. restarted_in r ≡ no_ifaces) b x y hx hy
 
--- on a bus that never restarts an interface by itself none is due
+-- on a bus without automatic restart, no restart is due
 never-due : (n : ℕ) (past : List Entry) (i : ℕ) → n ≡ 0 → is_nth_after n (attempts_off past i) ≡ false
 never-due n past i never = when (attempts_off past i)
   where
@@ -188,7 +188,7 @@ legal-restarts c past (Attempt m v) never = attempt-restarts c past m v (winner 
 legal-restarts c past (Restart i m) never = none-if (nat_le c.ifaces i) _ _ refl (none-if (is_silent (state_at c past i)) _ _ refl refl)
 legal-restarts c past (Down i m) never = none-if (nat_le c.ifaces i) _ _ refl refl
 
--- an entry with the legal reply has a line in the text of a record of its configuration
+-- an entry with the legal reply has a line in the text of a record with its configuration
 pub legal_has_line : (c : BusConfig) (past : List Entry) (e : Event) (r : Reply) → r ≡ legal_reply c past e → IsSpelled c (record { event = e; reply = r })
 legal_has_line c past e r law = record { fits = legal_is_spelled c past e r law; restarts = subst (MayRestart c) (sym law) (legal-restarts c past e) }
 

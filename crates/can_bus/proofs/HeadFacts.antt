@@ -19,7 +19,7 @@ use Rattle.can_bus.proofs.InterfaceFacts.{IsInterface-at}
 use Rattle.can_bus.proofs.Lists.{slice_get-drop}
 use Rattle.can_bus.proofs.Winning.{winner-is, idle-is}
 
--- What is kept of the next attempt's frame is what the history says.
+-- The frame of the next attempt in the state is the one that the history gives.
 
 head-kept : (c : BusConfig) (past : List Entry) (head : ℕ × CanFrame) → IsNext (kept_parts c past) head → with_frame head.0 (head_of past head.0) ≡ Some head
 head-kept c past head next =
@@ -27,19 +27,19 @@ head-kept c past head next =
     let oldest : head_of past head.0 ≡ Some next.pending = sym (slice_get-drop (gone_count past head.0) (sent_by past head.0)) ∙ ap (λ (l : InterfaceState). slice_get l.waiting 0) (sym interface.left) ∙ next.oldest in
     ap (with_frame head.0) oldest ∙ ap (λ (f : CanFrame). Some (head.0, f)) (sym next.frame)
 
--- what the state tells of the next attempt is what the history says
+-- the next attempt as the state reports it is the one that the history gives
 pub told_head : (c : BusConfig) (past : List Entry) (head : Option (ℕ × CanFrame)) → IsLegal c past → c.ifaces ≤ 16 → ReportsNext (kept_parts c past) head → head ≡ next_head c past
 told_head c past None legal few idle = ap (head_at past) (sym (idle-is c past few idle))
 told_head c past (Some head) legal few next =
     sym (ap (head_at past) (winner-is c past legal few head.0 next.wins) ∙ head-kept c past head next)
 
--- ---- an attempt tries it
+-- ---- an attempt tries that frame
 
 tried-head : (c : BusConfig) (past : List Entry) (m : ℕ) (v : Verdict) (t : Tried) → WasTried c past m v t → next_head c past ≡ Some (t.winner, t.frame)
 tried-head c past m v t w =
     ap (head_at past) w.won ∙ ap (with_frame w.place) w.head ∙ ap (λ (u : Tried). Some (u.winner, u.frame)) (sym w.is)
 
--- the frame that an attempt tries is the one that was next
+-- the frame that an attempt tries is the frame that was next
 pub tried_is_next : (c : BusConfig) (past : List Entry) (m : ℕ) (v : Verdict) (t : Tried) → reply.Attempted (attempt.Tried t) ≡ legal_reply c past (Attempt m v) → next_head c past ≡ Some (t.winner, t.frame)
 tried_is_next c past m v t law = tried-head c past m v t (was_tried c past m v t law)
 
@@ -51,6 +51,6 @@ idle-of : (c : BusConfig) (past : List Entry) (m : ℕ) (v : Verdict) (w : Optio
 idle-of c past m v None none = refl
 idle-of c past m v (Some w) none = idle-at c past m v w (head_of past w) none
 
--- where none is next an attempt is idle
+-- if no frame is next, an attempt is idle
 pub idle_without_next : (c : BusConfig) (past : List Entry) (m : ℕ) (v : Verdict) → next_head c past ≡ None → legal_reply c past (Attempt m v) ≡ reply.Attempted (attempt.Idle (restarted_next c past))
 idle_without_next c past m v none = idle-of c past m v (winner c past) none

@@ -29,7 +29,7 @@ use Rattle.can_bus.proofs.OfferFacts.{offers-candidates, queued-with-room, dropp
 use Rattle.can_bus.proofs.FateFacts.{frames-lost}
 use Rattle.can_bus.proofs.LifeFacts.{legal-before, nothing-after-close, numbers-rise, offered-kept, items-at-close, dropped-at-close}
 
--- ---- an attempt that failed at the last bit alone had that fault
+-- ---- an attempt that failed only at the last bit had that fault
 
 last_bit-when : (destroyed acknowledged at_last : Bool) → class_when destroyed acknowledged at_last ≡ class.LastBit → at_last ≡ true
 last_bit-when true a l failed = cc
@@ -53,7 +53,7 @@ fault-of-last_bit c past e t law failed = by_attempt (λ k. k ≡ Attempt t.mome
         let at : t.moment ≡ m = ap (λ (u : Tried). u.moment) w.is in
         ap (λ (k : ℕ). Attempt k v) (sym at) ∙ ap (Attempt t.moment) fault
 
--- an attempt failed at the last bit of end of frame alone where that was its fault
+-- if an attempt failed only at the last bit of end of frame, that was its fault
 pub had-that-fault : (c : BusConfig) (past : List Entry) → IsLegal c past → All HadThatFaultAlone past
 had-that-fault c [] legal = All-nil HadThatFaultAlone
 had-that-fault c (e ∷ past) legal = All-cons HadThatFaultAlone e past (λ t is failed. fault-of-last_bit c past e.event t (sym is ∙ legal.1) failed) (had-that-fault c past legal.2)
@@ -67,7 +67,7 @@ at-close c later before s k legal =
 
 -- ---- the headline
 
--- what holds of every legal history
+-- the statement that holds for every legal history
 pub headline : (c : BusConfig) (past : List Entry) → IsLongConfig c → IsLegal c past → Headline c past
 headline c past proper legal = record {
   exact = received-copies c past legal;

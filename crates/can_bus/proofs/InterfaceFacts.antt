@@ -8,7 +8,7 @@ use Rattle.can_event.specs.declared.bus_config.BusConfig.{BusConfig}
 use Rattle.can_bus.specs.State.{InterfaceState, kept_interface, kept_interfaces}
 use Rattle.can_bus.proofs.Lists.{map_one, range-rises, slice_get-range}
 
--- an interface, and what it holds
+-- the state of an interface is the one that the history gives
 pub record IsInterface (c : BusConfig) (past : List Entry) (i : ℕ) (l : InterfaceState) : Type 0 where
   pub below : i < c.ifaces
   pub left : l ≡ kept_interface c past i
@@ -27,7 +27,7 @@ IsInterface-at c past interfaces i l are at =
     let same : l ≡ kept_interface c past (0 + i) = cc in
     record { below = below; left = same ∙ ap (kept_interface c past) zeroth }
 
--- an entry that concerns one interface
+-- an entry that changes only one interface
 pub kept_interfaces-one : (c : BusConfig) (past : List Entry) (e : Entry) (i : ℕ) → i < c.ifaces → ((j : ℕ) → j ≢ i → kept_interface c (e ∷ past) j ≡ kept_interface c past j) → kept_interfaces c (e ∷ past) ≡ slice_set (kept_interfaces c past) i (kept_interface c (e ∷ past) i)
 unfolding kept_interfaces
 kept_interfaces-one c past e i below others =

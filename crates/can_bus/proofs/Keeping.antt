@@ -20,12 +20,12 @@ use Rattle.can_record.specs.Journal.{IsLonger}
 use Rattle.can_bus.proofs.Quiet.{queued_to-quiet, dropped_at-quiet}
 use Rattle.can_bus.proofs.Refusing.{never_full, never_no_memory}
 
--- an entry's reply is the legal one, and the parts are what the longer history leaves
+-- the reply of an entry is the legal one, and the state is the one that the longer history gives
 pub record Follows (c : BusConfig) (past : List Entry) (e : Entry) (parts : Parts) : Type 0 where
   pub lawful : e.reply ≡ legal_reply c past e.event
   pub after : parts ≡ kept_parts c (e ∷ past)
 
--- one entry more is kept
+-- the state after one more entry
 pub kept_more : (j new : Kept) (e : Entry) (parts parts' : Parts) → IsKept j parts → IsLonger j e new → length j.history < j.config.limit → Follows j.config j.history e parts' → IsKept new parts'
 kept_more j new e parts parts' kept longer room follows =
     let longer_config = longer.config in
@@ -39,7 +39,7 @@ kept_more j new e parts parts' kept longer room follows =
       room = omega (arith, kept.room, longer.room);
     })
 
--- what the call's contract says of an entry that was added
+-- the contract of the call, for an entry that was added
 pub noted : (j new : Kept) (old : Journal) (e : Entry) → ◌≡◌ {A = Journal} (record { config = j.config; history = j.history }) old → IsLonger j e new
     → length j.history < j.config.limit → e.reply ≡ legal_reply j.config j.history e.event
     → Noted old e.event e.reply (record { config = new.config; history = new.history })
@@ -58,12 +58,12 @@ refuses before event refusal.RecordFull new n = absurd (never_full before.config
 refuses before event refusal.NoMemory new n = absurd (never_no_memory before.config before.history event n.lawful)
 refuses before event _ new n = n
 
--- an answer that was noted is the call's answer
+-- the reply that was recorded is the answer to the call
 answered : {A : Type 0} (f : A → Reply) (before : Journal) (event : Event) (r : Result A Refusal) (new : Journal) → Noted before event (told f r) new → Answers f before event r new
 answered f before event (Ok a) new n = n
 answered f before event (Err why) new n = refuses before event why new n
 
--- a call that was noted: what is kept, and what it answers
+-- a call that was recorded: its record, its state and its answer
 pub record IsDone {A : Type 0} (told' : A → Reply) (before : Journal) (event : Event) (r : Result A Refusal) (new : Kept) (parts : Parts) : Type 0 where
   pub kept : IsKept new parts
   pub answers : Answers told' before event r (record { config = new.config; history = new.history })
@@ -71,7 +71,7 @@ pub record IsDone {A : Type 0} (told' : A → Reply) (before : Journal) (event :
 pub not_full : (full : Bool) (n limit : ℕ) → IsTrue full ↔ (limit ≤ n) → full ≡ false → n < limit
 not_full full n limit test is = grind arith
 
--- there was room, the state changed in this way, and the reply was noted
+-- the record had room, the state changed in this way, and the reply was recorded
 pub done : {A : Type 0} {j new : Kept} {before : Journal} {event : Event} {r : Result A Refusal} {w : Reply} {full : Bool} {parts parts' : Parts} (f : A → Reply) (Changed : Parts → Type 0)
     → ◌≡◌ {A = Journal} (record { config = j.config; history = j.history }) before → IsKept j parts
     → IsTrue full ↔ (j.config.limit ≤ length j.history) → full ≡ false → Changed parts
@@ -102,7 +102,7 @@ pub map_same : {X : Type 0} (f g : ℕ → X) (xs : List ℕ) → ((o : ℕ) →
 map_same f g [] same = refl
 map_same f g (x ∷ xs) same = let here = same x in let rest = map_same f g xs same in cc
 
--- an entry that opens, closes, sets, gives and posts nothing
+-- an entry that opens, closes, sets, takes and posts nothing
 pub record IsQuiet (c : BusConfig) (past : List Entry) (e : Entry) : Type 0 where
   pub of_places : places (e ∷ past) ≡ places past
   pub of_open : open_sockets (e ∷ past) ≡ open_sockets past
@@ -139,14 +139,14 @@ refused-quiet c past (Attempt m v) why = record { of_places = refl; of_open = re
 refused-quiet c past (Restart i m) why = record { of_places = refl; of_open = refl; of_filters = λ o. refl; of_options = λ o. refl; of_taken = λ o. refl; of_posts = λ o. refl }
 refused-quiet c past (Down i m) why = record { of_places = refl; of_open = refl; of_filters = λ o. refl; of_options = λ o. refl; of_taken = λ o. refl; of_posts = λ o. refl }
 
--- an entry that concerns no interface
+-- an entry that changes no interface
 pub record IsStill (c : BusConfig) (past : List Entry) (e : Entry) : Type 0 where
   pub of_interfaces : kept_interfaces c (e ∷ past) ≡ kept_interfaces c past
   pub of_keys : kept_keys (e ∷ past) ≡ kept_keys past
   pub of_nodes : kept_nodes c (e ∷ past) ≡ kept_nodes c past
   pub of_left : kept_left c (e ∷ past) ≡ kept_left c past
 
--- a refusal that counts nothing
+-- a refusal that is not counted
 abbrev pub IsUncounted : Event → Refusal → Type 0
 IsUncounted (Send s f) refusal.NoBuffers = ⊥
 IsUncounted event why = Unit {0}
@@ -164,7 +164,7 @@ refused-still c past (Attempt m v) why u = record { of_interfaces = refl; of_key
 refused-still c past (Restart i m) why u = record { of_interfaces = refl; of_keys = refl; of_nodes = refl; of_left = refl }
 refused-still c past (Down i m) why u = record { of_interfaces = refl; of_keys = refl; of_nodes = refl; of_left = refl }
 
--- a refusal that counts nothing changes nothing
+-- a refusal that is not counted leaves the state as it was
 pub follows_refused : (c : BusConfig) (past : List Entry) (event : Event) (why : Refusal) (new : Parts) → IsUncounted event why → new ≡ kept_parts c past → reply.Refused why ≡ legal_reply c past event → Follows c past (refused event why) new
 follows_refused c past event why new u same lawful =
     let quiet = refused-quiet c past event why in

@@ -51,14 +51,14 @@ sent_by-by_one : (past : List Entry) (i : ℕ) (e : Event) (r : Reply) (before :
 sent_by-by_one past i (Send s f) (reply.Sent n) before = by_one (iface_of past s.0 == i) before _
 sent_by-by_one past i _ _ before = omega arith
 
--- no interface has sent_by more frames than there are entries
+-- the number of frames that an interface sent is at most the number of entries
 pub sent_by-le : (past : List Entry) (i : ℕ) → length (sent_by past i) ≤ length past
 sent_by-le [] i = omega arith
 sent_by-le (e ∷ past) i = omega (arith, sent_by-by_one past i e.event e.reply (sent_by past i), sent_by-le past i)
 
--- ---- what a tried frame says of the history
+-- ---- facts about the history from a tried frame
 
--- a frame was tried: interface w had it at the head of its queue
+-- if a frame was tried, it was first in the queue of interface w
 pub record WasTried (c : BusConfig) (past : List Entry) (m : ℕ) (v : Verdict) (t : Tried) : Type 0 where
   pub place : ℕ
   pub pending : Pending
@@ -93,7 +93,7 @@ untried-if false x y hx hy = hy
 never : {P : Type 0} (t : Tried) (r : Reply) → reply.Attempted (attempt.Tried t) ≡ r → is_tried r ≡ false → P
 never t r law untried = let e : true ≡ false = ap is_tried law ∙ untried in cc
 
--- only an attempt answers with a tried frame
+-- only an attempt has a tried frame as its reply
 pub by_attempt : (P : Event → Type 0) (c : BusConfig) (past : List Entry) (e : Event) (t : Tried) → reply.Attempted (attempt.Tried t) ≡ legal_reply c past e → ((m : ℕ) (v : Verdict) → WasTried c past m v t → P (Attempt m v)) → P e
 by_attempt P c past (Attempt m v) t law k = k m v (was_tried c past m v t law)
 by_attempt P c past (Open i n) t law k = never t _ law (untried-if (nat_le c.ifaces i) _ _ refl (untried-if (not (nat_le 1 n && nat_le n 65536)) _ _ refl (untried-if (nat_le 64 (length (open_sockets past))) _ _ refl refl)))
@@ -111,7 +111,7 @@ by_attempt P c past (Down i m) t law k = never t _ law (untried-if (nat_le c.ifa
 pub tried_by : {P : Type 0} (c : BusConfig) (past : List Entry) (e : Event) (t : Tried) → reply.Attempted (attempt.Tried t) ≡ legal_reply c past e → ((m : ℕ) (v : Verdict) → WasTried c past m v t → P) → P
 tried_by {P = P} c past e t law k = by_attempt (λ f. P) c past e t law k
 
--- ---- no more frames are gone than were sent, and no more are done than are gone
+-- ---- at most as many frames have left the queue as were sent, and at most as many are done as have left it
 
 gone-step : (sent before : ℕ) (off here : Bool) → before ≤ sent → (here ≡ true → before < sent) → (if off then sent else if here then before + 1 else before) ≤ sent
 gone-step sent before true here le lt = omega arith
@@ -153,7 +153,7 @@ pub done-le-gone : (c : BusConfig) (past : List Entry) → IsLegal c past → (i
 done-le-gone c [] legal i = omega arith
 done-le-gone c (e ∷ past) legal i = done-more c past i e.event e.reply legal.1 (gone-le-sent c past legal.2 i) (done-le-gone c past legal.2 i)
 
--- ---- refusals are no more than the entries
+-- ---- the number of refusals is at most the number of entries
 
 refused-by_one : (past : List Entry) (i : ℕ) (e : Event) (r : Reply) (before : ℕ) → refused_after past i e r before ≤ before + 1
 refused-by_one past i (Send s f) (reply.Refused refusal.NoBuffers) before = most (iface_of past s.0 == i)
@@ -167,7 +167,7 @@ pub refused-le : (past : List Entry) (i : ℕ) → refused_count past i ≤ leng
 refused-le [] i = omega arith
 refused-le (e ∷ past) i = omega (arith, refused-by_one past i e.event e.reply (refused_count past i), refused-le past i)
 
--- ---- no more items are taken_from than were queued_to
+-- ---- the number of items taken from a socket is at most the number of items queued to it
 
 taken_from-step : (c : BusConfig) (past : List Entry) (s : ℕ) (e : Event) (r : Reply) → r ≡ legal_reply c past e → length (taken_from past s) ≤ length (queued_to c past s) → length (taken_after e r s (taken_from past s)) ≤ length (queued_to c past s)
 taken_from-step c past s (Receive k) (reply.Received (Some x)) law le = when (is_open past k.0) (s == k.0) refl refl law
@@ -186,7 +186,7 @@ pub taken_from-le-queued : (c : BusConfig) (past : List Entry) → IsLegal c pas
 taken_from-le-queued c [] legal s = omega arith
 taken_from-le-queued c (e ∷ past) legal s = omega (arith, taken_from-step c past s e.event e.reply legal.1 (taken_from-le-queued c past legal.2 s), length-append {A = Received})
 
--- ---- each socket is of an interface that is there
+-- ---- the interface of each socket exists
 
 abbrev pub AreBelow : ℕ → List Place → Type 0
 AreBelow n ps = (k : ℕ) (p : Place) → slice_get ps k ≡ Some p → p.iface < n
@@ -218,7 +218,7 @@ Rises-below a b s zero (x ∷ xs) at h = let is : x ≡ s = cc in omega (arith, 
     Rises-range a b (y ∷ ys) h = omega (arith, h.0, Rises-range (y + 1) b ys h.1)
 Rises-below a b s (suc k) (x ∷ xs) at h = Rises-below (x + 1) b s k xs at h.1
 
--- the interface of an open socket is there
+-- the interface of an open socket exists
 pub open-iface : (c : BusConfig) (past : List Entry) → IsLegal c past → (k o : ℕ) → slice_get (open_sockets past) k ≡ Some o → iface_of past o < c.ifaces
 open-iface c past legal k o at = look (slice_get (places past) o) refl
   where
@@ -229,7 +229,7 @@ open-iface c past legal k o at = look (slice_get (places past) o) refl
     look (Some p) is = places-below c past legal o p is
     look None is = let there : slice_get (places past) o ≡ Some _ = slice_get-get_or (places past) o (record { iface = 0; capacity = 0 }) within in cc
 
--- ---- no more items are dropped_at c than there are entries
+-- ---- the number of items dropped at a socket is bounded by the number of entries
 
 pub passing-le : (fs : List CanFilter) (o : Options) (s : ℕ) (ps : List Post) → length (passing fs o s ps) ≤ length ps
 passing-le fs o s [] = omega arith
@@ -287,7 +287,7 @@ pub dropped-le : (c : BusConfig) (past : List Entry) (s : ℕ) → length (dropp
 dropped-le c [] s = omega arith
 dropped-le c (e ∷ past) s = omega (arith, candidates_of-le c past s e.event e.reply, dropped-le c past s, length-append {A = Received}, length-drop {A = Received})
 
--- nor does it queue more
+-- no entry queues more than four items to a socket
 pub queued-le : (c : BusConfig) (past : List Entry) (s : ℕ) → length (queued_to c past s) ≤ 4 * length past
 queued-le c [] s = omega arith
 queued-le c (e ∷ past) s = omega (arith, candidates_of-le c past s e.event e.reply, queued-le c past s, length-append {A = Received}, length-take {A = Received})

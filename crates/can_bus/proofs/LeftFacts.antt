@@ -16,11 +16,11 @@ use Rattle.can_bus.proofs.CountingFacts.{beyond-counts-not, restarted-due}
 use Rattle.can_bus.proofs.KeyFacts.{sixteen-one}
 use Rattle.can_bus.proofs.NodeFacts.{index-map}
 
--- The attempts that are left until each interface is restarted are what the history leaves.
+-- The numbers of attempts until each restart in the state are those that the history gives.
 
--- ---- one attempt less
+-- ---- one attempt fewer
 
--- where an interface is not restarted the attempt counts, and where it is none is left
+-- if an interface is not restarted, the attempt is counted; if it is restarted, no attempts remain
 next-left : (n : ℕ) (k : Option ℕ) (restarted : Bool) → (restarted ≡ true → is_nth_after n k ≡ true) → left_after n (if restarted then None else option_map suc k) ≡ left_after n k - 1
 next-left n None true due = refl
 next-left n None false due = refl
@@ -31,19 +31,19 @@ ticked-map : (f g : ℕ → ℕ) (xs : List ℕ) → ((i : ℕ) → g i ≡ f i 
 ticked-map f g [] next = refl
 ticked-map f g (x ∷ xs) next = let here = next x in let rest = ticked-map f g xs next in cc
 
--- the attempts left after an attempt that restarts those that are due, and takes none of these off
+-- the attempt restarts interface i if its restart is due, and otherwise counts one more attempt if the interface counts
 abbrev pub CountsOn : BusConfig → List Entry → Entry → ℕ → Type 0
 CountsOn c past e i = attempts_off (e ∷ past) i ≡ (if is_in i (restarted_next c past) then None else option_map suc (attempts_off past i))
 
 one-less : (c : BusConfig) (past : List Entry) (e : Entry) (i : ℕ) → CountsOn c past e i → attempts_left c (e ∷ past) i ≡ attempts_left c past i - 1
 one-less c past e i on = ap (left_after c.auto_restart) on ∙ next-left c.auto_restart (attempts_off past i) (is_in i (restarted_next c past)) (restarted-due c past i)
 
--- an attempt that takes no interface off
+-- an attempt in which no interface goes bus off
 pub left-counted : (c : BusConfig) (past : List Entry) (e : Entry) → ((i : ℕ) → CountsOn c past e i) → ticked (kept_left c past) ≡ kept_left c (e ∷ past)
 unfolding kept_left
 left-counted c past e on = ticked-map (attempts_left c past) (attempts_left c (e ∷ past)) (range_with_len 0 16) (λ i. one-less c past e i (on i))
 
--- an attempt that takes interface w off
+-- an attempt in which interface w goes bus off
 pub left-off : (c : BusConfig) (past : List Entry) (e : Entry) (w : ℕ) → w < 16 → attempts_off (e ∷ past) w ≡ Some 0 → ((i : ℕ) → i ≢ w → CountsOn c past e i) → slice_set (ticked (kept_left c past)) w c.auto_restart ≡ kept_left c (e ∷ past)
 unfolding kept_left
 left-off c past e w below off on =
@@ -53,7 +53,7 @@ left-off c past e w below off on =
     ∙ ap (slice_set (map less (range_with_len 0 16)) w) all
     ∙ sym (sixteen-one less (attempts_left c (e ∷ past)) w 16 below (λ i ne. one-less c past e i (on i ne)))
 
--- ---- those that are due
+-- ---- the interfaces whose restart is due
 
 one-left : (n : ℕ) (k : Option ℕ) → (left_after n k == 1) ≡ is_nth_after n k
 one-left n None = refl
@@ -86,7 +86,7 @@ due-kept c past legal = ap set_of_bits (bits_where_same _ _ 16 (due-at c past le
     set_of_bits : ℕ → IfaceSet
     set_of_bits n = record { 0 = n }
 
--- ---- where no interface restarts by itself
+-- ---- a bus without automatic restart
 
 never-left : (n : ℕ) (k : Option ℕ) → n ≡ 0 → left_after n k ≡ 0
 never-left n None never = refl
@@ -100,7 +100,7 @@ pub left-never : (c : BusConfig) (past : List Entry) → c.auto_restart ≡ 0 �
 unfolding kept_left
 left-never c past never = all-zero (attempts_left c past) 0 16 (λ i. never-left c.auto_restart (attempts_off past i) never)
 
--- ---- whether an interface counts
+-- ---- whether an interface counts attempts
 
 any-map : (p : ℕ → Bool) (f : ℕ → ℕ) (xs : List ℕ) → list_any p (map f xs) ≡ list_any (λ i. p (f i)) xs
 any-map p f [] = refl
@@ -114,7 +114,7 @@ any-short : (p : ℕ → Bool) (a n k : ℕ) → ((i : ℕ) → a + n ≤ i → 
 any-short p a zero k none = let sum : 0 + k ≡ k = omega arith in ap (λ m. list_any p (range_with_len a m)) sum ∙ none-from p a k (λ i le. none i (omega (arith, le)))
 any-short p a (suc n) k none = let sum : suc n + k ≡ suc (n + k) = omega arith in ap (λ m. list_any p (range_with_len a m)) sum ∙ ap (λ b. p a || b) (any-short p (a + 1) n k (λ i le. none i (omega (arith, le))))
 
--- some of what is kept is not 0 exactly where an interface counts
+-- some number in the state is not 0 exactly if some interface counts attempts
 pub counting-kept : (c : BusConfig) (past : List Entry) → IsLegal c past → c.ifaces ≤ 16 → list_any (λ n. not (n == 0)) (kept_left c past) ≡ is_counting c past
 unfolding kept_left
 counting-kept c past legal few =

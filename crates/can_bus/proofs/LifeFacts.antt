@@ -23,7 +23,7 @@ use Rattle.can_bus.proofs.Lawful.{taken_from-le-queued}
 use Rattle.can_bus.proofs.Quiet.{queued_to-unoffered, queued_to-quiet}
 use Rattle.can_bus.proofs.OffFacts.{open-place}
 
--- ---- a socket is open from its open to its close
+-- ---- a socket is open from its open call to its close call
 
 below-top : (a b s k : ℕ) (xs : List ℕ) → slice_get xs k ≡ Some s → Rises a b xs → s < b
 below-top a b s k [] at h = cc
@@ -34,11 +34,11 @@ below-top a b s zero (x ∷ xs) at h = let is : x ≡ s = cc in omega (arith, is
     top a b (y ∷ ys) h = omega (arith, h.0, top (y + 1) b ys h.1)
 below-top a b s (suc k) (x ∷ xs) at h = below-top (x + 1) b s k xs at h.1
 
--- an open socket was made
+-- an open socket was opened before
 pub is_open-made : (past : List Entry) (s : ℕ) → is_open past s ≡ true → s < length (places past)
 is_open-made past s is = let at = open-place s (open_sockets past) is in below-top 0 (length (places past)) s at.0 (open_sockets past) at.1 (open_sockets-rise past)
 
--- a socket that was not made is not open
+-- a socket that was never opened is not open
 pub unmade-closed : (past : List Entry) (s : ℕ) → length (places past) ≤ s → is_open past s ≡ false
 unmade-closed past s unmade = when (is_open past s) refl
   where
@@ -50,7 +50,7 @@ pub places-grow : (e : Event) (r : Reply) (ps : List Place) → length ps ≤ le
 places-grow (Open i n) (reply.Opened s) ps = let longer = length_push ps (record { iface = i; capacity = n }) in omega (arith, longer)
 places-grow _ _ ps = omega arith
 
--- a socket closed is never open again
+-- a closed socket is never open again
 any-push : (s n : ℕ) (xs : List ℕ) → s < n → list_any (λ k. k == s) xs ≡ false → list_any (λ k. k == s) (xs ++ n ∷ []) ≡ false
 any-push s n [] lt h = let other : (n == s) ≡ false = ne_eqb n s (omega (arith, lt)) in ap (λ b. b || false) other
 any-push s n (x ∷ xs) lt h = first (x == s) h (any-push s n xs lt)
@@ -81,7 +81,7 @@ closed-step n s (Open i m) (reply.Opened o) xs made h = any-push s n xs made h
 closed-step n s (Close o) (reply.Closed c) xs made h = any-filter s (λ k. not (k == o.0)) xs h
 closed-step n s _ _ xs made h = h
 
--- it was made, and is not open
+-- the socket was opened before, and is not open now
 pub record IsClosed (past : List Entry) (s : ℕ) : Type 0 where
   pub made : s < length (places past)
   pub shut : is_open past s ≡ false
@@ -92,7 +92,7 @@ closed-stays past e s h = record {
   shut = closed-step (length (places past)) s e.event e.reply (open_sockets past) h.made h.shut;
 }
 
--- nothing is queued where the socket is not open
+-- no item is queued to a socket that is not open
 pub queued-shut : (c : BusConfig) (past : List Entry) (e : Entry) (s : ℕ) → is_open past s ≡ false → queued_to c (e ∷ past) s ≡ queued_to c past s
 queued-shut c past e s shut = queued_to-unoffered c past e s (ap (λ b. if b then passing (filters_of past s) (options_of past s) s (posts_of c past (iface_of past s) e.event e.reply) else []) shut)
 
@@ -108,7 +108,7 @@ pub legal-before : (c : BusConfig) (later past : List Entry) → IsLegal c (late
 legal-before c [] past legal = legal
 legal-before c (e ∷ later) past legal = legal-before c later past legal.2
 
--- ---- a close
+-- ---- the facts about a close call
 
 pub record WasClosed (c : BusConfig) (past : List Entry) (s : SocketId) (k : Closed) : Type 0 where
   pub was : is_open past s.0 ≡ true
@@ -129,7 +129,7 @@ nothing-after-close c later past s k legal =
     let was = was_closed c past s k (legal-before c later (closing s k ∷ past) legal).1 in
     queued-closed c later (closing s k ∷ past) s.0 (is-closed c past s k was) ∙ queued_to-quiet c past (closing s k) s.0 refl
 
--- ---- nothing is queued to a socket before its open
+-- ---- no item is queued to a socket before its open call
 
 pub queued-unmade : (c : BusConfig) (past : List Entry) (s : ℕ) → length (places past) ≤ s → queued_to c past s ≡ []
 queued-unmade c [] s unmade = refl
@@ -138,7 +138,7 @@ queued-unmade c (e ∷ past) s unmade =
     let before : length (places past) ≤ s = omega (arith, grows, unmade) in
     queued-shut c past e s (unmade-closed past s before) ∙ queued-unmade c past s before
 
--- ---- the reply of an open
+-- ---- the reply to an open call
 
 pub record WasOpened (past : List Entry) (s : SocketId) : Type 0 where
   pub number : s.0 ≡ length (places past)
@@ -156,7 +156,7 @@ was_opened c past i n s law = when (nat_le c.ifaces i) (not (nat_le 1 n && nat_l
 pub nothing-before-open : (c : BusConfig) (past : List Entry) (i n : ℕ) (s : SocketId) → reply.Opened s ≡ legal_reply c past (Open i n) → queued_to c past s.0 ≡ []
 nothing-before-open c past i n s law = queued-unmade c past s.0 (let number = (was_opened c past i n s law).number in omega (arith, number))
 
--- ---- no more than 64 are open
+-- ---- at most 64 sockets are open
 
 length-filter-le : (p : ℕ → Bool) (xs : List ℕ) → length (filter p xs) ≤ length xs
 length-filter-le p [] = omega arith
@@ -175,7 +175,7 @@ pub few-open : (c : BusConfig) (past : List Entry) → IsLegal c past → length
 few-open c [] legal = omega arith
 few-open c (e ∷ past) legal = few-step c past e.event e.reply legal.1 (few-open c past legal.2)
 
--- ---- the numbers given are 0, 1, 2 and so on
+-- ---- the socket numbers are 0, 1, 2 and so on
 
 given-step : (c : BusConfig) (past : List Entry) (e : Event) (r : Reply) → r ≡ legal_reply c past e → numbers_given past ≡ range_with_len 0 (length (places past)) → given_after e r (numbers_given past) ≡ range_with_len 0 (length (places_after e r (places past)))
 given-step c past (Open i n) (reply.Opened s) law same =
@@ -193,7 +193,7 @@ pub numbers-rise : (c : BusConfig) (past : List Entry) → IsLegal c past → nu
 numbers-rise c [] legal = refl
 numbers-rise c (e ∷ past) legal = given-step c past e.event e.reply legal.1 (numbers-rise c past legal.2)
 
--- ---- what is offered is queued or dropped
+-- ---- each offered item is queued or dropped
 
 pub offered-kept : (c : BusConfig) (past : List Entry) (s : ℕ) → length (candidates_for c past s) ≡ length (queued_to c past s) + length (dropped_at c past s)
 offered-kept c [] s = refl

@@ -25,7 +25,7 @@ use Rattle.can_attempt.proofs.Standing.{is_in-of}
 use Rattle.can_bus.proofs.OffFacts.{winner-contends}
 use Rattle.can_bus.proofs.Silence.{live-not-off}
 
--- ---- where no interface goes off or down, none is lost
+-- ---- if no interface goes bus off or down, no frame is lost
 
 kept-if : (sent gone done : ℕ) (off here : Bool) → off ≡ false → (if off then sent else if here then gone + 1 else gone) - (if here then done + 1 else done) ≡ gone - done
 kept-if sent gone done true here is = cc
@@ -40,12 +40,12 @@ lost-step past i _ _ live = refl
 pub lost-kept : (past : List Entry) (e : Entry) (i : ℕ) → goes_silent i e.event e.reply ≡ false → lost_count (e ∷ past) i ≡ lost_count past i
 lost-kept past e i live = lost-step past i e.event e.reply live
 
--- ---- an attempt that was done takes nobody off
+-- ---- an attempt that is done makes no interface go bus off
 
 off-before : (c : ErrorCounts) → is_off (state_of (stepped c GoodTransmission)) ≡ true → is_off (state_of c) ≡ true
 off-before c h = grind (arith, h)
 
--- in an attempt that was done, the winner takes the step of a good transmission
+-- in an attempt that is done, the winner takes the step for a good transmission
 good_step : (t : Transmission) → class_of t ≡ class.Done → counts_after t t.winner ≡ stepped (t.counts t.winner) GoodTransmission
 good_step t done =
     let here : (t.winner == t.winner) ≡ true = eq-eqb t.winner t.winner refl in
@@ -58,7 +58,7 @@ is_done-Done class.LastBit h = cc
 is_done-Done class.Destroyed h = cc
 is_done-Done class.NoAck h = cc
 
--- who goes off is the winner, whose counts took it there
+-- only the winner goes bus off, because of its error counts
 went_off : (t : Transmission) (i : ℕ) → is_in i (set_of (off_after t)) ≡ true → is_off (state_of (counts_after t t.winner)) ≡ true
 went_off t i h = when (is_off (state_of (counts_after t t.winner))) (and_parts (nat_lt i 16) (is_among i (off_after t)) (sym (is_in-of (off_after t) i) ∙ h)).1
   where
@@ -80,7 +80,7 @@ not-done-off c past m v t i w off = when (is_done t.class) refl
         let clash : true ≡ false = sym was ∙ live-not-off (state_at c past w.place) (winner-contends c past w.place w.won).live in
         cc
 
--- ---- where it goes off or down, all that wait are lost
+-- ---- if an interface goes bus off or down, all its waiting frames are lost
 
 lost-if : (sent gone done : ℕ) (off mine fine : Bool) → off ≡ true → fine ≡ false → done ≤ gone → gone ≤ sent → (if off then sent else if mine && fine then gone + 1 else gone) - (if mine && fine then done + 1 else done) ≡ gone - done + (sent - gone)
 lost-if sent gone done true true true is bad le le' = cc

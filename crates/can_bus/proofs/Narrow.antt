@@ -40,7 +40,8 @@ use Rattle.can_bus.proofs.Lawful.{was_tried, sent_by-le, gone-le-sent}
 use Rattle.can_bus.proofs.Bounds.{short}
 use Rattle.can_bus.proofs.OffFacts.{winner-contends}
 
--- What a bus answers is not wide, but for filters: its numbers are small, and at most the winner goes off.
+-- Every entry of a bus fits in 32 bytes, except one that sets filters: its numbers are small, and only the winner can
+-- go bus off.
 
 not_large : (n : ℕ) → n < 2 ^ 32 → is_large n ≡ false
 not_large n h = grind (arith, nat_tests)
@@ -81,7 +82,7 @@ attempt-posts reporting sending t p i h =
 auto_restart-posts : (restarted : IfaceSet) (m i : ℕ) → AreShort (auto_restart_posts restarted m i)
 auto_restart-posts restarted m i = if-holds AreShort (is_in i restarted) _ _ (error-posts i m (Some restart_message)) no-posts
 
--- as many frames are gone as there are entries at most
+-- the number of frames that have left a queue is at most the number of entries
 gone-short : (c : BusConfig) (past : List Entry) → IsLegal c past → length past ≤ max_long_limit → (i : ℕ) → gone_count past i < 2 ^ 32
 gone-short c past legal few i = omega (arith, gone-le-sent c past legal i, sent_by-le past i)
 
@@ -114,7 +115,7 @@ queued-short c (e ∷ past) s legal few =
     (All-take IsShort (capacity_of past s + length (taken_from past s) - length (queued_to c past s)) (candidates_of c past s e.event e.reply)
     (if-holds (All IsShort) (is_open past s) _ _ (passing-short (filters_of past s) (options_of past s) s (posts_of c past (iface_of past s) e.event e.reply) (posts-short c past (iface_of past s) e.event e.reply legal.2 fewer legal.1)) (All-nil IsShort)))
 
--- ---- at most the winner goes off
+-- ---- only the winner can go bus off
 
 single-below : (w n : ℕ) → n ≤ w → bits_where (λ i. is_among i (w ∷ [])) n ≡ 0
 single-below w zero h = refl
@@ -188,6 +189,6 @@ legal-narrow c past (Attempt m v) legal few most other = attempt-narrow c past m
 legal-narrow c past (Restart i m) legal few most other = narrow-if (Restart i m) (nat_le c.ifaces i) _ _ refl (narrow-if (Restart i m) (is_silent (state_at c past i)) _ _ refl refl)
 legal-narrow c past (Down i m) legal few most other = narrow-if (Down i m) (nat_le c.ifaces i) _ _ refl refl
 
--- a bus answers nothing wide but to a set of filters
+-- the entry of a bus needs no box unless it sets filters
 pub legal_fits : (j : Kept) (parts : Parts) (e : Event) (r : Reply) → IsKept j parts → ¬ SetsFilters e → r ≡ legal_reply j.config j.history e → needs_box e r ≡ false
 legal_fits j parts e r kept other law = ap (needs_box e) law ∙ legal-narrow j.config j.history e kept.legal (short j parts kept) kept.proper.few_ifaces other

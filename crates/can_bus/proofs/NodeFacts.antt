@@ -17,12 +17,12 @@ index-map f a (suc n) (suc k) d lt = index-map f (a + 1) n k d (omega arith) ∙
 counts-at : (c : BusConfig) (past : List Entry) (i n : ℕ) → i < n → slice_index_or (map (counts_of c past) (range_with_len 0 n)) i at_start ≡ counts_of c past i
 counts-at c past i n below = index-map (counts_of c past) 0 n i at_start below ∙ ap (counts_of c past) (omega arith)
 
--- the kept error counts of an interface
+-- the error counts of an interface in the state
 pub counts_at-kept : (c : BusConfig) (past : List Entry) (i : ℕ) → i < 16 → counts_at (kept_nodes c past) i ≡ counts_of c past i
 unfolding kept_nodes
 counts_at-kept c past i below = counts-at c past i 16 below
 
--- whether an interface is bus off, down, or either
+-- whether an interface is bus off, down, or either of these
 pub is_off_at-kept : (c : BusConfig) (past : List Entry) (i : ℕ) → i < 16 → is_off_at (kept_nodes c past) i ≡ is_off (state_at c past i)
 is_off_at-kept c past i below = ap (λ (k : ErrorCounts). is_off (state_of k)) (counts_at-kept c past i below)
 
@@ -32,7 +32,7 @@ is_down_at-kept c past i below = ap (λ (k : ErrorCounts). is_down (state_of k))
 pub is_silent_at-kept : (c : BusConfig) (past : List Entry) (i : ℕ) → i < 16 → is_silent_at (kept_nodes c past) i ≡ is_silent (state_at c past i)
 is_silent_at-kept c past i below = ap (λ (k : ErrorCounts). is_silent (state_of k)) (counts_at-kept c past i below)
 
--- the kept error counts of all places
+-- the error counts at all places in the state
 pub counters-kept : (c : BusConfig) (past : List Entry) → (kept_nodes c past).counters ≡ all_counts c past
 unfolding kept_nodes all_counts
 counters-kept c past = refl

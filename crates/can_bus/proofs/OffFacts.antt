@@ -29,7 +29,7 @@ use Rattle.can_attempt.proofs.Standing.{is_in-set_of}
 use Rattle.can_bus.proofs.Lawful.{WasTried, by_attempt, open-iface}
 use Rattle.can_bus.proofs.Silence.{not-silent, winner-alone-silent, silent-is-off}
 
--- ---- the winner is live, and there
+-- ---- the winner is live and exists
 
 pub record Found (p : ℕ → Bool) (xs : List ℕ) (w : ℕ) : Type 0 where
   pub among : is_among w xs ≡ true
@@ -70,7 +70,7 @@ winner-contends c past w won =
       live = not-true (is_silent (state_at c past w)) (and_parts (is_some (head_of past w)) (not (is_silent (state_at c past w))) both.0).1;
     }
 
--- ---- a frame is accepted on an open socket, of an interface that is neither bus off nor down
+-- ---- a frame is accepted only on an open socket whose interface is neither bus off nor down
 
 pub record WasSent (c : BusConfig) (past : List Entry) (s : ℕ) : Type 0 where
   pub is_there : is_open past s ≡ true
@@ -87,7 +87,7 @@ sent-if c past s n false lacks off down r is at up law = cc
 was-sent : (c : BusConfig) (past : List Entry) (s : SocketId) (f : CanFrame) (n : ℕ) → reply.Sent n ≡ legal_reply c past (Send s f) → WasSent c past s.0
 was-sent c past s f n law = let i = iface_of past s.0 in sent-if c past s.0 n (is_open past s.0) (lacks_fd f (options_of past s.0)) (is_off (state_at c past i)) (is_down (state_at c past i)) _ refl refl refl law
 
--- ---- where an interface is bus off or down, all its frames are gone
+-- ---- if an interface is bus off or down, all its frames have left the queue
 
 pub all_stepped-append : (c : ErrorCounts) (xs ys : List Step) → all_stepped c (xs ++ ys) ≡ all_stepped (all_stepped c xs) ys
 all_stepped-append c [] ys = refl
@@ -105,7 +105,7 @@ gone-there sent gone false false is same = same
 abbrev pub GoneIfSilent : BusConfig → List Entry → ℕ → Type 0
 GoneIfSilent c past i = is_silent (state_at c past i) ≡ true → gone_count past i ≡ length (sent_by past i)
 
--- the winner that went off is in the set of those that went off
+-- a winner that went bus off is in the set of interfaces that went bus off
 off-is-in : (t : Transmission) → t.winner < 16 → is_off (state_of (counts_after t t.winner)) ≡ true → is_in t.winner (set_of (off_after t)) ≡ true
 off-is-in t below off = is_in-set_of (off_after t) t.winner below ∙ listed (is_off (state_of (counts_after t t.winner))) off
   where
@@ -188,11 +188,11 @@ pub off-all-gone : (c : BusConfig) (past : List Entry) → IsLegal c past → c.
 off-all-gone c [] legal few i off = refl
 off-all-gone c (e ∷ past) legal few i off = off-step c past i e.event e.reply few legal.1 (off-all-gone c past legal.2 few i) off
 
--- an interface that is bus off or down has no frame waiting
+-- an interface that is bus off or down has no waiting frame
 pub off-no-head : (c : BusConfig) (past : List Entry) → IsLegal c past → c.ifaces ≤ 16 → (i : ℕ) → is_silent (state_at c past i) ≡ true → head_of past i ≡ None
 off-no-head c past legal few i off = slice_get_past (sent_by past i) (gone_count past i) (let all = off-all-gone c past legal few i off in omega (arith, all))
 
--- ---- frames are sent on interfaces that are there
+-- ---- frames are sent only on interfaces that exist
 
 pub open-place : (s : ℕ) (xs : List ℕ) → list_any (λ k. k == s) xs ≡ true → (k : ℕ) × (slice_get xs k ≡ Some s)
 open-place s [] h = cc
@@ -202,7 +202,7 @@ open-place s (x ∷ xs) h = when (x == s) refl h (open-place s xs)
     when true is at later = (0, ap (λ (n : ℕ). Some n) (eqb-true x s is))
     when false is at later = (suc (later at).0, (later at).1)
 
--- the interface of an open socket is there
+-- the interface of an open socket exists
 pub is_open-iface : (c : BusConfig) (past : List Entry) → IsLegal c past → (s : ℕ) → is_open past s ≡ true → iface_of past s < c.ifaces
 is_open-iface c past legal s is = let at = open-place s (open_sockets past) is in open-iface c past legal at.0 s at.1
 
@@ -221,7 +221,7 @@ pub sent-beyond : (c : BusConfig) (past : List Entry) → IsLegal c past → (i 
 sent-beyond c [] legal i above = refl
 sent-beyond c (e ∷ past) legal i above = sent-step c past i e.event e.reply legal.2 legal.1 above (sent-beyond c past legal.2 i above)
 
--- a frame that waits is of an interface that is there
+-- a waiting frame belongs to an interface that exists
 pub head-below : (c : BusConfig) (past : List Entry) → IsLegal c past → (i : ℕ) → (p : Pending) → head_of past i ≡ Some p → i < c.ifaces
 head-below c past legal i p head = when (nat_le c.ifaces i) refl
   where
@@ -232,7 +232,7 @@ head-below c past legal i p head = when (nat_le c.ifaces i) refl
         cc
     when false below = leb-false c.ifaces i below
 
--- ---- no step reaches an interface that is not there
+-- ---- no step reaches an interface that does not exist
 
 steps-nowhere : (t : Transmission) (i : ℕ) → (i == t.winner) ≡ false → t.count ≤ i → steps_at i t ≡ []
 steps-nowhere t i other above =

@@ -11,7 +11,7 @@ use Rattle.can_bus.proofs.Quiet.{take_nil}
 use Rattle.can_bus.proofs.LifeFacts.{places-grow, unmade-closed, queued-unmade}
 use Rattle.can_bus.proofs.OwnFacts.{places-kept}
 
--- ---- what is offered
+-- ---- the items that are offered
 
 map-append : {X Y : Type 0} (f : X → Y) (xs ys : List X) → map f (xs ++ ys) ≡ map f xs ++ map f ys
 map-append f [] ys = refl
@@ -21,7 +21,7 @@ items-of : (taken : ℕ) (rs : List Received) → map (λ (o : Offer). o.item) (
 items-of taken [] = refl
 items-of taken (r ∷ rs) = ap (λ qs. r ∷ qs) (items-of taken rs)
 
--- the offers are the candidates
+-- the offered items are the candidates
 pub offers-candidates : (c : BusConfig) (past : List Entry) (s : ℕ) → map (λ (o : Offer). o.item) (offers_to c past s) ≡ candidates_for c past s
 offers-candidates c [] s = refl
 offers-candidates c (e ∷ past) s =
@@ -31,7 +31,7 @@ offers-candidates c (e ∷ past) s =
     ∙ ap (λ rs. map (λ (o : Offer). o.item) (offers_to c past s) ++ rs) (items-of taken new)
     ∙ ap (λ rs. rs ++ new) (offers-candidates c past s)
 
--- ---- offers made at once
+-- ---- items that are offered together
 
 full-room : (capacity taken n : ℕ) → nat_lt n (capacity + taken) ≡ false → capacity + taken - n ≡ 0
 full-room capacity taken n full = grind (arith, full)
@@ -39,7 +39,7 @@ full-room capacity taken n full = grind (arith, full)
 some-room : (capacity taken n : ℕ) → nat_lt n (capacity + taken) ≡ true → capacity + taken - n ≡ suc (capacity + taken - (n + 1))
 some-room capacity taken n room = grind (arith, room)
 
--- offers made at once find room as far as there is room
+-- items that are offered together find room as long as there is room
 abbrev FitsAt : ℕ → ℕ → List Received → ℕ → Type 0
 FitsAt capacity taken rs n = with_room capacity n (map (offer_after taken) rs) ≡ take (capacity + taken - n) rs
 
@@ -58,7 +58,7 @@ drop_nil : (n : ℕ) → ◌≡◌ {A = List Received} (drop n []) []
 drop_nil zero = refl
 drop_nil (suc n) = refl
 
--- and the others find none
+-- the remaining items find no room
 abbrev FailsAt : ℕ → ℕ → List Received → ℕ → Type 0
 FailsAt capacity taken rs n = without_room capacity n (map (offer_after taken) rs) ≡ drop (capacity + taken - n) rs
 
@@ -73,13 +73,13 @@ others-at-once capacity taken n (r ∷ rs) = when (nat_lt n (capacity + taken)) 
     when true is more same = more ∙ sym (ap (λ k. drop k (r ∷ rs)) (some-room capacity taken n is))
     when false is more same = ap (λ qs. r ∷ qs) (same ∙ ap (λ k. drop k rs) (full-room capacity taken n is)) ∙ sym (ap (λ k. drop k (r ∷ rs)) (full-room capacity taken n is))
 
--- ---- offers one after another
+-- ---- items that are offered one after another
 
--- how many have found room after these offers, where n had before
+-- the number of items that have found room after these offers, if n found room before them
 abbrev then_found : ℕ → ℕ → List Offer → ℕ
 then_found capacity n os = n + length (with_room capacity n os)
 
--- the items that find room, first those of the offers before
+-- the items that find room in two groups of offers, first those of the earlier group
 abbrev WithJoins : ℕ → List Offer → List Offer → ℕ → Type 0
 WithJoins capacity os ps n = with_room capacity n (os ++ ps) ≡ with_room capacity n os ++ with_room capacity (then_found capacity n os) ps
 
@@ -94,7 +94,7 @@ with-append capacity n (o ∷ os) ps = when (nat_lt n (capacity + o.taken)) (wit
     when true more same = ap (λ qs. o.item ∷ qs) (more ∙ ap (λ k. with_room capacity (n + 1) os ++ with_room capacity k ps) (omega arith))
     when false more same = same
 
--- the same of those that find none
+-- the items that find no room in two groups of offers, first those of the earlier group
 abbrev WithoutJoins : ℕ → List Offer → List Offer → ℕ → Type 0
 WithoutJoins capacity os ps n = without_room capacity n (os ++ ps) ≡ without_room capacity n os ++ without_room capacity (then_found capacity n os) ps
 
@@ -112,7 +112,7 @@ without-append capacity n (o ∷ os) ps = when (nat_lt n (capacity + o.taken)) (
     when true more same = more ∙ ap (λ k. without_room capacity (n + 1) os ++ without_room capacity k ps) (omega arith)
     when false more same = ap (λ qs. o.item ∷ qs) same
 
--- ---- a socket's capacity stays, and nothing is offered before its open
+-- ---- the capacity of a socket never changes, and nothing is offered before its open
 
 no-candidates : (c : BusConfig) (past : List Entry) (e : Entry) (s : ℕ) → length (places past) ≤ s → candidates_of c past s e.event e.reply ≡ []
 no-candidates c past e s unmade = ap (λ b. if b then passing (filters_of past s) (options_of past s) s (posts_of c past (iface_of past s) e.event e.reply) else []) (unmade-closed past s unmade)
@@ -125,7 +125,7 @@ no-offers c (e ∷ past) s unmade =
     ap (λ rs. offers_to c past s ++ map (offer_after (length (taken_from past s))) rs) (no-candidates c past e s before)
     ∙ ap (λ (os : List Offer). os ++ []) (no-offers c past s before)
 
--- the capacity is that of a later history
+-- the capacity splits the offered items into queued and dropped ones; it may come from a longer history
 abbrev IsSorted : BusConfig → List Entry → ℕ → ℕ → Type 0
 IsSorted c past s capacity = (queued_to c past s ≡ with_room capacity 0 (offers_to c past s)) × (dropped_at c past s ≡ without_room capacity 0 (offers_to c past s))
 
@@ -194,10 +194,10 @@ sorted c (e ∷ past) s = choose (cases_lt s (length (places past))) (sorted c p
         nothing : IsSorted c (e ∷ past) s (capacity_of (e ∷ past) s)
         nothing = (none-queued ∙ sym (ap (with_room (capacity_of (e ∷ past) s) 0) (grown unmade)), none-dropped ∙ sym (ap (without_room (capacity_of (e ∷ past) s) 0) (grown unmade)))
 
--- what was queued are the offers that found room
+-- the queued items are the offers that found room
 pub queued-with-room : (c : BusConfig) (past : List Entry) (s : ℕ) → queued_to c past s ≡ with_room (capacity_of past s) 0 (offers_to c past s)
 queued-with-room c past s = (sorted c past s).0
 
--- what was dropped are the others
+-- the dropped items are the offers that found no room
 pub dropped-without-room : (c : BusConfig) (past : List Entry) (s : ℕ) → dropped_at c past s ≡ without_room (capacity_of past s) 0 (offers_to c past s)
 dropped-without-room c past s = (sorted c past s).1

@@ -10,7 +10,7 @@ use Rattle.can_bus.specs.Changes.{IsAt, IsNowhere}
 use Rattle.can_event.specs.declared.entry.Entry.{Entry}
 use Rattle.can_bus.proofs.Lists.{list_any_there}
 
--- where a socket stands, it is open, and what stands there c is what the history leaves of it
+-- place k of the list of open sockets has socket s, and the state v of that socket is the one that the history gives
 pub record IsThere (c : BusConfig) (past : List Entry) (s k : ℕ) (v : SocketState) : Type 0 where
   pub listed : slice_get (open_sockets past) k ≡ Some s
   pub is_there : is_open past s ≡ true
@@ -37,7 +37,7 @@ list_any_map : (c : BusConfig) (past : List Entry) (s : ℕ) (os : List ℕ) →
 list_any_map c past s [] = refl
 list_any_map c past s (o ∷ os) = ap (λ b. (o == s) || b) (list_any_map c past s os)
 
--- a number that stands nowhere is of no open socket
+-- a number that is not in the list is not the number of an open socket
 pub closed-nowhere : (c : BusConfig) (past : List Entry) (sockets : List SocketState) (s : ℕ) → sockets ≡ kept_sockets c past → IsNowhere sockets s → is_open past s ≡ false
 unfolding kept_sockets
 closed-nowhere c past sockets s are nowhere =

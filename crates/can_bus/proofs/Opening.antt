@@ -28,7 +28,7 @@ use Rattle.can_bus.proofs.SocketFacts.{length-kept_sockets, follows_at_sockets}
 abbrev pub entry : ℕ → ℕ → Reply → Entry
 entry i k r = record { event = Open i k; reply = r }
 
--- ---- a socket that is not opened yet
+-- ---- a socket that is not open yet
 
 Rises-range : (a b : ℕ) (xs : List ℕ) → Rises a b xs → a ≤ b
 Rises-range a b [] h = h
@@ -63,7 +63,7 @@ dropped_at-not_yet c (e ∷ past) s le =
     let before = before-too e past s le in
     dropped_at-unoffered c past e s (none_offered c past s e.event e.reply (not_yet past s before)) ∙ dropped_at-not_yet c past s before
 
--- an answer that only an open socket gets is not of a socket that is not open
+-- a call that was not refused as NoSocket was not on a closed socket
 answers_elsewhere : (past : List Entry) (s k : ℕ) (r given : Reply) → r ≡ (if is_open past k then given else reply.Refused refusal.NoSocket) → (r ≡ reply.Refused refusal.NoSocket → ⊥) → is_open past s ≡ false → (s == k) ≡ false
 answers_elsewhere past s k r given law answered shut =
     false_from_ne_true (s == k) (λ same. answered (law ∙ cond-false (is_open past k) _ _ (subst (λ n. is_open past n ≡ false) (eqb-true s k same) shut)))
@@ -98,7 +98,7 @@ options_of-not_yet c (e ∷ past) legal s le =
     let before = before-too e past s le in
     options_of-step c past s e.event e.reply legal.1 (not_yet past s before) ∙ options_of-not_yet c past legal.2 s before
 
--- ---- what opening leaves
+-- ---- the state after the opening of a socket
 
 slice_get-push : {X : Type 0} (xs : List X) (x : X) → slice_get (xs ++ x ∷ []) (length xs) ≡ Some x
 slice_get-push [] x = refl
@@ -156,7 +156,7 @@ no_capacity k isnt = by (nat_le 1 k) (nat_le k 65536) refl refl
     by true false low high = refl
     by true true low high = absurd (isnt (leb-true 1 k low, leb-true k 65536 high))
 
--- the tests of an opening, one after another
+-- the checks of an open call, one after another
 opening : (c : BusConfig) (past : List Entry) (i k : ℕ) → i < c.ifaces → IsCapacity k → legal_reply c past (Open i k) ≡ (if nat_le 64 (length (open_sockets past)) then reply.Refused refusal.TooManySockets else reply.Opened (record { 0 = length (places past) }))
 opening c past i k lt is = cond-false (nat_le c.ifaces i) _ _ (lt-leb c.ifaces i lt) ∙ cond-false (not (nat_le 1 k && nat_le k 65536)) _ _ (capacity_test k is)
 
@@ -186,14 +186,15 @@ unopened old i k refusal.TooManySockets new opens = opens.3
 unopened old i k refusal.NoMemory new opens = opens.3
 unopened old i k _ new opens = absurd opens
 
--- a socket that was opened, or a refusal but for want of memory, leaves what its entry leaves
+-- after a socket is opened, or that is refused for any reason except a lack of memory, the state is the one that the
+-- longer history gives
 pub opened_follows : (c : BusConfig) (past : List Entry) (i k : ℕ) (r : Reply) (new : Parts) → (r ≡ reply.Refused refusal.NoMemory → ⊥) → IsLegal c past → Opens (kept_parts c past) i k r new → Follows c past (entry i k r) new
 opened_follows c past i k (reply.Opened s) new remembers legal opens =
     follows_at_sockets c past (entry i k (reply.Opened s)) new _ _ (lawful c past i k (reply.Opened s) new remembers opens) (still c past i k s) refl (sym (length_push (places past) (record { iface = i; capacity = k }))) (sockets-opened c past i k s legal) opens.4
 opened_follows c past i k (reply.Refused why) new remembers legal opens = follows_refused c past (Open i k) why new tt (unopened (kept_parts c past) i k why new opens) (lawful c past i k (reply.Refused why) new remembers opens)
 opened_follows c past i k _ new remembers legal opens = absurd opens
 
--- memory was refused: nothing else refuses the call
+-- memory was refused, and nothing else refuses the call
 pub no_memory : (c : BusConfig) (past : List Entry) (i k : ℕ) (new : Parts) → Opens (kept_parts c past) i k (reply.Refused refusal.NoMemory) new → TakesMemory (Open i k) (legal_reply c past (Open i k))
 no_memory c past i k new opens =
     let below : i < c.ifaces = omega (arith, opens.0, count-kept c past) in

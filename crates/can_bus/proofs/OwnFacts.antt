@@ -33,7 +33,7 @@ use Rattle.can_bus.proofs.CopyFacts.{received-copies}
 use Rattle.can_bus.proofs.TurnFacts.{Facts, facts, looped-done, copied, here, copying-turns}
 use Rattle.can_bus.proofs.LifeFacts.{unmade-closed, queued-shut, queued-unmade}
 
--- ---- a socket's interface stays
+-- ---- the interface of a socket never changes
 
 slice_get-push : {X : Type 0} (xs : List X) (y : X) (k : ℕ) → k < length xs → slice_get (xs ++ y ∷ []) k ≡ slice_get xs k
 slice_get-push [] y k lt = absurd (omega (arith, lt))
@@ -47,7 +47,7 @@ places-kept _ _ ps s made = refl
 pub iface-kept : (past : List Entry) (e : Entry) (s : ℕ) → s < length (places past) → iface_of (e ∷ past) s ≡ iface_of past s
 iface-kept past e s made = ap iface_in (places-kept e.event e.reply (places past) s made)
 
--- ---- the winner doesn't accept its own frame
+-- ---- the winner does not accept its own frame
 
 deaf : (a b c d : Bool) → b ≡ true → (a && ((not b && c) && d)) ≡ false
 deaf true true c d h = refl
@@ -80,7 +80,7 @@ own-done-tried c past m v t i s w own is =
     let deafness : is_in (iface_of past s) t.accepted ≡ false = ap (λ (u : Tried). is_in (iface_of past s) u.accepted) w.is ∙ not-accepted (class_of tr) tr (iface_of past s) wins in
     looped-done t.class p (looped (is_in (iface_of past s) t.accepted) (iface_of past s == t.winner) (is_looped_back t.class p) deafness comes)
 
--- ---- on a socket of the sending interface each copy is of an attempt that was done
+-- ---- on a socket of the sending interface, each copy comes from an attempt that is done
 
 all-if : (P : Tried → Type 0) (b : Bool) (ts : List Tried) (t : Tried) → All P ts → (b ≡ true → P t) → All P (if b then ts ++ t ∷ [] else ts)
 all-if P true ts t h now = All-push P ts t h (now refl)
@@ -127,7 +127,7 @@ strictly x y turn done = choose (cases_lt x.number y.number)
 pub own-single : (c : BusConfig) (past : List Entry) → IsLegal c past → (i s : ℕ) → iface_of past s ≡ i → AllPairs (λ (x y : Tried). x.number < y.number) (copying c past i s)
 own-single c past legal i s own = λ j k d lt within. strictly (get_or (copying c past i s) j d) (get_or (copying c past i s) k d) (copying-turns c past legal i s j k d lt within) (own-done c past legal i s own j d (omega (arith, lt, within)))
 
--- ---- each copy's frame is the one that was accepted under its number
+-- ---- the frame of each copy is the frame that was accepted under its number
 
 got-kept : {X Y : Type 0} (f : X → Y) (xs ys : List X) (n : ℕ) (y : Y) → option_map f (slice_get xs n) ≡ Some y → option_map f (slice_get (xs ++ ys) n) ≡ Some y
 got-kept f [] ys n y h = cc

@@ -52,7 +52,7 @@ in-order-step c past s (Receive k) (reply.Received (Some x)) law before = when (
         push-take (taken_from past s) (queued_to c past s) x before (subst (λ n. slice_get (queued_to c past n) (length (taken_from past n)) ≡ Some x) (sym (eqb-true s k.0 at)) item)
 in-order-step c past s _ _ law before = before
 
--- what was taken is the first part of what was queued
+-- the items that were taken are the first of those that were queued
 pub taken-in-order : (c : BusConfig) (past : List Entry) → IsLegal c past → (s : ℕ) → taken_from past s ≡ take (length (taken_from past s)) (queued_to c past s)
 taken-in-order c [] legal s = refl
 taken-in-order c (e ∷ past) legal s =
@@ -64,7 +64,7 @@ taken-in-order c (e ∷ past) legal s =
     within (x ∷ xs) [] h = cc
     within (x ∷ xs) (y ∷ ys) h = let rest : xs ≡ take (length xs) ys = cc in omega (arith, within xs ys rest)
 
--- ---- no queue holds more than it may
+-- ---- no queue exceeds its capacity
 
 taken-grows : (e : Event) (r : Reply) (s : ℕ) (before : List Received) → length before ≤ length (taken_after e r s before)
 taken-grows (Receive k) (reply.Received (Some x)) s before = when (s == k.0)
@@ -74,7 +74,7 @@ taken-grows (Receive k) (reply.Received (Some x)) s before = when (s == k.0)
     when false = omega arith
 taken-grows _ _ s before = omega arith
 
--- no more items wait on a socket than may
+-- the number of waiting items on a socket is at most its capacity
 pub few-items-wait : (c : BusConfig) (past : List Entry) (s : ℕ) → length (queued_to c past s) ≤ capacity_of past s + length (taken_from past s)
 few-items-wait c [] s = omega arith
 few-items-wait c (e ∷ past) s = choose (cases_lt s (length (places past))) (few-items-wait c past s)
@@ -126,7 +126,7 @@ few-frames-step c past i e (reply.Attempted (attempt.Tried t)) law le before = s
 few-frames-step c past i (Down k m) reply.Done law le before = let grows = gone-grows past i (Down k m) reply.Done le in omega (arith, grows, before)
 few-frames-step c past i _ _ law le before = before
 
--- no more frames wait at an interface than may
+-- the number of waiting frames of an interface is at most the capacity of its queue
 pub few-frames-wait : (c : BusConfig) (past : List Entry) → IsLegal c past → (i : ℕ) → length (sent_by past i) ≤ c.tx_capacity + gone_count past i
 few-frames-wait c [] legal i = omega arith
 few-frames-wait c (e ∷ past) legal i = few-frames-step c past i e.event e.reply legal.1 (gone-le-sent c past legal.2 i) (few-frames-wait c past legal.2 i)

@@ -17,11 +17,11 @@ either_nil : {X : Type 0} (b : Bool) (xs : List X) → xs ≡ [] → (if b then 
 either_nil true xs h = h
 either_nil false xs h = refl
 
--- an entry that posts nothing at the interface of a socket
+-- an entry that posts nothing on the interface of a socket
 pub candidates_of-none : (c : BusConfig) (past : List Entry) (e : Entry) (s : ℕ) → posts_of c past (iface_of past s) e.event e.reply ≡ [] → candidates_of c past s e.event e.reply ≡ []
 candidates_of-none c past e s none = either_nil (is_open past s) _ (ap (passing (filters_of past s) (options_of past s) s) none)
 
--- an entry that offers a socket nothing
+-- an entry that offers a socket no item
 pub queued_to-unoffered : (c : BusConfig) (past : List Entry) (e : Entry) (s : ℕ) → candidates_of c past s e.event e.reply ≡ [] → queued_to c (e ∷ past) s ≡ queued_to c past s
 queued_to-unoffered c past e s none =
     let room = capacity_of past s + length (taken_from past s) - length (queued_to c past s) in

@@ -38,7 +38,7 @@ other c past s item o differ =
     let d : dropped_at c (given s item ∷ past) o ≡ dropped_at c past o = dropped_at-quiet c past (given s item) o refl in
     cc
 
--- the socket that gave an item, by the history
+-- the socket from which an item was taken, as the history gives it
 same : (c : BusConfig) (past : List Entry) (s : SocketId) (item : Option Received) → relieved item (kept_socket c past s.0) ≡ kept_socket c (given s item ∷ past) s.0
 same c past s None =
     let q : queued_to c (given s None ∷ past) s.0 ≡ queued_to c past s.0 = queued_to-quiet c past (given s None) s.0 refl in
@@ -62,7 +62,7 @@ reply-given c past s item new gives =
     let oldest : item ≡ slice_get (queued_to c past s.0) (length (taken_from past s.0)) = gives.oldest ∙ ap (λ (v : SocketState). slice_get v.waiting 0) at.left ∙ slice_get-drop (length (taken_from past s.0)) (queued_to c past s.0) in
     ap (λ (i : Option Received). reply.Received i) oldest ∙ sym (cond-true (is_open past s.0) _ _ at.is_there)
 
--- an item that was given, or a refusal, leaves what its entry leaves
+-- after an item is taken, or that is refused, the state is the one that the longer history gives
 pub received_follows : (c : BusConfig) (past : List Entry) (s : SocketId) (r : Reply) (new : Parts) → Receives (kept_parts c past) s.0 r new → Follows c past (entry_of (Receive s) r) new
 received_follows c past s (reply.Received item) new gives =
     follows_at_sockets c past (given s item) new _ _ (reply-given c past s item new gives) (still c past s item) refl refl
@@ -71,7 +71,7 @@ received_follows c past s (reply.Received item) new gives =
 received_follows c past s (reply.Refused why) new none = none_follows c past (Receive s) s.0 _ why new refl tt none
 received_follows c past s _ new never = absurd never
 
--- what a receive into a room answers, as one that gives the item
+-- the answer of a receive call into a room, as the answer of one that returns the item
 pub answers_item : (old new : Journal) (s : SocketId) (room : Received) (outcome : Result Bool Refusal) → Answers (taken_reply room) old (Receive s) outcome new → Answers reply.Received old (Receive s) (received_into room outcome) new
 answers_item old new s room (Ok taken) answers = answers
 answers_item old new s room (Err why) answers = answers

@@ -33,7 +33,7 @@ counts-restarted c past i m = ap (λ (ss : List Step). all_stepped at_start ss) 
 counts-other : (c : BusConfig) (past : List Entry) (i m j : ℕ) → j ≢ i → counts_of c (entry i m reply.Done ∷ past) j ≡ counts_of c past j
 counts-other c past i m j ne = ap (λ (ss : List Step). all_stepped at_start ss) (cond-false (i == j) [] (steps_of c past j) (ne_eqb i j (λ e. ne (sym e))))
 
--- the nodes that are kept, after an interface began anew
+-- the error counts in the state after an interface was restarted
 pub nodes-restarted : (c : BusConfig) (past : List Entry) (i m : ℕ) (old new : Nodes) → i < 16 → old ≡ kept_nodes c past → new ≡ record old { counters = slice_set old.counters i at_start } → new ≡ kept_nodes c (entry i m reply.Done ∷ past)
 unfolding kept_nodes
 nodes-restarted c past i m old new lt are after =
@@ -42,7 +42,7 @@ nodes-restarted c past i m old new lt are after =
     ∙ ap (λ (k : ErrorCounts). record { count = c.ifaces; counters = slice_set (map (counts_of c past) (range_with_len 0 16)) i k }) (sym (counts-restarted c past i m))
     ∙ ap (λ (ks : List ErrorCounts). record { count = c.ifaces; counters = ks }) (sym (sixteen-one (counts_of c past) (counts_of c (entry i m reply.Done ∷ past)) i 16 lt (counts-other c past i m)))
 
--- an interface that counts no attempts any more
+-- an interface that no longer counts attempts
 pub left-stopped : (c : BusConfig) (past : List Entry) (e : Entry) (i : ℕ) → i < 16 → attempts_off (e ∷ past) i ≡ None → ((j : ℕ) → j ≢ i → attempts_off (e ∷ past) j ≡ attempts_off past j) → slice_set (kept_left c past) i 0 ≡ kept_left c (e ∷ past)
 unfolding kept_left
 left-stopped c past e i lt stopped others =
@@ -54,7 +54,7 @@ left-restarted : (c : BusConfig) (past : List Entry) (i m : ℕ) → i < 16 → 
 left-restarted c past i m lt =
     left-stopped c past (entry i m reply.Done) i lt (cond-true (i == i) None (attempts_off past i) (eq-eqb i i refl)) (λ j ne. cond-false (i == j) None (attempts_off past j) (ne_eqb i j (λ e. ne (sym e))))
 
--- a restart, or its refusal, leaves what its entry leaves
+-- after an interface is restarted, or that is refused, the state is the one that the longer history gives
 pub restarted_follows : (c : BusConfig) (past : List Entry) (i m : ℕ) (r : Reply) (new : Parts) → IsLegal c past → c.ifaces ≤ 16 → Restarts (kept_parts c past) i m r new → Follows c past (entry i m r) new
 restarted_follows c past i m reply.Done new legal few restarts =
     let e = entry i m reply.Done in

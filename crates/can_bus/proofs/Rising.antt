@@ -13,7 +13,7 @@ after (Open i c) (reply.Opened s) ps os h = let n : length ps + 1 ≡ length (ps
 after (Close s) (reply.Closed c) ps os h = Rises-filter (λ k. not (k == s.0)) 0 (length ps) os h
 after _ _ ps os h = h
 
--- the open sockets' numbers rise, and are below the number of sockets opened
+-- the numbers of the open sockets increase, and are below the number of sockets ever opened
 pub open_sockets-rise : (past : List Entry) → Rises 0 (length (places past)) (open_sockets past)
 open_sockets-rise [] = omega arith
 open_sockets-rise (e ∷ past) = after e.event e.reply (places past) (open_sockets past) (open_sockets-rise past)

@@ -34,7 +34,7 @@ entry s f r = record { event = Send s f; reply = told reply.Sent r }
 abbrev full_entry : SocketId → CanFrame → Entry
 full_entry s f = record { event = Send s f; reply = reply.Refused refusal.NoBuffers }
 
--- ---- the socket and the interface of a send, by the history
+-- ---- the socket and the interface of a send call, as the history gives them
 
 record IsSender (c : BusConfig) (past : List Entry) (s : ℕ) (v : SocketState) (l : InterfaceState) : Type 0 where
   there : is_open past s ≡ true
@@ -93,7 +93,7 @@ reply-full c past s f v l is may live full =
     ∙ sym (cond-false (lacks_fd f (options_of past s.0)) _ _ may)
     ∙ sym (cond-true (is_open past s.0) _ _ is.there)
 
--- ---- a frame that was taken
+-- ---- a frame that was accepted
 
 sent_by-other : (past : List Entry) (s : SocketId) (f : CanFrame) (n o : ℕ) → o ≢ iface_of past s.0 → sent_by (entry s f (Ok n) ∷ past) o ≡ sent_by past o
 sent_by-other past s f n o differ = cond-false (iface_of past s.0 == o) _ _ (ne_eqb _ _ (λ e. differ (sym e)))
@@ -178,7 +178,7 @@ taken_follows c past s f n new proper legal takes =
           refl refl;
     }
 
--- ---- a frame that found the queue full
+-- ---- a frame that was refused because the queue was full
 
 full-other : (c : BusConfig) (past : List Entry) (s : SocketId) (f : CanFrame) (o : ℕ) → o ≢ iface_of past s.0 → kept_interface c (full_entry s f ∷ past) o ≡ kept_interface c past o
 full-other c past s f o differ = ap (λ (m : ℕ). record (kept_interface c past o) { refused = m }) (cond-false (iface_of past s.0 == o) _ _ (ne_eqb _ _ (λ e. differ (sym e))))
@@ -226,7 +226,7 @@ full_follows c past s f new proper full =
           refl refl;
     }
 
--- ---- refusals that count nothing
+-- ---- refusals that are not counted
 
 reply-off : (c : BusConfig) (past : List Entry) (s : SocketId) (f : CanFrame) → IsLongConfig c → IsLegal c past → IsOffFor (kept_parts c past) s.0 (pending_of f s) → reply.Refused refusal.BusOff ≡ legal_reply c past (Send s f)
 reply-off c past s f proper legal off =
@@ -255,7 +255,7 @@ reply-fd-off c past s f off =
     let at = IsThere-at c past (kept_sockets c past) s.0 off.place off.socket refl off.is_at in
     sym (cond-true (lacks_fd f (options_of past s.0)) _ _ (may-send c past s.0 f off.socket true at.left off.lacks)) ∙ sym (cond-true (is_open past s.0) _ _ at.is_there)
 
--- a frame that was sent, or a refusal, leaves what its entry leaves
+-- after a frame is sent, or that is refused, the state is the one that the longer history gives
 pub sent_follows : (c : BusConfig) (past : List Entry) (s : SocketId) (f : CanFrame) (r : Result ℕ Refusal) (new : Parts) → IsLongConfig c → IsLegal c past → Sends (kept_parts c past) s.0 (pending_of f s) r new → Follows c past (entry s f r) new
 sent_follows c past s f (Ok n) new proper legal takes = taken_follows c past s f n new proper legal takes
 sent_follows c past s f (Err refusal.NoSocket) new proper legal refuses =

@@ -27,7 +27,7 @@ entry e r = record { event = e; reply = r }
 abbrev done_entry : Event → Entry
 done_entry e = record { event = e; reply = reply.Done }
 
--- an event that changes one open socket in this way, and answers no more than whether it was open
+-- an event that changes one open socket in this way, and whose reply only depends on whether the socket is open
 record IsSetting (c : BusConfig) (past : List Entry) (e : Event) (s : ℕ) (change : SocketState → SocketState) : Type 0 where
   answers : legal_reply c past e ≡ (if is_open past s then reply.Done else reply.Refused refusal.NoSocket)
   still : IsStill c past (done_entry e)
@@ -69,7 +69,7 @@ here-filters c past s fs =
 sets-filters : (c : BusConfig) (past : List Entry) (s : SocketId) (fs : List CanFilter) → IsSetting c past (SetFilters s fs) s.0 (λ v. record v { filters = fs })
 sets-filters c past s fs = record { answers = refl; still = still-filters c past s fs; uncounted = λ why. tt; of_open = refl; of_places = refl; others = others-filters c past s fs; here = here-filters c past s fs }
 
--- filters that were set, or a refusal, leave what their entry leaves
+-- after filters are set, or that is refused, the state is the one that the longer history gives
 pub filters_follow : (c : BusConfig) (past : List Entry) (s : SocketId) (fs : List CanFilter) (r : Reply) (new : Parts) → Sets (kept_parts c past) s.0 (λ v. record v { filters = fs }) r new → Follows c past (entry (SetFilters s fs) r) new
 filters_follow c past s fs r new sets = set_follows c past (SetFilters s fs) s.0 (λ v. record v { filters = fs }) r new (sets-filters c past s fs) sets
 
@@ -96,6 +96,6 @@ here-option c past s option =
 sets-option : (c : BusConfig) (past : List Entry) (s : SocketId) (option : Opt) → IsSetting c past (SetOption s option) s.0 (λ v. record v { options = with_option option v.options })
 sets-option c past s option = record { answers = refl; still = still-option c past s option; uncounted = λ why. tt; of_open = refl; of_places = refl; others = others-option c past s option; here = here-option c past s option }
 
--- an option that was set, or a refusal, leaves what its entry leaves
+-- after an option is set, or that is refused, the state is the one that the longer history gives
 pub option_follows : (c : BusConfig) (past : List Entry) (s : SocketId) (option : Opt) (r : Reply) (new : Parts) → Sets (kept_parts c past) s.0 (λ v. record v { options = with_option option v.options }) r new → Follows c past (entry (SetOption s option) r) new
 option_follows c past s option r new sets = set_follows c past (SetOption s option) s.0 (λ v. record v { options = with_option option v.options }) r new (sets-option c past s option) sets

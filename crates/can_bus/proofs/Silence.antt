@@ -9,7 +9,7 @@ use Rattle.can_attempt.specs.Attempts.{Transmission, is_among, is_struck, receiv
 use Rattle.can_attempt.specs.Attempts as attempts
 use Rattle.can_attempt.proofs.Standing.{winner-alone-off}
 
--- ---- an interface is silent where it is bus off or down
+-- ---- an interface is silent if it is bus off or down
 
 pub silent-parts : (s : State) → is_silent s ≡ (is_off s || is_down s)
 silent-parts state.Active = refl
@@ -45,7 +45,7 @@ down-not-off state.Warning down = refl
 down-not-off state.Passive down = refl
 down-not-off state.Down down = refl
 
--- its counts say whether it is down
+-- the error counts determine whether an interface is down
 down-if : (d a b e : Bool) → is_down (if d then state.Down else if a then state.Off else if b then state.Passive else if e then state.Warning else state.Active) ≡ d
 down-if true a b e = refl
 down-if false true b e = refl
@@ -56,7 +56,7 @@ down-if false false false false = refl
 pub down-is : (x : ErrorCounts) → is_down (state_of x) ≡ x.down
 down-is x = down-if x.down (nat_le 256 x.tec) (nat_le 128 x.tec || nat_le 128 x.rec) (nat_le 96 x.tec || nat_le 96 x.rec)
 
--- ---- what steps do to an interface that is down, and to one that is not
+-- ---- the effect of steps on an interface that is down, and on one that is not
 
 down-step : (x : ErrorCounts) (s : Step) → x.down ≡ true → (stepped x s).down ≡ true
 down-step x TransmitError down = down
@@ -65,7 +65,7 @@ down-step x GoodTransmission down = down
 down-step x GoodReception down = down
 down-step x TakenDown down = refl
 
--- it stays down
+-- an interface that is down stays down
 pub down-stays : (x : ErrorCounts) (ss : List Step) → x.down ≡ true → (all_stepped x ss).down ≡ true
 down-stays x [] down = down
 down-stays x (s ∷ ss) down = down-stays (stepped x s) ss (down-step x s down)
@@ -91,7 +91,7 @@ none-down false true false class.NoAck s x = refl
 pub attempt-downs-none : (t : Transmission) (i : ℕ) → (counts_after t i).down ≡ (t.counts i).down
 attempt-downs-none t i = none-down (i == t.winner) (is_among i (receivers t)) (is_struck t.verdict i) (class_of t) (attempts.state_at t i) (t.counts i)
 
--- an attempt makes nobody but its winner silent
+-- an attempt makes only its winner silent
 pub winner-alone-silent : (t : Transmission) (i : ℕ) → i ≢ t.winner → is_silent (state_of (counts_after t i)) ≡ is_silent (attempts.state_at t i)
 winner-alone-silent t i other =
     let downs : is_down (state_of (counts_after t i)) ≡ is_down (attempts.state_at t i) = down-is (counts_after t i) ∙ attempt-downs-none t i ∙ sym (down-is (t.counts i)) in

@@ -30,7 +30,7 @@ use Rattle.can_bus.proofs.Lawful.{by_attempt}
 use Rattle.can_bus.proofs.OffFacts.{all_stepped-append, winner-contends}
 use Rattle.can_bus.proofs.Silence.{down-is, down-not-off, down-stays}
 
--- ---- an interface that is bus off or down hears nothing
+-- ---- an interface that is bus off or down receives nothing
 
 cannot_hear : (t : Transmission) (i : ℕ) → is_silent (attempts.state_at t i) ≡ true → can_hear t i ≡ false
 cannot_hear t i silent = deaf (not (i == t.winner)) (is_silent (attempts.state_at t i)) silent
@@ -68,7 +68,7 @@ silent-accepts-nothing c past m v t i law silent =
     let tr = transmission c past w.place v in
     ap (λ (u : Tried). is_in i u.accepted) w.is ∙ silent-not-accepted (class_of tr) tr i silent
 
--- ---- its counts stay until it is restarted
+-- ---- its error counts stay the same until it is restarted
 
 steps-none : (t : Transmission) (i : ℕ) → (i == t.winner) ≡ false → is_among i (receivers t) ≡ false → steps_at i t ≡ []
 steps-none t i other among = rw (other, among) refl
@@ -97,7 +97,7 @@ steps-stay c past i (Down k m) _ law silent other up = refl
 pub silent-counts-stay : (c : BusConfig) (past : List Entry) (e : Entry) (i : ℕ) → IsLegal c (e ∷ past) → is_silent (state_at c past i) ≡ true → is_restart_of i e.event e.reply ≡ false → is_taken_down i e.event e.reply ≡ false → counts_of c (e ∷ past) i ≡ counts_of c past i
 silent-counts-stay c past e i legal silent other up = ap (all_stepped at_start) (steps-stay c past i e.event e.reply legal.1 silent other up)
 
--- ---- a frame is refused there
+-- ---- a frame sent on a silent interface is refused
 
 pub off-send-refused : (c : BusConfig) (past : List Entry) (s : SocketId) (f : CanFrame) → is_open past s.0 ≡ true → lacks_fd f (options_of past s.0) ≡ false → is_off (state_at c past (iface_of past s.0)) ≡ true → legal_reply c past (Send s f) ≡ reply.Refused refusal.BusOff
 off-send-refused c past s f there may off = rw (there, may, off) refl
@@ -105,11 +105,11 @@ off-send-refused c past s f there may off = rw (there, may, off) refl
 pub down-send-refused : (c : BusConfig) (past : List Entry) (s : SocketId) (f : CanFrame) → is_open past s.0 ≡ true → lacks_fd f (options_of past s.0) ≡ false → is_down (state_at c past (iface_of past s.0)) ≡ true → legal_reply c past (Send s f) ≡ reply.Refused refusal.Down
 down-send-refused c past s f there may down = let on : is_off (state_at c past (iface_of past s.0)) ≡ false = down-not-off (state_at c past (iface_of past s.0)) down in rw (there, may, on, down) refl
 
--- an FD frame is refused for its option first
+-- an FD frame is first refused because FD frames are not enabled
 pub fd-send-refused : (c : BusConfig) (past : List Entry) (s : SocketId) (f : CanFrame) → is_open past s.0 ≡ true → lacks_fd f (options_of past s.0) ≡ true → legal_reply c past (Send s f) ≡ reply.Refused refusal.FdOff
 fd-send-refused c past s f there lacks = rw (there, lacks) refl
 
--- ---- an interface that is down stays so until it is restarted
+-- ---- an interface that is down stays down until it is restarted
 
 append-steps : (c : BusConfig) (past : List Entry) (i : ℕ) (ss : List Step) → is_down (state_at c past i) ≡ true → is_down (state_of (all_stepped at_start (steps_of c past i ++ ss))) ≡ true
 append-steps c past i ss down =
@@ -119,7 +119,7 @@ append-steps c past i ss down =
 abbrev DownThen : BusConfig → List Entry → ℕ → Event → Reply → Type 0
 DownThen c past i e r = is_down (state_of (all_stepped at_start (steps_after c e r (counts_of c past) i (steps_of c past i)))) ≡ true
 
--- it was not restarted
+-- the interface was not restarted
 unless-restarted : (c : BusConfig) (past : List Entry) (i : ℕ) (restarted : Bool) (ss : List Step) → restarted ≡ false → is_down (state_of (all_stepped at_start ss)) ≡ true → is_down (state_of (all_stepped at_start (if restarted then [] else ss))) ≡ true
 unless-restarted c past i true ss other down = cc
 unless-restarted c past i false ss other down = down
@@ -146,7 +146,7 @@ down-step-of c past i (Down k m) _ down other = down
 pub down-until-restart : (c : BusConfig) (past : List Entry) (e : Entry) (i : ℕ) → is_down (state_at c past i) ≡ true → is_restart_of i e.event e.reply ≡ false → is_down (state_at c (e ∷ past) i) ≡ true
 down-until-restart c past e i down other = down-step-of c past i e.event e.reply down other
 
--- its counts are kept as it goes down
+-- an interface that is taken down keeps its error counts
 down-steps : (c : BusConfig) (past : List Entry) (i : ℕ) (e : Event) (r : Reply) → is_taken_down i e r ≡ true → steps_after c e r (counts_of c past) i (steps_of c past i) ≡ steps_of c past i ++ TakenDown ∷ []
 down-steps c past i (Down k m) reply.Done down = ap (λ b. if b then steps_of c past i ++ TakenDown ∷ [] else steps_of c past i) down
 down-steps c past i _ _ down = cc

@@ -22,7 +22,7 @@ pub length-kept_sockets : (c : BusConfig) (past : List Entry) → length (kept_s
 unfolding kept_sockets
 length-kept_sockets c past = length-map (open_sockets past) (kept_socket c past)
 
--- an entry that concerns one open socket
+-- an entry that changes only one open socket
 pub kept_sockets-one : (c : BusConfig) (past : List Entry) (e : Entry) (old new : List SocketState) (s k : ℕ) (v : SocketState) (change : SocketState → SocketState)
     → old ≡ kept_sockets c past → open_sockets (e ∷ past) ≡ open_sockets past → IsAt old s k v
     → ((o : ℕ) → o ≢ s → kept_socket c (e ∷ past) o ≡ kept_socket c past o) → change (kept_socket c past s) ≡ kept_socket c (e ∷ past) s
@@ -38,7 +38,7 @@ kept_sockets-one c past e old new s k v change are same_open is_at others here a
     ∙ sym set
     ∙ sym (ap (λ (os : List ℕ). map (kept_socket c (e ∷ past)) os) same_open)
 
--- an entry that concerns the sockets alone
+-- an entry that changes only the sockets
 pub follows_at_sockets : (c : BusConfig) (past : List Entry) (e : Entry) (new : Parts) (sockets : List SocketState) (opened : ℕ)
     → e.reply ≡ legal_reply c past e.event → IsStill c past e → tape (e ∷ past) ≡ tape past → opened ≡ length (places (e ∷ past))
     → sockets ≡ kept_sockets c (e ∷ past) → new ≡ record (kept_parts c past) { sockets = sockets; opened = opened } → Follows c past e new

@@ -37,14 +37,14 @@ first_left : (c : BusConfig) → replicate 16 0 ≡ kept_left c []
 unfolding kept_left
 first_left c = refl
 
--- the state of a bus on which nothing was done
+-- the state of a bus without events
 pub started : (c : BusConfig) (interfaces : List InterfaceState) (keys : List (Option ℕ)) (z : ErrorCounts) (left : List ℕ) (sockets : List SocketState)
     → interfaces ≡ replicate c.ifaces (fresh_interface c.tx_capacity) → keys ≡ no_keys → z ≡ at_start → left ≡ replicate 16 0 → sockets ≡ []
     → record { interfaces = interfaces; keys = keys; nodes = all_at c z; left = left; sockets = sockets; opened = 0; tried = 0 } ≡ kept_parts c []
 started c interfaces keys z left sockets interfaces_are keys_are zero_is left_is sockets_are =
     parts-are (record { interfaces = interfaces; keys = keys; nodes = all_at c z; left = left; sockets = sockets; opened = 0; tried = 0 }) (kept_parts c []) (interfaces_are ∙ first_interfaces c) (keys_are ∙ first_keys) (ap (all_at c) zero_is ∙ first_nodes c) (left_is ∙ first_left c) (sockets_are ∙ none_open c) refl refl
 
--- an empty record, and what it leaves
+-- the state for an empty record
 pub made : (j : Kept) (parts : Parts) (c : BusConfig) → j.config ≡ c → j.history ≡ [] → c.limit ≤ j.room → IsLongConfig c → parts ≡ kept_parts c [] → IsKept j parts
 made j parts c config history room proper parts_are =
     let is : ◌≡◌ {A = Kept} (record { config = c; history = []; room = j.room }) j = ap (λ (k : BusConfig). record { config = k; history = []; room = j.room }) (sym config) ∙ ap (λ (h : List Entry). record { config = j.config; history = h; room = j.room }) (sym history) in

@@ -14,7 +14,7 @@ use Rattle.can_bus.proofs.Bounds.{short}
 
 -- ---- the tail
 
--- an entry more in the tail
+-- one more entry in the tail
 pub tail_more : {past longer tail tail' : List Entry} {handed : ℕ} (e : Entry) → HasTail past tail handed → longer ≡ e ∷ past → Adds tail e tail' → HasTail longer tail' handed
 tail_more {past} {longer} {tail} {tail'} {handed} e has is adds =
     let more : length tail' ≡ length tail + 1 = ap length adds ∙ length_push tail e in
@@ -24,7 +24,7 @@ tail_more {past} {longer} {tail} {tail'} {handed} e has is adds =
       rest = adds ∙ ap (λ (es : List Entry). es ++ e ∷ []) has.rest ∙ sym (drop-append-le handed (reverse past) (e ∷ []) within) ∙ ap (drop handed) (sym (reverse-append (e ∷ []) past));
     })
 
--- an empty block is the tail, where all is handed out
+-- after all entries are handed out, an empty block is the tail
 pub tail_taken : (past block : List Entry) (handed : ℕ) → block ≡ [] → handed ≡ length past → HasTail past block handed
 tail_taken past block handed empty all =
     let none : length block ≡ 0 = ap length empty in
@@ -33,15 +33,15 @@ tail_taken past block handed empty all =
       rest = empty ∙ sym (drop-length (reverse past)) ∙ ap (λ (n : ℕ). drop n (reverse past)) (length-reverse past ∙ sym all);
     }
 
--- ---- what was handed out
+-- ---- the entries that were handed out
 
--- an entry more is not among it
+-- a new entry is not among the entries that were handed out
 pub out_still : {past longer tail : List Entry} {handed : ℕ} (e : Entry) → HasTail past tail handed → longer ≡ e ∷ past → take handed (reverse longer) ≡ take handed (reverse past)
 out_still {past} {longer} {tail} {handed} e has is =
     let within : handed ≤ length (reverse past) = omega (arith, has.counted, length-reverse past) in
     ap (λ (h : List Entry). take handed (reverse h)) is ∙ ap (take handed) (reverse-append (e ∷ []) past) ∙ take-append-le handed (reverse past) (e ∷ []) within
 
--- the tail comes after it, once that is handed out, too
+-- after the tail is handed out too, it follows the entries that were handed out before
 pub out_more : {past tail : List Entry} {handed all : ℕ} → HasTail past tail handed → all ≡ length past → take all (reverse past) ≡ take handed (reverse past) ++ tail
 out_more {past} {tail} {handed} {all} has is =
     ap (λ (n : ℕ). take n (reverse past)) (is ∙ sym (length-reverse past))
@@ -49,15 +49,15 @@ out_more {past} {tail} {handed} {all} has is =
     ∙ sym (take-append-drop handed (reverse past))
     ∙ ap (λ (es : List Entry). take handed (reverse past) ++ es) (sym has.rest)
 
--- ---- what its readers return
+-- ---- the results of the methods that read the remainder
 
--- how many entries there are fits 64 bits
+-- the number of entries fits in 64 bits
 pub counted_short : {c : BusConfig} {past : List Entry} {parts : Parts} {tail : List Entry} {handed : ℕ} → IsLong c past parts tail handed → length past ≤ 4294967294
 counted_short {c} {past} {parts} long = short (record_of c past) parts long.kept
 
--- ---- what is known of a bus, of what it keeps
+-- ---- facts about the bus from its fields
 
--- there is memory in the tail for an entry more
+-- the tail has memory for one more entry
 pub place_in : {j k : LongJournal} {tail : List Entry} → j ≡ k → HasPlace k → HasTail j.history tail j.handed → length tail < j.room
 place_in {j} {k} {tail} view place has =
     let here : HasPlace j = subst HasPlace (sym view) place in
@@ -69,6 +69,6 @@ full_in {j} {k} {full} view test = subst (λ (x : LongJournal). IsTrue full ↔ 
 pub room_in : {j k : LongJournal} → j ≡ k → length k.history < k.config.limit → length j.history < j.config.limit
 room_in view room = subst (λ (x : LongJournal). length x.history < x.config.limit) (sym view) room
 
--- its history with one entry more
+-- the history of the bus with one more entry
 pub longer_by : (c : BusConfig) (past new : List Entry) (e : Entry) → new ≡ e ∷ past → IsLonger (record_of c past) e (record_of c new)
 longer_by c past new e is = record { config = refl; history = is; room = omega arith }

@@ -24,7 +24,7 @@ use Rattle.can_bus.proofs.Lists.{slice_get-range}
 use Rattle.can_bus.proofs.NodeFacts.{counts_at-kept}
 use Rattle.can_bus.proofs.Opened.{IsThere-at, closed-nowhere}
 
--- What the counts that are kept tell is what the history says.
+-- The counts that the state reports are the counts that the history gives.
 
 -- ---- sockets
 

@@ -33,13 +33,14 @@ use Rattle.can_bus.proofs.Lawful.{WasTried, tried_by, gone-le-sent}
 use Rattle.can_attempt.proofs.Standing.{is_in-of}
 use Rattle.can_bus.proofs.CopyFacts.{received-copies}
 
--- ---- attempts in turn
+-- ---- the order of attempts
 
--- the number that the next attempt may have at least: a frame that is done is not tried again
+-- the lowest number that the next attempt can have: a frame that is done is not tried again
 abbrev number_after : Tried → ℕ
 number_after t = if is_done t.class then t.number + 1 else t.number
 
--- attempts of frames numbered from a on and below b, each number done at most once and not tried again after it
+-- attempts of frames numbered from a up to below b. Each number is done at most once, and is not tried again after
+-- that.
 abbrev Follow : ℕ → ℕ → List Tried → Type 0
 Follow a b [] = a ≤ b
 Follow a b (t ∷ ts) = (a ≤ t.number) × (went_over t.class ≡ true) × Follow (number_after t) b ts
@@ -90,7 +91,7 @@ Follow-numbers a b (t ∷ ts) h = (h.0, weaker (number_after t) t.number (map (�
     weaker c d [] le k = tt
     weaker c d (n ∷ ns) le k = (omega (arith, le, k.0), k.1)
 
--- ---- what a tried frame says of its interface
+-- ---- facts about the interface of a tried frame
 
 pub record Facts (past : List Entry) (i : ℕ) (t : Tried) : Type 0 where
   pub number : t.number ≡ gone_count past i
@@ -107,7 +108,7 @@ facts-at c past m v t w = record {
 pub facts : (c : BusConfig) (past : List Entry) (m : ℕ) (v : Verdict) (t : Tried) (i : ℕ) → WasTried c past m v t → t.winner ≡ i → Facts past i t
 facts c past m v t i w same = subst (λ k. Facts past k t) (sym (ap (λ (u : Tried). u.winner) w.is) ∙ same) (facts-at c past m v t w)
 
--- ---- a frame that comes to an interface went over
+-- ---- a frame that an interface accepted reached the receivers
 
 accepted-over : (k : Class) (tr : Transmission) (j : ℕ) → is_in j (set_of (accepted_in k tr)) ≡ true → went_over k ≡ true
 accepted-over class.Done tr j h = refl
@@ -137,7 +138,7 @@ comes-over c past m v t j p w h =
     let same : is_in j (set_of (accepted_in (class_of tr) tr)) ≡ true = ap (λ (u : Tried). is_in j u.accepted) (sym w.is) ∙ a in
     ap (λ (u : Tried). went_over u.class) w.is ∙ accepted-over (class_of tr) tr j same)
 
--- a copy's frame came to the socket's interface
+-- the frame of a copy reached the interface of the socket
 pub record IsCopied (past : List Entry) (s : ℕ) (t : Tried) : Type 0 where
   pub is_there : is_open past s ≡ true
   pub comes : comes_to (iface_of past s) t (slice_get (sent_by past t.winner) t.number) ≡ true
@@ -149,7 +150,7 @@ copied c past s t h =
     let both = and_parts (is_open past s) (comes_to (iface_of past s) t p && room) h in
     record { is_there = both.0; comes = (and_parts (comes_to (iface_of past s) t p) room both.1).0 }
 
--- ---- in every legal history they come in turn
+-- ---- in every legal history the attempts come in order
 
 abbrev pub here : BusConfig → List Entry → ℕ → ℕ → Tried → Bool
 here c past i s t = is_copied c past s t (slice_get (sent_by past t.winner) t.number) && (t.winner == i)
@@ -212,7 +213,7 @@ numbers-are c past legal i s = ap (map (λ (r : Received). r.number)) (received-
 pub numbers-never-fall : (c : BusConfig) (past : List Entry) → IsLegal c past → (i s : ℕ) → NeverFall 0 (numbers_from i (queued_to c past s))
 numbers-never-fall c past legal i s = subst (NeverFall 0) (sym (numbers-are c past legal i s)) (Follow-numbers 0 (gone_count past i) (copying c past i s) (follow c past legal i s))
 
--- ---- a number stands as often as it was copied
+-- ---- a number occurs as often as its frame was copied
 
 as_often : (n : ℕ) (ts : List Tried) → length (filter (λ m. m == n) (map (λ (r : Received). r.number) (map copy_of ts))) ≡ length (filter (λ (t : Tried). t.number == n) ts)
 as_often n [] = refl

@@ -22,9 +22,9 @@ use Rattle.can_bus.specs.State.{key_in, kept_keys}
 use Rattle.can_bus.proofs.Lists.{Rises, Rises-filter, range-rises, slice_get-range}
 use Rattle.can_bus.proofs.OffFacts.{off-no-head, head-below}
 
--- The arbiter's winner is the one that the history gives.
+-- The winner that the arbiter returns is the winner that the history gives.
 
--- ---- the first of rising numbers that passes
+-- ---- the first of increasing numbers that satisfies a condition
 
 clash : {P : Type 0} (s : Bool) → s ≡ false → s ≡ true → P
 clash s isnt is = cc
@@ -58,7 +58,7 @@ none-left p (x ∷ xs) none =
     cond-false (p x) (x ∷ filter p xs) (filter p xs) (none x (or_left (x == x) (is_among x xs) (eq-eqb x x refl)))
     ∙ none-left p xs (λ i there. none i (or_right (x == i) (is_among i xs) there))
 
--- ---- the keys that are kept
+-- ---- the arbitration keys in the state
 
 pub record HoldsKey (past : List Entry) (i k : ℕ) : Type 0 where
   pub few : i < 16
@@ -95,7 +95,7 @@ holds_key past i k at =
 pub key-held : (past : List Entry) (i : ℕ) (p : Pending) → i < 16 → head_of past i ≡ Some p → slice_get (kept_keys past) i ≡ Some (Some (key_of p.frame))
 key-held past i p lt head = key-at past i lt ∙ ap (λ (q : Option Pending). Some (key_in q)) head
 
--- ---- who contends
+-- ---- the interfaces that compete for the bus
 
 pub record Contends (c : BusConfig) (past : List Entry) (i : ℕ) : Type 0 where
   pub below : i < c.ifaces
@@ -126,7 +126,7 @@ contends-from_head c past legal few i p head =
     (and_from (is_some (head_of past i)) (not (is_silent (state_at c past i))) (ap (λ (q : Option Pending). is_some q) head) is_live)
     (is_among-range i 0 c.ifaces ∙ and_from (nat_le 0 i) (nat_lt i (0 + c.ifaces)) (le-leb 0 i (omega arith)) (lt-ltb i (0 + c.ifaces) (omega arith)))
 
--- ---- who wins
+-- ---- the interface that wins
 
 beats-by_key : (past : List Entry) (j i : ℕ) (p q : Pending) → head_of past j ≡ Some p → head_of past i ≡ Some q → key_of p.frame < key_of q.frame → beats past j i ≡ true
 beats-by_key past j i p q hj hi lt =
@@ -191,7 +191,7 @@ idle-is c past few idle =
         let read = slice_get-read (kept_keys past) i (Some 0) (key_in (head_of past i)) at in
         sym read ∙ none
 
--- what an arbiter answers of the kept keys is the history's winner
+-- the arbiter's answer for the keys in the state is the winner that the history gives
 pub answered-is : (c : BusConfig) (past : List Entry) → IsLegal c past → c.ifaces ≤ 16 → (w : Option ℕ) → IfSome w (IsWinner (kept_keys past)) → (IsNone w → IsIdle (kept_keys past)) → w ≡ winner c past
 answered-is c past legal few None first none = sym (idle-is c past few (none refl))
 answered-is c past legal few (Some w) first none = sym (winner-is c past legal few w first)

@@ -33,8 +33,8 @@ impl<'a> Model for Attempted<'a> {
         IsJudged (outcome_of a.tried.now a.verdict a.ack a.nodes.now) a.judgement.now };
 }
 
-/// Returns whether a tried frame, which was queued with this loopback option, is posted to the
-/// sockets of an interface.
+/// Returns whether the tried frame is posted to the sockets of an interface. `loopback` says whether the frame was queued
+/// for loopback.
 pub fn is_posted(tried: &Tried, iface: Iface, loopback: bool) -> bool
     ensures { result ≡ goes_to iface tried.now (is_done tried.now.class && loopback) }
 {
@@ -76,9 +76,8 @@ impl<'a> Attempted<'a> {
         self.tried
     }
 
-    /// Returns whether the frame, which was queued like this, is posted to the sockets of an
-    /// interface. It is posted where it was accepted, and on its own interface if it is looped
-    /// back.
+    /// Returns whether the frame is posted to the sockets of an interface. `pending` is the frame as it was queued. The
+    /// frame is posted on each interface that accepted it, and on the winner's interface if it is done and looped back.
     pub fn is_posted(&self, iface: Iface, pending: Option<Pending>) -> bool
         ensures { result
             ≡ goes_to iface self.now.tried (is_looped_back self.now.tried.class pending) }

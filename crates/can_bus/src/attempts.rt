@@ -15,7 +15,7 @@ use can_fault::Verdict;
 use can_frame::{Iface, IfaceSet, Moment};
 use can_queue::BoundedQueue;
 
-/// Returns the result of an attempt for the tried frame.
+/// Returns the tried frame together with the result of its attempt.
 fn tried_as(
     moment: Moment,
     winner: Iface,
@@ -47,7 +47,7 @@ fn tried_as(
     }
 }
 
-/// Returns the error counters of an interface, which are 0 if it is in this set.
+/// Returns the error counters of an interface, or counters of 0 if the interface is in `restarted`.
 fn anew_at(nodes: &Nodes, restarted: IfaceSet, iface: Iface) -> Counters
     ensures { result ≡ (if is_in iface restarted then at_start else counts_at nodes.now iface) }
 {
@@ -58,7 +58,7 @@ fn anew_at(nodes: &Nodes, restarted: IfaceSet, iface: Iface) -> Counters
     }
 }
 
-/// Returns all error counters, which are 0 for the interfaces in this set.
+/// Returns the error counters of all interfaces, with counters of 0 for the interfaces in `restarted`.
 pub fn begun_anew(nodes: &Nodes, restarted: IfaceSet) -> [Counters; 16]
     ensures { result ≡ (begun_anew restarted nodes.now).counters }
 {
@@ -71,8 +71,8 @@ pub fn begun_anew(nodes: &Nodes, restarted: IfaceSet) -> [Counters; 16]
 }
 
 impl<T: BoundedQueue<Pending>, R: BoundedQueue<Received>, A: Arbiter> State<T, R, A> {
-    /// Tries the frame that wins the bus, if there is one, and notifies the sockets. The attempt
-    /// reports these interfaces as restarted.
+    /// Tries the frame that wins the bus, if there is one, and notifies the sockets. The attempt reports `restarted` as the
+    /// restarted interfaces.
     fn try_head(
         &mut self,
         config: BusConfig,
@@ -123,8 +123,7 @@ impl<T: BoundedQueue<Pending>, R: BoundedQueue<Received>, A: Arbiter> State<T, R
         Some(tried)
     }
 
-    /// Restarts these interfaces at the end of an attempt, if there are any, and notifies the
-    /// sockets.
+    /// Restarts these interfaces at the end of an attempt and notifies the sockets. It does nothing for an empty set.
     fn restart_all(&mut self, restarted: IfaceSet, moment: Moment)
         requires sixteen { length self.old.nodes.counters ≡ 16 }
         requires dropped { All (λ v. v.dropped + 1 < 2 ^ 64) self.old.sockets }
@@ -177,8 +176,8 @@ impl<T: BoundedQueue<Pending>, R: BoundedQueue<Received>, A: Arbiter> State<T, R
         Reply::Done
     }
 
-    /// Takes an interface down. Its waiting frames are lost, and it counts no attempts until a
-    /// restart. No socket is notified.
+    /// Takes an interface down. Its waiting frames are lost, and its pending automatic restart is cancelled. It notifies no
+    /// socket.
     pub(crate) fn down(&mut self, iface: Iface) -> Reply
         requires { self.old.nodes.count ≤ length self.old.interfaces }
         ensures { TakesDown self.old iface result self.new }

@@ -87,7 +87,7 @@ impl<T: BoundedQueue<Pending>, R: BoundedQueue<Received>, A: Arbiter> Model for 
     ghost invariant = { λ b. IsKept b.record b.state };
 }
 
-/// Returns the entry for setting a socket's filters to a copy of these, in its own memory.
+/// Returns the entry of a call that sets a socket's filters. The entry has its own copy of the filters.
 pub(crate) fn filters_entry(
     alloc: Global,
     id: SocketId,
@@ -369,8 +369,7 @@ impl<T: BoundedQueue<Pending>, R: BoundedQueue<Received>, A: Arbiter> Bus<T, R, 
         self.state.next_head()
     }
 
-    /// Returns whether an interface that is bus off counts attempts until its restart. This is not
-    /// an event.
+    /// Returns whether an automatic restart is pending for any interface. This is not an event.
     pub fn is_counting(&self) -> bool
         ensures { result ≡ is_counting self.now.config self.now.history }
     {

@@ -5,7 +5,7 @@ ghost use Rattle.can_bus.specs.Changes.{counting_down, due_in, ticked};
 use can_frame::{Iface, IfaceSet};
 use std::marker::Model;
 
-/// For each interface, the number of attempts until its restart; 0 if it does not count.
+/// For each interface, the number of attempts until its automatic restart; 0 if no restart is pending.
 #[derive(Drop)]
 pub struct Countdown {
     left: [u32; 16],
@@ -20,7 +20,7 @@ impl Model for Countdown {
 }
 
 impl Countdown {
-    /// Returns a value in which no interface counts.
+    /// Returns a countdown without pending restarts.
     pub fn new() -> Countdown
         ensures { result ≡ replicate 16 0 }
     {
@@ -37,14 +37,14 @@ impl Countdown {
         }
     }
 
-    /// Stops the countdown of an interface.
+    /// Cancels the pending restart of an interface.
     pub fn stop(&mut self, iface: Iface)
         ensures { self.new ≡ slice_set self.old iface 0 }
     {
         self.left[iface.number() as usize] = 0;
     }
 
-    /// Returns whether an interface counts.
+    /// Returns whether an automatic restart is pending for any interface.
     pub fn is_running(&self) -> bool
         ensures { result ≡ list_any (λ n. not (n == 0)) self.now }
     {
@@ -64,7 +64,7 @@ impl Countdown {
         due
     }
 
-    /// Counts one attempt for each interface that counts.
+    /// Counts one attempt for each interface with a pending restart.
     fn tick(&mut self)
         ensures { self.new ≡ ticked self.old }
     {

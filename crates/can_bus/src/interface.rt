@@ -124,7 +124,7 @@ impl<T: BoundedQueue<Pending>> Interface<T> {
         }
     }
 
-    /// Loses all waiting frames; they have left the queue.
+    /// Drops all waiting frames as lost. They count as frames that have left the queue.
     pub fn lose_all(&mut self)
         ensures { self.new ≡ emptied self.old }
     {

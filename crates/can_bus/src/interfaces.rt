@@ -70,7 +70,7 @@ pub fn finish_attempt<T: BoundedQueue<Pending>, A: Arbiter>(
     set_key(arbiter, iface, key);
 }
 
-/// Loses all frames that wait on an interface, and removes its key from the arbiter.
+/// Drops all waiting frames of an interface as lost, and removes its key from the arbiter.
 pub fn lose_all<T: BoundedQueue<Pending>, A: Arbiter>(
     interfaces: &mut Vec<Interface<T>>,
     arbiter: &mut A,

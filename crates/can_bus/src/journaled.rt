@@ -25,36 +25,33 @@ use can_frame::{Frame, Iface};
 use can_record::{PackedRecord, Record};
 use std::alloc::Global;
 
-/// A bus that others share. Contracts see its journal, and the number of entries that it still
-/// takes.
-///
-/// Each method does what the method of `Bus` with the same name does. The methods after `state`
-/// have default bodies that read it.
+/// A bus that several callers share. Contracts see its journal, and the number of entries that it can still take. Each method does
+/// the same as the method of `Bus` with its name. The methods after `state` have default bodies that read the state.
 pub trait Journaled: Drop {
     /// The configuration and the entries so far.
     ghost journal: { Self → Journal };
 
-    /// The number of entries that the bus takes before some have to be handed out.
+    /// The number of entries that the bus can take before the caller has to take some out.
     ghost places_in: { Self → ℕ };
 
-    /// The entries that were handed out, the oldest first.
+    /// The entries that were handed out to the caller, the oldest first.
     ghost handed_out: { Self → List Entry };
 
     /// The value that remains at the end of the run.
     type Left: Drop;
 
-    /// The configuration and the entries of the bus from which this value remains.
+    /// The configuration and the entries of the bus, as seen from the value that remains.
     ghost left: { Self.Left → Journal };
 
-    /// The entries that this bus had handed out.
+    /// The entries that the bus had handed out, as seen from the value that remains.
     ghost handed_by: { Self.Left → List Entry };
 
-    /// Returns the number of entries that the bus takes before some have to be handed out. It is
-    /// `usize::MAX` if there is always a place.
+    /// Returns the number of entries that the bus can take before the caller has to take some out. It is `usize::MAX` if
+    /// the caller never has to take any out.
     fn places(&self) -> usize
         ensures { result ≡ places_in self.now };
 
-    /// Returns the number of entries.
+    /// Returns the number of entries in the history.
     fn len(&self) -> u64
         ensures len { result ≡ length (journal self.now).history }
         ensures proper { IsLongConfig (journal self.now).config }
@@ -74,9 +71,8 @@ pub trait Journaled: Drop {
         ensures stays { result ≢ Ok true → room.new ≡ room.old }
         ensures out { handed_out self.new ≡ handed_out self.old };
 
-    /// Hands out the entries that were not yet handed out, in order, in exchange for an empty
-    /// block. It returns the number of entries before them. A bus that keeps its whole record hands
-    /// out no entries.
+    /// Hands out the entries that were not handed out before, in order, in exchange for an empty block. It returns the
+    /// number of entries handed out earlier. A bus that keeps its whole record hands out no entries.
     fn hand_out(&mut self, block: &mut PackedRecord) -> u64
         requires { block.old.entries ≡ [] }
         ensures handed { HasTail (journal self.old).history block.new.entries result }
@@ -114,7 +110,7 @@ pub trait Journaled: Drop {
         self.state().next_head()
     }
 
-    /// Returns whether an interface that is bus off counts attempts until its restart.
+    /// Returns whether an automatic restart is pending for any interface.
     fn is_counting(&self) -> bool
         ensures { result ≡ is_counting (journal self.now).config (journal self.now).history }
     {

@@ -25,16 +25,14 @@ use std::mem;
 /// The number of entries that the tail of a long run's bus holds.
 pub const TAIL_SIZE: u32 = 262_144;
 
-/// The bus of a long run. It answers each event as a `Bus` with the same events does. Its memory
-/// holds only its tail, the entries that were not yet handed out.
+/// The bus of a long run. It answers each event as a `Bus` with the same events does.
 ///
-/// A caller that takes entries lends an empty block in exchange for them, and that block becomes
-/// the tail. A call needs a place in the tail (`places`); a full tail is never a reason to refuse.
-/// Contracts see the configuration, the whole history, the number of entries handed out, and the
-/// capacity of the tail.
+/// Its memory holds only its tail: the entries that were not yet handed out. A caller that takes entries lends an empty block in
+/// exchange for them, and that block becomes the tail. A call needs a free place in the tail (`places`); a full tail is never a
+/// reason to refuse.
 ///
-/// `new` reserves the tail (32 bytes per entry and 76 for its FD frame), the transmit queues and
-/// the places of 64 sockets.
+/// Contracts see the configuration, the whole history, the number of entries handed out, and the capacity of the tail. `new`
+/// reserves the tail (32 bytes per entry and 76 for its FD frame), the transmit queues and the places of 64 sockets.
 #[derive(Drop)]
 pub struct LongBus<T: BoundedQueue<Pending>, R: BoundedQueue<Received>, A: Arbiter> {
     alloc: Global,
@@ -45,7 +43,7 @@ pub struct LongBus<T: BoundedQueue<Pending>, R: BoundedQueue<Received>, A: Arbit
     handed: u64,
 }
 
-/// The long run's bus of the program, with ring buffers as queues.
+/// The bus of the program for long runs, with ring buffers as queues.
 pub type LongRingBus = LongBus<RingQueue<Pending>, RingQueue<Received>, IndexArbiter>;
 
 impl<T: BoundedQueue<Pending>, R: BoundedQueue<Received>, A: Arbiter> Model for LongBus<T, R, A> {
@@ -113,7 +111,7 @@ impl<T: BoundedQueue<Pending>, R: BoundedQueue<Received>, A: Arbiter> LongBus<T,
         &self.state
     }
 
-    /// Returns the number of entries that the tail still takes.
+    /// Returns the number of entries for which the tail has room.
     pub fn places(&self) -> usize
         ensures { result ≡ places_left self.now }
     {
@@ -206,7 +204,7 @@ impl<T: BoundedQueue<Pending>, R: BoundedQueue<Received>, A: Arbiter> LongBus<T,
         self.handed = handed;
     }
 
-    /// Returns the rest at the end of a run: the entries that were not handed out.
+    /// Returns the remaining entries at the end of a run: those that were not handed out.
     pub fn into_left(self) -> LongEnd
         ensures { result ≡ self }
     {
@@ -227,8 +225,7 @@ impl<T: BoundedQueue<Pending>, R: BoundedQueue<Received>, A: Arbiter> LongBus<T,
     }
 }
 
-/// The rest of a long run's bus: its last entries, which were not handed out. Contracts see it as
-/// the bus.
+/// The remainder of the bus of a long run: its last entries, which were not handed out. Contracts see it as the bus.
 #[derive(Drop)]
 pub struct LongEnd {
     config: BusConfig,

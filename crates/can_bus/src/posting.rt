@@ -13,7 +13,7 @@ use can_event::{Pending, Received, Tried};
 use can_frame::{ErrorFrame, Iface, IfaceSet, Item, Moment};
 use can_queue::BoundedQueue;
 
-/// Posts an error message frame to a socket of its interface, if there is one.
+/// Posts an error message frame, if there is one, to a socket of the interface that reports it.
 fn post_error<R: BoundedQueue<Received>>(
     socket: &mut Socket<R>,
     moment: Moment,
@@ -133,7 +133,7 @@ pub fn post_restart<R: BoundedQueue<Received>>(
     post_restarts(sockets, IfaceSet::empty().with(iface), moment)
 }
 
-/// Posts a restart to a socket, if its interface is in this set.
+/// Posts a restart to a socket, if the restarted interfaces include the socket's interface.
 fn post_restarts_to<R: BoundedQueue<Received>>(
     socket: &mut Socket<R>,
     restarted: IfaceSet,
@@ -147,7 +147,7 @@ fn post_restarts_to<R: BoundedQueue<Received>>(
     }
 }
 
-/// Posts the restarts of these interfaces by an attempt to every socket on them.
+/// Posts the restarts that an attempt made to every socket of the restarted interfaces.
 pub fn post_restarts<R: BoundedQueue<Received>>(
     sockets: &mut [Socket<R>],
     restarted: IfaceSet,

@@ -11,7 +11,7 @@ use can_queue::BoundedQueue;
 use std::alloc::Global;
 use thiserror::Error;
 
-/// Why a list of events was not carried out.
+/// Why a list of events could not be carried out.
 #[derive(Debug, Clone, Copy, PartialEq, Eq, Error)]
 pub enum RunFault {
     /// Memory for the list of replies was refused.
@@ -25,24 +25,23 @@ fn note(replies: &mut Vec<Reply>, reply: Reply)
     ensures items { replies.new.items ≡ replies.old.items ++ reply ∷ [] }
     ensures room { vec_capacity replies.old ≤ vec_capacity replies.new }
 {
-    // The checker has to meet the types inside a reply before a vector takes one.
+    // The checker has to see the types inside a reply before a vector stores one.
     let _types: Option<(Attempt, Item, Received)> = None;
     let _ = replies.push(reply);
 }
 
 /// Carries out events in order, and returns the reply of each.
 ///
-/// The record is a legal history before and after. The added entries are the events with these
-/// replies, except for events that were refused for a full record or for lack of memory. Each reply
-/// is the one that the entries before it require. `RunFault` comes before the first event, so
-/// nothing was done.
+/// The record is a legal history before and after the call. Each event is added to it with its reply, unless it was refused
+/// for a full record or for lack of memory. Each reply is the one that the entries before it require. `RunFault` is
+/// returned before the first event is carried out, so nothing has changed.
 ///
-/// Every accepted frame, exactly: for every list of events, the data frames queued to a socket from
-/// each sending interface are, in order sent, exactly those that its interface accepted while the
-/// socket was open (or, on the sender's own interface, looped back once done), that passed its
-/// filters and options and found room. Each is queued once, and again only for each attempt whose
-/// sole fault was the last bit of end of frame. Every lost frame is counted. Nothing is queued
-/// after close. `specs/Headline.antt` states each part.
+/// Every accepted frame, exactly: for every list of events, a socket gets the data frames of each sending interface in the
+/// order in which they were sent. These are exactly the frames that the socket's interface accepted while the socket was
+/// open, that passed the socket's filters and options, and that found room. On the sender's own interface they are the
+/// frames that were looped back after they were done. Each frame is queued once, and again only for each attempt whose only
+/// fault was in the last bit of end of frame. Every lost frame is counted. Nothing is queued after the close.
+/// `specs/Headline.antt` states each part.
 pub fn run<T: BoundedQueue<Pending>, R: BoundedQueue<Received>, A: Arbiter>(
     bus: &mut Bus<T, R, A>,
     alloc: Global,

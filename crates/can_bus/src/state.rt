@@ -32,7 +32,7 @@ pub struct State<T: BoundedQueue<Pending>, R: BoundedQueue<Received>, A: Arbiter
     pub(crate) arbiter: A,
     /// The error counters of the interfaces.
     pub(crate) nodes: Nodes,
-    /// The number of attempts until the restart of each interface.
+    /// The number of attempts until the automatic restart of each interface.
     pub(crate) countdown: Countdown,
     /// The open sockets, by increasing number.
     pub(crate) sockets: Vec<Socket<R>>,
@@ -136,7 +136,7 @@ impl<T: BoundedQueue<Pending>, R: BoundedQueue<Received>, A: Arbiter> State<T, R
         Some((winner, pending.frame))
     }
 
-    /// Returns whether an interface counts attempts until its restart.
+    /// Returns whether an automatic restart is pending for any interface.
     pub fn is_counting(&self) -> bool
         ensures { result ≡ list_any (λ n. not (n == 0)) self.now.left }
     {

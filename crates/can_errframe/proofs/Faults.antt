@@ -5,9 +5,9 @@ use Rattle.can_fault.specs.declared.verdict.Verdict.{Verdict}
 use Rattle.can_fault.specs.declared.verdict.Verdict.TheVariants as verdict
 use Rattle.can_attempt.specs.Attempts.{Transmission, is_global, is_struck, is_destroyed, receivers}
 
--- Which faults destroy a frame.
+-- The faults that destroy a frame.
 
--- a fault at receivers only
+-- The verdict is a fault at some receivers only.
 abbrev pub is_local : Verdict → Bool
 is_local (verdict.Local set kind) = true
 is_local _ = false
@@ -20,6 +20,6 @@ destroyed_by verdict.LastBit p (k ∷ ks) global local = destroyed_by verdict.La
 destroyed_by (verdict.Global kind) p xs global local = global
 destroyed_by (verdict.Local set kind) p xs global local = absurd (true≢false local)
 
--- without a fault for the whole bus or at receivers nothing is destroyed
+-- If the verdict is neither a fault of the whole bus nor one at some receivers, the frame is not destroyed.
 pub not_destroyed : (t : Transmission) → is_global t.verdict ≡ false → is_local t.verdict ≡ false → is_destroyed t ≡ false
 not_destroyed t = destroyed_by t.verdict _ (receivers t)

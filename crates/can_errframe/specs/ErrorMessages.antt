@@ -21,56 +21,55 @@ use Rattle.can_errframe.specs.ErrorCodes.{err_cnt, crtl_rx_warning, crtl_tx_warn
 use Rattle.can_errframe.specs.ErrorCodes.{crtl_active, prot_unspec, prot_bit, prot_form, prot_stuff, prot_tx}
 use Rattle.can_errframe.specs.ErrorCodes.{loc_unspec, loc_crc_seq, loc_data, loc_ack, loc_eof, loc_ack_del}
 
--- Which error message frame reports what. The numbers are those of linux/can/error.h, the choice of frames is
--- an own one.
+-- The error message frame for each event. The numbers are those of linux/can/error.h; the choice of frames is our own.
 
--- eight bytes that say nothing
+-- Eight bytes without information.
 abbrev pub no_bytes : List ℕ
 no_bytes = replicate 8 0
 
 -- Changes of state.
 
--- the state that one count gives by itself
+-- The state that one error count implies, without the other count.
 abbrev pub side_of : ℕ → Side
 side_of n = if nat_le 128 n then side.Passive else if nat_le 96 n then side.Warning else side.Active
 
--- how far a side is from Active
+-- The severity of a side: 0 for Active.
 abbrev pub level : Side → ℕ
 level side.Active = 0
 level side.Warning = 1
 level side.Passive = 2
 
--- the transmit side's code
+-- The controller code of the transmit error count's side.
 abbrev pub tx_code : Side → ℕ
 tx_code side.Active = crtl_active
 tx_code side.Warning = crtl_tx_warning
 tx_code side.Passive = crtl_tx_passive
 
--- the receive side's code
+-- The controller code of the receive error count's side.
 abbrev pub rx_code : Side → ℕ
 rx_code side.Active = crtl_active
 rx_code side.Warning = crtl_rx_warning
 rx_code side.Passive = crtl_rx_passive
 
--- a side's code is there if the side is as far as the other
+-- The code of the more severe side, or both codes if the sides are equal.
 abbrev pub controller_code : Side → Side → ℕ
 controller_code tx rx =
     bit_or
     (if nat_le (level rx) (level tx) then tx_code tx else 0)
     (if nat_le (level tx) (level rx) then rx_code rx else 0)
 
--- the state and both counts, of an interface that is neither bus off nor down
+-- The report of the state and both error counts, for an interface that is neither bus off nor down.
 abbrev pub controller_message : ErrorCounts → ErrorMessage
 controller_message c = record {
   class = err_crtl + err_cnt;
   bytes = 0 ∷ controller_code (side_of c.tec) (side_of c.rec) ∷ 0 ∷ 0 ∷ 0 ∷ 0 ∷ c.tec ∷ c.rec ∷ [];
 }
 
--- bus off
+-- The report that an interface went bus off.
 abbrev pub bus_off_message : ErrorMessage
 bus_off_message = record { class = err_busoff; bytes = no_bytes }
 
--- the report of a change of counts: nothing if the state stays, or the interface is down
+-- The report of a change of error counts: none if the state stays the same or the interface is down.
 abbrev pub state_message : ErrorCounts → ErrorCounts → Option ErrorMessage
 state_message old new =
     if severity (state_of old) == severity (state_of new) then None
@@ -80,24 +79,24 @@ state_message old new =
 
 -- Restarts.
 
--- a restarted interface
+-- The report that an interface was restarted.
 abbrev pub restart_message : ErrorMessage
 restart_message = record { class = err_restarted; bytes = no_bytes }
 
 -- Faults.
 
--- the kind and the place of a local fault, bytes 2 and 3
+-- The kind and the place of a local fault (bytes 2 and 3).
 abbrev pub local_codes : LocalKind → ℕ × ℕ
 local_codes local.Stuff = (prot_stuff, loc_data)
 local_codes local.Crc = (prot_unspec, loc_crc_seq)
 local_codes local.Form = (prot_form, loc_ack_del)
 
--- the kind and the place of a fault for the whole bus, as its transmitter sees it
+-- The kind and the place of a fault of the whole bus, as the transmitter sees it.
 abbrev pub global_codes : GlobalKind → ℕ × ℕ
 global_codes global.Bit = (prot_tx + prot_bit, loc_data)
 global_codes global.Form = (prot_tx + prot_form, loc_ack_del)
 
--- the kind and the place of the fault that an interface sees, bytes 2 and 3
+-- The kind and the place of the fault that an interface sees (bytes 2 and 3).
 abbrev pub fault_codes : Class → Verdict → Role → Option (ℕ × ℕ)
 fault_codes class.Destroyed (verdict.Global kind) Winner = Some (global_codes kind)
 fault_codes class.Destroyed (verdict.Global kind) Named = Some (prot_stuff, loc_unspec)
@@ -113,23 +112,23 @@ fault_codes class.NoAck verdict.Good Winner = Some (prot_tx, loc_ack)
 fault_codes class.NoAck verdict.LastBit Winner = Some (prot_tx, loc_ack)
 fault_codes _ _ _ = None
 
--- a bus error: of the protocol, or for the transmitter a missing acknowledgement
+-- The class of a fault: a bus error, with a protocol violation, or for the transmitter a missing acknowledgement.
 abbrev pub fault_class : Class → Role → ℕ
 fault_class class.NoAck Winner = err_buserror + err_ack
 fault_class _ _ = err_buserror + err_prot
 
--- the report to an interface of the fault that it saw
+-- The report of the fault that an interface saw, if it saw one.
 abbrev pub fault_message : Class → Verdict → Role → Option ErrorMessage
 fault_message c v r =
     option_map
     (λ codes. record { class = fault_class c r; bytes = 0 ∷ 0 ∷ codes.0 ∷ codes.1 ∷ 0 ∷ 0 ∷ 0 ∷ 0 ∷ [] })
     (fault_codes c v r)
 
--- the part of receiver i
+-- The role of receiver i.
 abbrev pub receiver_role : Transmission → ℕ → Role
 receiver_role t i = if is_struck t.verdict i then Named else Other
 
--- these steps are a receive error
+-- The only step is a receive error.
 abbrev pub is_receive_error : List Step → Bool
 is_receive_error (ReceiveError ∷ []) = true
 is_receive_error _ = false

@@ -1,5 +1,5 @@
-//! The numbers of error message frames, with the names that linux/can/error.h gives them. Those that no
-//! frame of this crate has are left out.
+//! The numbers in error message frames, with their names in linux/can/error.h. Numbers that no frame of this crate uses are
+//! left out.
 
 /// Class: controller problems, given in byte 1.
 pub const CAN_ERR_CRTL: u32 = 0x004;
@@ -16,15 +16,15 @@ pub const CAN_ERR_RESTARTED: u32 = 0x100;
 /// Class: the transmit and receive error counts are in bytes 6 and 7.
 pub const CAN_ERR_CNT: u32 = 0x200;
 
-/// Byte 1: the warning level for receive errors.
+/// Byte 1: the receive error count reached the warning level.
 pub const CAN_ERR_CRTL_RX_WARNING: u8 = 0x04;
-/// Byte 1: the warning level for transmit errors.
+/// Byte 1: the transmit error count reached the warning level.
 pub const CAN_ERR_CRTL_TX_WARNING: u8 = 0x08;
-/// Byte 1: error passive by the receive count.
+/// Byte 1: the receive error count reached the error passive level.
 pub const CAN_ERR_CRTL_RX_PASSIVE: u8 = 0x10;
-/// Byte 1: error passive by the transmit count.
+/// Byte 1: the transmit error count reached the error passive level.
 pub const CAN_ERR_CRTL_TX_PASSIVE: u8 = 0x20;
-/// Byte 1: recovered to error active.
+/// Byte 1: the controller recovered to error active.
 pub const CAN_ERR_CRTL_ACTIVE: u8 = 0x40;
 
 /// Byte 2: unspecified.

@@ -9,7 +9,7 @@ use can_attempt::Class;
 use can_fault::{GlobalKind, LocalKind, Verdict};
 use can_frame::ErrorFrame;
 
-/// The kind and the place of a local fault.
+/// Returns the kind and the place of a local fault, as the affected receiver reports them.
 fn local_codes(kind: LocalKind) -> (u8, u8)
     ensures { result ≡ local_codes kind }
 {
@@ -20,7 +20,7 @@ fn local_codes(kind: LocalKind) -> (u8, u8)
     }
 }
 
-/// The kind and the place of a fault for the whole bus, as its transmitter sees it.
+/// Returns the kind and the place of a fault of the whole bus, as the transmitter reports them.
 fn global_codes(kind: GlobalKind) -> (u8, u8)
     ensures { result ≡ global_codes kind }
 {
@@ -33,7 +33,7 @@ fn global_codes(kind: GlobalKind) -> (u8, u8)
     }
 }
 
-/// The kind and the place of the fault that a transmitter sees.
+/// Returns the kind and the place of the fault that the transmitter sees, if it sees one.
 fn winner_codes(class: Class, verdict: Verdict) -> Option<(u8, u8)>
     ensures { result ≡ fault_codes class verdict Winner }
 {
@@ -52,7 +52,7 @@ fn winner_codes(class: Class, verdict: Verdict) -> Option<(u8, u8)>
     }
 }
 
-/// The kind and the place of the fault that a receiver sees which a local fault strikes.
+/// Returns the kind and the place of the fault that a receiver named by the verdict sees, if it sees one.
 fn named_codes(class: Class, verdict: Verdict) -> Option<(u8, u8)>
     ensures { result ≡ fault_codes class verdict Named }
 {
@@ -65,7 +65,7 @@ fn named_codes(class: Class, verdict: Verdict) -> Option<(u8, u8)>
     }
 }
 
-/// The kind and the place of the fault that any other receiver sees: the error flag of another.
+/// Returns the kind and the place of the fault that any other receiver sees: the error flag of another node.
 fn other_codes(class: Class, verdict: Verdict) -> Option<(u8, u8)>
     ensures { result ≡ fault_codes class verdict Other }
 {
@@ -77,7 +77,7 @@ fn other_codes(class: Class, verdict: Verdict) -> Option<(u8, u8)>
     }
 }
 
-/// The class of a fault frame.
+/// Returns the error class of a fault frame.
 fn fault_class(class: Class, role: Role) -> u32
     ensures class { result ≡ fault_class class role }
     ensures fits { result < 2 ^ 29 }
@@ -89,8 +89,8 @@ fn fault_class(class: Class, role: Role) -> u32
     }
 }
 
-/// The frame that reports to an interface the fault that it saw in an attempt, by the attempt's class,
-/// its verdict and the interface's part in it: `None` where it saw none.
+/// Returns the frame that reports to an interface the fault that it saw in an attempt, or `None` if it saw none. The fault
+/// follows from the attempt's class, its verdict, and the role of the interface.
 pub fn fault_frame(class: Class, verdict: Verdict, role: Role) -> Option<ErrorFrame>
     ensures { result ≡ fault_message class verdict role }
 {

@@ -1,8 +1,6 @@
-//! Error message frames: which frames report to the sockets of an interface its changes of state, its
-//! restart, and the faults that it saw.
-//!
-//! The numbers are those of linux/can/error.h. The contracts say each frame byte for byte, by the tables of
-//! `specs/ErrorMessages.antt`. Nothing here takes memory.
+//! Error message frames. They report to the sockets of an interface its changes of state, its restart, and the faults that
+//! it saw. The numbers are those of linux/can/error.h. The contracts define each frame byte for byte, with the tables of
+//! `specs/ErrorMessages.antt`. No function here takes memory.
 #![tactic(auto)]
 
 pub mod codes;

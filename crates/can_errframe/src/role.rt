@@ -1,9 +1,9 @@
-/// An interface's part in an attempt, as its fault frame sees it.
+/// The role of an interface in an attempt, which decides its fault frame.
 #[derive(Debug, Clone, Copy, PartialEq, Eq)]
 pub enum Role {
-    /// It sends the frame.
+    /// The interface that sends the frame.
     Winner,
-    /// A receiver that a local fault strikes.
+    /// A receiver that the verdict's local fault names.
     Named,
     /// Any other receiver.
     Other,

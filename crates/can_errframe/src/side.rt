@@ -3,7 +3,7 @@ ghost use Rattle.can_errframe.specs.ErrorMessages.{side_of, level, tx_code, rx_c
 
 use crate::codes::*;
 
-/// The state that one of the two error counts gives by itself.
+/// The state that one of the two error counts implies, without the other count.
 #[derive(Debug, Clone, Copy, PartialEq, Eq)]
 pub(crate) enum Side {
     Active,
@@ -12,7 +12,7 @@ pub(crate) enum Side {
 }
 
 impl Side {
-    /// The side of a count.
+    /// Returns the side for an error count.
     pub(crate) fn of_count(count: u16) -> Side
         ensures { result ≡ side_of count }
     {
@@ -25,7 +25,7 @@ impl Side {
         }
     }
 
-    /// How far the side is from Active.
+    /// Returns the severity of a side: 0 for `Active`, 1 for `Warning` and 2 for `Passive`.
     fn level(self) -> u8
         ensures { result ≡ level self }
     {
@@ -36,7 +36,7 @@ impl Side {
         }
     }
 
-    /// Its code as the transmit side.
+    /// Returns the controller code if this is the side of the transmit error count.
     fn tx_code(self) -> u8
         ensures { result ≡ tx_code self }
     {
@@ -47,7 +47,7 @@ impl Side {
         }
     }
 
-    /// Its code as the receive side.
+    /// Returns the controller code if this is the side of the receive error count.
     fn rx_code(self) -> u8
         ensures { result ≡ rx_code self }
     {
@@ -59,7 +59,7 @@ impl Side {
     }
 }
 
-/// The controller's code: that of the side that is further from Active, or of both.
+/// Returns the controller code: the code of the more severe side, or both codes if the sides are equal.
 pub(crate) fn controller_code(tx: Side, rx: Side) -> u8
     ensures { result ≡ controller_code tx rx }
 {

@@ -6,7 +6,7 @@ use crate::side::{Side, controller_code};
 use can_confine::Counters;
 use can_frame::ErrorFrame;
 
-/// An error message frame of a class that fits 29 bits.
+/// Returns an error message frame. The class has to fit in 29 bits.
 pub(crate) fn frame_of(class: u32, bytes: [u8; 8]) -> ErrorFrame
     requires { class < 2 ^ 29 }
     ensures { result ≡ record { class = class; bytes = bytes } }
@@ -17,20 +17,20 @@ pub(crate) fn frame_of(class: u32, bytes: [u8; 8]) -> ErrorFrame
     }
 }
 
-/// The frame that reports a change of an interface's counters: `None` where its state stays or it is down, a bus off
-/// frame where it went off, else a controller frame with both counts.
+/// Returns the frame that reports a change of an interface's error counters. It is `None` if the state stays the same or
+/// the interface is down, a bus off frame if the interface went bus off, and otherwise a controller frame with both counts.
 #[inline]
 pub fn state_frame(old: Counters, new: Counters) -> Option<ErrorFrame>
     ensures { result ≡ state_message old new }
 {
-    // Most often the counts stay, and equal counts are compared faster than their states.
+    // Most attempts do not change the counts, and comparing the counts is faster than comparing the states.
     if old == new {
         return None;
     }
     frame_of_change(old, new)
 }
 
-/// `state_frame`, of counts that most often differ.
+/// Does the same as `state_frame`, for counts that usually differ.
 #[inline(never)]
 fn frame_of_change(old: Counters, new: Counters) -> Option<ErrorFrame>
     ensures { result ≡ state_message old new }
@@ -49,7 +49,7 @@ fn frame_of_change(old: Counters, new: Counters) -> Option<ErrorFrame>
     Some(frame_of(CAN_ERR_CRTL | CAN_ERR_CNT, bytes))
 }
 
-/// The frame that reports an interface's restart.
+/// Returns the frame that reports the restart of an interface.
 pub fn restart_frame() -> ErrorFrame
     ensures { result ≡ restart_message }
 {

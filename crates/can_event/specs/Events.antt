@@ -13,32 +13,32 @@ use Rattle.can_event.specs.declared.reply.Reply.TheVariants as reply
 use Rattle.can_event.specs.declared.attempt.Tried.{Tried}
 use Rattle.can_event.specs.declared.attempt.Attempt.TheVariants as attempt
 
--- The limits of a configuration, and what the plain types of a bus say of themselves.
+-- The limits of a configuration, and definitions for the plain types of a bus.
 
--- the interfaces that a reply names as restarted by its attempt
+-- The interfaces that a reply names as restarted by its attempt.
 abbrev pub restarted_in : Reply → IfaceSet
 restarted_in (reply.Attempted (attempt.Idle restarted)) = restarted
 restarted_in (reply.Attempted (attempt.Tried t)) = t.restarted
 restarted_in _ = no_ifaces
 
--- how many frames wait at most in a transmit queue (the product's own limit, as in the manual page)
+-- The largest capacity of a transmit queue, in frames (the product's own limit, as in the manual page).
 abbrev pub max_tx_capacity : ℕ
 max_tx_capacity = 1024
 
--- how many items wait at most at a socket (the product's own limit, as in the manual page)
+-- The largest capacity of a socket's receive queue, in items (the product's own limit, as in the manual page).
 abbrev pub max_rx_capacity : ℕ
 max_rx_capacity = 65536
 
--- how many entries a record has at most (the product's own limit, as in the manual page)
+-- The largest number of entries in a record (the product's own limit, as in the manual page).
 abbrev pub max_limit : ℕ
 max_limit = 16777216
 
--- after how many attempts at most an interface that went bus off is restarted by itself
--- (the product's own limit, as in the manual page)
+-- The largest number of attempts until an interface that went bus off is restarted automatically (the product's own
+-- limit, as in the manual page).
 abbrev pub max_auto_restart : ℕ
 max_auto_restart = 1000000
 
--- the limits of a bus
+-- The limits of a bus.
 pub record IsConfig (c : BusConfig) : Type 0 where
   pub some_ifaces : 1 ≤ c.ifaces
   pub few_ifaces : c.ifaces ≤ 16
@@ -48,11 +48,12 @@ pub record IsConfig (c : BusConfig) : Type 0 where
   pub few_entries : c.limit ≤ max_limit
   pub few_attempts : c.auto_restart ≤ max_auto_restart
 
--- how many entries the record of a long run has at most: their numbers fit 32 bits (own choice)
+-- The largest number of entries in the record of a long run: their numbers fit in 32 bits (own choice).
 abbrev pub max_long_limit : ℕ
 max_long_limit = 4294967294
 
--- the limits of the bus of a long run, which has no whole record in memory; those of a bus are within them
+-- The limits of the bus of a long run, which does not keep its whole record in memory. They include the limits of a
+-- bus.
 pub record IsLongConfig (c : BusConfig) : Type 0 where
   pub some_ifaces : 1 ≤ c.ifaces
   pub few_ifaces : c.ifaces ≤ 16
@@ -62,11 +63,11 @@ pub record IsLongConfig (c : BusConfig) : Type 0 where
   pub few_entries : c.limit ≤ max_long_limit
   pub few_attempts : c.auto_restart ≤ max_auto_restart
 
--- a frame that was tried, as a socket receives it
+-- A frame that was tried, in the form in which a socket receives it.
 abbrev pub tried_item : Tried → Received
 tried_item t = record { item = item.Data t.frame; from = t.winner; number = t.number; moment = t.moment }
 
--- nothing: an empty frame from the first interface, at moment 0 (own choice)
+-- An empty room: an empty frame from interface 0, at moment 0 (own choice).
 abbrev pub no_item : Received
 no_item = record {
   item = item.Data (record { id = record { extended = false; number = 0 }; payload = Data [] });
@@ -75,7 +76,7 @@ no_item = record {
   moment = 0;
 }
 
--- the options with one of them set (linux/can/raw.h)
+-- The options of a socket after one of them was set (linux/can/raw.h).
 abbrev pub with_option : Opt → Options → Options
 with_option (opt.Loopback on) o = record o { loopback = on }
 with_option (opt.RecvOwn on) o = record o { recv_own = on }

@@ -16,44 +16,44 @@ use Rattle.can_event.specs.declared.attempt.Attempt.TheVariants as attempt
 use Rattle.can_event.specs.declared.reply.Reply.TheVariants as reply
 use Rattle.can_event.specs.Events.{IsConfig, restarted_in}
 
--- Which entries the text of a record has a line for.
+-- The entries that have a line in the text of a record.
 
--- a refusal that leaves an entry: all but that of a full record and that of want of memory (own choice)
+-- The refusal leaves an entry: every refusal except RecordFull and NoMemory (own choice).
 abbrev pub leaves_entry : Refusal → Bool
 leaves_entry refusal.RecordFull = false
 leaves_entry refusal.NoMemory = false
 leaves_entry _ = true
 
--- the same, as a statement (own choice)
+-- leaves_entry as a statement (own choice).
 abbrev pub LeavesEntry : Refusal → Type 0
 LeavesEntry why = IsTrue (leaves_entry why)
 
--- to send an FD frame is asked for
+-- The event asks to send an FD frame.
 abbrev pub SendsFd : Event → Type 0
 SendsFd (Send s frame) = IsTrue (is_fd frame.payload)
 SendsFd _ = ⊥
 
--- a refusal that leaves an entry and may go with the event: only a send of an FD frame is refused as FD frames
--- are off (own choice)
+-- The refusal leaves an entry and can be the reply to this event: only a send of an FD frame is refused as FdOff (own
+-- choice).
 abbrev pub MayRefuse : Event → Refusal → Type 0
 MayRefuse event refusal.FdOff = SendsFd event
 MayRefuse event why = LeavesEntry why
 
--- the number of an item that a socket received: an error message frame has the number 0 (own choice)
+-- The number of a received item: an error message frame has the number 0 (own choice).
 abbrev pub IsNumberOf : Item → ℕ → Type 0
 IsNumberOf (item.Data frame) n = Unit {0}
 IsNumberOf (item.Error message) n = n ≡ 0
 
--- an item that a socket received has a number that it may have
+-- A received item has a valid number.
 abbrev pub IsNumbered : Received → Type 0
 IsNumbered r = IsNumberOf r.item r.number
 
--- the same of what receive gave, if it gave an item
+-- The item that a receive call returned has a valid number, if there is one.
 abbrev pub AreNumbered : Option Received → Type 0
 AreNumbered None = Unit {0}
 AreNumbered (Some r) = IsNumbered r
 
--- a reply of the event's own kind, or a refusal; a frame was tried at the moment of its attempt (own choice)
+-- The reply is of the event's own kind, or a refusal; a frame was tried at the moment of its attempt (own choice).
 abbrev pub FitsReply : Event → Reply → Type 0
 FitsReply event (reply.Refused why) = MayRefuse event why
 FitsReply (Open i capacity) (reply.Opened s) = Unit {0}
@@ -68,16 +68,16 @@ FitsReply (Restart i m) reply.Done = Unit {0}
 FitsReply (Down i m) reply.Done = Unit {0}
 FitsReply _ _ = ⊥
 
--- attempts restart interfaces only on a bus that is made for it (own choice)
+-- Attempts restart interfaces only on a bus with automatic restart (own choice).
 abbrev pub MayRestart : BusConfig → Reply → Type 0
 MayRestart c r = c.auto_restart ≡ 0 → restarted_in r ≡ no_ifaces
 
--- an entry that has a line: its reply fits its event, and restarts nothing where the bus never does
+-- An entry that has a line: its reply fits its event, and restarts no interface on a bus without automatic restart.
 pub record IsSpelled (c : BusConfig) (e : Entry) : Type 0 where
   pub fits : FitsReply e.event e.reply
   pub restarts : MayRestart c e.reply
 
--- what a record is made of: a configuration within the limits of a bus, and entries that each have a line
+-- The parts of a record: a configuration within the limits of a bus, and entries that each have a line.
 pub record IsRecord (c : BusConfig) (entries : List Entry) : Type 0 where
   pub proper : IsConfig c
   pub spelled : All (IsSpelled c) entries

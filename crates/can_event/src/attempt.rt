@@ -5,8 +5,9 @@ use crate::received::Received;
 use can_attempt::Class;
 use can_frame::{Frame, Iface, IfaceSet, Item, Moment};
 
-/// A frame that was tried: when, whose, its number at that interface, how it ended, the interfaces that
-/// accepted it, those that went bus off, and those that were restarted.
+/// An attempt that tried a frame: its moment, the sending interface (the winner), the frame and its number at that interface, and
+/// the result. `accepted` are the interfaces that accepted the frame, `off` those that went bus off, and `restarted` those that
+/// were restarted.
 #[derive(Debug, Clone, Copy, PartialEq, Eq)]
 pub struct Tried {
     pub moment: Moment,
@@ -20,7 +21,7 @@ pub struct Tried {
 }
 
 impl Tried {
-    /// The frame as a socket receives it.
+    /// Returns the frame in the form in which a socket receives it.
     pub fn received(&self) -> Received
         ensures { result ≡ tried_item self.now }
     {
@@ -33,10 +34,10 @@ impl Tried {
     }
 }
 
-/// What an attempt came to.
+/// The result of an attempt.
 #[derive(Debug, Clone, Copy, PartialEq, Eq)]
 pub enum Attempt {
-    /// No live interface had a frame to send, and these were restarted.
+    /// No live interface had a frame to send. The attempt restarted these interfaces.
     Idle { restarted: IfaceSet },
     /// A frame was tried.
     Tried(Tried),

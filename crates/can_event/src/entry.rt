@@ -1,8 +1,8 @@
 use crate::event::Event;
 use crate::reply::Reply;
 
-/// A call with its answer. It takes 208 bytes: the event is as wide as `Send` with its frame, and the
-/// reply as wide as `Tried`.
+/// An event and its reply. An entry takes 208 bytes, because an event has room for `Send` with a frame, and a reply has room for
+/// `Tried`.
 #[derive(Debug, PartialEq, Eq, Drop)]
 pub struct Entry {
     pub event: Event,

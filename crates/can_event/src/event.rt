@@ -10,7 +10,7 @@ use std::alloc::{AllocError, Global};
 /// One call on a bus.
 #[derive(Debug, PartialEq, Eq, Drop)]
 pub enum Event {
-    /// Open a socket on an interface, with room for this many items, 1 to 65,536.
+    /// Open a socket on an interface. Its receive queue has this capacity in items, 1 to 65,536.
     Open(Iface, u32),
     /// Close a socket.
     Close(SocketId),
@@ -20,18 +20,18 @@ pub enum Event {
     SetOption(SocketId, Opt),
     /// Send a frame on a socket.
     Send(SocketId, Frame),
-    /// Take the oldest item of a socket.
+    /// Take the oldest item from the receive queue of a socket.
     Receive(SocketId),
-    /// Try the frame that wins the bus, at a moment, with these faults.
+    /// Try the frame that wins arbitration, at this moment and with these faults.
     Attempt(Moment, Verdict),
-    /// Restart an interface that is bus off or down, at a moment.
+    /// Restart an interface that is bus off or down, at this moment.
     Restart(Iface, Moment),
-    /// Take an interface down, at a moment (`ip link set down`).
+    /// Take an interface down, at this moment (`ip link set down`).
     Down(Iface, Moment),
 }
 
 impl Event {
-    /// Another event that asks for the same. Only a set of filters takes memory, and time by its length.
+    /// Returns a copy of the event. Only the copy of a set of filters takes memory, and time in proportion to its length.
     pub fn try_copy(&self, alloc: Global) -> Result<Event, AllocError>
         ensures { IfOk result (λ event. event ≡ self.now) }
     {

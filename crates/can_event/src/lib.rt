@@ -1,8 +1,6 @@
-//! What is said to a bus and what it answers: its configuration, the events, their replies and refusals, and the entries
-//! that a record has of them.
-//!
-//! They are plain types, for all who speak of a bus without calling one. The contracts say which configurations are
-//! within the limits, and which entries the text of a record has a line for. Only the copy of an event takes memory.
+//! The calls on a bus and its answers: the configuration, the events, their replies and refusals, and the entries of a record.
+//! These are plain types, so a crate can use them without calling a bus. The contracts define which configurations are within the
+//! limits, and which entries have a line in the text of a record. Only the copy of an event takes memory.
 #![tactic(auto)]
 
 pub mod attempt;

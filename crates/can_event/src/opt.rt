@@ -3,23 +3,23 @@ ghost use Rattle.can_event.specs.Events.{with_option};
 
 use can_filter::Options;
 
-/// One option of a socket, and what it is set to (linux/can/raw.h).
+/// One option of a socket, and its new value (linux/can/raw.h).
 #[derive(Debug, Clone, Copy, PartialEq, Eq)]
 pub enum Opt {
-    /// Whether frames sent from then on are looped back (CAN_RAW_LOOPBACK).
+    /// Whether frames sent after this call are looped back (CAN_RAW_LOOPBACK).
     Loopback(bool),
-    /// Whether the socket gets its own frames (CAN_RAW_RECV_OWN_MSGS).
+    /// Whether the socket receives the frames that it sent itself (CAN_RAW_RECV_OWN_MSGS).
     RecvOwn(bool),
-    /// Whether a frame has to match each filter (CAN_RAW_JOIN_FILTERS).
+    /// Whether a frame has to match every filter of the socket (CAN_RAW_JOIN_FILTERS).
     Join(bool),
-    /// The error classes whose message frames the socket gets (CAN_RAW_ERR_FILTER).
+    /// The error classes whose error message frames the socket receives (CAN_RAW_ERR_FILTER).
     ErrMask(u32),
-    /// Whether the socket sends and gets FD frames (CAN_RAW_FD_FRAMES).
+    /// Whether the socket sends and receives FD frames (CAN_RAW_FD_FRAMES).
     FdFrames(bool),
 }
 
 impl Opt {
-    /// These options with this one set.
+    /// Returns the options of a socket after this option was set.
     pub fn set_in(self, options: Options) -> Options
         ensures { result ≡ with_option self options }
     {

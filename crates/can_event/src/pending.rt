@@ -1,7 +1,7 @@
 use crate::socket_id::SocketId;
 use can_frame::Frame;
 
-/// A frame that waits to be tried: the socket that sent it, and whether it is looped back.
+/// A frame in a transmit queue: the frame, the socket that sent it, and whether it is looped back.
 #[derive(Debug, Clone, Copy, PartialEq, Eq)]
 pub struct Pending {
     pub frame: Frame,

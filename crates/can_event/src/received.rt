@@ -3,9 +3,8 @@ ghost use Rattle.can_event.specs.Events.{no_item};
 
 use can_frame::{CanId, Frame, Iface, Item, Moment};
 
-/// An item that a socket received: the item, the interface that it comes from, its number there, and
-/// when it was put to the socket. An error message frame comes from the socket's own interface, with
-/// number 0.
+/// An item that a socket received: the item, the interface that it comes from, the frame's number at that interface, and the moment
+/// at which the socket got it. An error message frame comes from the socket's own interface and has the number 0.
 #[derive(Debug, Clone, Copy, PartialEq, Eq)]
 pub struct Received {
     pub item: Item,
@@ -15,7 +14,7 @@ pub struct Received {
 }
 
 impl Received {
-    /// Nothing: a room before an item is received into it. Its frame is empty, and comes from interface 0 at moment 0.
+    /// Returns an empty value for a room into which no item was received yet: an empty frame from interface 0 at moment 0.
     pub fn nothing() -> Received
         ensures { result ≡ no_item }
     {

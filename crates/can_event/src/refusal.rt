@@ -6,22 +6,22 @@ use thiserror::Error;
 /// Why a call was refused.
 #[derive(Debug, Clone, Copy, PartialEq, Eq, Error)]
 pub enum Refusal {
-    /// The record has as many entries as the bus was made for.
+    /// The record already has as many entries as the limit of the bus allows.
     #[error("record full")]
     RecordFull,
     /// The bus has no such interface.
     #[error("no such interface")]
     NoInterface,
-    /// No socket can have this capacity.
+    /// The capacity is outside the limits of a receive queue.
     #[error("bad capacity")]
     BadCapacity,
-    /// As many sockets are open as may be.
+    /// The largest number of sockets is already open.
     #[error("too many sockets")]
     TooManySockets,
-    /// No such socket is open.
+    /// No socket with this number is open.
     #[error("no socket")]
     NoSocket,
-    /// The frame is an FD frame, and the socket's option for such is off.
+    /// The frame is an FD frame, but the socket has not enabled FD frames.
     #[error("fd frames off")]
     FdOff,
     /// The interface is bus off.
@@ -42,7 +42,7 @@ pub enum Refusal {
 }
 
 impl Refusal {
-    /// Whether a call that is refused so leaves an entry in the record: all but `RecordFull` and `NoMemory`.
+    /// Returns whether a call with this refusal adds an entry to the record: every refusal except `RecordFull` and `NoMemory` does.
     pub fn leaves_entry(self) -> bool
         ensures { result ≡ leaves_entry self }
     {

@@ -7,14 +7,15 @@ use crate::received::Received;
 use crate::refusal::Refusal;
 use crate::socket_id::SocketId;
 
-/// What was left at a close of a socket: items that nobody took, and items that found no room.
+/// The result of closing a socket: the number of unread items, and the number of items that were dropped because the queue was
+/// full.
 #[derive(Debug, Clone, Copy, PartialEq, Eq)]
 pub struct Closed {
     pub unread: u64,
     pub dropped: u64,
 }
 
-/// What a call answered.
+/// The reply to a call.
 #[derive(Debug, Clone, Copy, PartialEq, Eq)]
 pub enum Reply {
     /// A socket was opened.
@@ -23,18 +24,19 @@ pub enum Reply {
     Closed(Closed),
     /// Filters or an option were set, or an interface was restarted or taken down.
     Done,
-    /// A frame was accepted for sending, and has this number at its interface.
+    /// The frame was accepted for sending, and has this number at its interface.
     Sent(u64),
-    /// The oldest item, or none.
+    /// The oldest item, or `None` if no item waits.
     Received(Option<Received>),
-    /// An attempt was made, and came to this.
+    /// The attempt was made, with this result.
     Attempted(Attempt),
     /// The call was refused.
     Refused(Refusal),
 }
 
 impl Reply {
-    /// Whether a call with this reply leaves an entry in the record: all but the refusals `RecordFull` and `NoMemory`.
+    /// Returns whether a call with this reply adds an entry to the record: every reply except the refusals `RecordFull` and
+    /// `NoMemory` does.
     pub fn enters(&self) -> bool
         ensures { result ≡ enters self.now }
     {
@@ -44,7 +46,7 @@ impl Reply {
         }
     }
 
-    /// The socket that an `Open` opened.
+    /// Returns the socket that an `Open` call opened.
     pub fn into_opened(self) -> Result<SocketId, Refusal>
         requires { IsOpenReply self }
         ensures { self ≡ told reply.Opened result }
@@ -56,7 +58,7 @@ impl Reply {
         }
     }
 
-    /// What a `Close` left.
+    /// Returns the counts of the socket that a `Close` call closed.
     pub fn into_closed(self) -> Result<Closed, Refusal>
         requires { IsCloseReply self }
         ensures { self ≡ told reply.Closed result }
@@ -68,7 +70,7 @@ impl Reply {
         }
     }
 
-    /// Whether an event that returns nothing was carried out.
+    /// Returns `Ok` if a call that has no result was carried out.
     pub fn into_done(self) -> Result<(), Refusal>
         requires { IsDoneReply self }
         ensures { self ≡ told (λ done. reply.Done) result }
@@ -80,7 +82,7 @@ impl Reply {
         }
     }
 
-    /// The number of the frame of a `Send`.
+    /// Returns the number that a `Send` call gave to its frame.
     pub fn into_sent(self) -> Result<u64, Refusal>
         requires { IsSendReply self }
         ensures { self ≡ told reply.Sent result }
@@ -92,7 +94,7 @@ impl Reply {
         }
     }
 
-    /// The item of a `Receive`, or none.
+    /// Returns the item that a `Receive` call took, or `None` if no item was waiting.
     pub fn into_received(self) -> Result<Option<Received>, Refusal>
         requires { IsReceiveReply self }
         ensures { self ≡ told reply.Received result }
@@ -104,7 +106,7 @@ impl Reply {
         }
     }
 
-    /// What an `Attempt` came to.
+    /// Returns the result of an `Attempt` call.
     pub fn into_attempted(self) -> Result<Attempt, Refusal>
         requires { IsAttemptReply self }
         ensures { self ≡ told reply.Attempted result }

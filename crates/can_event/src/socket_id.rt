@@ -1,4 +1,3 @@
-/// A socket's number. The sockets of a bus are numbered from 0 as they are opened, and no number is
-/// used again.
+/// The number of a socket. The sockets of a bus get the numbers 0, 1, 2 and so on as they are opened. No number is used twice.
 #[derive(Debug, Clone, Copy, PartialEq, Eq)]
 pub struct SocketId(pub u32);

@@ -12,17 +12,17 @@ use crate::refusal::Refusal;
 use crate::reply::Reply;
 use can_frame::{IfaceSet, Item};
 
-/// Whether the text of a record has a line for an entry: its reply is of the event's own kind, or a refusal other than
-/// of a full record or of memory, and that FD frames are off is said to a send of such; a frame was tried at the moment
-/// of its attempt; and an error message frame that was received has the number 0. Where the bus is made to restart no
-/// interface by itself, no attempt names one as restarted.
+/// Returns whether an entry has a line in the text of a record. The reply has to be of the event's own kind, or a refusal
+/// that leaves an entry; `FdOff` is possible only for a send of an FD frame. A tried frame has the moment of its attempt,
+/// and a received error message frame has the number 0. If the bus has no automatic restart, the reply names no restarted
+/// interface.
 pub fn is_spelled(config: BusConfig, entry: &Entry) -> bool
     ensures { IsTrue result ↔ IsSpelled config entry.now }
 {
     fits_reply(&entry.event, &entry.reply) && may_restart(config, &entry.reply)
 }
 
-/// Whether attempts on this bus may restart the interfaces that a reply names.
+/// Returns whether attempts on this bus may restart the interfaces that the reply names as restarted.
 fn may_restart(config: BusConfig, reply: &Reply) -> bool
     ensures { IsTrue result ↔ MayRestart config reply.now }
 {
@@ -34,7 +34,7 @@ fn may_restart(config: BusConfig, reply: &Reply) -> bool
     config.auto_restart != 0 || restarted.is_empty()
 }
 
-/// Whether this reply may go with this event.
+/// Returns whether an event of this kind can have this reply.
 fn fits_reply(event: &Event, reply: &Reply) -> bool
     ensures { IsTrue result ↔ FitsReply event.now reply.now }
 {
@@ -50,7 +50,7 @@ fn fits_reply(event: &Event, reply: &Reply) -> bool
     }
 }
 
-/// Whether this event is answered `Done`.
+/// Returns whether `Done` is the reply to this event if it is carried out.
 fn is_setting(event: &Event) -> bool
     ensures { IsTrue result ↔ FitsReply event.now reply.Done }
 {
@@ -62,7 +62,7 @@ fn is_setting(event: &Event) -> bool
     }
 }
 
-/// Whether this event is an attempt, at the moment at which the frame was tried.
+/// Returns whether this event is an attempt at the moment at which the frame was tried.
 fn is_attempt_of(event: &Event, tried: &Tried) -> bool
     ensures { IsTrue result ↔ FitsReply event.now (reply.Attempted (attempt.Tried tried.now)) }
 {
@@ -72,7 +72,7 @@ fn is_attempt_of(event: &Event, tried: &Tried) -> bool
     }
 }
 
-/// Whether the item, if there is one, has a number that it may have.
+/// Returns whether the item, if there is one, has a valid number.
 fn are_numbered(item: &Option<Received>) -> bool
     ensures { IsTrue result ↔ AreNumbered item.now }
 {
@@ -82,7 +82,7 @@ fn are_numbered(item: &Option<Received>) -> bool
     }
 }
 
-/// Whether an item has a number that it may have: 0 for an error message frame.
+/// Returns whether an item has a valid number: an error message frame has the number 0.
 fn is_numbered(received: &Received) -> bool
     ensures { IsTrue result ↔ IsNumbered received.now }
 {
@@ -92,7 +92,7 @@ fn is_numbered(received: &Received) -> bool
     }
 }
 
-/// Whether an event may be refused so.
+/// Returns whether an event can have this refusal as its reply.
 fn may_refuse(event: &Event, why: Refusal) -> bool
     ensures { IsTrue result ↔ MayRefuse event.now why }
 {
@@ -102,7 +102,7 @@ fn may_refuse(event: &Event, why: Refusal) -> bool
     }
 }
 
-/// Whether an event asks to send an FD frame.
+/// Returns whether an event asks to send an FD frame.
 fn sends_fd(event: &Event) -> bool
     ensures { IsTrue result ↔ SendsFd event.now }
 {

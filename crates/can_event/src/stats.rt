@@ -1,7 +1,7 @@
 use can_confine::Counters;
 
-/// What became of the items offered to a socket: those that found room, those that found none, and of
-/// the first those that were taken.
+/// The item counts of a socket: items that were queued, items that were dropped because the queue was full, and queued items that
+/// were already taken.
 #[derive(Debug, Clone, Copy, PartialEq, Eq)]
 pub struct SocketStats {
     pub queued: u64,
@@ -9,8 +9,8 @@ pub struct SocketStats {
     pub taken: u64,
 }
 
-/// What became of the frames of an interface, and its error counters. Each frame that was sent is done,
-/// waits, or was lost as the interface went bus off or down; refused are those that found the transmit queue full.
+/// The frame counts of an interface, and its error counters. Each frame that was sent is done, waiting, or lost because the
+/// interface went bus off or down. `refused` counts the frames that were refused because the transmit queue was full.
 #[derive(Debug, Clone, Copy, PartialEq, Eq)]
 pub struct IfaceStats {
     pub sent: u64,

@@ -14,9 +14,9 @@ use Rattle.can_record_text.specs.LongRuns.{entries_in}
 use Rattle.can_logfile.specs.Log.{lines_of_blocks, log_line, log_lines, tried_of, tried_in, joined, TornAfter}
 use Rattle.std.proofs.KnownBytes.{Appends-trans}
 
--- The oldest entries of a history, and their lines.
+-- The oldest entries of a history, and the lines of their tried frames.
 
--- the oldest k entries of a history, the newest of them first
+-- The oldest k entries of a history, the newest of them first.
 abbrev pub front : ℕ → List Entry → List Entry
 front k past = reverse (take k (reverse past))
 
@@ -31,7 +31,7 @@ front-all k past h = ap reverse (take_all k (reverse past) (omega (arith, length
 past-front : (k : ℕ) (past : List Entry) → reverse (drop k (reverse past)) ++ front k past ≡ past
 past-front k past = sym (reverse-append (take k (reverse past)) (drop k (reverse past))) ∙ ap reverse (take-append-drop k (reverse past)) ∙ reverse-reverse past
 
--- a tape grows at its end
+-- The tape grows only at its end.
 abbrev Grows : List Tried → List Tried → Type 0
 Grows base all = (more : List Tried) × (all ≡ base ++ more)
 
@@ -52,7 +52,7 @@ tape-grows (e ∷ later) past = grows e.reply (tape past) (tape (later ++ past))
 tape-of : (k : ℕ) (past : List Entry) → Grows (tape (front k past)) (tape past)
 tape-of k past = subst (λ (all : List Entry). Grows (tape (front k past)) (tape all)) (past-front k past) (tape-grows (reverse (drop k (reverse past))) (front k past))
 
--- one tried entry more
+-- The front grows by one entry that tried a frame.
 tried-more : (k : ℕ) (past : List Entry) (e : Entry) (t : Tried) → k < length past → e ≡ get_or (reverse past) k e → e.reply ≡ reply.Attempted (attempt.Tried t) → tape (front (k + 1) past) ≡ tape (front k past) ++ t ∷ []
 tried-more k past e t lt at is = ap tape (front-more k past e lt at) ∙ ap (λ (r : Reply). tape_after r (tape (front k past))) is
 
@@ -66,7 +66,7 @@ lines-more names k past e t lt at is =
     ∙ flat_map-append (λ line. line) (map (log_line names) (tape (front k past))) (log_line names t ∷ [])
     ∙ ap (λ (x : List ℕ). joined (log_lines names (front k past)) ++ x) (append-nil (log_line names t))
 
--- the place after a front holds what is there
+-- The element right after a front is the first one of the rest.
 at_length : (xs : List (List ℕ)) (x : List ℕ) (ys : List (List ℕ)) → get_or (xs ++ x ∷ ys) (length xs) x ≡ x
 at_length [] x ys = refl
 at_length (y ∷ xs) x ys = at_length xs x ys
@@ -74,7 +74,7 @@ at_length (y ∷ xs) x ys = at_length xs x ys
 there : (xs : List (List ℕ)) (x : List ℕ) (ys : List (List ℕ)) → slice_get (xs ++ x ∷ ys) (length xs) ≡ Some x
 there xs x ys = slice_get_read (xs ++ x ∷ ys) (length (xs ++ x ∷ ys)) (length xs) x refl (omega (arith, length-append xs (x ∷ ys))) (sym (at_length xs x ys))
 
--- the lines of a history, cut at a tried entry
+-- The lines of a history, split at an entry that tried a frame.
 lines-cut : (names : List (List ℕ)) (k : ℕ) (past : List Entry) (e : Entry) (t : Tried) → k < length past → e ≡ get_or (reverse past) k e → e.reply ≡ reply.Attempted (attempt.Tried t) → (more : List (List ℕ)) × (log_lines names past ≡ log_lines names (front k past) ++ log_line names t ∷ more)
 lines-cut names k past e t lt at is =
     let grown = tape-of (k + 1) past in
@@ -109,7 +109,7 @@ stays (reply.Received s) before never = refl
 stays (reply.Attempted (attempt.Idle restarted)) before never = refl
 stays (reply.Refused s) before never = refl
 
--- one entry more that was no attempt
+-- The front grows by one entry that tried no frame, so the tape stays the same.
 pub same-tape : (k : ℕ) (past : List Entry) (e : Entry) → k < length past → e ≡ get_or (reverse past) k e → ((t : Tried) → e.reply ≡ reply.Attempted (attempt.Tried t) → ⊥) → tape (front (k + 1) past) ≡ tape (front k past)
 same-tape k past e lt at never = ap tape (front-more k past e lt at) ∙ stays e.reply (tape (front k past)) never
 
@@ -131,7 +131,7 @@ tried-is (reply.Received s) t e = absurd (none-some t e)
 tried-is (reply.Attempted (attempt.Idle restarted)) t e = absurd (none-some t e)
 tried-is (reply.Refused s) t e = absurd (none-some t e)
 
--- an entry of a history, and the frame that was tried in it
+-- An entry of a history, and the frame that was tried in it, if any.
 pub record Seen (k : ℕ) (past : List Entry) (o : Option Tried) : Type 0 where
   pub entry : Entry
   pub read : entry ≡ get_or (reverse past) k entry
@@ -152,13 +152,13 @@ seen k past o lt is =
       | inr (past_end, there) ↦ absurd (omega (arith, lt, past_end, length-reverse past))
     ]
 
--- the same in entries, the oldest of them first
+-- The same for a list of entries, the oldest first.
 pub seen_in : (k : ℕ) (entries : List Entry) (o : Option Tried) → k < length entries → o ≡ tried_in (slice_get entries k) → Seen k (reverse entries) o
 seen_in k entries o lt is = seen k (reverse entries) o (omega (arith, length-reverse entries, lt)) (is ∙ ap (λ (es : List Entry). tried_in (slice_get es k)) (sym (reverse-reverse entries)))
 
 -- ---- the log of blocks
 
--- the tape of a history goes on
+-- The tape of a longer history continues the tape of its older part.
 tape-join : (later past : List Entry) → tape (later ++ past) ≡ tape past ++ tape later
 tape-join [] past = sym (append-nil (tape past))
 tape-join (e ∷ later) past = ap (tape_after e.reply) (tape-join later past) ∙ after e.reply (tape past) (tape later)
@@ -179,7 +179,7 @@ lines-join names block more =
     ∙ ap (map (log_line names)) (tape-join (reverse more) (reverse block))
     ∙ map-append (log_line names) (tape (reverse block)) (tape (reverse more))
 
--- the lines of blocks are those of their entries
+-- The lines of the blocks are the lines of all their entries.
 pub blocks-log : (names : List (List ℕ)) (blocks : List (List Entry)) → log_lines names (reverse (entries_in blocks)) ≡ lines_of_blocks names blocks
 blocks-log names [] = refl
 blocks-log names (b ∷ blocks) = lines-join names b (entries_in blocks) ∙ ap (λ (ls : List (List ℕ)). log_lines names (reverse b) ++ ls) (blocks-log names blocks)

@@ -1,8 +1,8 @@
-//! The log of a bus: its record's tried frames as lines of text, in the shape of candump's log files.
+//! The log of a bus: the tried frames of its record as lines of text, in the format of candump's log files.
 //!
-//! `write_tape` writes one line for each frame that was tried, the oldest first, and `write_entries` those of some entries
-//! of a run that goes on. `specs/Log.antt` says what
-//! a line is, byte for byte. Where the writer fails, the fault says how many whole lines went out.
+//! `write_tape` writes one line for each tried frame of a record, the oldest first. `write_entries` writes the lines for a
+//! block of entries while a long run continues. `specs/Log.antt` defines a line byte for byte. If the writer fails, the
+//! fault reports the number of whole lines that were written.
 #![tactic(auto)]
 
 mod lines;

@@ -6,11 +6,11 @@ use can_attempt::Class;
 use can_event::Tried;
 use can_frame::{Iface, Item, Moment, Names, Text, frame_text};
 
-/// A line of the log. The longest has 176 bytes: 20 to the space after the moment, 15 of a name, a space, 139
-/// of a frame and one LF.
+/// A line of the log. The longest line has 176 bytes: 20 bytes up to the space after the moment, 15 for the name, 1 for a
+/// space, 139 for the frame and 1 for LF.
 pub type LogLine = Text<192>;
 
-/// The line of a tried frame.
+/// Returns the line of a tried frame.
 pub fn log_line(names: &Names, tried: &Tried) -> LogLine
     requires { AreNames names.now }
     ensures { result ≡ log_line names.now tried.now }
@@ -25,7 +25,7 @@ pub fn log_line(names: &Names, tried: &Tried) -> LogLine
     line
 }
 
-/// Adds the moment in brackets.
+/// Appends the moment in brackets.
 fn push_stamp(line: &mut LogLine, moment: Moment)
     requires { length line.old + 19 ≤ 192 }
     ensures text { line.new ≡ line.old ++ stamp moment }
@@ -39,7 +39,7 @@ fn push_stamp(line: &mut LogLine, moment: Moment)
     line.push(b')');
 }
 
-/// Adds the interface's name.
+/// Appends the name of the interface.
 fn push_name(line: &mut LogLine, names: &Names, iface: Iface)
     requires names { AreNames names.now }
     requires room { length line.old + 15 ≤ 192 }
@@ -52,7 +52,7 @@ fn push_name(line: &mut LogLine, names: &Names, iface: Iface)
     }
 }
 
-/// Adds what became of the frame.
+/// Appends the text of the frame, or an error message frame if the frame was destroyed or not acknowledged.
 fn push_text(line: &mut LogLine, tried: &Tried)
     requires { length line.old + 139 ≤ 192 }
     ensures text { line.new ≡ line.old ++ tried_text tried.now.class tried.now.frame }

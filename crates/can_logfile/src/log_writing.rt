@@ -13,29 +13,30 @@ use can_record_text::write_line;
 use std::io::Write;
 use thiserror::Error;
 
-/// The writer failed, after this many whole lines.
+/// The writer failed after this many whole lines.
 #[derive(Debug, Clone, Copy, PartialEq, Eq, Error)]
 #[error("write fault")]
 pub struct LogFault {
-    /// How many whole lines went out before. A part of the next line may be out too, but not all of it.
+    /// The number of whole lines that were written before the fault. A part of the next line may also have been written,
+    /// but not the whole line.
     pub whole_lines: u64,
 }
 
-/// Writes the record's tape: a line for each tried frame, the oldest first. Returns how many lines.
+/// Writes the tape of a record: a line for each tried frame, the oldest first. It returns the number of lines.
 ///
-/// A line is `(SSSSSSSSSS.MMMMMM) NAME TEXT` and LF: the moment in seconds, the name of the winner's
-/// interface (`?` where it has none), and the frame's text. Where the frame was destroyed the text is
-/// `20000080#0000000000000000`, and where nobody acknowledged it `200000A0#0000000000000000`: error message
-/// frames of the classes CAN_ERR_BUSERROR and CAN_ERR_BUSERROR with CAN_ERR_ACK (linux/can/error.h).
+/// A line is `(SSSSSSSSSS.MMMMMM) NAME TEXT` and LF: the moment in seconds, the name of the winner's interface (`?` if it
+/// has no name), and the text of the frame. If the frame was destroyed, the text is `20000080#0000000000000000`. If nobody
+/// acknowledged the frame, the text is `200000A0#0000000000000000`. These are error message frames of the class
+/// CAN_ERR_BUSERROR, in the second case together with CAN_ERR_ACK (linux/can/error.h).
 ///
-/// Each line is made in place, takes no memory and goes out in one write if the writer takes it whole.
-/// So a writer to a file should be a buffered one, and it is the caller's to flush. A write that takes no
-/// byte, and one that was interrupted, is a fault.
+/// Each line is made in place, without taking memory, and takes one write if the writer accepts it whole. So a writer to a
+/// file should be buffered, and the caller has to flush it. A write that accepts no byte is a fault, and so is an
+/// interrupted write.
 pub fn write_tape<W: Write>(names: &Names, record: &Record, writer: &mut W) -> Result<u64, LogFault>
     ensures { LinesGoOut (W.contents writer.old) (W.contents writer.new)
         (log_lines names.now «record».now.history) result }
 {
-    // Counting the names shows that none is long.
+    // Counting the names shows the prover that no name is too long.
     let _count = names.count();
     let mut whole_lines = 0;
     for place in 0..record.len() {
@@ -49,10 +50,10 @@ pub fn write_tape<W: Write>(names: &Names, record: &Record, writer: &mut W) -> R
     Ok(whole_lines)
 }
 
-/// Writes the lines of the frames that were tried in these entries, which are the next ones of a history. Returns how
-/// many lines.
+/// Writes the lines of the frames that were tried in these entries, which are the next entries of a history. It returns the
+/// number of lines.
 ///
-/// They are lines of the tape, and go out as `write_tape` says.
+/// The lines are written in the same format and in the same way as by `write_tape`.
 pub fn write_entries<W: Write>(
     names: &Names,
     entries: &PackedRecord,
@@ -61,7 +62,7 @@ pub fn write_entries<W: Write>(
     ensures { LinesGoOut (W.contents writer.old) (W.contents writer.new)
         (log_lines names.now (reverse entries.now.entries)) result }
 {
-    // Counting the names shows that none is long.
+    // Counting the names shows the prover that no name is too long.
     let _count = names.count();
     let mut whole_lines = 0;
     for place in 0..entries.len() {
@@ -75,13 +76,14 @@ pub fn write_entries<W: Write>(
     Ok(whole_lines)
 }
 
-/// The lines of blocks of entries, one block after another, are those of all their entries.
+/// The lines of the blocks, one block after another, are the lines of all their entries.
 pub fn blocks_make_the_log()
     ensures { (names : List (List ℕ)) (blocks : List (List AnEntry)) →
         log_lines names (reverse (entries_in blocks)) ≡ lines_of_blocks names blocks }
 {}
 
-/// Writes the line of a frame that was tried, after this many whole lines. Returns how many there are with it.
+/// Writes the line of a tried frame. `whole_lines` is the number of lines written before; it returns the number that
+/// includes this line.
 fn write_tried<W: Write>(
     names: &Names,
     tried: &Tried,
@@ -102,21 +104,21 @@ fn write_tried<W: Write>(
     }
 }
 
-/// The frame that was tried in the entry of a record at a place.
+/// Returns the frame that was tried in the entry at a place of a record, if there is one.
 fn tried_at(record: &Record, place: usize) -> Option<Tried>
     ensures { result ≡ tried_in (slice_get (reverse «record».now.history) place) }
 {
     tried_of(&record.entry(place)?.entry().reply)
 }
 
-/// The same of entries.
+/// Returns the frame that was tried in the entry at a place of a list, if there is one.
 fn tried_among(entries: &PackedRecord, place: usize) -> Option<Tried>
     ensures { result ≡ tried_in (slice_get entries.now.entries place) }
 {
     tried_of(&entries.look(place)?.entry().reply)
 }
 
-/// The frame that was tried, where one was.
+/// Returns the frame that was tried, if the reply has one.
 fn tried_of(reply: &Reply) -> Option<Tried>
     ensures { result ≡ tried_of reply.now }
 {

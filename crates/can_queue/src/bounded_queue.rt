@@ -3,10 +3,10 @@ ghost use Rattle.std.specs.Prelude.{◌≡◌, ◌∷◌, ◌++◌, ◌<◌, ◌
 use std::alloc::{AllocError, Global};
 use thiserror::Error;
 
-/// Why no queue was made.
+/// Why a queue could not be made.
 #[derive(Debug, Clone, Copy, PartialEq, Eq, Error)]
 pub enum QueueError {
-    /// A queue of capacity 0 was asked for.
+    /// The requested capacity was 0.
     #[error("bad capacity")]
     BadCapacity,
     /// Memory was refused.
@@ -24,21 +24,21 @@ impl From<AllocError> for QueueError {
     }
 }
 
-/// A first-in first-out queue, whose capacity is at least 1 and stays.
+/// A first-in first-out queue. Its capacity is at least 1 and never changes.
 pub trait BoundedQueue<T>: Drop {
-    /// What waits, the oldest item first.
+    /// The waiting items, the oldest first.
     ghost contents: { Self → List T };
 
-    /// How many items may wait.
+    /// The largest number of waiting items.
     ghost capacity_of: { Self → ℕ };
 
-    /// An empty queue with room for this many items. `NoMemory` only if memory was refused.
+    /// Returns an empty queue with this capacity. `NoMemory` is returned only if memory was refused.
     fn with_capacity(alloc: Global, capacity: usize) -> Result<Self, QueueError>
         ensures empty { IfOk result (λ queue. contents queue ≡ []) }
         ensures capacity { IfOk result (λ queue. capacity_of queue ≡ capacity) }
         ensures bad { (result ≡ Err QueueError.BadCapacity) ↔ (capacity ≡ 0) };
 
-    /// Appends the item, or gives it back where the queue is full.
+    /// Appends the item, or returns it as the error if the queue is full.
     fn try_push(&mut self, item: T) -> Result<(), T>
         ensures ok { OnOk result (length (contents self.old) < capacity_of self.old) }
         ensures pushed { OnOk result (contents self.new ≡ contents self.old ++ item ∷ []) }
@@ -49,33 +49,33 @@ pub trait BoundedQueue<T>: Drop {
         ensures unchanged { OnErr result (contents self.new ≡ contents self.old) }
         ensures capacity { capacity_of self.new ≡ capacity_of self.old };
 
-    /// Takes the oldest item, or returns `None` if none waits.
+    /// Takes the oldest item, or returns `None` if no item waits.
     fn pop(&mut self) -> Option<T>
         ensures taken { result ≡ slice_get (contents self.old) 0 }
         ensures rest { contents self.new ≡ drop 1 (contents self.old) }
         ensures capacity { capacity_of self.new ≡ capacity_of self.old };
 
-    /// Looks at the oldest item.
+    /// Returns the oldest item without taking it.
     fn front(&self) -> Option<&T>
         ensures { option_copied result ≡ slice_get (contents self.now) 0 };
 
-    /// How many items wait.
+    /// Returns the number of waiting items.
     fn len(&self) -> usize
         ensures { result ≡ length (contents self.now) };
 
-    /// How many items may wait.
+    /// Returns the capacity of the queue.
     fn capacity(&self) -> usize
         ensures { result ≡ capacity_of self.now };
 
-    /// Drops all items, and returns how many there were.
+    /// Drops all waiting items, and returns the number of dropped items.
     fn clear(&mut self) -> usize
         ensures removed { result ≡ length (contents self.old) }
         ensures empty { contents self.new ≡ [] }
         ensures capacity { capacity_of self.new ≡ capacity_of self.old };
 
-    /// There is room for at least one item.
+    /// The capacity is at least 1.
     ghost holds_some: { (queue : Self) → 0 < capacity_of queue };
 
-    /// No more items wait than the capacity.
+    /// The number of waiting items is at most the capacity.
     ghost within: { (queue : Self) → length (contents queue) ≤ capacity_of queue };
 }

@@ -4,11 +4,11 @@ use crate::bounded_queue::{BoundedQueue, QueueError};
 use circular_buffer::HeapCircularBuffer;
 use std::alloc::Global;
 
-/// A queue in a ring: one block that `with_capacity` takes and leaves as it is, round whose end the items
-/// go on.
+/// A queue in a ring buffer: one block of memory that `with_capacity` takes and that never grows. After the end of the
+/// block the items continue at its start.
 ///
-/// `try_push`, `pop`, `front`, `get` and `len` take constant time, `clear` a time that grows with the number of
-/// items that wait. A full ring gives the item back: it never overwrites one.
+/// `try_push`, `pop`, `front`, `get` and `len` take constant time. The time of `clear` grows with the number of waiting
+/// items. If the ring is full, a new item is returned to the caller: no waiting item is overwritten.
 #[derive(Drop)]
 pub struct RingQueue<T> {
     ring: HeapCircularBuffer<T>,
@@ -17,7 +17,7 @@ pub struct RingQueue<T> {
 }
 
 impl<T> RingQueue<T> {
-    /// Looks at the item that has this many before it.
+    /// Returns the waiting item at this place. The oldest item has place 0.
     pub fn get(&self, place: usize) -> Option<&T>
         ensures { option_copied result ≡ slice_get self.now.ring.items place }
     {

@@ -15,7 +15,7 @@ use Rattle.can_record.specs.declared.packed_entry.PackedEntry.TheVariants as kep
 use Rattle.can_record.specs.FrameWords.{no_frame}
 use Rattle.can_record.specs.PackedEntry.{entry_in, frames_needed, AreWithin, fd_frame_at, fd_frames, fd_frames_of, fd_frames_of_item}
 
--- What is kept gives the same entry where the list of FD frames has grown after its place.
+-- A packed entry stands for the same entry after FD frames are added at the end of the list.
 
 same_place : (fs more : List CanFrame) (place : ℕ) → place + 1 ≤ length fs → fd_frame_at (fs ++ more) place ≡ fd_frame_at fs place
 same_place fs more place h = get_or-append fs more no_frame place (omega arith)
@@ -50,11 +50,11 @@ same_entries : (fs more : List CanFrame) (ks : List PackedEntry) → AreWithin (
 same_entries fs more [] h = refl
 same_entries fs more (k ∷ ks) h = rw (same_entry fs more k (All-head (λ j. frames_needed j ≤ length fs) k ks h), same_entries fs more ks (All-tail (λ j. frames_needed j ≤ length fs) k ks h))
 
--- so where one more is kept, its entry comes after the others
+-- so after one more entry is added, the list has the same entries as before, and then that entry
 pub entries_pushed : (fs more : List CanFrame) (ks : List PackedEntry) (k : PackedEntry) → AreWithin (length fs) ks → map (entry_in (fs ++ more)) (ks ++ k ∷ []) ≡ map (entry_in fs) ks ++ entry_in (fs ++ more) k ∷ []
 entries_pushed fs more ks k h = rw (map-append (entry_in (fs ++ more)) ks (k ∷ []), same_entries fs more ks h)
 
--- and all places are within the list
+-- and every place in the packed entries is within the list
 pub within_pushed : (fs more : List CanFrame) (ks : List PackedEntry) (k : PackedEntry) → AreWithin (length fs) ks → frames_needed k ≤ length (fs ++ more) → AreWithin (length (fs ++ more)) (ks ++ k ∷ [])
 within_pushed fs more ks k h n = All-push (λ j. frames_needed j ≤ length (fs ++ more)) ks k (All-weaker (λ j. frames_needed j ≤ length fs) (λ j. frames_needed j ≤ length (fs ++ more)) (λ j m. omega (arith, m, length-append fs more)) ks h) n
 

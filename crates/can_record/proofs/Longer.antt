@@ -8,7 +8,7 @@ use Rattle.can_record.specs.Records.{PackedEntries}
 use Rattle.can_record.specs.declared.entry_store.EntryStore.{EntryStore}
 use Rattle.can_record.specs.declared.entry_store.EntryStore.TheVariants.{Packed}
 
--- a bus's record stays a record where an entry that has a line comes after the others
+-- the record of a bus stays a record if an entry that has a line is added at the end
 pub still_record : (config now : BusConfig) (held : EntryStore) (packed : PackedEntries) (e : Entry) (new : List Entry) → config ≡ now → held ≡ Packed packed → IsRecord config (entries_in held) → IsSpelled now e → new ≡ packed.entries ++ e ∷ [] → IsRecord config new
 still_record config now held packed e new same is r fits adds =
     let spelled : All (IsSpelled config) packed.entries = subst (λ (h : EntryStore). All (IsSpelled config) (entries_in h)) is r.spelled in

@@ -3,7 +3,7 @@ use Rattle.std.proofs.Math.ListN.{drop_of_length-le}
 use Rattle.std.proofs.lemmas.List.{drop_more}
 use Rattle.std.proofs.lemmas.Option.{slice_get_within, get_or_from_slice_get}
 
--- what a list has from a place on: the element there and those after it, or nothing
+-- the rest of a list from a place on: the element at that place and those after it, or an empty list past the end
 pub from_some : {X : Type 0} (xs : List X) (n : ℕ) (x : X) → Some x ≡ slice_get xs n → drop n xs ≡ x ∷ drop (n + 1) xs
 from_some xs n x at = drop_more xs n x (slice_get_within xs n x (sym at)) ∙ ap (λ y. y ∷ drop (n + 1) xs) (get_or_from_slice_get xs n x x (sym at))
 

@@ -7,18 +7,19 @@ use Rattle.can_event.specs.declared.reply.Reply.{Reply}
 use Rattle.can_event.specs.declared.attempt.Attempt.TheVariants as attempt
 use Rattle.can_event.specs.declared.reply.Reply.TheVariants as reply
 
--- Which entries need a box: they do not fit in 32 bytes, and take memory of their own (own choice).
+-- The entries that need a box: they do not fit in 32 bytes, and take additional memory (own choice).
 
--- the number of a frame does not fit 32 bits; no frame of a legal record has such a number
+-- The number of a frame does not fit in 32 bits. No frame of a legal record has such a number.
 abbrev pub is_large : ℕ → Bool
 is_large number = nat_le (2 ^ 32) number
 
--- of the interfaces, at most the winner went bus off
+-- No interface except the winner went bus off.
 abbrev pub is_off_alone : ℕ → IfaceSet → Bool
 is_off_alone winner off = (off.0 == 0) || (off.0 == 2 ^ winner)
 
--- the filters of a socket need a box, and so does what no bus returns: another kind of reply than the event has, an
--- attempt at another moment, in which others than the winner went off, or numbers that no record reaches
+-- The entry needs a box. This holds for the filters of a socket, and for entries that no bus returns: a reply of
+-- another kind than the event, an attempt with another moment, an attempt in which another interface than the winner
+-- went bus off, or a number that no record reaches.
 abbrev pub needs_box : Event → Reply → Bool
 needs_box (Open i capacity) (reply.Opened s) = false
 needs_box (Open i capacity) (reply.Refused why) = false

@@ -3,12 +3,12 @@ use Rattle.can_event.specs.declared.entry.Entry.{Entry}
 use Rattle.can_record.specs.declared.entry_store.EntryStore.{EntryStore}
 use Rattle.can_record.specs.declared.entry_store.EntryStore.TheVariants.{Packed, Given}
 
--- the entries of a record, the oldest first
+-- The entries of a record, the oldest first.
 abbrev pub entries_in : EntryStore → List Entry
 entries_in (Packed entries) = entries.entries
 entries_in (Given entries) = entries.items
 
--- how many of a bus's entries there is memory for; to a list that was handed in no bus adds
+-- The number of entries for which a bus has memory. It is 0 for a given list, because no bus adds entries to it.
 abbrev pub room_in : EntryStore → ℕ
 room_in (Packed entries) = entries.room
 room_in (Given entries) = 0

@@ -7,12 +7,12 @@ use Rattle.can_event.specs.declared.reply.Reply.{Reply}
 use Rattle.can_event.specs.declared.reply.Reply.TheVariants as reply
 use Rattle.can_event.specs.Replies.{entry_of}
 
--- What a call came to, as the reply that a record has.
+-- The result of a call, as a reply in the record.
 
--- the entry of an attempt that came to this (own choice)
+-- The entry of an attempt with this result (own choice).
 abbrev pub attempt_entry : ℕ → Verdict → Attempt → Entry
 attempt_entry m v a = entry_of (event.Attempt m v) (reply.Attempted a)
 
--- the reply to a call that only changes something (own choice)
+-- The reply to a call that has no result (own choice).
 abbrev pub done_reply : Unit {0} → Reply
 done_reply done = reply.Done

@@ -27,29 +27,30 @@ use Rattle.can_record.specs.FrameWords.{frame_in, no_frame}
 use Rattle.can_record.specs.Moments.{moment_in}
 use Rattle.can_record.specs.Verdicts.{class_in, verdict_in}
 
--- The entry that is kept in 32 bytes, beside a list of FD frames.
+-- Entries packed in 32 bytes, with a separate list of FD frames.
 
--- the FD frame at a place of the list; no entry of a record has a place past its end
+-- The FD frame at a place of the list. No entry of a record has a place past the end.
 abbrev pub fd_frame_at : List CanFrame → ℕ → CanFrame
 fd_frame_at frames place = get_or frames place no_frame
 
--- the moment, winner, length of the frame and whether the winner went off are one number: 54, 4, 4 and 1 bits
+-- The moment in a stamp. A stamp is one number: the moment (54 bits), the winner (4), the length of the frame (4), and
+-- whether the winner went bus off (1).
 abbrev pub stamp_moment : ℕ → ℕ
 stamp_moment stamp = moment_in (stamp / 512)
 
--- the winner (own choice)
+-- The winner in a stamp (own choice).
 abbrev pub stamp_winner : ℕ → ℕ
 stamp_winner stamp = stamp / 32 % 16
 
--- the length of the frame (own choice)
+-- The length of the frame in a stamp (own choice).
 abbrev pub stamp_len : ℕ → ℕ
 stamp_len stamp = stamp / 2 % 16
 
--- the interfaces that went bus off: the winner, or none (own choice)
+-- The interfaces that went bus off, from a stamp: either only the winner, or none (own choice).
 abbrev pub stamp_off : ℕ → IfaceSet
 stamp_off stamp = if stamp % 2 == 0 then no_ifaces else record { 0 = 2 ^ stamp_winner stamp }
 
--- the frame that was tried; end is the number of its class and, times 4, of the attempt's verdict
+-- The tried frame of a packed entry. `end` is the number of its class plus 4 times the number of the attempt's verdict.
 abbrev pub tried_in : ℕ → ℕ → ℕ → IfaceSet → IfaceSet → List ℕ → ℕ → Tried
 tried_in end word number accepted restarted bytes stamp = record {
   moment = stamp_moment stamp;
@@ -62,7 +63,7 @@ tried_in end word number accepted restarted bytes stamp = record {
   restarted = restarted;
 }
 
--- the entry
+-- The entry that a packed entry stands for.
 abbrev pub entry_in : List CanFrame → PackedEntry → Entry
 entry_in frames (kept.Opened i capacity s) = entry_of (Open i capacity) (reply.Opened s)
 entry_in frames (kept.OpenRefused i capacity why) = entry_of (Open i capacity) (reply.Refused why)
@@ -108,12 +109,12 @@ entry_in frames (kept.TakenDown i m) = entry_of (Down i m) reply.Done
 entry_in frames (kept.DownRefused i m why) = entry_of (Down i m) (reply.Refused why)
 entry_in frames (kept.Boxed entry) = entry.value
 
--- it has no memory of its own
+-- The packed entry is not boxed.
 abbrev pub IsSmall : PackedEntry → Type 0
 IsSmall (kept.Boxed entry) = ⊥
 IsSmall _ = Unit {0}
 
--- how many FD frames the list has to have for its place to be within it
+-- The number of FD frames that the list needs, so that the place in this packed entry is within the list.
 abbrev pub frames_needed : PackedEntry → ℕ
 frames_needed (kept.FdSent s number place) = place + 1
 frames_needed (kept.FdSendRefused why s place) = place + 1
@@ -121,53 +122,53 @@ frames_needed (kept.FdReceived from s number place m) = place + 1
 frames_needed (kept.FdTried end winner number named accepted off restarted place m) = place + 1
 frames_needed _ = 0
 
--- the places of all are within a list with this many FD frames
+-- All packed entries have their places within a list of this many FD frames.
 abbrev pub AreWithin : ℕ → List PackedEntry → Type 0
 AreWithin count = All (λ k. frames_needed k ≤ count)
 
--- the frame that is kept
+-- The frame that a packed frame stands for.
 abbrev pub frame_kept : List CanFrame → PackedFrame → CanFrame
 frame_kept frames (place.Words word len bytes) = frame_in word len bytes
 frame_kept frames (place.Place at) = fd_frame_at frames at
 
--- how many FD frames the list has to have for its place to be within it
+-- The number of FD frames that the list needs, so that the place in this packed frame is within the list.
 abbrev pub frames_needed_for : PackedFrame → ℕ
 frames_needed_for (place.Words word len bytes) = 0
 frames_needed_for (place.Place at) = at + 1
 
--- its length is at most 8
+-- The length of a packed frame is at most 8, unless it is an FD frame.
 abbrev pub IsShort : PackedFrame → Type 0
 IsShort (place.Words word len bytes) = len ≤ 8
 IsShort (place.Place at) = Unit {0}
 
--- what a frame adds to the list of FD frames
+-- The FD frames that a frame adds to the list.
 abbrev pub fd_frames_of : CanFrame → List CanFrame
 fd_frames_of frame = if is_fd frame.payload then frame ∷ [] else []
 
--- what an item adds to the list of FD frames (own choice)
+-- The FD frames that an item adds to the list (own choice).
 abbrev pub fd_frames_of_item : Item → List CanFrame
 fd_frames_of_item (item.Data frame) = fd_frames_of frame
 fd_frames_of_item (item.Error error) = []
 
--- what an entry adds to that list (own choice)
+-- The FD frames that an entry adds to the list (own choice).
 abbrev pub fd_frames : Event → Reply → List CanFrame
 fd_frames (Send s frame) r = fd_frames_of frame
 fd_frames (Receive s) (reply.Received (Some r)) = fd_frames_of_item r.item
 fd_frames (Attempt m v) (reply.Attempted (attempt.Tried t)) = fd_frames_of t.frame
 fd_frames _ _ = []
 
--- the entry of a receive that came to this with the room (own choice)
+-- The entry of a receive call with this result, which used this room (own choice).
 abbrev pub receive_entry : SocketId → Received → Result Bool Refusal → Entry
 receive_entry s room outcome = entry_of (Receive s) (receive_reply room outcome)
 
--- what the entry of such a receive adds to the list of FD frames (own choice)
+-- The FD frames that the entry of a receive call adds to the list (own choice).
 abbrev pub receive_frames : SocketId → Received → Result Bool Refusal → List CanFrame
 receive_frames s room outcome = fd_frames (Receive s) (receive_reply room outcome)
 
--- the entry of a send that came to this (own choice)
+-- The entry of a send call with this result (own choice).
 abbrev pub send_entry : SocketId → CanFrame → Result ℕ Refusal → Entry
 send_entry s frame outcome = entry_of (Send s frame) (told reply.Sent outcome)
 
--- the entry of an attempt that tried this frame (own choice)
+-- The entry of an attempt that tried this frame (own choice).
 abbrev pub tried_entry : ℕ → Verdict → Tried → Entry
 tried_entry m v t = entry_of (Attempt m v) (reply.Attempted (attempt.Tried t))

@@ -5,14 +5,14 @@ use Rattle.can_event.specs.declared.entry.Entry.{Entry}
 use Rattle.can_event.specs.declared.reply.Reply.{Reply}
 use Rattle.can_event.specs.declared.reply.Reply.TheVariants as reply
 
--- The frames that were tried, by a history.
+-- The frames that were tried in a history.
 
--- tape after one more entry (own choice)
+-- The tape after one more entry (own choice).
 abbrev pub tape_after : Reply → List Tried → List Tried
 tape_after (reply.Attempted (attempt.Tried t)) before = before ++ t ∷ []
 tape_after _ before = before
 
--- the attempts in which a frame was tried: an attempt's number is its place
+-- The attempts that tried a frame, in order. The number of an attempt is its place in this list.
 abbrev pub tape : List Entry → List Tried
 tape [] = []
 tape (e ∷ past) = tape_after e.reply (tape past)

@@ -10,19 +10,19 @@ use Rattle.can_fault.specs.declared.verdict.Verdict.TheVariants.{Good, Global, L
 
 -- Classes and verdicts as numbers.
 
--- the number of a class, below 4
+-- The number that stands for a class, below 4.
 abbrev pub class_number : Class → ℕ
 class_number class.Done = 0
 class_number class.LastBit = 1
 class_number class.Destroyed = 2
 class_number class.NoAck = 3
 
--- the class of a number
+-- The class for a number.
 abbrev pub class_in : ℕ → Class
 class_in n =
     if n == 0 then class.Done else if n == 1 then class.LastBit else if n == 2 then class.Destroyed else class.NoAck
 
--- the number of a verdict without its interfaces, below 8
+-- The number that stands for a verdict without its interfaces, below 8.
 abbrev pub verdict_number : Verdict → ℕ
 verdict_number Good = 0
 verdict_number (Global global.Bit) = 1
@@ -32,12 +32,12 @@ verdict_number (Local set local.Crc) = 4
 verdict_number (Local set local.Form) = 5
 verdict_number LastBit = 6
 
--- the interfaces that a verdict names
+-- The interfaces that a verdict names.
 abbrev pub verdict_set : Verdict → IfaceSet
 verdict_set (Local set kind) = set
 verdict_set _ = no_ifaces
 
--- the verdict of a number and these interfaces
+-- The verdict for a number, naming these interfaces.
 abbrev pub verdict_in : ℕ → IfaceSet → Verdict
 verdict_in n set =
     if n == 0 then Good

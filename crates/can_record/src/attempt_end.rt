@@ -7,7 +7,7 @@ use can_fault::Verdict;
 use can_frame::IfaceSet;
 use std::marker::Model;
 
-/// The class of an attempt, and its verdict without the interfaces that it names, in 8 bits.
+/// The class of an attempt and its verdict in 8 bits. The interfaces that the verdict names are stored separately.
 #[derive(Clone, Copy)]
 pub struct AttemptEnd {
     bits: u8,
@@ -24,7 +24,7 @@ impl Model for AttemptEnd {
 }
 
 impl AttemptEnd {
-    /// The end of an attempt of this class and with this verdict.
+    /// Returns the packed end of an attempt with this class and this verdict.
     #[inline(always)]
     pub(crate) fn new(class: Class, verdict: Verdict) -> AttemptEnd
         ensures class { class_in (result % 4) ≡ class }
@@ -42,7 +42,7 @@ impl AttemptEnd {
         class_in(self.bits % 4)
     }
 
-    /// The verdict, which names these interfaces.
+    /// Returns the verdict, given the interfaces that it names.
     pub fn verdict(self, named: IfaceSet) -> Verdict
         ensures { result ≡ verdict_in (self / 4) named }
     {

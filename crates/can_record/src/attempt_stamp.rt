@@ -6,7 +6,7 @@ use crate::frame_words::moment_in;
 use can_frame::{Iface, IfaceSet, Moment};
 use std::marker::Model;
 
-/// The moment of an attempt, the winner, the length of its frame and whether the winner went bus off, in 64 bits.
+/// The moment of an attempt, the winner, the length of its frame, and whether the winner went bus off, packed in 64 bits.
 #[derive(Clone, Copy)]
 pub struct AttemptStamp {
     bits: u64,
@@ -23,7 +23,7 @@ impl Model for AttemptStamp {
 }
 
 impl AttemptStamp {
-    /// The stamp of an attempt in which at most the winner went bus off.
+    /// Returns the stamp of an attempt. No interface except the winner may have gone bus off.
     #[inline(always)]
     pub(crate) fn new(moment: Moment, winner: Iface, len: u8, off: IfaceSet) -> AttemptStamp
         requires short { len ≤ 8 }
@@ -54,14 +54,14 @@ impl AttemptStamp {
         Iface::new((self.bits / 32 % 16) as u8).unwrap()
     }
 
-    /// The length of its frame.
+    /// Returns the length of the frame.
     pub fn len(self) -> u8
         ensures { result ≡ stamp_len self }
     {
         (self.bits / 2 % 16) as u8
     }
 
-    /// The interfaces that went bus off: the winner, or none.
+    /// Returns the interfaces that went bus off: either only the winner, or none.
     pub fn off(self) -> IfaceSet
         ensures { result ≡ stamp_off self }
     {

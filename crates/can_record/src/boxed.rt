@@ -7,7 +7,7 @@ ghost use Rattle.can_record.specs.Boxed.{needs_box, is_large, is_off_alone};
 use can_event::{Attempt, Event, Received, Refusal, Reply};
 use can_frame::{Iface, IfaceSet};
 
-/// Whether an entry does not fit in 32 bytes.
+/// Returns whether the entry needs a box because it does not fit in 32 bytes.
 pub fn needs_box(event: &Event, reply: &Reply) -> bool
     ensures { result ≡ needs_box event.now reply.now }
 {
@@ -30,7 +30,8 @@ pub fn needs_box(event: &Event, reply: &Reply) -> bool
     }
 }
 
-/// Whether the entry of a receive does not fit in 32 bytes: it took an item into the room, or took none, or was refused.
+/// Returns whether the entry of a receive call needs a box because it does not fit in 32 bytes. The call took an item into `room`,
+/// took none, or was refused.
 pub fn receive_needs_box(outcome: Result<bool, Refusal>, room: &Received) -> bool
     ensures { (id : SocketId) →
         result ≡ needs_box (asked.Receive id) (receive_reply room.now outcome) }
@@ -41,14 +42,14 @@ pub fn receive_needs_box(outcome: Result<bool, Refusal>, room: &Received) -> boo
     }
 }
 
-/// Whether the number of a frame does not fit in the 32 bits that a packed entry has for it.
+/// Returns whether the number of a frame needs more than the 32 bits that a packed entry has for it.
 fn is_large(number: u64) -> bool
     ensures { result ≡ is_large number }
 {
     number >= 0x1_0000_0000
 }
 
-/// Whether at most the winner went bus off.
+/// Returns whether no interface except the winner went bus off.
 fn is_off_alone(winner: Iface, off: IfaceSet) -> bool
     ensures { result ≡ is_off_alone winner off }
 {

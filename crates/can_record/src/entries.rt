@@ -6,7 +6,7 @@ use crate::entry_ref::EntryRef;
 use crate::entry_store::EntryStore;
 use std::marker::Model;
 
-/// The entries of a record, the oldest first, as `Record::entries` lends them. Contracts see the list.
+/// The entries of a record, the oldest first, borrowed by `Record::entries`. Contracts see them as a list.
 #[derive(Drop)]
 pub struct Entries<'a> {
     held: &'a EntryStore,
@@ -23,14 +23,14 @@ impl<'a> Model for Entries<'a> {
 }
 
 impl<'a> Entries<'a> {
-    /// The entries that are held here.
+    /// Returns the entries of this store.
     pub(crate) fn of(held: &'a EntryStore) -> Entries<'a>
         ensures { result ≡ entries_in held.now }
     {
         Entries { held }
     }
 
-    /// How many entries there are.
+    /// Returns the number of entries.
     pub fn len(&self) -> usize
         ensures { result ≡ length self.now }
     {
@@ -38,14 +38,14 @@ impl<'a> Entries<'a> {
         held.len()
     }
 
-    /// Whether there are none.
+    /// Returns whether the record has no entries.
     pub fn is_empty(&self) -> bool
         ensures { result ≡ (length self.now == 0) }
     {
         self.len() == 0
     }
 
-    /// The entry at a place, from 0 for the oldest, if there is one. No memory is taken.
+    /// Returns the entry at a place, or `None` if the place is past the end. Place 0 is the oldest entry. It takes no memory.
     pub fn get(&self, place: usize) -> Option<EntryRef<'a>>
         ensures { result ≡ slice_get self.now place }
     {
@@ -53,7 +53,7 @@ impl<'a> Entries<'a> {
         held.get(place)
     }
 
-    /// Goes over the entries, the oldest first. No memory is taken.
+    /// Returns an iterator over the entries, the oldest first. It takes no memory.
     pub fn iter(&self) -> EntriesIter<'a>
         ensures { result ≡ self.now }
     {
@@ -64,7 +64,7 @@ impl<'a> Entries<'a> {
     }
 }
 
-/// Goes over the entries of a record, the oldest first. Contracts see the list of those that are left.
+/// An iterator over the entries of a record, the oldest first. Contracts see it as the list of the remaining entries.
 #[derive(Drop)]
 pub struct EntriesIter<'a> {
     held: &'a EntryStore,

@@ -7,13 +7,13 @@ use can_event::Entry;
 use std::marker::Model;
 use std::ops::Deref;
 
-/// An entry that is read: made for that, or borrowed from where it is kept. Contracts see the entry.
+/// An entry to read: unpacked for the reader, or borrowed from the record. Contracts see it as the entry.
 #[derive(Drop)]
 pub struct EntryRef<'a> {
     cow: EntryCow<'a>,
 }
 
-/// Whose the entry is.
+/// An entry that is owned or borrowed.
 #[derive(Drop)]
 enum EntryCow<'a> {
     Owned(Entry),
@@ -30,7 +30,7 @@ impl<'a> Model for EntryRef<'a> {
 }
 
 impl<'a> EntryRef<'a> {
-    /// The entry that is stored: made of what is packed, or borrowed.
+    /// Returns a stored entry to read. A packed entry is unpacked; any other entry is borrowed.
     pub fn of(stored: &StoredEntry<'a>) -> EntryRef<'a>
         requires { IsStored stored.now }
         ensures { result ≡ entry_stored stored.now }

@@ -11,17 +11,17 @@ use can_event::{Entry, Received};
 use can_frame::Item;
 use std::alloc::{AllocError, Global};
 
-/// The entries of a record, the oldest first.
+/// The storage of a record's entries, the oldest first.
 #[derive(Drop)]
 pub enum EntryStore {
-    /// Those of a bus, in 32 bytes each.
+    /// The entries that a bus added, in 32 bytes each.
     Packed(PackedRecord),
-    /// Those that were handed in.
+    /// The entries that were given to `Record::from_entries` or `Record::from_spelled`.
     Given(Vec<Entry>),
 }
 
 impl EntryStore {
-    /// No entries, and memory for this many.
+    /// Returns a store without entries, with memory for `limit` entries.
     pub fn packed(alloc: Global, limit: u32) -> Result<EntryStore, AllocError>
         ensures empty { IfOk result (λ h. entries_in h ≡ []) }
         ensures room { IfOk result (λ h. limit ≤ room_in h) }
@@ -29,7 +29,7 @@ impl EntryStore {
         Ok(EntryStore::Packed(PackedRecord::with_capacity(alloc, limit)?))
     }
 
-    /// How many entries there are.
+    /// Returns the number of entries.
     #[inline(always)]
     pub fn len(&self) -> usize
         ensures { result ≡ length (entries_in self.now) }
@@ -40,7 +40,7 @@ impl EntryStore {
         }
     }
 
-    /// The entry at a place as it is stored, if there is one.
+    /// Returns the entry at a place in its stored form, or `None` if the place is past the end.
     pub fn stored(&self, place: usize) -> Option<StoredEntry<'_>>
         ensures entry { option_map entry_stored result ≡ slice_get (entries_in self.now) place }
         ensures stored { IfSome result IsStored }
@@ -54,7 +54,7 @@ impl EntryStore {
         }
     }
 
-    /// The entry at a place, if there is one.
+    /// Returns the entry at a place, or `None` if the place is past the end.
     pub fn get(&self, place: usize) -> Option<EntryRef<'_>>
         ensures { result ≡ slice_get (entries_in self.now) place }
     {
@@ -64,7 +64,7 @@ impl EntryStore {
         }
     }
 
-    /// A copy of all entries.
+    /// Returns a copy of all entries.
     pub fn to_entries(&self, alloc: Global) -> Result<Vec<Entry>, AllocError>
         ensures { IfOk result (λ es. es.items ≡ entries_in self.now) }
     {
@@ -79,7 +79,7 @@ impl EntryStore {
     }
 }
 
-/// An entry that is equal.
+/// Returns a copy of an entry.
 fn copy_of(alloc: Global, entry: &Entry) -> Result<Entry, AllocError>
     ensures { IfOk result (λ e. e ≡ entry.now) }
 {
@@ -90,13 +90,13 @@ fn copy_of(alloc: Global, entry: &Entry) -> Result<Entry, AllocError>
     })
 }
 
-/// Adds an entry where there is room for it.
+/// Adds an entry to a list that has memory for it.
 fn add(entries: &mut Vec<Entry>, entry: Entry)
     requires { length entries.old.items < vec_capacity entries.old }
     ensures items { Adds entries.old.items entry entries.new.items }
     ensures room { vec_capacity entries.old ≤ vec_capacity entries.new }
 {
-    // The checker has to meet the types inside a reply before a vector takes one.
+    // The checker has to see the types inside a reply before a vector stores one.
     let _types: Option<(Item, Received)> = None;
     let _ = entries.push(entry);
 }

@@ -6,7 +6,8 @@ ghost use Rattle.can_record.specs.Moments.{moment_in};
 use can_frame::{CanId, Frame, Moment};
 use std::marker::Model;
 
-/// The identifier word of a frame that is no FD frame (linux/can.h): the identifier, and whether it is a remote frame.
+/// The identifier word of a frame that is not an FD frame (linux/can.h). It holds the identifier, and whether the frame is a remote
+/// frame.
 #[derive(Clone, Copy)]
 pub struct IdWord {
     bits: u32,
@@ -34,7 +35,7 @@ impl IdWord {
         }
     }
 
-    /// Whether it is a remote frame.
+    /// Returns whether the frame is a remote frame.
     pub fn is_remote(self) -> bool
         ensures { result ≡ is_remote_word self }
     {
@@ -42,7 +43,7 @@ impl IdWord {
     }
 }
 
-/// The frame of an identifier word, a length and eight bytes.
+/// Returns the frame with this identifier word, this length and these bytes.
 pub fn frame_in(word: IdWord, len: u8, bytes: &[u8; 8]) -> Frame
     ensures { result ≡ frame_in word len bytes.now }
 {
@@ -53,7 +54,7 @@ pub fn frame_in(word: IdWord, len: u8, bytes: &[u8; 8]) -> Frame
     }
 }
 
-/// The bytes of a data frame of this length.
+/// Returns the first `len` bytes: the payload of a data frame with this length.
 pub fn data_in(len: u8, bytes: &[u8; 8]) -> &[u8]
     ensures data { result.now ≡ take (min len 8) bytes.now }
     ensures short { length result.now ≤ 8 }
@@ -61,27 +62,27 @@ pub fn data_in(len: u8, bytes: &[u8; 8]) -> &[u8]
     &bytes[..short_len(len) as usize]
 }
 
-/// A length that is at most 8.
+/// Returns the length, but at most 8.
 fn short_len(len: u8) -> u8
     ensures { result ≡ min len 8 }
 {
     if len <= 8 { len } else { 8 }
 }
 
-/// The word, the length and the eight bytes of a frame that is no FD frame.
+/// Returns the identifier word, the length and the eight bytes of a frame that is not an FD frame.
 #[inline(always)]
 pub fn frame_words(frame: &Frame) -> (IdWord, u8, [u8; 8])
     requires classic { is_fd frame.now.payload ≡ false }
     ensures back { frame_in result.0 result.1 result.2 ≡ frame.now }
     ensures short { result.1 ≤ 8 }
 {
-    // Its number is within its bits.
+    // This call shows the prover that the identifier is within its range.
     let _ = frame.id().number();
     let word = IdWord { bits: frame.word() };
     (word, frame.len(), eight_bytes(frame.bytes()))
 }
 
-/// These bytes, then zeros.
+/// Returns these bytes, padded with zeros to eight.
 #[inline(always)]
 fn eight_bytes(bytes: &[u8]) -> [u8; 8]
     requires { length bytes.now ≤ 8 }
@@ -95,7 +96,7 @@ fn eight_bytes(bytes: &[u8]) -> [u8; 8]
     all
 }
 
-/// The moment at a number of microseconds.
+/// Returns the moment at this number of microseconds, or moment 0 if the number is too large for a moment.
 pub fn moment_in(micros: u64) -> Moment
     ensures { result ≡ moment_in micros }
 {

@@ -1,12 +1,12 @@
 //! The record of a bus: its configuration, and each event on it with its reply.
 //!
-//! A bus's record takes 32 bytes for each entry, where `Entry` takes 208. What is kept gives back the very entry. An entry that
-//! a bus returns fits, but for the filters of a socket, which take memory of their own, as they do anyhow. FD frames are in a
-//! second list. The memory for all is taken at once, so that none is taken when an entry comes: `PackedRecord` is such a
-//! list, and `PackedList` one that grows, whose memory is taken before an entry comes.
+//! The record of a bus takes 32 bytes for each entry, while an `Entry` takes 208. Unpacking returns exactly the same entry. Every
+//! entry that a bus returns fits in 32 bytes, except one with the filters of a socket, which take additional memory in any case. FD
+//! frames are in a second list. The memory for all entries is taken at once, so adding an entry takes none. `PackedRecord` is such
+//! a list. `PackedList` can grow; its caller reserves memory before it adds an entry.
 //!
-//! `Record` is what a bus keeps and what is read back from a text. `EntryRef` is an entry that is read there: made for the look,
-//! or borrowed. `StoredEntry` shows how it is kept, for those who read many.
+//! `Record` is the record that a bus keeps, or that was read from a text. `EntryRef` is one of its entries, unpacked for the reader
+//! or borrowed. `StoredEntry` is an entry in its stored form, for callers that read many entries.
 #![tactic(auto)]
 
 mod attempt_end;

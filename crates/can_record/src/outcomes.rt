@@ -4,7 +4,7 @@ ghost use Rattle.can_event.specs.declared.reply.Reply.TheVariants as reply;
 
 use can_event::{Received, Refusal, Reply};
 
-/// The reply to a send, which gave the frame this number, or was refused.
+/// Returns the reply to a send call, which gave this number to the frame or was refused.
 pub fn sent_reply(outcome: &Result<u64, Refusal>) -> Reply
     ensures { result ≡ told reply.Sent outcome.now }
 {
@@ -14,7 +14,7 @@ pub fn sent_reply(outcome: &Result<u64, Refusal>) -> Reply
     }
 }
 
-/// The reply to a receive, which took an item into the room, or took none, or was refused.
+/// Returns the reply to a receive call, which took an item into `room`, took none, or was refused.
 pub fn receive_reply(outcome: Result<bool, Refusal>, room: &Received) -> Reply
     ensures { result ≡ receive_reply room.now outcome }
 {

@@ -5,10 +5,11 @@ use can_event::{Closed, Entry, Opt, Refusal, SocketId};
 use can_fault::Verdict;
 use can_frame::{ErrorFrame, Iface, IfaceSet, Moment};
 
-/// An entry in 32 bytes: fields are laid out in their order, so small ones come right after the kind.
+/// An entry in 32 bytes. The fields of a variant are laid out in the order in which they are declared, so the small ones come right
+/// after the tag.
 ///
-/// A frame of at most 8 bytes is kept by its identifier word, its length and its bytes. An FD frame is kept in a list
-/// beside the entries, and its entry has its place there.
+/// A frame that is not an FD frame is stored as its identifier word, its length and its bytes. FD frames are in a separate list,
+/// and an entry stores the place of its FD frame in that list.
 #[derive(Drop)]
 pub enum PackedEntry {
     Opened {
@@ -142,11 +143,11 @@ pub enum PackedEntry {
         moment: Moment,
         why: Refusal,
     },
-    /// Any entry, in memory of its own.
+    /// Any entry, in a box with its own memory.
     Boxed(Box<Entry>),
 }
 
-/// How the frame of an entry is kept: by its identifier word, its length and its bytes, or an FD frame by its place.
+/// The stored form of a frame: its identifier word, its length and its bytes, or the place of an FD frame in the list of FD frames.
 pub enum PackedFrame {
     Words {
         word: IdWord,

@@ -12,9 +12,9 @@ use can_event::{Entry, Event, Received, Refusal, Reply, SocketId};
 use std::alloc::{AllocError, Global};
 use std::marker::Model;
 
-/// A list of entries, the oldest first, of 32 bytes each, that grows.
+/// A growing list of entries of 32 bytes each, the oldest first.
 ///
-/// Its memory is taken before an entry comes: places, and a spare box, which the next boxed entry uses up.
+/// The caller reserves memory before it adds an entry: places in the list, and a spare box that the next boxed entry uses up.
 #[derive(Drop)]
 pub struct PackedList {
     entries: PackedRecord,
@@ -32,7 +32,7 @@ impl Model for PackedList {
 }
 
 impl PackedList {
-    /// No entries. No memory is taken.
+    /// Returns a list without entries. It takes no memory.
     pub fn new(alloc: Global) -> PackedList
         ensures { result.entries ≡ [] }
     {
@@ -42,7 +42,7 @@ impl PackedList {
         }
     }
 
-    /// Takes memory for this many more entries, where it is not there yet.
+    /// Reserves memory for `more` additional entries, unless the list already has it.
     pub fn reserve(&mut self, more: usize) -> Result<(), AllocError>
         ensures entries { self.new.entries ≡ self.old.entries }
         ensures room { OnOk result (length self.old.entries + more ≤ self.new.room) }
@@ -52,7 +52,7 @@ impl PackedList {
         self.entries.reserve(more)
     }
 
-    /// Takes memory for an entry that needs a box, where it is not there yet.
+    /// Reserves the spare box for an entry that needs one, unless the list already has it.
     pub fn reserve_spare(&mut self, alloc: Global) -> Result<(), AllocError>
         ensures entries { self.new.entries ≡ self.old.entries }
         ensures room { self.new.room ≡ self.old.room }
@@ -65,21 +65,21 @@ impl PackedList {
         Ok(())
     }
 
-    /// How many entries there are.
+    /// Returns the number of entries.
     pub fn len(&self) -> usize
         ensures { result ≡ length self.now.entries }
     {
         self.entries.len()
     }
 
-    /// Whether there is no entry.
+    /// Returns whether the list has no entries.
     pub fn is_empty(&self) -> bool
         ensures { result ≡ (length self.now.entries == 0) }
     {
         self.entries.len() == 0
     }
 
-    /// Adds an event with its reply. No memory is taken.
+    /// Adds an event with its reply. It takes no memory.
     pub fn push(&mut self, event: Event, reply: Reply)
         requires room { length self.old.entries < self.old.room }
         requires spare { needs_box event reply ≡ true → self.old.spare ≡ true }
@@ -92,7 +92,7 @@ impl PackedList {
         }
     }
 
-    /// Adds a receive: it took an item into the room, or took none, or was refused. No memory is taken.
+    /// Adds a receive call, which took an item into `room`, took none, or was refused. It takes no memory.
     pub fn push_receive(&mut self, id: SocketId, outcome: Result<bool, Refusal>, room: &Received)
         requires room { length self.old.entries < self.old.room }
         requires spare { self.old.spare ≡ true }
@@ -105,7 +105,7 @@ impl PackedList {
         }
     }
 
-    // Its event and its reply are made only in the rare case.
+    // This is a separate function because boxed receives are rare: it makes the event and the reply only for them.
     #[inline(never)]
     fn push_boxed_receive(&mut self, id: SocketId, outcome: Result<bool, Refusal>, room: &Received)
         requires room { length self.old.entries < self.old.room }
@@ -126,7 +126,7 @@ impl PackedList {
         self.entries.push_boxed(entry);
     }
 
-    /// The entry at a place, if there is one. No memory is taken.
+    /// Returns the entry at a place, or `None` if the place is past the end. It takes no memory.
     pub fn look(&self, place: usize) -> Option<EntryRef<'_>>
         ensures { result ≡ slice_get self.now.entries place }
     {
@@ -134,7 +134,7 @@ impl PackedList {
     }
 }
 
-/// What a spare box holds until an entry comes.
+/// Returns a placeholder that fills a spare box until an entry is put there.
 fn blank() -> Entry {
     Entry {
         event: Event::Close(SocketId(0)),

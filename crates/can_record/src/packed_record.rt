@@ -21,10 +21,10 @@ use can_frame::{Frame, IfaceSet, Moment};
 use std::alloc::{AllocError, Global};
 use std::marker::Model;
 
-/// A list of entries, the oldest first, of 32 bytes each. Memory is taken before an entry comes.
+/// A list of entries of 32 bytes each, the oldest first. Memory is reserved before an entry is added.
 ///
-/// FD frames are in a second list, for which memory is taken as well: one for each entry more. Where there are none, that
-/// memory is never touched, and costs nothing but addresses.
+/// FD frames are in a second list. Memory for one FD frame is reserved with each additional entry. If there are no FD frames, that
+/// memory is never touched, and costs only address space.
 #[derive(Drop)]
 pub struct PackedRecord {
     entries: Vec<PackedEntry>,
@@ -44,7 +44,7 @@ impl Model for PackedRecord {
 }
 
 impl PackedRecord {
-    /// No entries, and no memory.
+    /// Returns a list without entries and without memory.
     pub fn new(alloc: Global) -> PackedRecord
         ensures { result.entries ≡ [] }
     {
@@ -54,7 +54,7 @@ impl PackedRecord {
         }
     }
 
-    /// No entries, and memory for this many.
+    /// Returns a list without entries, with memory for `limit` entries.
     pub fn with_capacity(alloc: Global, limit: u32) -> Result<PackedRecord, AllocError>
         ensures empty { IfOk result (λ r. r.entries ≡ []) }
         ensures room { IfOk result (λ r. limit ≤ r.room) }
@@ -64,7 +64,7 @@ impl PackedRecord {
         Ok(PackedRecord { entries, frames })
     }
 
-    /// Takes memory for this many more entries, and for as many FD frames, where it is not there yet.
+    /// Reserves memory for `more` additional entries and the same number of FD frames, unless the list already has it.
     pub fn reserve(&mut self, more: usize) -> Result<(), AllocError>
         ensures entries { self.new.entries ≡ self.old.entries }
         ensures room { OnOk result (length self.old.entries + more ≤ self.new.room) }
@@ -74,14 +74,14 @@ impl PackedRecord {
         self.frames.reserve(more)
     }
 
-    /// How many entries there are.
+    /// Returns the number of entries.
     pub fn len(&self) -> usize
         ensures { result ≡ length self.now.entries }
     {
         self.entries.len()
     }
 
-    /// How many entries there is memory for, those that are there included.
+    /// Returns the number of entries for which there is memory, including the entries that are already in the list.
     pub fn room(&self) -> usize
         ensures { result ≡ self.now.room }
     {
@@ -90,7 +90,7 @@ impl PackedRecord {
         self.entries.len() + entries.min(frames)
     }
 
-    /// Lets all entries go. Their memory stays.
+    /// Removes all entries. The list keeps its memory.
     pub fn clear(&mut self)
         ensures { self.new.entries ≡ [] }
     {
@@ -98,7 +98,7 @@ impl PackedRecord {
         self.frames.clear();
     }
 
-    /// Adds an event with its reply that needs no box. No memory is taken.
+    /// Adds an event with its reply, which need no box. It takes no memory.
     #[inline(always)]
     pub fn push(&mut self, event: &Event, reply: &Reply)
         requires room { length self.old.entries < self.old.room }
@@ -110,7 +110,7 @@ impl PackedRecord {
         let _ = self.entries.push(kept);
     }
 
-    /// Adds a receive that needs no box: it took an item into the room, or took none, or was refused. No memory is taken.
+    /// Adds a receive call that needs no box. The call took an item into `room`, took none, or was refused. It takes no memory.
     #[inline(always)]
     pub fn push_receive(&mut self, id: SocketId, outcome: Result<bool, Refusal>, room: &Received)
         requires room { length self.old.entries < self.old.room }
@@ -122,7 +122,7 @@ impl PackedRecord {
         let _ = self.entries.push(kept);
     }
 
-    /// Adds a send that needs no box: it gave the frame this number, or was refused. No memory is taken.
+    /// Adds a send call that needs no box. The call gave a number to the frame, or was refused. It takes no memory.
     #[inline(always)]
     pub fn push_send(&mut self, id: SocketId, frame: &Frame, outcome: Result<u64, Refusal>)
         requires room { length self.old.entries < self.old.room }
@@ -134,7 +134,7 @@ impl PackedRecord {
         let _ = self.entries.push(kept);
     }
 
-    /// Adds an attempt that needs no box. No memory is taken.
+    /// Adds an attempt that needs no box. It takes no memory.
     #[inline(always)]
     pub fn push_attempt(&mut self, moment: Moment, verdict: Verdict, attempt: &Attempt)
         requires room { length self.old.entries < self.old.room }
@@ -150,7 +150,7 @@ impl PackedRecord {
         }
     }
 
-    /// Adds an attempt that tried no frame, and restarted these interfaces.
+    /// Adds an attempt that tried no frame and restarted these interfaces.
     #[inline(never)]
     fn push_idle(&mut self, moment: Moment, verdict: Verdict, restarted: IfaceSet)
         requires { length self.old.entries < self.old.room }
@@ -178,7 +178,7 @@ impl PackedRecord {
         let _ = self.entries.push(kept);
     }
 
-    /// Adds an entry that has memory of its own, and stays in it. No other is taken.
+    /// Adds an entry that is in a box, and keeps the box. It takes no other memory.
     pub fn push_boxed(&mut self, entry: Box<Entry>)
         requires room { length self.old.entries < self.old.room }
         ensures more { Adds self.old.entries entry.value self.new.entries }
@@ -187,7 +187,7 @@ impl PackedRecord {
         let _ = self.entries.push(PackedEntry::Boxed(entry));
     }
 
-    /// The entry at a place as it is stored, if there is one. No memory is taken.
+    /// Returns the entry at a place in its stored form, or `None` if the place is past the end. It takes no memory.
     pub fn stored(&self, place: usize) -> Option<StoredEntry<'_>>
         ensures entry { option_map entry_stored result ≡ slice_get self.now.entries place }
         ensures stored { IfSome result IsStored }
@@ -198,7 +198,8 @@ impl PackedRecord {
         }
     }
 
-    /// The entry at a place, if there is one: made anew, or borrowed where it has memory of its own. No memory is taken.
+    /// Returns the entry at a place, or `None` if the place is past the end. A boxed entry is borrowed; any other is unpacked. It
+    /// takes no memory.
     pub fn look(&self, place: usize) -> Option<EntryRef<'_>>
         ensures { result ≡ slice_get self.now.entries place }
     {
@@ -209,7 +210,7 @@ impl PackedRecord {
     }
 }
 
-/// How an entry is kept beside these FD frames.
+/// Returns the stored form of a packed entry, whose FD frame is in this list.
 fn stored<'a>(frames: &'a [Frame], kept: &'a PackedEntry) -> StoredEntry<'a>
     requires { frames_needed kept.now ≤ length frames.now }
     ensures entry { entry_stored result ≡ entry_in frames.now kept.now }

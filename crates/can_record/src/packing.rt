@@ -16,7 +16,8 @@ use can_event::{Attempt, Event, Opt, Received, Refusal, Reply, SocketId, Tried};
 use can_fault::Verdict;
 use can_frame::{Frame, Iface, IfaceSet, Item, Moment};
 
-/// An entry that needs no box, in 32 bytes. Its FD frame, if it has one, goes to the end of the list, where there is room.
+/// Packs an entry that needs no box into 32 bytes. If the entry has an FD frame, it is added at the end of `frames`, which has
+/// memory for it.
 #[inline(always)]
 pub fn pack(frames: &mut Vec<Frame>, event: &Event, reply: &Reply) -> PackedEntry
     requires fits { needs_box event.now reply.now ≡ false }
@@ -29,7 +30,7 @@ pub fn pack(frames: &mut Vec<Frame>, event: &Event, reply: &Reply) -> PackedEntr
     match event {
         Event::Open(iface, capacity) => opened(*iface, *capacity, reply),
         Event::Close(id) => closed(*id, reply),
-        // The filters of a socket need a box.
+        // A `SetFilters` event always needs a box.
         Event::SetFilters(_, _) => unreachable!(),
         Event::SetOption(id, option) => option_set(*id, *option, reply),
         Event::Send(id, frame) => sent(frames, *id, frame, reply),
@@ -153,7 +154,7 @@ fn sent(frames: &mut Vec<Frame>, id: SocketId, frame: &Frame, reply: &Reply) -> 
     }
 }
 
-/// The entry of a send, which gave the frame this number, or was refused.
+/// Packs the entry of a send call, which gave a number to the frame or was refused.
 #[inline(always)]
 pub fn pack_send(
     frames: &mut Vec<Frame>,
@@ -220,7 +221,7 @@ fn received(frames: &mut Vec<Frame>, id: SocketId, reply: &Reply) -> PackedEntry
     }
 }
 
-/// The entry of a receive, which took an item into the room, or took none, or was refused.
+/// Packs the entry of a receive call, which took an item into `room`, took none, or was refused.
 #[inline(always)]
 pub fn pack_receive(
     frames: &mut Vec<Frame>,
@@ -322,7 +323,7 @@ fn attempted(
     }
 }
 
-/// The entry of an attempt that tried this frame.
+/// Packs the entry of an attempt that tried a frame.
 #[inline(always)]
 pub fn pack_tried(
     frames: &mut Vec<Frame>,
@@ -376,7 +377,7 @@ pub fn pack_tried(
     }
 }
 
-/// How a frame is kept. An FD frame goes to the end of the list.
+/// Packs a frame. An FD frame is added at the end of `frames`.
 #[inline(always)]
 fn pack_frame(frames: &mut Vec<Frame>, frame: &Frame) -> PackedFrame
     requires room { length frames.old.items < vec_capacity frames.old }

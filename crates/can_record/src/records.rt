@@ -20,11 +20,11 @@ use can_frame::{Frame, Moment};
 use std::alloc::{AllocError, Global};
 use std::marker::Model;
 
-/// A bus's configuration, and each event on it with its reply.
+/// The configuration of a bus, and each event on the bus with its reply.
 ///
-/// The configuration is always within the limits of a bus, and the text of a record has a line for each
-/// entry: its reply fits its event. A bus's record takes 32 bytes for each entry, 76 more for an FD frame, and memory
-/// beside for the filters of `set_filters`. Contracts see the entries newest first.
+/// The configuration is always within the limits of a bus. Each entry has a line in the text of a record, because its reply fits
+/// its event. The record of a bus takes 32 bytes for each entry, 76 more for an FD frame, and additional memory for the filters of
+/// `set_filters`. Contracts see the entries newest first.
 #[derive(Drop)]
 pub struct Record {
     config: BusConfig,
@@ -52,7 +52,7 @@ impl Record {
     ghost use Rattle.std.specs.Prelude.{reverse};
     ghost use Rattle.can_record.specs.Journal.{IsLonger};
 
-    /// An empty record, with memory for all the entries that its limit allows.
+    /// Returns an empty record, with memory for all entries that the limit of the configuration allows.
     pub fn new(alloc: Global, config: BusConfig) -> Result<Record, AllocError>
         requires { IsConfig config }
         ensures config { IfOk result (λ r. r.config ≡ config) }
@@ -63,11 +63,11 @@ impl Record {
         Ok(Record { config, held })
     }
 
-    /// The record of these parts, the oldest entry first: `None` exactly where the configuration is outside
-    /// the limits of a bus, or some entry has no line in the text of a record (`is_spelled`).
+    /// Makes a record from these entries, the oldest first. It returns `None` exactly if the configuration is outside the limits of
+    /// a bus, or some entry has no line in the text of a record (`is_spelled`).
     ///
-    /// There may be more entries than the limit, and their replies need not be what a bus would return.
-    /// It looks at each entry once, and takes no memory.
+    /// The number of entries may exceed the limit, and their replies may differ from what a bus would return. It looks at each
+    /// entry once, and takes no memory.
     pub fn from_entries(config: BusConfig, entries: Vec<Entry>) -> Option<Record>
         ensures config { IfSome result (λ r. r.config ≡ config) }
         ensures history { IfSome result (λ r. r.history ≡ reverse entries.items) }
@@ -82,7 +82,7 @@ impl Record {
         Some(Record::from_spelled(config, entries))
     }
 
-    /// The same of parts that are known to make a record: nothing is looked at.
+    /// Makes a record as `from_entries` does, but checks nothing: the caller knows that these parts form a record.
     pub fn from_spelled(config: BusConfig, entries: Vec<Entry>) -> Record
         requires { IsRecord config entries.items }
         ensures config { result.config ≡ config }
@@ -94,7 +94,7 @@ impl Record {
         }
     }
 
-    /// What the bus was made with.
+    /// Returns the configuration of the bus.
     pub fn config(&self) -> BusConfig
         ensures config { result ≡ self.now.config }
         ensures proper { IsConfig result }
@@ -102,7 +102,7 @@ impl Record {
         self.config
     }
 
-    /// The entries, the oldest first. No memory is taken.
+    /// Returns the entries, the oldest first. It takes no memory.
     pub fn entries(&self) -> Entries<'_>
         ensures entries { result ≡ reverse self.now.history }
         ensures spelled { All (IsSpelled self.now.config) result }
@@ -110,7 +110,7 @@ impl Record {
         Entries::of(&self.held)
     }
 
-    /// The entry at a place, from 0 for the oldest, if there is one. No memory is taken.
+    /// Returns the entry at a place, or `None` if the place is past the end. Place 0 is the oldest entry. It takes no memory.
     pub fn entry(&self, place: usize) -> Option<EntryRef<'_>>
         ensures entry { result ≡ slice_get (reverse self.now.history) place }
         ensures spelled { IfSome result (IsSpelled self.now.config) }
@@ -118,7 +118,8 @@ impl Record {
         self.held.get(place)
     }
 
-    /// The entry at a place as it is stored, if there is one, for those who read many. No memory is taken.
+    /// Returns the entry at a place in its stored form, or `None` if the place is past the end. This is faster for callers that
+    /// read many entries. It takes no memory.
     pub fn stored(&self, place: usize) -> Option<StoredEntry<'_>>
         ensures entry { option_map entry_stored result
             ≡ slice_get (reverse self.now.history) place }
@@ -128,7 +129,7 @@ impl Record {
         self.held.stored(place)
     }
 
-    /// A copy of all entries, the oldest first, of 208 bytes each.
+    /// Returns a copy of all entries, the oldest first, in 208 bytes each.
     pub fn to_entries(&self, alloc: Global) -> Result<Vec<Entry>, AllocError>
         ensures entries { IfOk result (λ es. es.items ≡ reverse self.now.history) }
         ensures spelled { IfOk result (λ es. All (IsSpelled self.now.config) es.items) }
@@ -136,28 +137,28 @@ impl Record {
         self.held.to_entries(alloc)
     }
 
-    /// How many entries there are.
+    /// Returns the number of entries.
     pub fn len(&self) -> usize
         ensures { result ≡ length self.now.history }
     {
         self.held.len()
     }
 
-    /// Whether nothing was done yet.
+    /// Returns whether the record has no entries.
     pub fn is_empty(&self) -> bool
         ensures { result ≡ (length self.now.history == 0) }
     {
         self.held.len() == 0
     }
 
-    /// Whether the record has as many entries as its limit.
+    /// Returns whether the number of entries has reached the limit.
     pub fn is_full(&self) -> bool
         ensures { IsTrue result ↔ (self.now.config.limit ≤ length self.now.history) }
     {
         self.held.len() >= self.config.limit as usize
     }
 
-    /// Adds an entry that needs no box. No memory is taken.
+    /// Adds an entry that needs no box. It takes no memory.
     #[inline(always)]
     pub fn push(&mut self, event: &Event, reply: &Reply)
         requires room { length self.old.history < self.old.room }
@@ -165,14 +166,14 @@ impl Record {
         requires fits { needs_box event.now reply.now ≡ false }
         ensures { IsLonger self.old (entry_of event.now reply.now) self.new }
     {
-        // There is no room in a list that was handed in.
+        // A list from `from_entries` or `from_spelled` has no room for new entries.
         let EntryStore::Packed(entries) = &mut self.held else {
             unreachable!()
         };
         entries.push(event, reply);
     }
 
-    /// Adds a receive that needs no box: it took an item into the room, or took none, or was refused. No memory is taken.
+    /// Adds a receive call that needs no box. The call took an item into `room`, took none, or was refused. It takes no memory.
     #[inline(always)]
     pub fn push_receive(&mut self, id: SocketId, outcome: Result<bool, Refusal>, room: &Received)
         requires room { length self.old.history < self.old.room }
@@ -180,14 +181,14 @@ impl Record {
         requires fits { needs_box (asked.Receive id) (receive_reply room.now outcome) ≡ false }
         ensures { IsLonger self.old (receive_entry id room.now outcome) self.new }
     {
-        // There is no room in a list that was handed in.
+        // A list from `from_entries` or `from_spelled` has no room for new entries.
         let EntryStore::Packed(entries) = &mut self.held else {
             unreachable!()
         };
         entries.push_receive(id, outcome, room);
     }
 
-    /// Adds a send that needs no box: it gave the frame this number, or was refused. No memory is taken.
+    /// Adds a send call that needs no box. The call gave a number to the frame, or was refused. It takes no memory.
     #[inline(always)]
     pub fn push_send(&mut self, id: SocketId, frame: &Frame, outcome: Result<u64, Refusal>)
         requires room { length self.old.history < self.old.room }
@@ -195,14 +196,14 @@ impl Record {
         requires fits { needs_box (asked.Send id frame.now) (told answer.Sent outcome) ≡ false }
         ensures { IsLonger self.old (send_entry id frame.now outcome) self.new }
     {
-        // There is no room in a list that was handed in.
+        // A list from `from_entries` or `from_spelled` has no room for new entries.
         let EntryStore::Packed(entries) = &mut self.held else {
             unreachable!()
         };
         entries.push_send(id, frame, outcome);
     }
 
-    /// Adds an attempt that needs no box. No memory is taken.
+    /// Adds an attempt that needs no box. It takes no memory.
     #[inline(always)]
     pub fn push_attempt(&mut self, moment: Moment, verdict: Verdict, attempt: &Attempt)
         requires room { length self.old.history < self.old.room }
@@ -211,20 +212,20 @@ impl Record {
             (answer.Attempted attempt.now) ≡ false }
         ensures { IsLonger self.old (attempt_entry moment verdict attempt.now) self.new }
     {
-        // There is no room in a list that was handed in.
+        // A list from `from_entries` or `from_spelled` has no room for new entries.
         let EntryStore::Packed(entries) = &mut self.held else {
             unreachable!()
         };
         entries.push_attempt(moment, verdict, attempt);
     }
 
-    /// Adds an entry, which keeps its memory. No other is taken.
+    /// Adds an entry that is in a box, and keeps the box. It takes no other memory.
     pub fn push_boxed(&mut self, entry: Box<Entry>)
         requires room { length self.old.history < self.old.room }
         requires spelled { IsSpelled self.old.config entry.value }
         ensures { IsLonger self.old entry.value self.new }
     {
-        // There is no room in a list that was handed in.
+        // A list from `from_entries` or `from_spelled` has no room for new entries.
         let EntryStore::Packed(entries) = &mut self.held else {
             unreachable!()
         };
@@ -232,7 +233,7 @@ impl Record {
     }
 }
 
-/// Whether the record of this bus may have these entries: the text has a line for each.
+/// Returns whether each of these entries has a line in the text of a record with this configuration.
 fn are_spelled(config: BusConfig, entries: &[Entry]) -> bool
     ensures { IsTrue result ↔ All (IsSpelled config) entries.now }
 {

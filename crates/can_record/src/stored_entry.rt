@@ -2,9 +2,10 @@ use crate::packed_entry::PackedEntry;
 use can_event::Entry;
 use can_frame::Frame;
 
-/// An entry as it is stored: in 32 bytes, beside the list of the FD frames, or whole, in memory of its own.
+/// An entry in its stored form: packed in 32 bytes, with the list of FD frames, or whole in its own memory.
 ///
-/// Who reads many entries looks at the kind of each, and is spared an `Entry`, whose copies cost more than reading it.
+/// A caller that reads many entries can match on the packed variant directly. This avoids building an `Entry`, whose copies cost
+/// more than reading it.
 #[derive(Clone, Copy)]
 pub enum StoredEntry<'a> {
     Packed(&'a [Frame], &'a PackedEntry),

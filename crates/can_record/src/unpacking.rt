@@ -8,7 +8,7 @@ use crate::packed_entry::PackedEntry;
 use can_event::{Attempt, Event, Received, Reply, Tried};
 use can_frame::{Frame, IfaceSet, Item};
 
-/// The event that is kept beside these FD frames.
+/// Returns the event of a packed entry, whose FD frame is in this list.
 pub fn event_in(frames: &[Frame], kept: &PackedEntry) -> Event
     requires small { IsSmall kept.now }
     requires within { frames_needed kept.now ≤ length frames.now }
@@ -80,7 +80,7 @@ pub fn event_in(frames: &[Frame], kept: &PackedEntry) -> Event
     }
 }
 
-/// The reply that is kept beside these FD frames.
+/// Returns the reply of a packed entry, whose FD frame is in this list.
 pub fn reply_in(frames: &[Frame], kept: &PackedEntry) -> Reply
     requires within { frames_needed kept.now ≤ length frames.now }
     ensures { result ≡ (entry_in frames.now kept.now).reply }
@@ -185,7 +185,8 @@ pub fn reply_in(frames: &[Frame], kept: &PackedEntry) -> Reply
     }
 }
 
-/// The frame that was tried, of its end, word and number, and of the rest.
+/// Returns an attempt that tried a frame other than an FD frame, from the fields of its packed entry. `words` are its end, its
+/// identifier word and the frame's number.
 fn tried_in(
     words: (AttemptEnd, IdWord, u32),
     accepted: IfaceSet,

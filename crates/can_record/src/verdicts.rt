@@ -5,7 +5,7 @@ use can_attempt::Class;
 use can_fault::{GlobalKind, LocalKind, Verdict};
 use can_frame::IfaceSet;
 
-/// The number of a class.
+/// Returns the number that stands for a class.
 #[inline(always)]
 pub fn class_number(class: Class) -> u8
     ensures number { result ≡ class_number class }
@@ -20,7 +20,7 @@ pub fn class_number(class: Class) -> u8
     }
 }
 
-/// The class of a number.
+/// Returns the class for a number.
 pub fn class_in(number: u8) -> Class
     ensures { result ≡ class_in number }
 {
@@ -32,7 +32,7 @@ pub fn class_in(number: u8) -> Class
     }
 }
 
-/// The number of a verdict.
+/// Returns the number that stands for a verdict.
 #[inline(always)]
 pub fn verdict_number(verdict: Verdict) -> u8
     ensures number { result ≡ verdict_number verdict }
@@ -50,7 +50,7 @@ pub fn verdict_number(verdict: Verdict) -> u8
     }
 }
 
-/// The interfaces that a verdict names.
+/// Returns the interfaces that a verdict names.
 #[inline(always)]
 pub fn verdict_set(verdict: Verdict) -> IfaceSet
     ensures { result ≡ verdict_set verdict }
@@ -61,7 +61,7 @@ pub fn verdict_set(verdict: Verdict) -> IfaceSet
     }
 }
 
-/// The verdict of a number and these interfaces.
+/// Returns the verdict for a number, naming these interfaces.
 pub fn verdict_in(number: u8, set: IfaceSet) -> Verdict
     ensures { result ≡ verdict_in number set }
 {

@@ -1,4 +1,4 @@
--- A line that was written is read again.
+-- A line that was written can be read again.
 use Rattle.std.proofs.Common.{◌≡◌, ◌↔◌, ℕ, ◌^◌, ◌<◌, ◌≤◌, ◌==◌, Bool, true, false, IsTrue, List, [], ◌∷◌, ◌++◌, length, drop, Option, Some, None, Err, append_assoc, refl, sym, ap, subst, ◌∙◌, arith}
 use Rattle.std.specs.Prelude.{All, codes, decimal}
 use Rattle.std.proofs.lemmas.Bool.{lt-ltb, eqb-true, cond-true, cond-false}
@@ -184,7 +184,7 @@ error_again i from m rest good hi hm =
       moment_field m 10 rest hm refl,
     ) refl
 
--- what follows a word
+-- the text from the end of a word on
 past_word-spelled : (w rest : List ℕ) (g : ℕ) → is_word w ≡ true → is_gap g ≡ true → past_word (w ++ g ∷ rest) ≡ g ∷ rest
 past_word-spelled w rest g plain gap = rw (word-spelled w rest g plain gap) (drop-append_seam w (g ∷ rest))
 
@@ -196,7 +196,7 @@ some_restarted : (w rest : List ℕ) (set : IfaceSet) → is_word w ≡ true →
 unfolding restarted_at set_from
 some_restarted w rest set plain small = rw (past_word-spelled w (spell (codes "restarted" ∷ set_word set ∷ []) rest) 32 plain refl) (set_field set 10 rest small refl)
 
--- the interfaces that were restarted, after a word
+-- the restarted interfaces, after a word
 restarted_again : (w rest : List ℕ) (set : IfaceSet) → is_word w ≡ true → set.0 < 2 ^ 16 → restarted_at (w ++ gap_before (restarted_words set) ∷ spell (restarted_words set) rest) ≡ Some (set, rest)
 restarted_again w rest set plain small = when (set.0 == 0) refl
   where
@@ -216,7 +216,7 @@ idle_again moment set rest small =
     let ws = restarted_words set in
     rw (word-spelled (codes "idle") (spell ws rest) (gap_before ws) refl (gap_is ws), restarted_again (codes "idle") rest set refl small) refl
 
--- the last words of a frame that was tried, and what follows them
+-- the last words of a tried frame, and the text after them
 abbrev tried_end : Tried → List ℕ → List ℕ
 tried_end t rest = set_word t.off ++ gap_before (restarted_words t.restarted) ∷ spell (restarted_words t.restarted) rest
 
@@ -235,7 +235,7 @@ tried_again t rest h =
       restarted_again (set_word t.off) rest t.restarted (set-plain t.off) h.restarted,
     ) refl
 
--- an attempt's frame was tried at its moment
+-- the frame of an attempt was tried at the moment of the attempt
 tried_moment : (e : Event) (t : Tried) → FitsReply e (reply.Attempted (attempt.Tried t)) → moment_of e ≡ Some t.moment
 tried_moment (Attempt m v) t h = ap Some (sym h)
 tried_moment (Open i c) t h = absurd h
@@ -343,7 +343,7 @@ event_again (Down i m) w ws rest h = rw (number_field 16 i 32 (moment_word m ++ 
 
 -- ---- entries
 
--- the entry of a line
+-- the entry that a line spells
 pub entry_again : (v : Version) (c : BusConfig) (e : Entry) (rest : List ℕ) → HasLine v c e → entry_at (entry_line e rest) ≡ Some e
 unfolding entry_at
 entry_again v c e rest h =
@@ -370,7 +370,7 @@ auto_restart_again version.Four c rest h = number_field (2 ^ 32) c.auto_restart 
 auto_restart_again version.Five c rest h = number_field (2 ^ 32) c.auto_restart 10 rest (omega (arith, h.proper.few_attempts)) (omega arith) refl
 auto_restart_again version.Six c rest h = number_field (2 ^ 32) c.auto_restart 10 rest (omega (arith, h.proper.few_attempts)) (omega arith) refl
 
--- the configuration of a bus's line
+-- the configuration that the line of a bus spells
 pub config_again : (v : Version) (c : BusConfig) (rest : List ℕ) → HasBusLine v c → config_at v (spell (bus_words v c) rest) ≡ Some c
 unfolding config_at word after
 config_again v c rest h =
@@ -388,33 +388,33 @@ config_again v c rest h =
       auto_restart_again v c rest h,
     ) refl
 
--- the end's line is no entry's
+-- the last line of a record is not the line of an entry
 pub end_is_none : (count : ℕ) (rest : List ℕ) → entry_at (spell (end_words count) rest) ≡ None
 unfolding entry_at event_at plain_at setting_at word after
 end_is_none count rest = refl
 
--- where a line is there, nothing but want of memory keeps it from being read
+-- if a text begins with a line, only a lack of memory prevents reading it
 pub refused : (u : Unread) (text : List ℕ) → Gives (Err u) (entry_at text) → (v : Version) (c : BusConfig) (e : Entry) (rest : List ℕ) → HasLine v c e → text ≡ entry_line e rest → u ≡ unread.NoMemory
 refused unread.NoMemory text h v c e rest spelled is = refl
 refused unread.Bad text h v c e rest spelled is = absurd (none-some e (sym h ∙ ap entry_at is ∙ entry_again v c e rest spelled))
 
--- one text begins with one line
+-- a text begins with the line of at most one entry
 pub same_entry : (read : Entry) (text : List ℕ) → entry_at text ≡ Some read → (v : Version) (c : BusConfig) (e : Entry) (rest : List ℕ) → HasLine v c e → text ≡ entry_line e rest → e ≡ read
 same_entry read text h v c e rest spelled is = same_Some e read (sym (ap entry_at is ∙ entry_again v c e rest spelled) ∙ h)
 
--- a line, and what follows it
+-- a line, and the text after it
 pub spell-rest : (ws : List (List ℕ)) (rest : List ℕ) → spell ws [] ++ rest ≡ spell ws rest
 spell-rest [] rest = refl
 spell-rest (w ∷ ws) rest = append_assoc w (gap_before ws ∷ spell ws []) rest ∙ ap (λ (x : List ℕ). w ++ gap_before ws ∷ x) (spell-rest ws rest)
 
--- a text that begins with a line goes on after it
+-- a text that begins with a line is that line and some more text
 pub starts-with-line : (event : Event) (r : Reply) (text rest : List ℕ) → text ≡ answered_line event r rest → StartsWithLine event r text
 starts-with-line event r text rest is =
     let ws = entry_words (entry_of event r) in
     let behind : drop (length (spell ws [])) text ≡ rest = ap (drop (length (spell ws []))) (is ∙ sym (spell-rest ws rest)) ∙ drop-append_seam (spell ws []) rest in
     is ∙ ap (spell ws) (sym behind)
 
--- to begin with the bytes of a line is to begin with the line
+-- a text begins with a line exactly if it begins with the bytes of the line
 pub starts-with-bytes : (event : Event) (r : Reply) (text line : List ℕ) (same : Bool) → line ≡ answered_line event r [] → (IsTrue same → StartsWith line text) → ((rest : List ℕ) → text ≡ line ++ rest → IsTrue same)
     → IsTrue same ↔ StartsWithLine event r text
 starts-with-bytes event r text line same is begins always =
@@ -424,15 +424,15 @@ starts-with-bytes event r text line same is begins always =
       λ starts. always rest (starts ∙ sym (spell-rest ws rest) ∙ ap (λ (front : List ℕ). front ++ rest) (sym is)),
     )
 
--- what was cleared holds what was put
+-- a buffer that was cleared contains what was appended to it
 pub kept : (old new l : List ℕ) → old ≡ [] → new ≡ old ++ l → new ≡ l
 kept old new l nothing h = h ∙ ap (λ (x : List ℕ). x ++ l) nothing
 
--- where the line of a bus is there, it is read
+-- if the line of a bus is at the beginning of a text, it is read
 pub config_refused : (v : Version) (text : List ℕ) → None ≡ config_at v text → (c : BusConfig) (rest : List ℕ) → HasBusLine v c → text ≡ spell (bus_words v c) rest → ⊥
 config_refused v text h c rest good is = none-some c (h ∙ ap (config_at v) is ∙ config_again v c rest good)
 
--- one text begins with one bus's line
+-- a text begins with the line of at most one bus
 pub same_config : (v : Version) (read : BusConfig) (text : List ℕ) → Some read ≡ config_at v text → (c : BusConfig) (rest : List ℕ) → HasBusLine v c → text ≡ spell (bus_words v c) rest → c ≡ read
 same_config v read text h c rest good is = same_Some c read (sym (ap (config_at v) is ∙ config_again v c rest good) ∙ sym h)
 

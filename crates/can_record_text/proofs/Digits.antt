@@ -1,4 +1,4 @@
--- What was written is read again.
+-- A number that was written can be read again.
 use Rattle.std.proofs.Common.{◌≡◌, ℕ, zero, suc, ◌+◌, ◌-◌, ◌*◌, ◌/◌, ◌%◌, ◌^◌, ◌<◌, ◌≤◌, ◌==◌, true, false, not, ◌&&◌, leb, ltb, append_assoc, length-append, List, [], ◌∷◌, ◌++◌, length, take, drop, slice_index, Option, Some, inl, inr, refl, ap, ◌∙◌, arith}
 use Rattle.std.specs.Prelude.{decimal}
 use Rattle.std.proofs.lemmas.Fmt.{decimal_by_steps, decimal_nonempty, decimal_step, length-decimal-le}
@@ -16,7 +16,7 @@ use Rattle.can_record_text.specs.Spelling.{moment_word}
 
 -- ---- numbers
 
--- a word of few digits is their number
+-- a word with few digits spells this number
 few_again : (most n : ℕ) (w : List ℕ) → 0 < length w → length w ≤ most → number_after 10 (Some 0) w ≡ Some n → number_in 10 most w ≡ Some n
 few_again most n w some few h = rw (lt-ltb 0 (length w) some, le-leb (length w) most few, h) refl
 
@@ -31,7 +31,7 @@ digit-low d lt = grind arith
 one_again : (d : ℕ) → d < 10 → number_in 10 1 ((48 + d) ∷ []) ≡ Some d
 one_again d lt = ap (λ (o : Option ℕ). number_after 10 (one_more 10 0 o) []) (digit-low d lt) ∙ ap Some (omega arith)
 
--- the last digit by itself
+-- the last digit is read separately
 long_parts : (n d : ℕ) (ds : List ℕ) → 19 < length (ds ++ (48 + d) ∷ []) → number_in 10 19 ds ≡ Some n → d < 10 → n * 10 + d < 2 ^ 64 → long_in (ds ++ (48 + d) ∷ []) ≡ Some (n * 10 + d)
 unfolding long_in
 long_parts n d ds over front low lt =

@@ -1,4 +1,4 @@
--- Filters are read one by one.
+-- Filters are read one at a time.
 use Rattle.std.proofs.Common.{◌≡◌, ℕ, zero, suc, ◌-◌, ◌<◌, ◌≤◌, List, Some, None, Err, refl, ap, ◌∙◌, arith}
 use Rattle.can_filter.specs.Filters.{CanFilter}
 use Rattle.can_record_text.specs.declared.fault.Unread.{Unread}

@@ -1,4 +1,4 @@
--- Frame text as a word of a line.
+-- The text of a frame as a word of a line.
 use Rattle.std.proofs.Common.{◌≡◌, inl, ℕ, ◌+◌, ◌^◌, ◌≤◌, Bool, true, false, cond, eqb, List, [], ◌∷◌, Some, refl, arith}
 use Rattle.std.specs.Prelude.{decimal}
 use Rattle.can_frame.specs.Frames.{Payload}
@@ -11,11 +11,11 @@ use Rattle.can_frame.proofs.Guessing.{guessed}
 use Rattle.can_record_text.specs.inner.Words.{is_word}
 use Rattle.can_record_text.proofs.Digits.{is_word-append, is_word-digits, is_word-decimal}
 
--- what is written is read again
+-- an item that was written can be read again
 pub item_again : (i : Item) → IsItem i → item_in (frame_spelling i) ≡ Some i
 item_again i good = guessed (frame_spelling i) i good (inl refl)
 
--- it is a word
+-- the text of an item is a word
 
 word-pairs : (bytes : List ℕ) → is_word (pairs bytes) ≡ true
 word-pairs [] = refl

@@ -1,4 +1,4 @@
--- Lines that are known by their front.
+-- Lines whose event is known from their first words.
 use Rattle.std.proofs.Common.{◌≡◌, ◌++◌, ◌∙◌, List, Option, Some, None, ap, sym}
 use Rattle.std.specs.Prelude.{ℕ, codes, IfSome}
 use Rattle.std.proofs.lemmas.Option.{none-some, same_Some}
@@ -14,14 +14,14 @@ pub received_at : (text rest more : List ℕ) (id : SocketId) → text ≡ codes
 unfolding event_at plain_at word after
 received_at text rest more id is found = ap event_at is ∙ ap (λ (o : Option (SocketId × List ℕ)). o >>= λ s. Some (Receive s.0, s.1)) found
 
--- two values that were read, and the event that is made of them
+-- the event that is made of two values that were read
 abbrev both : {A B : Type 0} → A × List ℕ → B × List ℕ → Option (A × B)
 both a b = Some (a.0, b.0)
 
 abbrev made : {A B : Type 0} → (A → B → Event) → A × List ℕ → B × List ℕ → Option (Event × List ℕ)
 made make a b = Some (make a.0 b.0, b.1)
 
--- what was read in two steps is the event's two parts
+-- the two values that were read, one after the other, are the two parts of the event
 parts : {A B : Type 0} (make : A → B → Event) (o : Option (A × List ℕ)) (f : List ℕ → Option (B × List ℕ)) (x : A × B) → (o >>= λ a. f a.1 >>= λ b. both a b) ≡ Some x
     → (more : List ℕ) × ((o >>= λ a. f a.1 >>= λ b. made make a b) ≡ Some (make x.0 x.1, more))
 parts make None f x h = absurd (none-some x h)

@@ -1,4 +1,4 @@
--- Lines one after another.
+-- Lists of lines.
 use Rattle.std.proofs.Common.{◌≡◌, ℕ, ◌<◌, ◌≤◌, List, [], ◌∷◌, ◌++◌, length, drop, codes, append_assoc, length-append, refl, sym, ap, ◌∙◌, arith}
 use Rattle.std.proofs.lemmas.List.{length-drop}
 use Rattle.can_event.specs.declared.bus_config.BusConfig.{BusConfig}
@@ -23,7 +23,7 @@ unfolding entry_lines
 lines-push [] e rest = refl
 lines-push (d ∷ es) e rest = ap (λ (x : List ℕ). entry_line d x) (lines-push es e rest)
 
--- a line more
+-- one more line
 pub lines-more : (es : List Entry) (e : Entry) → entry_lines es [] ++ entry_line e [] ≡ entry_lines (es ++ e ∷ []) []
 lines-more es e = lines-rest es (entry_line e []) ∙ sym (lines-push es e [])
 
@@ -42,7 +42,7 @@ pub not_zero : (xs : List ℕ) → (xs ≡ [] → ⊥) → 0 < length xs
 not_zero [] h = absurd (h refl)
 not_zero (x ∷ xs) h = omega arith
 
--- words of which there is one make no empty line
+-- a line with at least one word is not empty
 pub spelled_some : (before : List (List ℕ)) (w : List ℕ) (ws : List (List ℕ)) → 0 < length (spell (before ++ w ∷ ws) [])
 spelled_some [] w ws = omega (arith, length-append w (gap_before ws ∷ spell ws []))
 spelled_some (b ∷ bs) w ws = omega (arith, length-append b (gap_before (bs ++ w ∷ ws) ∷ spell (bs ++ w ∷ ws) []))
@@ -65,7 +65,7 @@ unfolding entry_lines
 lines-join [] more rest = refl
 lines-join (e ∷ es) more rest = ap (λ (x : List ℕ). entry_line e x) (lines-join es more rest)
 
--- the lines of blocks are those of their entries
+-- the lines of the blocks are the lines of all their entries
 pub blocks-rest : (blocks : List (List Entry)) (rest : List ℕ) → lines_of_blocks blocks ++ rest ≡ entry_lines (entries_in blocks) rest
 unfolding entry_lines
 blocks-rest [] rest = refl

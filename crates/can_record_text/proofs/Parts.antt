@@ -3,7 +3,7 @@ use Rattle.std.proofs.lemmas.List.{take_all, length-drop}
 use Rattle.std.specs.Io.KnownBytes.{Appends}
 use Rattle.std.proofs.KnownBytes.{Appends-trans}
 
--- What a writer holds, write after write.
+-- The text that a writer has received, write after write.
 
 abbrev none : List ℕ
 none = []

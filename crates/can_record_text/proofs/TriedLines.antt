@@ -1,4 +1,4 @@
--- The line of an attempt that tried a frame, in the parts in which it is written.
+-- The line of an attempt that tried a frame, split into the parts in which it is written.
 use Rattle.std.proofs.Common.{◌≡◌, ◌∙◌, ap, append_assoc, ℕ, List, [], ◌∷◌, ◌++◌}
 use Rattle.std.specs.Prelude.{codes, decimal}
 use Rattle.can_frame.specs.FrameText.{frame_spelling}

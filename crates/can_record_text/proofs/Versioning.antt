@@ -1,4 +1,4 @@
--- The version of a record's text.
+-- The version of the text of a record.
 use Rattle.std.proofs.Common.{◌≡◌, ◌%◌, ◌^◌, ◌<◌, ◌≤◌, nat_lt, ◌==◌, ◌||◌, ◌&&◌, cond, if◌then◌else◌, ℕ, zero, suc, ◌+◌, Bool, true, false, not, List, [], ◌∷◌, ◌++◌, length, Some, take, get_or, refl, sym, ap, subst, ◌∙◌, arith}
 use Rattle.std.specs.Prelude.{All, slice_get}
 use Rattle.std.proofs.lemmas.Bool.{and_parts, eqb-true, eqb-false, ne_eqb}
@@ -16,7 +16,7 @@ use Rattle.can_record_text.specs.declared.version.Version.TheVariants as version
 use Rattle.can_record_text.specs.Spelling.{all_needs, both_needs, frame_needs, is_needless, needs_of, no_needs, takes, takes_down, takes_fd, takes_flags, version_for, version_of}
 use Rattle.can_record_text.specs.Values.{HasLine, HasBusLine, HasLines, HasText}
 
--- ---- what lines need
+-- ---- the needs of lines
 
 abbrev needs : Bool → Bool → Bool → Needs
 needs fd flags down = record { fd = fd; flags = flags; down = down }
@@ -38,12 +38,12 @@ both_assoc a b c = needs_are _ _ _ _ _ _ (or_assoc a.fd b.fd c.fd) (or_assoc a.f
 both_none : (a : Needs) → both_needs a no_needs ≡ both_needs no_needs a
 both_none a = needs_are _ _ _ _ _ _ (or_none a.fd) (or_none a.flags) (or_none a.down)
 
--- one entry more at the end
+-- the needs after one more entry at the end
 pub needs_push : (es : List Entry) (e : Entry) → all_needs (es ++ e ∷ []) ≡ both_needs (all_needs es) (needs_of e)
 needs_push [] e = both_none (needs_of e)
 needs_push (x ∷ es) e = ap (both_needs (needs_of x)) (needs_push es e) ∙ both_assoc (needs_of x) (all_needs es) (needs_of e)
 
--- one entry more of those at the front
+-- the needs of the front part after one more entry
 needs_next : (es : List Entry) (k : ℕ) (d : Entry) → k < length es → all_needs (take (suc k) es) ≡ both_needs (all_needs (take k es)) (needs_of (get_or es k d))
 needs_next [] k d lt = absurd (omega arith)
 needs_next (x ∷ es) zero d lt = both_none (needs_of x)
@@ -59,7 +59,7 @@ needs_more es k e there =
     needs_at es k e (slice_get_within es k e there)
     ∙ ap (λ (x : Entry). both_needs (all_needs (take k es)) (needs_of x)) (get_or_from_slice_get es k e e there)
 
--- a frame that is no FD frame
+-- a frame that is not an FD frame has no needs
 pub classic_frame : (f : CanFrame) → is_fd f.payload ≡ false → frame_needs f ≡ no_needs
 classic_frame f h = of_payload f.payload h
   where
@@ -68,7 +68,7 @@ classic_frame f h = of_payload f.payload h
     of_payload (Remote len) h = refl
     of_payload (Fd flags bytes) h = absurd cc
 
--- a frame of a word, a length and eight bytes is no FD frame
+-- a frame with an identifier word, a length and eight bytes is not an FD frame
 pub classic : (word len : ℕ) (bytes : List ℕ) → frame_needs (frame_in word len bytes) ≡ no_needs
 classic word len bytes = when (is_remote_word word) refl
   where
@@ -78,7 +78,7 @@ classic word len bytes = when (is_remote_word word) refl
 
 -- ---- the limit that the version is of
 
--- a limit of version 4 is that of no other
+-- no other version allows a limit of version 4
 pub is_long : (c : BusConfig) → max_limit < c.limit → nat_lt max_limit c.limit ≡ true
 is_long c h = grind (arith, h)
 
@@ -95,7 +95,7 @@ of_short : (c : BusConfig) (needs : Needs) → c.limit ≤ max_limit → version
 unfolding short_version
 of_short c needs h = rw (is_short c h) refl
 
--- ---- what a version takes
+-- ---- the lines that a version has
 
 not_both : (b : Bool) → b ≡ false → b ≡ true → ⊥
 not_both true e h = absurd cc
@@ -126,14 +126,14 @@ each_of x y z h =
     let front = and_parts x y last.0 in
     (front.0, front.1, last.1)
 
--- the three parts of what a version takes
+-- the three conditions for a version to have lines for these needs
 takes_each : (v : Version) (n : Needs) → takes v n ≡ true → ((not n.fd || takes_fd v) ≡ true) × ((not n.flags || takes_flags v) ≡ true) × ((not n.down || takes_down v) ≡ true)
 takes_each v n h = each_of (not n.fd || takes_fd v) (not n.flags || takes_flags v) (not n.down || takes_down v) h
 
 takes_all : (v : Version) (n : Needs) → (not n.fd || takes_fd v) ≡ true → (not n.flags || takes_flags v) ≡ true → (not n.down || takes_down v) ≡ true → takes v n ≡ true
 takes_all v n h k l = all_three (not n.fd || takes_fd v) (not n.flags || takes_flags v) (not n.down || takes_down v) h k l
 
--- what takes some lines and others takes both
+-- a version that has lines for two needs has lines for both together
 takes_both : (v : Version) (a b : Needs) → takes v a ≡ true → takes v b ≡ true → takes v (both_needs a b) ≡ true
 takes_both v a b h k =
     let one = takes_each v a h in
@@ -154,16 +154,16 @@ taken : (x : Bool) → (not x || true) ≡ true
 taken true = refl
 taken false = refl
 
--- version 6 takes anything
+-- version 6 has lines for all needs
 pub six_takes : (n : Needs) → takes version.Six n ≡ true
 six_takes n = takes_all version.Six n (taken n.fd) (taken n.flags) (taken n.down)
 
--- what has lines in a version, it takes
+-- if entries have lines in a version, the version has lines for their needs
 all_taken : (v : Version) (c : BusConfig) (es : List Entry) → All (HasLine v c) es → takes v (all_needs es) ≡ true
 all_taken v c [] lines = refl
 all_taken v c (e ∷ es) lines = takes_both v (needs_of e) (all_needs es) (All-head (HasLine v c) e es lines).version (all_taken v c es (All-tail (HasLine v c) e es lines))
 
--- a version without lines for something has none
+-- if a version has no lines for a feature, the entries do not need that feature
 has_none : (x : Bool) → (not x || false) ≡ true → x ≡ false
 has_none true h = absurd cc
 has_none false h = refl
@@ -177,12 +177,12 @@ no_flags_in v n none h = has_none n.flags (ap (λ (p : Bool). not n.flags || p) 
 no_down_in : (v : Version) (n : Needs) → takes_down v ≡ false → takes v n ≡ true → n.down ≡ false
 no_down_in v n none h = has_none n.down (ap (λ (p : Bool). not n.down || p) (sym none) ∙ (takes_each v n h).2)
 
--- what is there where it is not missing
+-- a Boolean whose negation is false is true
 there_is : (x : Bool) → not x ≡ false → x ≡ true
 there_is true h = refl
 there_is false h = absurd cc
 
--- the version of lines that need it
+-- the version of lines that need that version
 pub version_is : (v : Version) (c : BusConfig) (es : List Entry) → HasLines v c es → is_needless v (all_needs es) ≡ false → v ≡ version_of c es
 version_is version.One c es whole needed =
     let some = all_needs es in
@@ -221,7 +221,7 @@ not_needless v c es ds is same none =
     not_both (is_needless (version_of c es) (all_needs es)) (never_needless c (all_needs es))
     (subst (λ (u : Version). is_needless u (all_needs es) ≡ true) is (subst (λ (xs : List Entry). is_needless v (all_needs xs) ≡ true) same none))
 
--- an entry that has a line in version 6 has one in each version that takes what it needs
+-- an entry that has a line in version 6 has one in each version with lines for its needs
 pub line_in : (v : Version) (c : BusConfig) (e : Entry) → HasLine version.Six c e → takes v (needs_of e) ≡ true → HasLine v c e
 line_in v c e h taken = record { spelled = h.spelled; version = taken; event = h.event; reply = h.reply }
 
@@ -242,7 +242,7 @@ bus_in c n h = subst (λ (v : Version). HasBusLine v c) (sym (of_short c n h.lim
     when false false false true is = record { proper = h.proper; limit = h.limit; reporting = h.reporting; restarts = eqb-true c.auto_restart 0 is }
     when false false false false is = record { proper = h.proper; limit = h.limit; reporting = h.reporting; restarts = eqb-false c.auto_restart 0 is }
 
--- a record's own version takes what it needs
+-- the version of a record has lines for the needs of the record
 own_version : (c : BusConfig) (n : Needs) → c.limit ≤ max_limit → takes (version_for c n) n ≡ true
 unfolding short_version
 own_version c n short = ap (λ (v : Version). takes v n) (of_short c n short) ∙ when n.down n.flags n.fd (c.auto_restart == 0)

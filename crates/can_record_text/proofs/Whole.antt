@@ -20,7 +20,7 @@ use Rattle.can_record_text.proofs.Again.{spell-rest, entry_again, config_again, 
 use Rattle.can_record_text.proofs.LineLists.{lines-rest}
 use Rattle.can_record_text.proofs.Versioning.{not_needless, version_is}
 
--- ---- what follows
+-- ---- the text after some lines
 
 spell-then : (ws : List (List ℕ)) (rest more : List ℕ) → spell ws rest ++ more ≡ spell ws (rest ++ more)
 spell-then [] rest more = refl
@@ -31,7 +31,7 @@ unfolding entry_lines
 lines-then [] rest more = refl
 lines-then (e ∷ es) rest more = spell-then (entry_words e) (entry_lines es rest) more ∙ ap (λ (x : List ℕ). entry_line e x) (lines-then es rest more)
 
--- the first two lines, and what follows them
+-- the first two lines, and the text after them
 pub front-then : (v : Version) (c : BusConfig) (rest more : List ℕ) → front_lines v c rest ++ more ≡ front_lines v c (rest ++ more)
 front-then v c rest more = append_assoc (first_line v) (spell (bus_words v c) rest) more
     ∙ ap (λ (x : List ℕ). first_line v ++ x) (spell-then (bus_words v c) rest more)
@@ -47,7 +47,7 @@ spell-cancel : (ws : List (List ℕ)) (a b : List ℕ) → spell ws a ≡ spell 
 spell-cancel [] a b e = e
 spell-cancel (w ∷ ws) a b e = spell-cancel ws a b (cons-cancel (gap_before ws) (spell ws a) (spell ws b) (append_cancel_left w _ _ e))
 
--- ---- what is read of a text
+-- ---- the faults that reading a text finds
 
 pub first_is_wrong : (v : Version) (text rest : List ℕ) → text ≡ first_line v ++ rest → LacksBus v rest → IsFirstWrong text 2
 first_is_wrong v text rest begins wrong = inl (record { version = v; rest = rest; second = refl; begins = begins; wrong = wrong })
@@ -79,7 +79,7 @@ end_is_wrong A (fault.BadLine n) v text rest c es whole begins wrong (inr h) = i
 
 -- ---- no text is read in two ways
 
--- the digit of a first line
+-- the digit in the first line of a version
 abbrev version_digit : Version → ℕ
 version_digit version.One = 49
 version_digit version.Two = 50
@@ -96,7 +96,7 @@ digit_of version.Four a = refl
 digit_of version.Five a = refl
 digit_of version.Six a = refl
 
--- the version of a first line with this digit
+-- the version whose first line has this digit
 abbrev with_digit : ℕ → Version
 with_digit n =
     if n == 49 then version.One
@@ -125,14 +125,14 @@ behind_first version.Four a = refl
 behind_first version.Five a = refl
 behind_first version.Six a = refl
 
--- one text is of one version
+-- a text is of at most one version
 one_version : (v w : Version) (a b : List ℕ) → first_line v ++ a ≡ first_line w ++ b → (v ≡ w) × (a ≡ b)
 one_version v w a b e = (
   same_digit v w (sym (digit_of v a) ∙ ap (λ (x : List ℕ). get_or x 14 0) e ∙ digit_of w b),
   sym (behind_first v a) ∙ ap (drop 16) e ∙ behind_first w b,
 )
 
--- one text begins with the lines of one bus
+-- a text begins with the line of at most one bus
 one_bus : (v : Version) (c d : BusConfig) (a b : List ℕ) → HasBusLine v c → HasBusLine v d → spell (bus_words v c) a ≡ spell (bus_words v d) b → (c ≡ d) × (a ≡ b)
 one_bus v c d a b hc hd e =
     let same : c ≡ d = same_Some c d (sym (config_again v c a hc) ∙ ap (config_at v) e ∙ config_again v d b hd) in
@@ -166,7 +166,7 @@ lines_meet v s (x ∷ es) (d ∷ ds) a b hes hds na nb e =
 pub end_lacks : (v : Version) (c : BusConfig) (count : ℕ) (more : List ℕ) → LacksEntry v c (spell (end_words count) more)
 end_lacks v c count more e rest h is = none-some e (sym (end_is_none count more) ∙ ap entry_at is ∙ entry_again v c e rest h)
 
--- two texts' lines are the same, and so is what follows them
+-- two equal texts have the same lines, and the same text after the lines
 texts_meet : (v w : Version) (c d : BusConfig) (es ds : List Entry) (a b : List ℕ) → HasLines v c es → HasLines w d ds → LacksEntry v c a → LacksEntry w d b
     → front_lines v c (entry_lines es a) ≡ front_lines w d (entry_lines ds b) → (v ≡ w) × (c ≡ d) × (es ≡ ds) × (a ≡ b)
 texts_meet v w c d es ds a b hc hd na nb e =
@@ -176,26 +176,26 @@ texts_meet v w c d es ds a b hc hd na nb e =
     let met = lines_meet v c es ds a b hc.lines lines na lacks front.2 in
     (front.0, front.1, met.0, met.1)
 
--- two whole texts with the same lines
+-- two equal whole texts have the same lines
 whole_texts_meet : (v w : Version) (c d : BusConfig) (es ds : List Entry) → HasLines v c es → HasLines w d ds → text_in v c es ≡ text_in w d ds → (v ≡ w) × (c ≡ d) × (es ≡ ds)
 whole_texts_meet v w c d es ds hc hd e =
     let met = texts_meet v w c d es ds (spell (end_words (length es)) []) (spell (end_words (length ds)) []) hc hd (end_lacks v c (length es) []) (end_lacks w d (length ds) []) e in
     (met.0, met.1, met.2)
 
--- no text is that of two records
+-- no text is the text of two different records
 pub one_record : (text : List ℕ) (c d : BusConfig) (es ds : List Entry) → IsTextOf text c es → IsTextOf text d ds → (c ≡ d) × (es ≡ ds)
 one_record text c d es ds one other =
     let met = whole_texts_meet (version_of c es) (version_of d ds) c d es ds one.0 other.0 (sym one.1 ∙ other.1) in
     (met.1, met.2)
 
--- where the first two lines are there, the bus's line is right
+-- if the text begins with the right first two lines, the line of the bus is not wrong
 bus_stands : (text : List ℕ) (n : ℕ) (v : Version) (c : BusConfig) (rest : List ℕ) → HasBusLine v c → text ≡ front_lines v c rest → BusIsWrong text n → ⊥
 bus_stands text n v c rest good is h =
     let of_text = one_version h.version v _ _ (sym h.begins ∙ is) in
     let back = sym of_text.0 in
     h.wrong c rest (subst (λ (u : Version). HasBusLine u c) back good) (of_text.1 ∙ ap (λ (u : Version). spell (bus_words u c) rest) back)
 
--- nothing is wrong with a text that is right line by line
+-- a text with only right lines has no wrong line
 bus_is_right : (text : List ℕ) (n : ℕ) (v : Version) (c : BusConfig) (es : List Entry) → HasLines v c es → text ≡ text_in v c es → BusIsWrong text n → ⊥
 bus_is_right text n v c es whole is h = bus_stands text n v c (entry_lines es (spell (end_words (length es)) [])) whole.bus is h
 
@@ -216,11 +216,11 @@ right_text text n v c es whole is (inl h) = bus_is_right text n v c es whole is 
 right_text text n v c es whole is (inr (inl h)) = line_is_right text n v c es whole is h
 right_text text n v c es whole is (inr (inr h)) = goes_not_on text n v c es whole is h
 
--- nothing is wrong with the text of a record
+-- the text of a record has no wrong line
 pub nothing_wrong : (text : List ℕ) (n : ℕ) (c : BusConfig) (es : List Entry) → IsTextOf text c es → IsFirstWrong text n → ⊥
 nothing_wrong text n c es is h = right_text text n (version_of c es) c es is.0 is.1 h
 
--- the text of a record is of a version
+-- the text of a record has a version
 pub has_version : (text : List ℕ) (c : BusConfig) (es : List Entry) → IsTextOf text c es → IsOfNoVersion text → ⊥
 has_version text c es is (inl lacks) = lacks (version_of c es) _ is.1
 has_version text c es is (inr h) =
@@ -229,7 +229,7 @@ has_version text c es is (inr h) =
 
 -- ---- a record, which is that of no long run
 
--- a text of another version than the fourth is of no long run
+-- a text of another version than 4 is not of a long run
 pub not_long : (v : Version) (text rest : List ℕ) → v ≢ version.Four → text ≡ first_line v ++ rest → IsOfLongRun text → ⊥
 not_long v text rest other is long = other ((one_version v version.Four rest long.0 (sym is ∙ long.1)).0)
 
@@ -238,7 +238,7 @@ short_fault v text rest fault.BadVersion other is h = inl h
 short_fault v text rest (fault.BadLine n) other is h = (h, not_long v text rest other is)
 short_fault v text rest fault.NoMemory other is h = tt
 
--- lines of another version than the fourth make a record
+-- right lines in another version than 4 make a record
 short_config : (v : Version) (c : BusConfig) → v ≢ version.Four → HasBusLine v c → c.limit ≤ max_limit
 short_config version.One c other h = h.limit
 short_config version.Two c other h = h.limit
@@ -258,14 +258,14 @@ proper_config v c other h = record {
   few_attempts = h.proper.few_attempts;
 }
 
--- the text of a record is of no long run
+-- the text of a record is not of a long run
 short_text : (text : List ℕ) (c : BusConfig) (es : List Entry) → IsConfig c → IsTextOf text c es → IsOfLongRun text → ⊥
 short_text text c es proper is long =
     let four = (one_version (version_of c es) version.Four _ long.0 (sym is.1 ∙ long.1)).0 in
     let bus = subst (λ (v : Version). HasBusLine v c) four is.0.bus in
     absurd (omega (arith, bus.limit, proper.few_entries))
 
--- what was written is read
+-- the record that was written is read again
 pub reads_back : (text : List ℕ) (result : Result Kept ReadFault) → ReadsRecord text result → ReadsBack text result
 reads_back text (Ok r) reads c es proper is = one_record text r.config c (reverse r.history) es reads is
 reads_back text (Err fault.BadVersion) (inl none) c es proper is = absurd (has_version text c es is none)
@@ -273,7 +273,7 @@ reads_back text (Err fault.BadVersion) (inr long) c es proper is = absurd (short
 reads_back text (Err (fault.BadLine n)) reads c es proper is = absurd (nothing_wrong text n c es is reads.0)
 reads_back text (Err fault.NoMemory) reads c es proper is = refl
 
--- ---- what is written
+-- ---- the text that is written
 
 pub text_written : (t0 t1 t2 new : List ℕ) (v : Version) (c d : BusConfig) (es hs : List Entry) (n : ℕ) → t0 ≡ [] → t1 ≡ t0 ++ front_lines v c []
     → t2 ≡ t1 ++ entry_lines es [] → new ≡ t2 ++ spell (end_words n) [] → v ≡ version_of c es → c ≡ d → es ≡ reverse hs → n ≡ length hs → new ≡ record_spelling d (reverse hs)
@@ -301,7 +301,7 @@ made_text text v c d es hs hd hh whole is needed =
 both_wrong : (text : List ℕ) (n m : ℕ) → BusIsWrong text n → LineIsWrong text m → ⊥
 both_wrong text n m h k = bus_stands text n k.version k.config (entry_lines k.entries k.rest) k.whole.bus k.begins h
 
--- a text that goes on, as its lines
+-- a text with more bytes after its last line, split into its lines
 goes : (text : List ℕ) (n : ℕ) (k : GoesOn text n) → text ≡ front_lines k.version k.config (entry_lines k.entries (spell (end_words (length k.entries)) k.rest))
 goes text n k = k.begins ∙ text-then k.version k.config k.entries k.rest
 
@@ -339,13 +339,13 @@ one_first text n m (inr (inl h)) (inr (inr k)) = absurd (line_and_more text n m 
 one_first text n m (inr (inr h)) (inr (inl k)) = absurd (line_and_more text m n k h)
 one_first text n m (inr (inr h)) (inr (inr k)) = two_more text n m h k
 
--- a text with a wrong line is of a version
+-- a text with a wrong line has a valid version
 pub not_both : (text : List ℕ) (n : ℕ) → IsOfNoVersion text → IsFirstWrong text n → ⊥
 not_both text n (inl lacks) (inl h) = lacks h.version h.rest h.begins
 not_both text n (inl lacks) (inr (inl h)) = lacks h.version _ h.begins
 not_both text n (inl lacks) (inr (inr h)) = lacks h.version _ (goes text n h)
 not_both text n (inr k) h = right_text text n k.version k.config k.entries k.whole k.is_text h
 
--- a text that is right line by line, in a version that it does not need
+-- a text with only right lines, in a version that it does not need
 pub needless_text : (text : List ℕ) (v : Version) (c : BusConfig) (es : List Entry) → HasLines v c es → text ≡ text_in v c es → is_needless v (all_needs es) ≡ true → IsNeedless text
 needless_text text v c es whole is none = record { version = v; config = c; entries = es; whole = whole; none = none; is_text = is }

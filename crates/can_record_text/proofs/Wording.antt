@@ -1,4 +1,4 @@
--- The first word of a text, and what follows it.
+-- The first word of a text, and the text after it.
 use Rattle.std.proofs.Common.{◌≡◌, ◌-◌, ap, sym, ◌∙◌, append_assoc, ℕ, ◌+◌, ◌<◌, ◌≤◌, true, false, not, ◌&&◌, cond, leb, List, [], ◌∷◌, ◌++◌, length, take, drop, get_or, refl, arith}
 use Rattle.std.proofs.Common.{rules}
 use Rattle.std.proofs.lemmas.Bool.{le-leb}
@@ -73,6 +73,6 @@ word_all text k le so_far = sym (so_far ∙ ap (λ (x : List ℕ). take k text +
 pub after_all : (text : List ℕ) (k : ℕ) → length text ≤ k → after text ≡ after (drop k text) → drop (length text) text ≡ after text
 after_all text k le so_far = drop_all (length text) text (omega arith) ∙ sym (so_far ∙ at_drop_all after text k le ∙ after_none)
 
--- what is left after place k, as a range of it
+-- the rest of a text after place k, as a range of the text
 pub rest_of : (text : List ℕ) (k : ℕ) → take (length text - k) (drop k text) ≡ drop k text
 rest_of text k = take_all (length text - k) (drop k text) (omega (arith, length-drop k text))

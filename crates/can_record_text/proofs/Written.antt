@@ -1,4 +1,4 @@
--- A line in the parts in which it is written.
+-- A line, split into the parts in which it is written.
 use Rattle.std.proofs.Common.{◌≡◌, ℕ, List, [], ◌∷◌, ◌++◌, length, append_assoc, refl, sym, ap, ◌∙◌, arith}
 use Rattle.std.specs.Prelude.{codes}
 use Rattle.std.specs.List.{flat_map}
@@ -9,7 +9,7 @@ use Rattle.can_event.specs.declared.reply.Reply.{Reply}
 use Rattle.can_record_text.specs.inner.Words.{spaced}
 use Rattle.can_record_text.specs.Spelling.{spell, mask_word, filter_words, event_words, reply_words, answered_line}
 
--- what is written of one filter
+-- the text that is written for one filter
 abbrev pub filter_part : CanFilter → List ℕ
 filter_part f = spaced (filter_words (f ∷ []))
 
@@ -30,7 +30,7 @@ spell-append (w ∷ u ∷ ws) vs v rest =
     ∙ append_assoc w (32 ∷ []) (spaced (u ∷ ws) ++ spell (v ∷ vs) rest)
     ∙ ap (λ (x : List ℕ). w ++ 32 ∷ x) (spell-append (u ∷ ws) vs v rest)
 
--- the event's words up to its filters, the words of these, and the reply
+-- the line: the words of the event up to its filters, the words of the filters, and the reply
 pub line_of : (e : Event) (r : Reply) (fs : List CanFilter) (front : List ℕ) → front ++ spaced (filter_words fs) ≡ spaced (event_words e) → front ++ (spaced (filter_words fs) ++ spell (codes "=" ∷ reply_words r) []) ≡ answered_line e r []
 line_of e r fs front is =
     let end = spell (codes "=" ∷ reply_words r) [] in
@@ -40,7 +40,7 @@ empty : (fs : List CanFilter) → length fs ≡ 0 → fs ≡ []
 empty [] h = refl
 empty (f ∷ fs) h = absurd (omega (arith, h))
 
--- a line with no filters
+-- a line without filters
 pub plain_line : (e : Event) (r : Reply) (fs : List CanFilter) (front new : List ℕ) → front ++ spaced (filter_words fs) ≡ spaced (event_words e) → length fs ≡ 0 → new ≡ front ++ spell (codes "=" ∷ reply_words r) [] → new ≡ answered_line e r []
 plain_line e r fs front new is none hn =
     hn ∙ ap (λ (xs : List CanFilter). front ++ (spaced (filter_words xs) ++ spell (codes "=" ∷ reply_words r) [])) (sym (empty fs none)) ∙ line_of e r fs front is

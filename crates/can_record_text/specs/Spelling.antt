@@ -35,45 +35,45 @@ use Rattle.can_record_text.specs.declared.needs.Needs.{Needs}
 use Rattle.can_record_text.specs.declared.version.Version.{Version}
 use Rattle.can_record_text.specs.declared.version.Version.TheVariants as version
 
--- How the lines of a record are written (own choice).
+-- The spelling of the lines of a record (own choice).
 
--- what ends a word: a space, or the line's end (LF) where no word follows
+-- The byte that ends a word: a space, or LF if no word follows.
 abbrev pub gap_before : List (List ℕ) → ℕ
 gap_before [] = 10
 gap_before (w ∷ ws) = 32
 
--- a line of these words, one space between two of them and LF after the last; and what follows the line
+-- The line with these words: a space between words and LF after the last word. The text after the line is appended.
 abbrev pub spell : List (List ℕ) → List ℕ → List ℕ
 spell [] rest = rest
 spell (w ∷ ws) rest = w ++ gap_before ws ∷ spell ws rest
 
--- a set of interfaces: 4 hexadecimal digits
+-- A set of interfaces: 4 hexadecimal digits.
 unfoldable pub set_word : IfaceSet → List ℕ
 set_word set = digits 16 4 set.0
 
--- a word of 32 bits: 8 hexadecimal digits
+-- A word of 32 bits: 8 hexadecimal digits.
 unfoldable pub mask_word : ℕ → List ℕ
 mask_word n = digits 16 8 n
 
--- a moment: seconds, a point and six digits of microseconds
+-- A moment: seconds, a point and six digits of microseconds.
 unfoldable pub moment_word : ℕ → List ℕ
 moment_word micros = moment_text micros
 
--- a switch: 0 or 1
+-- A flag: 0 or 1.
 abbrev pub flag_word : Bool → List ℕ
 flag_word false = codes "0"
 flag_word true = codes "1"
 
--- filters: the identifier word and the mask of each, in 8 hexadecimal digits
+-- Filters: the identifier word and the mask of each filter, in 8 hexadecimal digits.
 abbrev pub filter_words : List CanFilter → List (List ℕ)
 filter_words [] = []
 filter_words (f ∷ fs) = mask_word f.id ∷ mask_word f.mask ∷ filter_words fs
 
--- how many filters there are, and the words of each
+-- The number of filters, and the words of each filter.
 abbrev pub counted_filters : List CanFilter → List (List ℕ)
 counted_filters filters = decimal (length filters) ∷ filter_words filters
 
--- an option of a socket and its value; an error mask has 8 hexadecimal digits
+-- An option of a socket and its value. An error mask has 8 hexadecimal digits.
 abbrev pub option_words : Opt → List (List ℕ)
 option_words (opt.Loopback on) = codes "loopback" ∷ flag_word on ∷ []
 option_words (opt.RecvOwn on) = codes "recvown" ∷ flag_word on ∷ []
@@ -81,13 +81,13 @@ option_words (opt.Join on) = codes "join" ∷ flag_word on ∷ []
 option_words (opt.ErrMask mask) = codes "errmask" ∷ mask_word mask ∷ []
 option_words (opt.FdFrames on) = codes "fd" ∷ flag_word on ∷ []
 
--- a local fault and a colon
+-- The kind of a local fault, and a colon.
 abbrev pub local_front : LocalKind → List ℕ
 local_front local.Stuff = codes "local-stuff:"
 local_front local.Crc = codes "local-crc:"
 local_front local.Form = codes "local-form:"
 
--- a verdict, with the interfaces that see a local fault
+-- A verdict, with the interfaces that see a local fault.
 abbrev pub verdict_word : Verdict → List ℕ
 verdict_word verdict.Good = codes "good"
 verdict_word (verdict.Global global.Bit) = codes "global-bit"
@@ -95,12 +95,12 @@ verdict_word (verdict.Global global.Form) = codes "global-form"
 verdict_word verdict.LastBit = codes "lastbit"
 verdict_word (verdict.Local set kind) = local_front kind ++ set_word set
 
--- who acknowledges
+-- The acknowledgement mode.
 abbrev pub ack_word : AckMode → List ℕ
 ack_word ack.Always = codes "always"
 ack_word ack.Peers = codes "peers"
 
--- the name of a refusal; a call that found the record full, or no memory, has no line
+-- The name of a refusal. A call that is refused for a full record or for lack of memory has no line.
 abbrev pub refusal_words : Refusal → List (List ℕ)
 refusal_words refusal.NoInterface = codes "no-interface" ∷ []
 refusal_words refusal.BadCapacity = codes "bad-capacity" ∷ []
@@ -114,7 +114,7 @@ refusal_words refusal.RecordFull = []
 refusal_words refusal.NoMemory = []
 refusal_words refusal.Down = codes "interface-down" ∷ []
 
--- an event: what was called, and with what
+-- An event: the name of the call, and its arguments.
 abbrev pub event_words : Event → List (List ℕ)
 event_words (Open i capacity) = codes "open" ∷ decimal i ∷ decimal capacity ∷ []
 event_words (Close s) = codes "close" ∷ decimal s.0 ∷ []
@@ -126,18 +126,18 @@ event_words (Attempt m verdict) = codes "attempt" ∷ moment_word m ∷ verdict_
 event_words (Restart i m) = codes "restart" ∷ decimal i ∷ moment_word m ∷ []
 event_words (Down i m) = codes "down" ∷ decimal i ∷ moment_word m ∷ []
 
--- an item that was received: where it comes from, its number if it is a frame, the item, and when it was put to
--- the socket
+-- A received item: the interface that it comes from, its number if it is a frame, the item, and the moment at which the
+-- socket got it.
 abbrev pub received_words : Item → Received → List (List ℕ)
 received_words (item.Data f) r =
     codes "data" ∷ decimal r.from ∷ decimal r.number ∷ frame_spelling r.item ∷ moment_word r.moment ∷ []
 received_words (item.Error e) r = codes "error" ∷ decimal r.from ∷ frame_spelling r.item ∷ moment_word r.moment ∷ []
 
--- the interfaces that an attempt restarted, where there are any
+-- The interfaces that an attempt restarted, if there are any.
 abbrev pub restarted_words : IfaceSet → List (List ℕ)
 restarted_words set = if set.0 == 0 then [] else codes "restarted" ∷ set_word set ∷ []
 
--- a reply; a frame was tried at the moment of its attempt, which is not repeated
+-- A reply. A frame was tried at the moment of its attempt, so that moment is not repeated.
 abbrev pub reply_words : Reply → List (List ℕ)
 reply_words (reply.Opened s) = codes "socket" ∷ decimal s.0 ∷ []
 reply_words (reply.Closed c) = codes "closed" ∷ decimal c.unread ∷ decimal c.dropped ∷ []
@@ -151,84 +151,84 @@ reply_words (reply.Attempted (attempt.Tried t)) =
     ∷ set_word t.accepted ∷ set_word t.off ∷ restarted_words t.restarted
 reply_words (reply.Refused why) = refusal_words why
 
--- a reply, up to the end of its line
+-- A reply, up to the end of its line.
 abbrev pub reply_text : Reply → List ℕ
 reply_text r = spell (reply_words r) []
 
--- an entry: its event, `=`, and its reply
+-- An entry: its event, `=`, and its reply.
 abbrev pub entry_words : Entry → List (List ℕ)
 entry_words e = event_words e.event ++ codes "=" ∷ reply_words e.reply
 
--- the line of an entry, and what follows it
+-- The line of an entry, and the text after it.
 abbrev pub entry_line : Entry → List ℕ → List ℕ
 entry_line e rest = spell (entry_words e) rest
 
--- the line of an event with this reply, and what follows it
+-- The line of an event with this reply, and the text after it.
 abbrev pub answered_line : Event → Reply → List ℕ → List ℕ
 answered_line e r rest = entry_line (entry_of e r) rest
 
--- the line of a receive with this reply
+-- The line of a receive call with this reply.
 abbrev pub receive_line : SocketId → Reply → List ℕ
 receive_line id r = answered_line (Receive id) r []
 
--- the line of an attempt with this reply
+-- The line of an attempt with this reply.
 abbrev pub attempt_line : ℕ → Verdict → Reply → List ℕ
 attempt_line moment verdict r = answered_line (Attempt moment verdict) r []
 
--- nothing of the later versions
+-- The needs of lines that have no feature of the later versions.
 abbrev pub no_needs : Needs
 no_needs = record { fd = false; flags = false; down = false }
 
--- what these and others need
+-- The combined needs of two parts of a text.
 abbrev pub both_needs : Needs → Needs → Needs
 both_needs a b = record { fd = a.fd || b.fd; flags = a.flags || b.flags; down = a.down || b.down }
 
--- what the option for FD frames needs
+-- The needs of the option for FD frames.
 abbrev pub option_needs : Needs
 option_needs = record { fd = true; flags = false; down = false }
 
--- what the call that takes an interface down needs, and the refusal of a call as its interface is down
+-- The needs of a call that takes an interface down, or of a refusal because it is down.
 abbrev pub down_needs : Needs
 down_needs = record { fd = false; flags = false; down = true }
 
--- what a frame needs
+-- The needs of a frame.
 abbrev pub frame_needs : CanFrame → Needs
 frame_needs f = record { fd = is_fd f.payload; flags = is_flagged f.payload; down = false }
 
--- what an item needs
+-- The needs of an item.
 abbrev pub item_needs : Item → Needs
 item_needs (item.Data f) = frame_needs f
 item_needs (item.Error e) = no_needs
 
--- what an event needs: the frame that is to be sent, the option for FD frames, or the call that takes an interface down
+-- The needs of an event: those of the frame that it sends, of the option for FD frames, or of taking an interface down.
 abbrev pub event_needs : Event → Needs
 event_needs (SetOption s (opt.FdFrames on)) = option_needs
 event_needs (Send s frame) = frame_needs frame
 event_needs (Down i m) = down_needs
 event_needs _ = no_needs
 
--- what a refusal needs
+-- The needs of a refusal.
 abbrev pub refusal_needs : Refusal → Needs
 refusal_needs refusal.Down = down_needs
 refusal_needs _ = no_needs
 
--- what a reply needs: the frame in it, or the refusal
+-- The needs of a reply: those of its frame or of its refusal.
 abbrev pub reply_needs : Reply → Needs
 reply_needs (reply.Received (Some r)) = item_needs r.item
 reply_needs (reply.Attempted (attempt.Tried t)) = frame_needs t.frame
 reply_needs (reply.Refused why) = refusal_needs why
 reply_needs _ = no_needs
 
--- what an entry needs
+-- The needs of an entry.
 abbrev pub needs_of : Entry → Needs
 needs_of e = both_needs (event_needs e.event) (reply_needs e.reply)
 
--- what entries need
+-- The needs of a list of entries.
 abbrev pub all_needs : List Entry → Needs
 all_needs [] = no_needs
 all_needs (e ∷ es) = both_needs (needs_of e) (all_needs es)
 
--- a version that has lines with FD frames, or with the option for such
+-- Whether the version has lines for FD frames and for the option for FD frames.
 abbrev pub takes_fd : Version → Bool
 takes_fd version.One = false
 takes_fd version.Two = false
@@ -237,7 +237,7 @@ takes_fd version.Four = true
 takes_fd version.Five = true
 takes_fd version.Six = true
 
--- a version that has lines with flags of FD frames
+-- Whether the version has lines for FD frames with flags.
 abbrev pub takes_flags : Version → Bool
 takes_flags version.One = false
 takes_flags version.Two = false
@@ -246,8 +246,8 @@ takes_flags version.Four = true
 takes_flags version.Five = true
 takes_flags version.Six = true
 
--- a version that has lines of interfaces that go down or are down; that of long runs does, since its first line comes
--- before any of them
+-- Whether the version has lines for interfaces that go down or are down. The version of long runs has them, since its
+-- first line is written before any entry.
 abbrev pub takes_down : Version → Bool
 takes_down version.One = false
 takes_down version.Two = false
@@ -256,13 +256,13 @@ takes_down version.Four = true
 takes_down version.Five = false
 takes_down version.Six = true
 
--- a version that has lines with so much
+-- Whether the version has lines for all of these needs.
 abbrev pub takes : Version → Needs → Bool
 takes v needs =
     (not needs.fd || takes_fd v) && (not needs.flags || takes_flags v) && (not needs.down || takes_down v)
 
--- a version that is for more than this: 3 is for an FD frame or the option for such, 5 for a flag of an FD frame, and 6
--- for an interface that goes down or is down
+-- Whether lines with these needs do not require this version. Version 3 is for an FD frame or the option for FD frames,
+-- version 5 for a flag of an FD frame, and version 6 for an interface that goes down or is down.
 abbrev pub is_needless : Version → Needs → Bool
 is_needless version.One needs = false
 is_needless version.Two needs = false
@@ -271,9 +271,9 @@ is_needless version.Four needs = false
 is_needless version.Five needs = not needs.flags
 is_needless version.Six needs = not needs.down
 
--- the version for a bus: 4 for a limit that only a long run has; else 6 where its record has a call that takes an
--- interface down, or one that is refused as its interface is down; else 5 where it has a flag of an FD frame; else 3
--- where an FD frame or the option for such does, and else 2 exactly where interfaces are restarted automatically
+-- The version for a bus: 4 if only a long run can have its limit. Otherwise it is the first of these whose condition
+-- holds: 6 if a call takes an interface down or is refused because its interface is down; 5 if an FD frame has a flag;
+-- 3 if there is an FD frame or the option for FD frames; 2 if interfaces are restarted automatically; otherwise 1.
 abbrev pub version_for : BusConfig → Needs → Version
 version_for c needs =
     if nat_lt max_limit c.limit then version.Four
@@ -283,11 +283,11 @@ version_for c needs =
     else if c.auto_restart == 0 then version.One
     else version.Two
 
--- the version of a record's text
+-- The version of the text of a record.
 abbrev pub version_of : BusConfig → List Entry → Version
 version_of c entries = version_for c (all_needs entries)
 
--- the first line: the version
+-- The first line, which names the version.
 abbrev pub first_line : Version → List ℕ
 first_line version.One = codes "canbus record 1" ++ 10 ∷ []
 first_line version.Two = codes "canbus record 2" ++ 10 ∷ []
@@ -296,7 +296,8 @@ first_line version.Four = codes "canbus record 4" ++ 10 ∷ []
 first_line version.Five = codes "canbus record 5" ++ 10 ∷ []
 first_line version.Six = codes "canbus record 6" ++ 10 ∷ []
 
--- from version 2 on: how many attempts after it went off an interface is restarted; from version 3 on this may be 0
+-- From version 2 on: the number of attempts until an interface that went bus off is restarted. From version 3 on it may
+-- be 0.
 abbrev pub auto_restart_words : Version → BusConfig → List (List ℕ)
 auto_restart_words version.One c = []
 auto_restart_words version.Two c = decimal c.auto_restart ∷ []
@@ -305,30 +306,30 @@ auto_restart_words version.Four c = decimal c.auto_restart ∷ []
 auto_restart_words version.Five c = decimal c.auto_restart ∷ []
 auto_restart_words version.Six c = decimal c.auto_restart ∷ []
 
--- the bus: how many interfaces, who acknowledges, the interfaces with reporting on, the room of a transmit queue,
--- the limit
+-- The bus configuration: the number of interfaces, the acknowledgement mode, the interfaces with fault reporting, the
+-- capacity of a transmit queue, and the limit.
 abbrev pub bus_words : Version → BusConfig → List (List ℕ)
 bus_words v c =
     codes "bus" ∷ decimal c.ifaces ∷ ack_word c.ack ∷ set_word c.reporting ∷ decimal c.tx_capacity ∷ decimal c.limit
     ∷ auto_restart_words v c
 
--- the first two lines of a version, and what follows them
+-- The first two lines of a version, and the text after them.
 abbrev pub front_lines : Version → BusConfig → List ℕ → List ℕ
 front_lines v c rest = first_line v ++ spell (bus_words v c) rest
 
--- the end: how many entries there were
+-- The last line, with the number of entries.
 abbrev pub end_words : ℕ → List (List ℕ)
 end_words count = codes "end" ∷ decimal count ∷ []
 
--- lines of entries, and what follows them
+-- The lines of these entries, and the text after them.
 unfoldable pub entry_lines : List Entry → List ℕ → List ℕ
 entry_lines [] rest = rest
 entry_lines (e ∷ es) rest = entry_line e (entry_lines es rest)
 
--- the text of a record in a version: the line of the bus, one for each entry, the oldest first, and that of the end
+-- The text of a record in a version: the first two lines, a line for each entry, the oldest first, and the last line.
 abbrev pub text_in : Version → BusConfig → List Entry → List ℕ
 text_in v c entries = front_lines v c (entry_lines entries (spell (end_words (length entries)) []))
 
--- the text of a record, in its version
+-- The text of a record, in its version.
 abbrev pub record_spelling : BusConfig → List Entry → List ℕ
 record_spelling c entries = text_in (version_of c entries) c entries

@@ -22,15 +22,15 @@ use Rattle.can_record_text.specs.declared.version.Version.{Version}
 use Rattle.can_record_text.specs.declared.version.Version.TheVariants as version
 use Rattle.can_record_text.specs.Spelling.{needs_of, takes, version_of}
 
--- The values that the types of an entry hold: a clause that ranges over all entries has to say so.
+-- The ranges of the values in an entry. A clause about all entries has to state them.
 
--- an identifier word, and a mask without bit 29
+-- An identifier word, and a mask in which bit 29 is 0.
 pub record HoldsFilter (f : CanFilter) : Type 0 where
   pub id : f.id < 2 ^ 32
   pub mask : f.mask < 2 ^ 32
   pub unmarked : bit_and f.mask (2 ^ 29) ≡ 0
 
--- an error mask of 32 bits
+-- An error mask of 32 bits.
 abbrev pub HoldsOption : Opt → Type 0
 HoldsOption (opt.Loopback on) = Unit {0}
 HoldsOption (opt.RecvOwn on) = Unit {0}
@@ -38,14 +38,14 @@ HoldsOption (opt.Join on) = Unit {0}
 HoldsOption (opt.ErrMask mask) = mask < 2 ^ 32
 HoldsOption (opt.FdFrames on) = Unit {0}
 
--- a set of 16 interfaces
+-- A set of 16 interfaces.
 abbrev pub HoldsVerdict : Verdict → Type 0
 HoldsVerdict verdict.Good = Unit {0}
 HoldsVerdict (verdict.Global kind) = Unit {0}
 HoldsVerdict verdict.LastBit = Unit {0}
 HoldsVerdict (verdict.Local set kind) = set.0 < 2 ^ 16
 
--- the arguments of an event
+-- The arguments of an event are within their ranges.
 abbrev pub HoldsEvent : Event → Type 0
 HoldsEvent (Open i capacity) = (i < 16) × (capacity < 2 ^ 32)
 HoldsEvent (Close s) = s.0 < 2 ^ 32
@@ -57,7 +57,7 @@ HoldsEvent (Attempt m v) = (m < 10 ^ 16) × HoldsVerdict v
 HoldsEvent (Restart i m) = (i < 16) × (m < 10 ^ 16)
 HoldsEvent (Down i m) = (i < 16) × (m < 10 ^ 16)
 
--- the parts of a frame that was tried
+-- The parts of a tried frame are within their ranges.
 pub record HoldsTried (t : Tried) : Type 0 where
   pub moment : t.moment < 10 ^ 16
   pub winner : t.winner < 16
@@ -67,11 +67,11 @@ pub record HoldsTried (t : Tried) : Type 0 where
   pub off : t.off.0 < 2 ^ 16
   pub restarted : t.restarted.0 < 2 ^ 16
 
--- the parts of an item that was received
+-- The parts of a received item are within their ranges.
 abbrev pub HoldsReceived : Received → Type 0
 HoldsReceived r = IsItem r.item × (r.from < 16) × (r.number < 2 ^ 64) × (r.moment < 10 ^ 16)
 
--- the parts of a reply
+-- The parts of a reply are within their ranges.
 abbrev pub HoldsReply : Reply → Type 0
 HoldsReply (reply.Opened s) = s.0 < 2 ^ 32
 HoldsReply (reply.Closed c) = (c.unread < 2 ^ 64) × (c.dropped < 2 ^ 64)
@@ -83,19 +83,21 @@ HoldsReply (reply.Attempted (attempt.Idle restarted)) = restarted.0 < 2 ^ 16
 HoldsReply (reply.Attempted (attempt.Tried t)) = HoldsTried t
 HoldsReply (reply.Refused why) = Unit {0}
 
--- an entry that has a line in the record of this bus in this version, of such values
+-- The entry has a line in this version of the record of this bus, and its values are within their ranges.
 pub record HasLine (v : Version) (c : BusConfig) (e : Entry) : Type 0 where
   pub spelled : IsSpelled c e
   pub version : takes v (needs_of e) ≡ true
   pub event : HoldsEvent e.event
   pub reply : HoldsReply e.reply
 
--- the limit is above that of a bus in version 4, the version of long runs, and within it in the others
+-- The version allows the limit of the bus: above the limit of a usual bus in version 4, which is for long runs, and at
+-- most that in the other versions.
 abbrev pub HasLimit : Version → BusConfig → Type 0
 HasLimit version.Four c = max_limit < c.limit
 HasLimit v c = c.limit ≤ max_limit
 
--- interfaces are restarted automatically in version 2, in version 1 only by a call, and in the others either way
+-- The version allows the restart setting of the bus: no automatic restart in version 1, automatic restart in version 2,
+-- and either in the other versions.
 abbrev pub Restarts : Version → BusConfig → Type 0
 Restarts version.One c = c.auto_restart ≡ 0
 Restarts version.Two c = c.auto_restart ≢ 0
@@ -104,18 +106,18 @@ Restarts version.Four c = Unit {0}
 Restarts version.Five c = Unit {0}
 Restarts version.Six c = Unit {0}
 
--- a configuration that has a line in this version
+-- The configuration has a line in this version.
 pub record HasBusLine (v : Version) (c : BusConfig) : Type 0 where
   pub proper : IsLongConfig c
   pub limit : HasLimit v c
   pub reporting : c.reporting.0 < 2 ^ 16
   pub restarts : Restarts v c
 
--- a configuration and entries that have lines in this version
+-- The configuration and the entries have lines in this version.
 pub record HasLines (v : Version) (c : BusConfig) (entries : List Entry) : Type 0 where
   pub bus : HasBusLine v c
   pub lines : All (HasLine v c) entries
 
--- a configuration and entries that a text can spell
+-- The configuration and the entries have a text.
 abbrev pub HasText : BusConfig → List Entry → Type 0
 HasText c entries = HasLines (version_of c entries) c entries

@@ -15,7 +15,8 @@ use can_fault::Verdict;
 use can_filter::Filter;
 use can_frame::{Iface, IfaceSet, Item, Moment};
 
-/// The line of an event with this reply, unless it sets filters; then what is in the room means nothing.
+/// Appends the line of an event with this reply, and returns true. If the event sets filters, it returns false, and the
+/// contents of `line` are meaningless.
 pub(crate) fn push_answered(line: &mut LineText, event: &Event, reply: &Reply) -> bool
     requires { line.old ≡ [] }
     ensures { IsTrue result → line.new ≡ answered_line event.now reply.now [] }
@@ -27,7 +28,8 @@ pub(crate) fn push_answered(line: &mut LineText, event: &Event, reply: &Reply) -
     true
 }
 
-/// The words of an event, a space after each, up to the filters that it sets, which are returned.
+/// Appends the words of an event, each with a space after it. If the event sets filters, it stops before them and returns
+/// them.
 pub(crate) fn push_event<'a>(line: &mut LineText, event: &'a Event) -> &'a [Filter]
     requires { line.old ≡ [] }
     ensures text { line.new ++ spaced (filter_words result.now) ≡ spaced (event_words event.now) }
@@ -84,7 +86,7 @@ pub(crate) fn push_receive(line: &mut LineText, id: SocketId)
     push_number(line, u64::from(id.0), b' ');
 }
 
-/// A send, up to its frame.
+/// Appends the words of a send call, up to its frame.
 pub(crate) fn push_send(line: &mut LineText, id: SocketId)
     requires { line.old ≡ [] }
     ensures text { line.new ≡ spaced (codes "send" ∷ decimal id.0 ∷ []) }
@@ -106,7 +108,7 @@ pub(crate) fn push_attempt(line: &mut LineText, moment: Moment, verdict: Verdict
     push_verdict(line, verdict);
 }
 
-/// An option and its value.
+/// Appends the name of an option and its value.
 fn push_option(line: &mut LineText, option: Opt)
     requires { length line.old + 17 ≤ 392 }
     ensures text { line.new ≡ line.old ++ spaced (option_words option) }
@@ -136,7 +138,7 @@ fn push_option(line: &mut LineText, option: Opt)
     }
 }
 
-/// A reply, and the line's end.
+/// Appends a reply and the end of the line.
 pub(crate) fn push_reply(line: &mut LineText, reply: &Reply)
     requires { length line.old + 225 ≤ 392 }
     ensures { line.new ≡ line.old ++ spell (codes "=" ∷ reply_words reply.now) [] }
@@ -161,7 +163,7 @@ pub(crate) fn push_reply(line: &mut LineText, reply: &Reply)
     }
 }
 
-/// An item that was received, and the line's end.
+/// Appends the reply for a received item, and the end of the line.
 fn push_received(line: &mut LineText, received: &Received)
     requires { length line.old + 207 ≤ 392 }
     ensures { line.new ≡ line.old ++
@@ -181,7 +183,7 @@ fn push_received(line: &mut LineText, received: &Received)
     }
 }
 
-/// A frame that was tried, and the line's end.
+/// Appends the reply for a tried frame, and the end of the line.
 fn push_tried(line: &mut LineText, tried: &Tried)
     requires { length line.old + 225 ≤ 392 }
     ensures { line.new ≡ line.old
@@ -198,7 +200,7 @@ fn push_tried(line: &mut LineText, tried: &Tried)
     );
 }
 
-/// Where a frame that was received comes from, and its number.
+/// Appends the interface from which a received frame comes, and the number of the frame.
 pub(crate) fn push_data(line: &mut LineText, from: Iface, number: u64)
     requires { length line.old + 49 ≤ 392 }
     ensures text { line.new ≡ line.old ++
@@ -210,7 +212,7 @@ pub(crate) fn push_data(line: &mut LineText, from: Iface, number: u64)
     push_number(line, number, b' ');
 }
 
-/// Where an error message frame that was received comes from.
+/// Appends the interface from which a received error message frame comes.
 pub(crate) fn push_error_from(line: &mut LineText, from: Iface)
     requires { length line.old + 29 ≤ 392 }
     ensures text { line.new ≡ line.old ++
@@ -221,7 +223,7 @@ pub(crate) fn push_error_from(line: &mut LineText, from: Iface)
     push_number(line, u64::from(from.number()), b' ');
 }
 
-/// The number that a send returned, and the line's end.
+/// Appends the frame number that a send call returned, and the end of the line.
 pub(crate) fn push_sent(line: &mut LineText, number: u64)
     requires { length line.old + 30 ≤ 392 }
     ensures { line.new ≡ line.old ++ spell (codes "=" ∷ reply_words (reply.Sent number)) [] }
@@ -230,7 +232,7 @@ pub(crate) fn push_sent(line: &mut LineText, number: u64)
     push_number(line, number, b'\n');
 }
 
-/// The interfaces that an attempt restarted which tried nothing, and the line's end.
+/// Appends the reply of an attempt that tried no frame, with the interfaces that it restarted, and the end of the line.
 pub(crate) fn push_idle(line: &mut LineText, restarted: IfaceSet)
     requires { length line.old + 22 ≤ 392 }
     ensures { line.new ≡ line.old
@@ -244,7 +246,7 @@ pub(crate) fn push_idle(line: &mut LineText, restarted: IfaceSet)
     }
 }
 
-/// Which interface sent the frame that was tried, and its number.
+/// Appends the interface that sent the tried frame, and the number of the frame.
 pub(crate) fn push_winner(line: &mut LineText, winner: Iface, number: u64)
     requires { length line.old + 50 ≤ 392 }
     ensures text { line.new ≡ line.old ++
@@ -256,8 +258,8 @@ pub(crate) fn push_winner(line: &mut LineText, winner: Iface, number: u64)
     push_number(line, number, b' ');
 }
 
-/// How an attempt ended, the interfaces that accepted the frame, those that went off and those that were restarted, and
-/// the line's end.
+/// Appends the class of an attempt, the interfaces that accepted the frame, those that went bus off and those that were
+/// restarted, and the end of the line.
 pub(crate) fn push_outcome(
     line: &mut LineText,
     class: Class,
@@ -280,7 +282,7 @@ pub(crate) fn push_outcome(
     }
 }
 
-/// The name of a refusal, and the line's end.
+/// Appends the name of a refusal, and the end of the line.
 fn push_refusal(line: &mut LineText, why: Refusal)
     requires { length line.old + 19 ≤ 392 }
     ensures { line.new ≡ line.old ++ spell (codes "=" ∷ refusal_words why) [] }
@@ -295,7 +297,7 @@ fn push_refusal(line: &mut LineText, why: Refusal)
         Refusal::NoBuffers => line.push_all(b"= no-buffers\n"),
         Refusal::NotBusOff => line.push_all(b"= not-bus-off\n"),
         Refusal::Down => line.push_all(b"= interface-down\n"),
-        // These two leave no entry.
+        // Calls with these two refusals leave no entry.
         Refusal::RecordFull | Refusal::NoMemory => line.push_all(b"=\n"),
     }
 }

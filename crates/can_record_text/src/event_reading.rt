@@ -14,7 +14,8 @@ use can_filter::{Filter, FilterError, FilterSet};
 use can_frame::{Frame, IfaceSet, Moment};
 use std::alloc::{AllocError, Global};
 
-/// The event of a line as it seems to be spelled, and what follows it: the line has to be written again and compared.
+/// Reads the event that a line seems to spell, and returns it with the rest of the text. The caller has to spell the event
+/// again and compare the spelling with the line.
 #[tactic(auto, unfolding(crate::specs::inner::Reading::event_at))]
 pub fn guess_event(alloc: Global, text: &[u8]) -> Result<(Event, &[u8]), Unread>
     ensures { Finds result (event_at text.now) }
@@ -26,8 +27,8 @@ pub fn guess_event(alloc: Global, text: &[u8]) -> Result<(Event, &[u8]), Unread>
     guess_plain(word, rest).ok_or(Unread::Bad)
 }
 
-/// The socket of a receive, where a text begins as the line of one seems to: the line has to be written again and
-/// compared.
+/// Returns the socket if the text seems to begin with the line of a receive call. The caller has to spell the line again
+/// and compare it with the text.
 pub fn receive_front(text: &[u8]) -> Option<SocketId>
     ensures { IfSome result (λ id. SeemsToBe text.now (event.Receive id)) }
 {
@@ -36,21 +37,23 @@ pub fn receive_front(text: &[u8]) -> Option<SocketId>
     Some(id)
 }
 
-/// The same of an attempt: its moment and its verdict.
+/// Returns the moment and the verdict if the text seems to begin with the line of an attempt. The caller has to spell the
+/// line again and compare it with the text.
 pub fn attempt_front(text: &[u8]) -> Option<(Moment, Verdict)>
     ensures { IfSome result (λ x. SeemsToBe text.now (event.Attempt x.0 x.1)) }
 {
     attempt_fields(text.strip_prefix(b"attempt ")?)
 }
 
-/// The same of a send: its socket and its frame.
+/// Returns the socket and the frame if the text seems to begin with the line of a send call. The caller has to spell the
+/// line again and compare it with the text.
 pub fn send_front(text: &[u8]) -> Option<(SocketId, Frame)>
     ensures { IfSome result (λ x. SeemsToBe text.now (event.Send x.0 x.1)) }
 {
     send_fields(text.strip_prefix(b"send ")?)
 }
 
-/// The moment and the verdict of an attempt, after its first word.
+/// Reads the moment and the verdict of an attempt, after the first word of the line.
 #[tactic(auto, unfolding(crate::specs::inner::Reading::attempted_in))]
 fn attempt_fields(text: &[u8]) -> Option<(Moment, Verdict)>
     ensures { result ≡ attempted_in text.now }
@@ -62,7 +65,7 @@ fn attempt_fields(text: &[u8]) -> Option<(Moment, Verdict)>
     Some((moment, verdict))
 }
 
-/// The socket and the frame of a send, after its first word.
+/// Reads the socket and the frame of a send call, after the first word of the line.
 #[tactic(auto, unfolding(crate::specs::inner::Reading::sent_in))]
 fn send_fields(text: &[u8]) -> Option<(SocketId, Frame)>
     ensures { result ≡ sent_in text.now }
@@ -74,7 +77,7 @@ fn send_fields(text: &[u8]) -> Option<(SocketId, Frame)>
     Some((id, frame))
 }
 
-/// An event whose line begins with this word and goes on with this text; of all but those that set filters.
+/// Reads an event other than `SetFilters`. `word` is the first word of its line, and `text` follows that word.
 #[tactic(auto, unfolding(crate::specs::inner::Reading::plain_at))]
 fn guess_plain<'a>(word: &[u8], text: &'a [u8]) -> Option<(Event, &'a [u8])>
     ensures { with_rest result ≡ plain_at word.now text.now }
@@ -100,7 +103,7 @@ fn guess_plain<'a>(word: &[u8], text: &'a [u8]) -> Option<(Event, &'a [u8])>
     guess_setting(word, text)
 }
 
-/// The same of the events that set a bus up.
+/// Reads an event that opens, closes or configures a socket, or that restarts an interface or takes it down.
 #[tactic(auto, unfolding(crate::specs::inner::Reading::setting_at))]
 fn guess_setting<'a>(word: &[u8], text: &'a [u8]) -> Option<(Event, &'a [u8])>
     ensures { with_rest result ≡ setting_at word.now text.now }
@@ -142,7 +145,7 @@ fn guess_setting<'a>(word: &[u8], text: &'a [u8]) -> Option<(Event, &'a [u8])>
     None
 }
 
-/// The filters of a socket.
+/// Reads a `SetFilters` event, after the first word of its line.
 #[tactic(auto, unfolding(crate::specs::inner::Reading::set_filters_at))]
 fn guess_filters(alloc: Global, text: &[u8]) -> Result<(Event, &[u8]), Unread>
     ensures { Finds result (set_filters_at text.now) }
@@ -165,7 +168,7 @@ fn guess_filters(alloc: Global, text: &[u8]) -> Result<(Event, &[u8]), Unread>
     }
 }
 
-/// So many filters more, and what follows them.
+/// Reads this many filters into `filters`, and returns the rest of the text.
 fn filter_fields<'a>(
     filters: &mut Vec<Filter>,
     count: usize,
@@ -187,7 +190,7 @@ fn filter_fields<'a>(
     Ok(rest)
 }
 
-/// One filter more, and what follows it.
+/// Reads one filter, and returns it with the rest of the text.
 #[tactic(auto, unfolding(crate::specs::inner::Reading::filter_at))]
 fn filter_field<'a>(filters: &mut Vec<Filter>, text: &'a [u8]) -> Result<&'a [u8], Unread>
     ensures read { GivesFilters result filters.new.items (filter_at filters.old.items text.now) }
@@ -208,7 +211,7 @@ fn filter_field<'a>(filters: &mut Vec<Filter>, text: &'a [u8]) -> Result<&'a [u8
     }
 }
 
-/// Adds a filter that was read.
+/// Adds a filter that was read to the list.
 fn push_filter(filters: &mut Vec<Filter>, filter: Filter) -> Result<(), AllocError>
     ensures { OnOk result (filters.new.items ≡ filters.old.items ++ filter ∷ []) }
 {
@@ -216,7 +219,7 @@ fn push_filter(filters: &mut Vec<Filter>, filter: Filter) -> Result<(), AllocErr
     Ok(())
 }
 
-/// An option, by its name, and its value.
+/// Reads the name of an option and its value.
 #[tactic(auto, unfolding(crate::specs::inner::Reading::option_at))]
 fn option_field(text: &[u8]) -> Option<(Opt, &[u8])>
     ensures { with_rest result ≡ option_at text.now }

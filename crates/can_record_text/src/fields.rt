@@ -8,7 +8,7 @@ use can_frame::{
     Frame, Iface, IfaceSet, Item, Moment, guess_item, read_decimal, read_hexadecimal, read_moment,
 };
 
-/// A number below the limit, and what follows it.
+/// Reads a number below the limit, and returns it with the rest of the text.
 #[tactic(auto, unfolding(crate::specs::inner::Reading::number_at))]
 fn below(limit: u64, text: &[u8]) -> Option<(u64, &[u8])>
     ensures value { with_rest result ≡ number_at limit text.now }
@@ -19,7 +19,7 @@ fn below(limit: u64, text: &[u8]) -> Option<(u64, &[u8])>
     if n < limit { Some((n, rest)) } else { None }
 }
 
-/// A number of 64 bits.
+/// Reads a number of 64 bits.
 #[tactic(auto, unfolding(crate::specs::inner::Reading::long_at))]
 pub fn long_field(text: &[u8]) -> Option<(u64, &[u8])>
     ensures { with_rest result ≡ long_at text.now }
@@ -29,7 +29,7 @@ pub fn long_field(text: &[u8]) -> Option<(u64, &[u8])>
     Some((n, rest))
 }
 
-/// A number of 32 bits.
+/// Reads a number of 32 bits.
 pub fn short_field(text: &[u8]) -> Option<(u32, &[u8])>
     ensures { with_rest result ≡ number_at (2 ^ 32) text.now }
 {
@@ -52,7 +52,7 @@ pub fn iface_field(text: &[u8]) -> Option<(Iface, &[u8])>
     Some((iface, rest))
 }
 
-/// How many filters there are, at most 512.
+/// Reads the number of filters, at most 512.
 pub fn count_field(text: &[u8]) -> Option<(usize, &[u8])>
     ensures value { with_rest result ≡ number_at 513 text.now }
     ensures few { IfSome result (λ x. x.0 ≤ 512) }
@@ -78,7 +78,7 @@ pub fn socket_field(text: &[u8]) -> Option<(SocketId, &[u8])>
     Some((SocketId(n), rest))
 }
 
-/// A word of 32 bits in hexadecimal.
+/// Reads a word of 32 bits in hexadecimal.
 #[tactic(auto, unfolding(crate::specs::inner::Reading::mask_at))]
 pub fn mask_field(text: &[u8]) -> Option<(u32, &[u8])>
     ensures { with_rest result ≡ mask_at text.now }
@@ -133,7 +133,7 @@ pub fn frame_field(text: &[u8]) -> Option<(Frame, &[u8])>
     }
 }
 
-/// A set of interfaces, after this many bytes.
+/// Reads a set of interfaces that begins after `front` bytes of the text.
 #[tactic(auto, unfolding(crate::specs::inner::Reading::set_from))]
 pub fn set_from(front: usize, text: &[u8]) -> Option<(IfaceSet, &[u8])>
     requires { front ≤ length text.now }

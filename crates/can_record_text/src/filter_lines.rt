@@ -9,7 +9,7 @@ use can_filter::Filter;
 use can_frame::Text;
 use std::alloc::AllocError;
 
-/// The line of an event with this reply, whichever filters it sets.
+/// Appends the line of an event with this reply, including the filters if the event sets any.
 #[inline(never)]
 pub(crate) fn put_filter_line(
     out: &mut Vec<u8>,
@@ -28,7 +28,7 @@ pub(crate) fn put_filter_line(
     Ok(())
 }
 
-/// The words of filters.
+/// Appends the words of these filters.
 fn put_filters(out: &mut Vec<u8>, filters: &[Filter]) -> Result<(), AllocError>
     ensures { OnOk result (out.new.items ≡ out.old.items ++ spaced (filter_words filters.now)) }
 {
@@ -38,7 +38,7 @@ fn put_filters(out: &mut Vec<u8>, filters: &[Filter]) -> Result<(), AllocError>
     Ok(())
 }
 
-/// The words of a filter.
+/// Appends the words of a filter.
 fn put_filter(out: &mut Vec<u8>, filter: Filter) -> Result<(), AllocError>
     ensures { OnOk result (out.new.items ≡ out.old.items ++ spaced (filter_words (filter ∷ []))) }
 {
@@ -47,7 +47,7 @@ fn put_filter(out: &mut Vec<u8>, filter: Filter) -> Result<(), AllocError>
     out.extend_from_slice(words.as_bytes())
 }
 
-/// The same, into a room.
+/// Appends the words of a filter to a line in a fixed buffer.
 fn push_filter(line: &mut LineText, filter: Filter)
     requires { length line.old + 18 ≤ 392 }
     ensures { line.new ≡ line.old ++ spaced (filter_words (filter ∷ [])) }

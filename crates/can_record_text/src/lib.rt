@@ -1,8 +1,8 @@
-//! The text of a record, both ways: `record_text` writes a record as text and `read_record` reads it back. A record has
-//! one text, in one version, and a text is of one record at most.
+//! The text of a record: `record_text` writes a record as text, and `read_record` reads it back. Each record has exactly
+//! one text, in one version, and each text is of at most one record.
 //!
-//! The readers and writers of single lines are public for can_replay, which reads a text line by line. `write_line` writes
-//! any line to a writer that may fail, for can_logfile too.
+//! The functions that read and write single lines are public for can_replay, which reads a text line by line. `write_line`
+//! writes any line to a writer that may fail; can_logfile uses it too.
 #![tactic(auto)]
 
 mod entry_lines;

@@ -11,10 +11,10 @@ use can_fault::{GlobalKind, LocalKind, Verdict};
 use can_frame::{ErrorFrame, Frame, IfaceSet, Item, Moment, Text, frame_text};
 use can_record::{IdWord, data_in};
 
-/// Room for a line without filters: the words of an event have at most 166 bytes, and those of a reply 225.
+/// The buffer for a line without filters. The words of an event have at most 166 bytes, and those of a reply at most 225.
 pub type LineText = Text<392>;
 
-/// A decimal number, and the byte that ends it.
+/// Appends a decimal number and the byte that ends it.
 pub(crate) fn push_number(line: &mut LineText, n: u64, gap: u8)
     requires { length line.old + 21 ≤ 392 }
     ensures text { line.new ≡ line.old ++ (decimal n ++ gap ∷ []) }
@@ -24,7 +24,7 @@ pub(crate) fn push_number(line: &mut LineText, n: u64, gap: u8)
     line.push(gap);
 }
 
-/// A decimal number. Most have one digit.
+/// Appends a decimal number. Numbers of one digit are the most common, so they have a fast path.
 #[tactic(auto, using(std::proofs::lemmas::Fmt::decimal_digit))]
 fn push_decimal(line: &mut LineText, n: u64)
     requires { length line.old + 20 ≤ 392 }
@@ -38,7 +38,7 @@ fn push_decimal(line: &mut LineText, n: u64)
     }
 }
 
-/// A set of interfaces, and the byte that ends it.
+/// Appends a set of interfaces and the byte that ends it.
 #[tactic(auto, unfolding(crate::specs::Spelling::set_word))]
 pub(crate) fn push_set(line: &mut LineText, set: IfaceSet, gap: u8)
     requires { length line.old + 5 ≤ 392 }
@@ -49,7 +49,7 @@ pub(crate) fn push_set(line: &mut LineText, set: IfaceSet, gap: u8)
     line.push(gap);
 }
 
-/// A word of 32 bits in hexadecimal, and a space.
+/// Appends a word of 32 bits in hexadecimal, and a space.
 #[tactic(auto, unfolding(crate::specs::Spelling::mask_word))]
 pub(crate) fn push_mask(line: &mut LineText, mask: u32)
     requires { length line.old + 9 ≤ 392 }
@@ -60,7 +60,7 @@ pub(crate) fn push_mask(line: &mut LineText, mask: u32)
     line.push(b' ');
 }
 
-/// Seconds, a point and six digits of microseconds, and the byte that ends it.
+/// Appends a moment (seconds, a point and six digits of microseconds) and the byte that ends it.
 #[tactic(auto, unfolding(crate::specs::Spelling::moment_word))]
 pub(crate) fn push_moment(line: &mut LineText, moment: Moment, gap: u8)
     requires { length line.old + 18 ≤ 392 }
@@ -71,7 +71,7 @@ pub(crate) fn push_moment(line: &mut LineText, moment: Moment, gap: u8)
     line.push(gap);
 }
 
-/// A frame, and a space.
+/// Appends a frame and a space.
 #[tactic(auto, unfolding(can_frame::specs::FrameText::frame_spelling), using(crate::proofs::Short::data_text, crate::proofs::Short::data_short))]
 pub(crate) fn push_frame(line: &mut LineText, frame: &Frame)
     requires { length line.old + 140 ≤ 392 }
@@ -85,7 +85,7 @@ pub(crate) fn push_frame(line: &mut LineText, frame: &Frame)
     push_bytes(line, frame.bytes());
 }
 
-/// Whether it is a data frame of at most 8 bytes that is no FD frame.
+/// Returns whether the frame is a data frame of at most 8 bytes that is not an FD frame.
 fn is_short(frame: &Frame) -> bool
     ensures remote { IsTrue result → is_remote frame.now.payload ≡ false }
     ensures fd { IsTrue result → is_fd frame.now.payload ≡ false }
@@ -94,7 +94,7 @@ fn is_short(frame: &Frame) -> bool
     frame.len() <= 8 && !frame.is_remote() && !frame.is_fd()
 }
 
-/// The same of a frame of any kind.
+/// Appends a frame of any kind and a space.
 #[inline(never)]
 fn push_frame_text(line: &mut LineText, frame: &Frame)
     requires { length line.old + 140 ≤ 392 }
@@ -105,7 +105,7 @@ fn push_frame_text(line: &mut LineText, frame: &Frame)
     line.push(b' ');
 }
 
-/// A packed data frame of at most 8 bytes, and a space.
+/// Appends a packed data frame of at most 8 bytes, and a space.
 #[tactic(auto, unfolding(can_frame::specs::FrameText::frame_spelling))]
 pub(crate) fn push_packed(line: &mut LineText, word: IdWord, len: u8, bytes: &[u8; 8])
     requires room { length line.old + 26 ≤ 392 }
@@ -118,7 +118,7 @@ pub(crate) fn push_packed(line: &mut LineText, word: IdWord, len: u8, bytes: &[u
     push_bytes(line, data_in(len, bytes));
 }
 
-/// An error message frame, and a space.
+/// Appends an error message frame and a space.
 #[tactic(auto, unfolding(can_frame::specs::FrameText::frame_spelling))]
 pub(crate) fn push_error(line: &mut LineText, error: ErrorFrame)
     requires { length line.old + 26 ≤ 392 }
@@ -129,7 +129,7 @@ pub(crate) fn push_error(line: &mut LineText, error: ErrorFrame)
     push_bytes(line, &error.data());
 }
 
-/// A `#`, bytes as hexadecimal digits, and a space.
+/// Appends a `#`, bytes as hexadecimal digits, and a space.
 fn push_bytes(line: &mut LineText, bytes: &[u8])
     requires room { length line.old + 18 ≤ 392 }
     requires short { length bytes.now ≤ 8 }
@@ -141,7 +141,7 @@ fn push_bytes(line: &mut LineText, bytes: &[u8])
     line.push(b' ');
 }
 
-/// The word for how an attempt ended, and a space.
+/// Appends the word for the class of an attempt, and a space.
 pub(crate) fn push_class(line: &mut LineText, class: Class)
     requires { length line.old + 10 ≤ 392 }
     ensures text { line.new ≡ line.old ++ (class_word class ++ 32 ∷ []) }
@@ -155,7 +155,7 @@ pub(crate) fn push_class(line: &mut LineText, class: Class)
     }
 }
 
-/// A switch, and a space.
+/// Appends a flag (`0` or `1`) and a space.
 pub(crate) fn push_flag(line: &mut LineText, on: bool)
     requires { length line.old + 2 ≤ 392 }
     ensures text { line.new ≡ line.old ++ (flag_word on ++ 32 ∷ []) }
@@ -164,7 +164,7 @@ pub(crate) fn push_flag(line: &mut LineText, on: bool)
     line.push_all(if on { b"1 " } else { b"0 " });
 }
 
-/// Who acknowledges, and a space.
+/// Appends the acknowledgement mode and a space.
 pub(crate) fn push_ack(line: &mut LineText, ack: AckMode)
     requires { length line.old + 7 ≤ 392 }
     ensures text { line.new ≡ line.old ++ (ack_word ack ++ 32 ∷ []) }
@@ -176,7 +176,7 @@ pub(crate) fn push_ack(line: &mut LineText, ack: AckMode)
     }
 }
 
-/// A verdict, and a space.
+/// Appends a verdict and a space.
 pub(crate) fn push_verdict(line: &mut LineText, verdict: Verdict)
     requires { length line.old + 17 ≤ 392 }
     ensures text { line.new ≡ line.old ++ (verdict_word verdict ++ 32 ∷ []) }
@@ -194,7 +194,7 @@ pub(crate) fn push_verdict(line: &mut LineText, verdict: Verdict)
     }
 }
 
-/// A local fault and a colon.
+/// Appends the kind of a local fault and a colon.
 fn push_local(line: &mut LineText, kind: LocalKind)
     requires { length line.old + 12 ≤ 392 }
     ensures text { line.new ≡ line.old ++ local_front kind }

@@ -3,10 +3,10 @@ ghost use Rattle.can_record_text.specs.Lines.{LineGoesOut};
 use std::io;
 use std::io::{ErrorKind, Write};
 
-/// Writes a line. After a fault of the writer only a proper front of the line is out.
+/// Writes a line. If the writer fails, only a front part of the line has been written, never the whole line.
 ///
-/// It goes out in one write if the writer takes it whole. A write that takes no byte, and one that was interrupted, is a
-/// fault.
+/// The line takes one write if the writer accepts it whole. A write that accepts no byte is a fault, and so is an
+/// interrupted write.
 pub fn write_line<W: Write>(writer: &mut W, line: &[u8]) -> io::Result<()>
     ensures { LineGoesOut (W.contents writer.old) (W.contents writer.new) line.now result }
 {

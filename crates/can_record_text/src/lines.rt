@@ -25,7 +25,7 @@ use can_event::{BusConfig, Entry, Event, Reply, is_spelled};
 use can_frame::{Moment, Text};
 use std::alloc::{AllocError, Global};
 
-/// The line of an event with this reply.
+/// Appends the line of an event with this reply to `out`.
 pub fn put_answered(out: &mut Vec<u8>, event: &Event, reply: &Reply) -> Result<(), AllocError>
     requires { FitsReply event.now reply.now }
     ensures { OnOk result (out.new.items ≡ out.old.items ++ answered_line event.now reply.now []) }
@@ -37,8 +37,8 @@ pub fn put_answered(out: &mut Vec<u8>, event: &Event, reply: &Reply) -> Result<(
     put_filter_line(out, event, reply)
 }
 
-/// Whether a text begins with the line of an event with this reply, which is spelled in one of the rooms. The values of
-/// both are in the ranges that a line can have.
+/// Returns whether a text begins with the line of an event with this reply. It spells the line in one of the buffers in
+/// `rooms`. The contract also says that the values of the event and the reply are in the ranges that a line can have.
 pub fn is_line_of(
     rooms: &mut Rooms,
     event: &Event,
@@ -58,7 +58,7 @@ pub fn is_line_of(
     is_filter_line_of(&mut rooms.long, event, reply, text)
 }
 
-/// The same of an event that sets filters.
+/// Returns whether a text begins with the line of an event that sets filters, with this reply.
 #[inline(never)]
 fn is_filter_line_of(
     buffer: &mut Vec<u8>,
@@ -73,7 +73,7 @@ fn is_filter_line_of(
     Ok(begins(text, buffer))
 }
 
-/// The line of a bus.
+/// Appends the line of the bus configuration.
 pub(crate) fn put_bus(
     out: &mut Vec<u8>,
     version: Version,
@@ -91,7 +91,8 @@ pub(crate) fn put_bus(
     out.extend_from_slice(line.as_bytes())
 }
 
-/// The limit, in all but version 1 after how many attempts an interface is restarted, and the line's end.
+/// Appends the limit of events and the end of the line. In every version except 1, the number of attempts until an
+/// automatic restart comes between them.
 fn push_limit(line: &mut LineText, version: Version, config: BusConfig)
     requires { length line.old + 42 ≤ 392 }
     ensures { line.new ≡ line.old ++
@@ -116,7 +117,7 @@ pub fn put_end(out: &mut Vec<u8>, count: u64) -> Result<(), AllocError>
     out.extend_from_slice(line.as_bytes())
 }
 
-/// What follows this many bytes.
+/// Returns the rest of a text after this many bytes.
 #[tactic(auto, using(crate::proofs::Wording::rest_of))]
 pub(crate) fn rest_from(text: &[u8], count: usize) -> &[u8]
     requires { count ≤ length text.now }
@@ -125,7 +126,7 @@ pub(crate) fn rest_from(text: &[u8], count: usize) -> &[u8]
     &text[count..]
 }
 
-/// Whether an entry has a line in the record of this bus in this version.
+/// Returns whether an entry has a line in this version of the record of this bus.
 fn has_line(version: Version, config: BusConfig, entry: &Entry) -> bool
     ensures yes { IsTrue result → HasLine version config entry.now }
     ensures no { HasLine version config entry.now → IsTrue result }
@@ -135,7 +136,7 @@ fn has_line(version: Version, config: BusConfig, entry: &Entry) -> bool
     is_spelled(config, entry) && version.takes(Needs::of(&entry.event, &entry.reply))
 }
 
-/// The version whose first line the text begins with.
+/// Returns the version whose first line is at the beginning of the text.
 pub fn read_version(text: &[u8]) -> Option<Version>
     ensures found { IfSome result (λ v. StartsWith (first_line v) text.now) }
     ensures only { IsNone result → LacksFirst text.now }
@@ -161,7 +162,8 @@ pub fn read_version(text: &[u8]) -> Option<Version>
     None
 }
 
-/// The entry of this bus's record whose line in this version the text begins with. The line is left in the buffer.
+/// Reads the entry whose line is at the beginning of the text, in this version of the record of this bus. It leaves the
+/// line in `buffer`.
 pub fn read_line(
     buffer: &mut Vec<u8>,
     alloc: Global,
@@ -190,7 +192,7 @@ pub fn read_line(
     Ok(read)
 }
 
-/// An entry as its line seems to spell it.
+/// Reads the entry that a line seems to spell.
 #[tactic(auto, unfolding(crate::specs::inner::Reading::entry_at))]
 fn guess_entry(alloc: Global, text: &[u8]) -> Result<Entry, Unread>
     ensures { Gives result (entry_at text.now) }
@@ -206,7 +208,7 @@ fn guess_entry(alloc: Global, text: &[u8]) -> Result<Entry, Unread>
     }
 }
 
-/// The moment of an attempt.
+/// Returns the moment of an attempt, or `None` for any other event.
 fn moment_of(event: &Event) -> Option<Moment>
     ensures { result ≡ moment_of event.now }
 {
@@ -216,7 +218,7 @@ fn moment_of(event: &Event) -> Option<Moment>
     }
 }
 
-/// The configuration whose line in this version the text begins with. The line is left in the buffer.
+/// Reads the configuration whose line is at the beginning of the text, in this version. It leaves the line in `buffer`.
 pub fn read_bus(buffer: &mut Vec<u8>, version: Version, text: &[u8]) -> Result<BusConfig, Unread>
     ensures found { IfOk result (StartsWithBus version text.now buffer.new.items) }
     ensures bad { IfErr result (λ why. why ≡ unread.Bad → LacksBus version text.now) }
@@ -238,7 +240,7 @@ pub fn read_bus(buffer: &mut Vec<u8>, version: Version, text: &[u8]) -> Result<B
     Ok(config)
 }
 
-/// Whether a configuration has a line in this version.
+/// Returns whether a configuration has a line in this version.
 fn has_bus_line(version: Version, config: BusConfig) -> bool
     ensures yes { IsTrue result → HasBusLine version config }
     ensures no { HasBusLine version config → IsTrue result }
@@ -246,7 +248,7 @@ fn has_bus_line(version: Version, config: BusConfig) -> bool
     config.is_long_proper() && version.limits(config) && version.restarts(config)
 }
 
-/// A configuration as its line seems to spell it in this version.
+/// Reads the configuration that a line of this version seems to spell.
 #[tactic(auto, unfolding(crate::specs::inner::Reading::config_at))]
 fn guess_config(version: Version, text: &[u8]) -> Option<BusConfig>
     ensures { result ≡ config_at version text.now }
@@ -268,7 +270,7 @@ fn guess_config(version: Version, text: &[u8]) -> Option<BusConfig>
     })
 }
 
-/// After how many attempts an interface is restarted: never in version 1.
+/// Reads the number of attempts until an automatic restart. It is 0, which means never, in version 1.
 #[tactic(auto, unfolding(crate::specs::inner::Reading::auto_restart_at))]
 fn auto_restart_field(version: Version, text: &[u8]) -> Option<(u32, &[u8])>
     ensures { with_rest result ≡ auto_restart_at version text.now }

@@ -21,20 +21,21 @@ use std::io;
 use std::io::Write;
 use thiserror::Error;
 
-/// A block did not go out whole.
+/// A block could not be written completely.
 #[derive(Debug, Drop, Error)]
 #[error("write fault")]
 pub struct Torn {
-    /// How many whole lines of the block went out before. A part of the next line may be out too, but not all of it.
+    /// The number of whole lines of the block that were written before the fault. A part of the next line may also have
+    /// been written, but not the whole line.
     pub whole_lines: u64,
-    /// What the writer reported, `WriteZero` of a write that took no byte, or that memory was refused.
+    /// The error of the writer, `WriteZero` if a write accepted no byte, or an error for lack of memory.
     pub why: io::Error,
 }
 
-/// Writes the first two lines of the record of a long run. It is for a limit above 16,777,216, of which a record has
-/// version 4: so these lines are known before its entries.
+/// Writes the first two lines of the record of a long run. The limit has to be above 16,777,216. Such a record always has
+/// version 4, so these lines are known before its entries.
 ///
-/// After a fault only a proper front of the two lines is out.
+/// If the writer fails, only a front part of the two lines has been written.
 pub fn write_front<W: Write>(alloc: Global, config: BusConfig, writer: &mut W) -> io::Result<()>
     ensures { LineGoesOut (W.contents writer.old) (W.contents writer.new)
         (front_lines version.Four config []) result }
@@ -44,10 +45,10 @@ pub fn write_front<W: Write>(alloc: Global, config: BusConfig, writer: &mut W) -
     write_line(writer, &front)
 }
 
-/// Writes the lines of the entries that come next in the record of a long run.
+/// Writes the lines of the next entries in the record of a long run.
 ///
-/// Each line goes out in one write if the writer takes it whole. So a writer to a file should be a buffered one, and it
-/// is the caller's to flush.
+/// Each line takes one write if the writer accepts it whole. So a writer to a file should be buffered, and the caller has
+/// to flush it.
 pub fn write_block<W: Write>(
     alloc: Global,
     block: &PackedRecord,
@@ -73,8 +74,8 @@ pub fn write_block<W: Write>(
     Ok(())
 }
 
-/// Writes the line of an entry as it is stored, from one of the rooms. After a fault only a proper front of it is
-/// out.
+/// Writes the line of a stored entry, spelled in one of the buffers in `rooms`. If the writer fails, only a front part of
+/// the line has been written.
 fn write_stored<W: Write>(
     rooms: &mut Rooms,
     stored: &StoredEntry<'_>,
@@ -88,9 +89,9 @@ fn write_stored<W: Write>(
     write_line(writer, spell_stored(rooms, stored)?)
 }
 
-/// Writes the last line of the record of a long run, which had this many entries.
+/// Writes the last line of the record of a long run with `count` entries.
 ///
-/// After a fault only a proper front of the line is out.
+/// If the writer fails, only a front part of the line has been written.
 pub fn write_end<W: Write>(alloc: Global, count: u64, writer: &mut W) -> io::Result<()>
     ensures { LineGoesOut (W.contents writer.old) (W.contents writer.new)
         (spell (end_words count) []) result }
@@ -100,7 +101,7 @@ pub fn write_end<W: Write>(alloc: Global, count: u64, writer: &mut W) -> io::Res
     write_line(writer, &line)
 }
 
-/// The front, the lines of blocks and the end are the text of the record of all their entries.
+/// The first two lines, the lines of the blocks and the last line together are the text of the record of all their entries.
 pub fn pieces_make_the_text()
     ensures { (c : AConfig) (blocks : List (List AnEntry)) → max_limit < c.limit →
         front_lines version.Four c []

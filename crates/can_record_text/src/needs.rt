@@ -8,14 +8,14 @@ use can_event::{Attempt, Entry, Event, Opt, Refusal, Reply};
 use can_frame::{Frame, Item};
 use can_record::{PackedEntry, Record, StoredEntry};
 
-/// What lines of a record need of the later versions of its text.
+/// The features of the later versions that lines of a record need.
 #[derive(Debug, Clone, Copy, PartialEq, Eq)]
 pub struct Needs {
-    /// FD frames, or the option for such.
+    /// The lines have an FD frame, or the option for FD frames.
     pub fd: bool,
-    /// Flags of FD frames.
+    /// The lines have an FD frame with a flag.
     pub flags: bool,
-    /// Interfaces that go down or are down.
+    /// The lines have a call that takes an interface down, or a refusal because an interface is down.
     pub down: bool,
 }
 
@@ -31,7 +31,7 @@ impl Needs {
         }
     }
 
-    /// What these lines and others need.
+    /// Returns the combined needs of two parts of a text.
     pub fn and(self, others: Needs) -> Needs
         ensures { result ≡ both_needs self others }
     {
@@ -42,7 +42,7 @@ impl Needs {
         }
     }
 
-    /// What the line of an event with this reply needs: of most lines nothing.
+    /// Returns the needs of the line of an event with this reply. Most lines need nothing, so this is checked first.
     pub fn of(event: &Event, reply: &Reply) -> Needs
         ensures { result ≡ needs_of (entry_of event.now reply.now) }
     {
@@ -53,7 +53,7 @@ impl Needs {
         }
     }
 
-    /// The same, of any line.
+    /// Returns the needs of the line of an event with this reply, without the check for common lines.
     #[inline(never)]
     fn of_words(event: &Event, reply: &Reply) -> Needs
         ensures { result ≡ needs_of (entry_of event.now reply.now) }
@@ -61,7 +61,7 @@ impl Needs {
         Needs::of_event(event).and(Needs::of_reply(reply))
     }
 
-    /// What the words of an event need.
+    /// Returns the needs of the words of an event.
     fn of_event(event: &Event) -> Needs
         ensures { result ≡ event_needs event.now }
     {
@@ -73,7 +73,7 @@ impl Needs {
         }
     }
 
-    /// What those of a reply need.
+    /// Returns the needs of the words of a reply.
     fn of_reply(reply: &Reply) -> Needs
         ensures { result ≡ reply_needs reply.now }
     {
@@ -85,7 +85,7 @@ impl Needs {
         }
     }
 
-    /// The needs of an item.
+    /// Returns the needs of an item.
     fn of_item(item: &Item) -> Needs
         ensures { result ≡ item_needs item.now }
     {
@@ -95,7 +95,7 @@ impl Needs {
         }
     }
 
-    /// The needs of a frame.
+    /// Returns the needs of a frame.
     fn of_frame(frame: &Frame) -> Needs
         ensures { result ≡ frame_needs frame.now }
     {
@@ -106,7 +106,7 @@ impl Needs {
         }
     }
 
-    /// What the option for FD frames needs.
+    /// Returns the needs of the option for FD frames.
     fn of_option() -> Needs
         ensures { result ≡ option_needs }
     {
@@ -117,7 +117,7 @@ impl Needs {
         }
     }
 
-    /// The needs of a refusal.
+    /// Returns the needs of a refusal.
     fn of_refusal(why: Refusal) -> Needs
         ensures { result ≡ refusal_needs why }
     {
@@ -127,7 +127,7 @@ impl Needs {
         }
     }
 
-    /// The needs of an interface that goes down or is down.
+    /// Returns the needs of a call that takes an interface down, or of a refusal because it is down.
     fn of_down() -> Needs
         ensures { result ≡ down_needs }
     {
@@ -138,7 +138,7 @@ impl Needs {
         }
     }
 
-    /// What the lines of a record need.
+    /// Returns the needs of all lines of a record.
     pub(crate) fn of_record(record: &Record) -> Needs
         ensures { result ≡ all_needs (reverse «record».now.history) }
     {
@@ -150,7 +150,7 @@ impl Needs {
         needs
     }
 
-    /// What the line of an entry needs, as it is stored.
+    /// Returns the needs of the line of a stored entry.
     fn of_stored(stored: &StoredEntry<'_>) -> Needs
         requires { IsStored stored.now }
         ensures { result ≡ needs_of (entry_stored stored.now) }
@@ -161,7 +161,7 @@ impl Needs {
         }
     }
 
-    /// The same of a packed entry.
+    /// Returns the needs of the line of a packed entry.
     fn of_kept(frames: &[Frame], kept: &PackedEntry) -> Needs
         requires small { IsSmall kept.now }
         requires within { frames_needed kept.now ≤ length frames.now }
@@ -196,7 +196,7 @@ impl Needs {
         }
     }
 
-    /// What the lines of entries need.
+    /// Returns the needs of the lines of these entries.
     pub(crate) fn of_entries(entries: &[Entry]) -> Needs
         ensures { result ≡ all_needs entries.now }
     {
@@ -208,7 +208,7 @@ impl Needs {
     }
 }
 
-/// Whether an event is the send of an FD frame, sets the option for such, or takes an interface down.
+/// Returns whether an event sends an FD frame, sets the option for FD frames, or takes an interface down.
 #[tactic(auto, using(crate::proofs::Versioning::classic_frame))]
 fn may_need(event: &Event) -> bool
     ensures { result ≡ false → event_needs event.now ≡ no_needs }
@@ -221,7 +221,7 @@ fn may_need(event: &Event) -> bool
     }
 }
 
-/// Whether a reply has an FD frame, or is that the interface is down.
+/// Returns whether a reply has an FD frame, or is the refusal `Down`.
 #[tactic(auto, using(crate::proofs::Versioning::classic_frame))]
 fn may_need_of(reply: &Reply) -> bool
     ensures { result ≡ false → reply_needs reply.now ≡ no_needs }
@@ -234,7 +234,7 @@ fn may_need_of(reply: &Reply) -> bool
     }
 }
 
-/// Whether an item is an FD frame.
+/// Returns whether an item is an FD frame.
 #[tactic(auto, using(crate::proofs::Versioning::classic_frame))]
 fn is_fd_item(item: &Item) -> bool
     ensures { result ≡ false → item_needs item.now ≡ no_needs }

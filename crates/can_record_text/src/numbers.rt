@@ -3,14 +3,14 @@ ghost use Rattle.can_record_text.specs.inner.Numerals.{with_digit, long_in};
 
 use can_frame::read_decimal;
 
-/// A number with a decimal digit more, where it has 64 bits.
+/// Returns a number with one more decimal digit, or `None` if it exceeds 64 bits.
 fn with_digit(front: u64, last: u64) -> Option<u64>
     ensures { result ≡ with_digit front last }
 {
     front.checked_mul(10)?.checked_add(last)
 }
 
-/// A decimal number of 64 bits. Not every one of 20 digits has 64 bits, so the last digit is read by itself.
+/// Reads a decimal number of 64 bits. Some numbers of 20 digits exceed 64 bits, so the last digit is read separately.
 #[tactic(auto, unfolding(crate::specs::inner::Numerals::long_in))]
 pub fn long_number(word: &[u8]) -> Option<u64>
     ensures { result ≡ long_in word.now }

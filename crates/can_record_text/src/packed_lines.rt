@@ -8,8 +8,9 @@ use crate::entry_lines::{
 use crate::line_words::{LineText, push_error, push_moment, push_packed};
 use can_record::PackedEntry;
 
-/// The line of a packed entry, if it is of a usual kind; else what is in the room means nothing. It is written from
-/// the packed fields: no frame, event or reply is made, which would take longer than the line.
+/// Appends the line of a packed entry of a common kind, and returns true. For any other kind it returns false, and the
+/// contents of `line` are meaningless. It reads the packed fields directly, because building a frame, an event or a reply
+/// would take longer than writing the line.
 pub(crate) fn push_entry(line: &mut LineText, kept: &PackedEntry) -> bool
     requires { line.old ≡ [] }
     ensures { IsTrue result → IsPackedLine line.new kept.now }
@@ -70,7 +71,7 @@ pub(crate) fn push_entry(line: &mut LineText, kept: &PackedEntry) -> bool
     }
 }
 
-/// The same of an attempt.
+/// Appends the line of a packed attempt and returns true, or returns false for any other entry, as `push_entry` does.
 fn push_entry_attempt(line: &mut LineText, kept: &PackedEntry) -> bool
     requires { line.old ≡ [] }
     ensures { IsTrue result → IsPackedLine line.new kept.now }

@@ -15,13 +15,14 @@ use can_frame::Item;
 use can_record::Record;
 use std::alloc::{AllocError, Global};
 
-/// The record of a text, as `record_text` writes it: no other text is taken.
+/// Reads a record from its text. Only a text that `record_text` writes is accepted.
 ///
-/// `BadVersion` where the text does not begin with the first line of version 1, 2, 3, 5 or 6 (4 is that of a run longer
-/// than a `Record`), and otherwise `BadLine` with the first line that is wrong or missing, from 1; where the text goes on
-/// after its end, that is the line after the end. Last, `BadVersion` where a text of version 3 has neither an FD frame
-/// nor the option for such, one of version 5 no flag, or one of version 6 no interface that goes down or is down.
-/// The time is linear in the text, and nothing is allocated for a line but the filters that it sets.
+/// The fault is `BadVersion` if the text does not begin with the first line of version 1, 2, 3, 5 or 6. (Version 4 is for a
+/// run longer than a `Record`.) Otherwise it is `BadLine` with the number of the first line that is wrong or missing, from
+/// 1. If the text continues after its end, this is the line after the end. Last, the fault is `BadVersion` if a text of
+/// version 3 has neither an FD frame nor the option for FD frames, if one of version 5 has no flag of an FD frame, or if
+/// one of version 6 has no interface that goes down or is down. The time is linear in the length of the text. Reading a
+/// line allocates memory only for the filters that it sets.
 pub fn read_record(alloc: Global, text: &str) -> Result<Record, ReadFault>
     ensures reads { ReadsRecord text.now result }
     ensures back { ReadsBack text.now result }
@@ -29,7 +30,7 @@ pub fn read_record(alloc: Global, text: &str) -> Result<Record, ReadFault>
     read_record_bytes(alloc, text.as_bytes())
 }
 
-/// The same of the bytes of a text, which need not be UTF-8.
+/// Reads a record from the bytes of its text, as `read_record` does. The bytes need not be UTF-8.
 pub fn read_record_bytes(alloc: Global, text: &[u8]) -> Result<Record, ReadFault>
     ensures reads { ReadsRecord text.now result }
     ensures back { ReadsBack text.now result }
@@ -59,7 +60,7 @@ fn read_text(alloc: Global, text: &[u8]) -> Result<Record, ReadFault>
     Ok(Record::from_spelled(config, entries))
 }
 
-/// The version and the bus of the first two lines, and what follows them.
+/// Reads the version and the bus configuration from the first two lines, and returns them with the rest of the text.
 fn read_front<'a>(
     buffer: &mut Vec<u8>,
     text: &'a [u8],
@@ -80,7 +81,7 @@ fn read_front<'a>(
     Ok((version, config, rest_from(rest, buffer.len())))
 }
 
-/// The version that the first line of a record names, which is not that of a long run.
+/// Returns the version that the first line of a record names, unless it is the version of a long run.
 fn record_version(text: &[u8]) -> Option<Version>
     ensures found { IfSome result (λ v. StartsWith (first_line v) text.now) }
     ensures short { IfSome result (λ v. v ≢ version.Four) }
@@ -92,7 +93,7 @@ fn record_version(text: &[u8]) -> Option<Version>
     }
 }
 
-/// Whether the text ends here, after this many entries.
+/// Checks that the text ends here, after this many entries.
 fn read_end(buffer: &mut Vec<u8>, count: usize, text: &[u8]) -> Result<(), ReadFault>
     requires { count < 2 ^ 63 }
     ensures { Ends count text.now result }
@@ -112,8 +113,8 @@ fn read_end(buffer: &mut Vec<u8>, count: usize, text: &[u8]) -> Result<(), ReadF
     Ok(())
 }
 
-/// The entries of the lines that are here in the record of this bus in this version, up to the first place where there
-/// is none, and what follows there.
+/// Reads the entries of the lines at the beginning of the text, in this version of the record of this bus. It stops at the
+/// first line that is not an entry, and returns the rest of the text.
 fn read_lines<'a>(
     alloc: Global,
     version: Version,
@@ -127,7 +128,7 @@ fn read_lines<'a>(
     ensures have { IfOk result (λ rest. All (HasLine version config) entries.new.items) }
     ensures stops { IfOk result (λ rest. LacksEntry version config rest.now) }
 {
-    // The checker has to meet the types inside an entry before a vector takes one.
+    // The checker has to see the types inside an entry before a vector stores one.
     let _types: Option<(Item, Received)> = None;
     let mut rest = text;
     loop {

@@ -20,14 +20,14 @@ use std::alloc::{AllocError, Global};
 use std::io;
 use std::io::Write;
 
-/// The text of a record: a first line that names its version, a line of the bus, one for each entry, the
-/// oldest first, and one that says how many entries there were. Each ends with LF, and the bytes are ASCII.
-/// The version is 6 where the record has a call that takes an interface down, or one that is refused as its interface is
-/// down; else 5 where it has a flag of an FD frame; else 3 where it has an FD frame or the option for such; else 2 where
-/// interfaces are restarted automatically, and else 1.
+/// Returns the text of a record: a first line that names the version, a line for the bus configuration, a line for each
+/// entry, the oldest first, and a last line with the number of entries. Each line ends with LF, and the bytes are ASCII.
+/// The version is the first in this list whose condition holds: 6 if a call takes an interface down or is refused because
+/// its interface is down; 5 if an FD frame has a flag; 3 if there is an FD frame or the option for FD frames; 2 if
+/// interfaces are restarted automatically; otherwise 1.
 ///
-/// One record has one text, and one text has one record. The text takes some 40 bytes an entry; it grows in
-/// place, and the time is linear in it.
+/// Each record has exactly one text, and each text is of at most one record. The text takes about 40 bytes per entry. It
+/// grows in place, and the time is linear in its length.
 pub fn record_text(alloc: Global, record: &Record) -> Result<Vec<u8>, AllocError>
     ensures { IfOk result (λ text. text.items ≡ text_of «record».now) }
 {
@@ -38,7 +38,7 @@ pub fn record_text(alloc: Global, record: &Record) -> Result<Vec<u8>, AllocError
     }
 }
 
-/// The line of an event with this reply in the text of a record, with its LF.
+/// Returns the line of an event with this reply in the text of a record, with its LF.
 pub fn line_text(alloc: Global, event: &Event, reply: &Reply) -> Result<Vec<u8>, AllocError>
     requires { FitsReply event.now reply.now }
     ensures { IfOk result (λ text. text.items ≡ answered_line event.now reply.now []) }
@@ -48,10 +48,9 @@ pub fn line_text(alloc: Global, event: &Event, reply: &Reply) -> Result<Vec<u8>,
     Ok(text)
 }
 
-/// Writes the text of a record, in one write for each line, so a writer to a file is best a `BufWriter`.
-///
-/// No more than a line is held. Where the writer fails, or memory is refused, some front of the text may
-/// have gone out.
+/// Writes the text of a record with one write for each line, so a writer to a file should be a `BufWriter`. It holds at
+/// most one line in memory. If the writer fails or memory is refused, a front part of the text may already have been
+/// written.
 pub fn write_record<W: Write>(alloc: Global, record: &Record, writer: &mut W) -> io::Result<()>
     ensures { OnOk result (Appends (W.contents writer.old) (W.contents writer.new)
         (text_of «record».now)) }
@@ -68,7 +67,7 @@ pub fn write_record<W: Write>(alloc: Global, record: &Record, writer: &mut W) ->
     Ok(())
 }
 
-/// The first two lines.
+/// Appends the first two lines.
 pub(crate) fn put_front(
     out: &mut Vec<u8>,
     version: Version,
@@ -92,7 +91,7 @@ fn write_lines<W: Write>(rooms: &mut Rooms, record: &Record, writer: &mut W) -> 
     Ok(())
 }
 
-/// The line of an entry as it is stored, in one of the rooms.
+/// Returns the line of a stored entry, spelled in one of the buffers in `rooms`.
 pub(crate) fn spell_stored<'a>(
     rooms: &'a mut Rooms,
     stored: &StoredEntry<'_>,
@@ -110,7 +109,8 @@ pub(crate) fn spell_stored<'a>(
     Ok(&rooms.long)
 }
 
-/// The line of an entry as it is stored, if it is packed and of a usual kind; else what is in the room means nothing.
+/// Appends the line of a stored entry and returns true, if the entry is packed and of a common kind. Otherwise it returns
+/// false, and the contents of `line` are meaningless.
 fn push_stored(line: &mut LineText, stored: &StoredEntry<'_>) -> bool
     requires { line.old ≡ [] }
     ensures { IsTrue result → line.new ≡ stored_line stored.now }
@@ -121,7 +121,7 @@ fn push_stored(line: &mut LineText, stored: &StoredEntry<'_>) -> bool
     }
 }
 
-/// The line of an entry as it is stored.
+/// Appends the line of any stored entry to `out`.
 #[inline(never)]
 fn put_stored(out: &mut Vec<u8>, stored: &StoredEntry<'_>) -> Result<(), AllocError>
     requires stored { IsStored stored.now }
@@ -134,7 +134,7 @@ fn put_stored(out: &mut Vec<u8>, stored: &StoredEntry<'_>) -> Result<(), AllocEr
     }
 }
 
-/// The line of a packed entry.
+/// Appends the line of a packed entry to `out`.
 fn put_entry(out: &mut Vec<u8>, frames: &[Frame], kept: &PackedEntry) -> Result<(), AllocError>
     requires small { IsSmall kept.now }
     requires within { frames_needed kept.now ≤ length frames.now }

@@ -10,7 +10,7 @@ use can_attempt::Class;
 use can_event::{Attempt, Closed, Received, Refusal, Reply, Tried};
 use can_frame::{IfaceSet, Item, Moment};
 
-/// A reply to an attempt of this moment, or to another event.
+/// Reads a reply. `moment` is the moment of the attempt, or `None` if the event is not an attempt.
 #[tactic(auto, unfolding(crate::specs::inner::Reading::reply_at))]
 pub fn reply_field(moment: Option<Moment>, text: &[u8]) -> Option<(Reply, &[u8])>
     ensures { with_rest result ≡ reply_at moment text.now }
@@ -44,7 +44,7 @@ pub fn reply_field(moment: Option<Moment>, text: &[u8]) -> Option<(Reply, &[u8])
     Some((reply, rest))
 }
 
-/// The reply of this one word.
+/// Returns the reply that this single word spells.
 #[tactic(auto, unfolding(crate::specs::inner::Reading::fixed_in))]
 fn fixed_reply(word: &[u8]) -> Option<Reply>
     ensures { result ≡ fixed_in word.now }
@@ -59,7 +59,7 @@ fn fixed_reply(word: &[u8]) -> Option<Reply>
     Some(Reply::Refused(why))
 }
 
-/// The counts of a closed socket.
+/// Reads the counts of a closed socket.
 #[tactic(auto, unfolding(crate::specs::inner::Reading::closed_at))]
 fn closed_field(text: &[u8]) -> Option<(Reply, &[u8])>
     ensures { with_rest result ≡ closed_at text.now }
@@ -69,7 +69,7 @@ fn closed_field(text: &[u8]) -> Option<(Reply, &[u8])>
     Some((Reply::Closed(Closed { unread, dropped }), rest))
 }
 
-/// A frame that was received.
+/// Reads the reply for a received frame.
 #[tactic(auto, unfolding(crate::specs::inner::Reading::data_at))]
 fn data_field(text: &[u8]) -> Option<(Reply, &[u8])>
     ensures { with_rest result ≡ data_at text.now }
@@ -93,7 +93,7 @@ fn data_field(text: &[u8]) -> Option<(Reply, &[u8])>
     Some((Reply::Received(Some(received)), rest))
 }
 
-/// An error message frame that was received.
+/// Reads the reply for a received error message frame.
 #[tactic(auto, unfolding(crate::specs::inner::Reading::error_at))]
 fn error_field(text: &[u8]) -> Option<(Reply, &[u8])>
     ensures { with_rest result ≡ error_at text.now }
@@ -116,7 +116,7 @@ fn error_field(text: &[u8]) -> Option<(Reply, &[u8])>
     Some((Reply::Received(Some(received)), rest))
 }
 
-/// A frame that was tried at this moment.
+/// Reads the reply of an attempt at this moment that tried a frame.
 #[tactic(auto, unfolding(crate::specs::inner::Reading::tried_at))]
 fn tried_field(moment: Moment, text: &[u8]) -> Option<(Reply, &[u8])>
     ensures { with_rest result ≡ tried_at moment text.now }
@@ -145,7 +145,8 @@ fn tried_field(moment: Moment, text: &[u8]) -> Option<(Reply, &[u8])>
     Some((Reply::Attempted(Attempt::Tried(tried)), rest))
 }
 
-/// The interfaces that an attempt restarted, after the first word of a text; none where the line ends there.
+/// Reads the interfaces that an attempt restarted, after the first word of the text. There are none if the line ends after
+/// that word.
 #[tactic(auto, unfolding(crate::specs::inner::Reading::restarted_at))]
 fn restarted_field(text: &[u8]) -> Option<(IfaceSet, &[u8])>
     ensures { with_rest result ≡ restarted_at text.now }
@@ -158,7 +159,7 @@ fn restarted_field(text: &[u8]) -> Option<(IfaceSet, &[u8])>
     Some((IfaceSet::empty(), rest))
 }
 
-/// How an attempt ended.
+/// Reads the class of an attempt.
 #[tactic(auto, unfolding(crate::specs::inner::Reading::class_at))]
 fn class_field(text: &[u8]) -> Option<(Class, &[u8])>
     ensures { with_rest result ≡ class_at text.now }
@@ -179,7 +180,7 @@ fn class_field(text: &[u8]) -> Option<(Class, &[u8])>
     None
 }
 
-/// The refusal of this name.
+/// Returns the refusal with this name.
 #[tactic(auto, unfolding(crate::specs::inner::Reading::refusal_in))]
 fn refusal_of(word: &[u8]) -> Option<Refusal>
     ensures { result ≡ refusal_in word.now }

@@ -4,17 +4,17 @@ use crate::line_words::LineText;
 use can_frame::Text;
 use std::alloc::Global;
 
-/// Rooms in which lines are spelled, one after another.
+/// The buffers in which lines are spelled, one line after another.
 #[derive(Drop)]
 pub struct Rooms {
-    /// For a line of a usual kind.
+    /// The buffer for a line without filters.
     pub(crate) short: LineText,
-    /// For any other line, of any length.
+    /// The buffer for any other line, of any length.
     pub long: Vec<u8>,
 }
 
 impl Rooms {
-    /// Rooms in which nothing was spelled yet.
+    /// Returns empty buffers.
     pub fn new(alloc: Global) -> Rooms
         ensures { result.long.items ≡ [] }
     {

@@ -15,13 +15,14 @@ use can_event::{BusConfig, Entry};
 use can_record::Record;
 use std::alloc::{AllocError, Global};
 
-/// No text is the text of two records.
+/// No two different records have the same text.
 pub fn record_texts_tell_records_apart()
     ensures { (text : List ℕ) (c d : AConfig) (es ds : List AnEntry) →
         IsTextOf text c es → IsTextOf text d ds → (c ≡ d) × (es ≡ ds) }
 {}
 
-/// A text is a record's, or is of no version, or has one line that is the first wrong one: no two of these.
+/// At most one of these holds for a text: it is the text of a record, it is of no version, or it has a first wrong line. It
+/// has at most one first wrong line.
 pub fn a_text_is_at_fault_in_one_way()
     ensures whole { (text : List ℕ) (n : ℕ) → IsRecordText text → ¬ IsFirstWrong text n }
     ensures first { (text : List ℕ) → IsRecordText text → ¬ IsOfNoVersion text }
@@ -29,7 +30,7 @@ pub fn a_text_is_at_fault_in_one_way()
     ensures line { (text : List ℕ) (n m : ℕ) → IsFirstWrong text n → IsFirstWrong text m → n ≡ m }
 {}
 
-/// What is written of a record is read back, unless memory is refused.
+/// The text that is written for a record is read back as the same record, unless memory is refused.
 pub fn read_back(alloc: Global, kept: &Record) -> Result<Record, AllocError>
     ensures config { IfOk result (λ r. r.config ≡ kept.now.config) }
     ensures history { IfOk result (λ r. r.history ≡ kept.now.history) }
@@ -51,7 +52,7 @@ fn hold_config(config: BusConfig)
     let _bits = config.reporting.0;
 }
 
-/// Entries of a record have lines in version 6.
+/// The entries of a record have lines in version 6.
 fn hold_lines(kept: &Record)
     ensures { All (HasLine version.Six «kept».now.config) (reverse «kept».now.history) }
 {

@@ -1,5 +1,5 @@
-//! What the types of a value say of it. These functions do nothing when they run: the checker knows the ranges
-//! of a parameter, and of a number that is read.
+//! Range facts for the types of a value. These functions do nothing when they run. They let the checker use the range of a
+//! parameter or of a number that is read.
 ghost use Rattle.std.specs.Prelude.{ℕ, slice_index, ◌<◌, ◌^◌, All};
 ghost use Rattle.can_frame.specs.FrameText.{IsItem};
 ghost use Rattle.can_frame.specs.declared.item.Item.TheVariants as item;
@@ -10,7 +10,7 @@ use can_fault::Verdict;
 use can_filter::Filter;
 use can_frame::{ErrorFrame, Frame, IfaceSet, Item};
 
-/// The arguments of an event are within their types.
+/// The arguments of an event are within the ranges of their types.
 pub(crate) fn hold_event(event: &Event)
     ensures { HoldsEvent event.now }
 {
@@ -103,7 +103,7 @@ fn hold_item(item: &Item)
     }
 }
 
-/// The parts of a reply are within their types.
+/// The parts of a reply are within the ranges of their types.
 pub(crate) fn hold_reply(reply: &Reply)
     ensures { HoldsReply reply.now }
 {

@@ -5,25 +5,25 @@ ghost use Rattle.can_record_text.specs.Values.{HasLimit, Restarts};
 use crate::needs::Needs;
 use can_event::{BusConfig, MAX_LIMIT};
 
-/// A version of the text of a record. Each record is written in one.
+/// The version of the text of a record. Each record is written in one version.
 #[derive(Debug, Clone, Copy, PartialEq, Eq)]
 pub enum Version {
-    /// The record of a bus whose interfaces are restarted only by a call.
+    /// The record of a bus without automatic restart.
     One,
     /// The record of a bus with automatic restart.
     Two,
-    /// The record with an FD frame, or with the option for such.
+    /// A record with an FD frame, or with the option for FD frames.
     Three,
-    /// The record of a long run, whose limit no other version has.
+    /// The record of a long run, whose limit no other version allows.
     Four,
-    /// The record with a flag of an FD frame.
+    /// A record with a flag of an FD frame.
     Five,
-    /// The record with a call that takes an interface down, or one that is refused as its interface is down.
+    /// A record with a call that takes an interface down, or a call that is refused because its interface is down.
     Six,
 }
 
 impl Version {
-    /// The version of the record of this bus, whose lines need so much.
+    /// Returns the version for the record of this bus, whose lines have these needs.
     pub(crate) fn of(config: BusConfig, needs: Needs) -> Version
         ensures { result ≡ version_for config needs }
     {
@@ -42,7 +42,7 @@ impl Version {
         }
     }
 
-    /// The first line, with its LF.
+    /// Returns the first line of the text, with its LF.
     pub fn first_line(self) -> &'static [u8]
         ensures { result.now ≡ first_line self }
     {
@@ -56,7 +56,7 @@ impl Version {
         }
     }
 
-    /// Whether it has lines with FD frames, and with the option for such.
+    /// Returns whether this version has lines for FD frames and for the option for FD frames.
     fn takes_fd(self) -> bool
         ensures { result ≡ takes_fd self }
     {
@@ -66,7 +66,7 @@ impl Version {
         }
     }
 
-    /// Whether it has lines with flags of FD frames.
+    /// Returns whether this version has lines for FD frames with flags.
     fn takes_flags(self) -> bool
         ensures { result ≡ takes_flags self }
     {
@@ -76,7 +76,7 @@ impl Version {
         }
     }
 
-    /// Whether it has lines of interfaces that go down or are down.
+    /// Returns whether this version has lines for interfaces that go down or are down.
     fn takes_down(self) -> bool
         ensures { result ≡ takes_down self }
     {
@@ -86,7 +86,7 @@ impl Version {
         }
     }
 
-    /// Whether it has lines that need so much.
+    /// Returns whether this version has lines for all of these needs.
     pub fn takes(self, needs: Needs) -> bool
         ensures { result ≡ takes self needs }
     {
@@ -95,8 +95,8 @@ impl Version {
             && (!needs.down || self.takes_down())
     }
 
-    /// Whether a record whose lines need so much does not need it: version 3 is for an FD frame, or for the option for
-    /// such, version 5 for a flag of an FD frame, and version 6 for an interface that goes down or is down.
+    /// Returns whether lines with these needs do not require this version. Version 3 is for an FD frame or the option for
+    /// FD frames, version 5 for a flag of an FD frame, and version 6 for an interface that goes down or is down.
     pub fn is_needless(self, needs: Needs) -> bool
         ensures { result ≡ is_needless self needs }
     {
@@ -108,7 +108,8 @@ impl Version {
         }
     }
 
-    /// Whether a bus may have this one's limit: above 16,777,216 in version 4, and within that in the others.
+    /// Returns whether this version allows the limit of the bus: above 16,777,216 in version 4, and at most that in the
+    /// other versions.
     pub(crate) fn limits(self, config: BusConfig) -> bool
         ensures yes { IsTrue result → HasLimit self config }
         ensures no { HasLimit self config → IsTrue result }
@@ -121,8 +122,8 @@ impl Version {
         }
     }
 
-    /// Whether a bus may restart its interfaces as this one does: only by a call in version 1, automatically in version 2,
-    /// and either way in the others.
+    /// Returns whether this version allows the restart setting of the bus: no automatic restart in version 1, automatic
+    /// restart in version 2, and either in the other versions.
     pub(crate) fn restarts(self, config: BusConfig) -> bool
         ensures yes { IsTrue result → Restarts self config }
         ensures no { Restarts self config → IsTrue result }

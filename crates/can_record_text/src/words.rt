@@ -4,7 +4,7 @@ ghost use Rattle.can_record_text.specs.Texts.{StartsWith};
 ghost use Rattle.can_record_text.specs.inner.Reading.{begins_with};
 ghost use Rattle.can_record_text.specs.inner.Words.{word, after};
 
-/// The first word, and what follows the byte that ends it.
+/// Returns the first word of a text, and the rest after the byte that ends the word.
 pub fn next_word(text: &[u8]) -> (&[u8], &[u8])
     ensures word { result.0.now ≡ word text.now }
     ensures after { result.1.now ≡ after text.now }
@@ -18,14 +18,14 @@ pub fn next_word(text: &[u8]) -> (&[u8], &[u8])
     (text, &text[text.len()..])
 }
 
-/// Whether two words are one.
+/// Returns whether two words are the same.
 pub fn same_word(a: &[u8], b: &[u8]) -> bool
     ensures { result ≡ bytes_eq a.now b.now }
 {
     a == b
 }
 
-/// Whether a text begins with another.
+/// Returns whether the text begins with `front`.
 pub fn begins(text: &[u8], front: &[u8]) -> bool
     ensures yes { IsTrue result → StartsWith front.now text.now }
     ensures no { (rest : List ℕ) → text.now ≡ front.now ++ rest → IsTrue result }

@@ -39,79 +39,80 @@ use Rattle.can_record_text.specs.declared.version.Version.TheVariants as version
 use Rattle.can_record_text.specs.inner.Words.{word, after}
 use Rattle.can_record_text.specs.inner.Numerals.{long_in}
 
--- An entry as a line seems to spell it. It is written again and compared, so here it may be read loosely (own choice).
+-- The entry that a line seems to spell. The reader spells it again and compares, so these definitions may accept too
+-- much (own choice).
 
--- a value and what follows it
+-- A value with the rest of the text.
 abbrev pub Found : Type 0 → Type 0
 Found A = Option (A × List ℕ)
 
--- a value that was read, with the rest of the text
+-- A value that was read, with the rest of the text.
 abbrev pub with_rest : {A : Type 0} → Option (A × Bor (List ℕ)) → Found A
 with_rest None = None
 with_rest (Some x) = Some (x.0, x.1.now)
 
--- what a call answered is what reading gives, unless memory was refused
+-- The call returns the value that reading gives, unless memory was refused.
 abbrev pub Gives : {X : Type 0} → Result X Unread → Option X → Type 0
 Gives (Ok x) read = read ≡ Some x
 Gives (Err unread.NoMemory) read = Unit {0}
 Gives (Err unread.Bad) read = read ≡ None
 
--- the same of a value with the rest of the text
+-- The call returns the value that reading gives with the rest of the text, unless memory was refused.
 abbrev pub Finds : {A : Type 0} → Result (A × Bor (List ℕ)) Unread → Found A → Type 0
 Finds (Ok x) read = read ≡ Some (x.0, x.1.now)
 Finds (Err why) read = Gives (Err why) read
 
 infixl 10 ◌>>=◌
--- and then, where there is something
+-- The second function applied to the result of the first, if there is one.
 abbrev pub ◌>>=◌ : {A B : Type 0} → Option A → (A → Option B) → Option B
 None >>= f = None
 (Some x) >>= f = f x
 
--- a number below the limit
+-- Reads a number below the limit.
 unfoldable pub number_at : ℕ → List ℕ → Option (ℕ × List ℕ)
 number_at limit t = number_in 10 19 (word t) >>= λ n. if nat_lt n limit then Some (n, after t) else None
 
--- a number of 64 bits
+-- Reads a number of 64 bits.
 unfoldable pub long_at : List ℕ → Option (ℕ × List ℕ)
 long_at t = long_in (word t) >>= λ n. Some (n, after t)
 
--- a word of 32 bits, in hexadecimal
+-- Reads a word of 32 bits in hexadecimal.
 unfoldable pub mask_at : List ℕ → Option (ℕ × List ℕ)
 mask_at t = number_in 16 8 (word t) >>= λ n. Some (n, after t)
 
--- a moment
+-- Reads a moment.
 unfoldable pub moment_at : List ℕ → Option (ℕ × List ℕ)
 moment_at t = moment_in (word t) >>= λ m. Some (m, after t)
 
--- a socket
+-- Reads the number of a socket.
 unfoldable pub socket_at : List ℕ → Option (SocketId × List ℕ)
 socket_at t = number_at (2 ^ 32) t >>= λ s. Some (record { 0 = s.0 }, s.1)
 
--- a set of interfaces
+-- Reads a set of interfaces.
 unfoldable pub set_at : List ℕ → Option (IfaceSet × List ℕ)
 set_at t = number_in 16 4 (word t) >>= λ n. Some (record { 0 = n }, after t)
 
--- a switch
+-- Reads a flag, 0 or 1.
 unfoldable pub flag_at : List ℕ → Option (Bool × List ℕ)
 flag_at t =
     if bytes_eq (word t) (codes "0") then Some (false, after t)
     else if bytes_eq (word t) (codes "1") then Some (true, after t)
     else None
 
--- an item
+-- Reads an item.
 unfoldable pub item_at : List ℕ → Option (Item × List ℕ)
 item_at t = item_in (word t) >>= λ i. Some (i, after t)
 
--- the frame of an item
+-- The frame in an item, unless the item is an error message frame.
 abbrev pub frame_of_item : Item → Option CanFrame
 frame_of_item (item.Data f) = Some f
 frame_of_item (item.Error e) = None
 
--- a frame
+-- Reads a frame.
 unfoldable pub frame_at : List ℕ → Option (CanFrame × List ℕ)
 frame_at t = item_at t >>= λ i. frame_of_item i.0 >>= λ f. Some (f, i.1)
 
--- the option of this name and its value
+-- Reads the name of an option and its value.
 unfoldable pub option_at : List ℕ → Option (Opt × List ℕ)
 option_at t =
     if bytes_eq (word t) (codes "loopback") then (flag_at (after t) >>= λ on. Some (opt.Loopback on.0, on.1))
@@ -121,15 +122,15 @@ option_at t =
     else if bytes_eq (word t) (codes "errmask") then (mask_at (after t) >>= λ m. Some (opt.ErrMask m.0, m.1))
     else None
 
--- a set after the first bytes of a word, of which there are this many
+-- Reads a set of interfaces after this many bytes of a word.
 unfoldable pub set_from : ℕ → List ℕ → Option (IfaceSet × List ℕ)
 set_from n t = set_at (drop n t)
 
--- the text begins with these bytes
+-- The text begins with these bytes.
 abbrev pub begins_with : List ℕ → List ℕ → Bool
 begins_with front t = bytes_eq (take (length front) t) front
 
--- a verdict
+-- Reads a verdict.
 unfoldable pub verdict_at : List ℕ → Option (Verdict × List ℕ)
 verdict_at t =
     if bytes_eq (word t) (codes "good") then Some (verdict.Good, after t)
@@ -141,7 +142,7 @@ verdict_at t =
     else if begins_with (codes "local-form:") t then (set_from 11 t >>= λ s. Some (verdict.Local s.0 local.Form, s.1))
     else None
 
--- how an attempt ended
+-- Reads the class of an attempt.
 unfoldable pub class_at : List ℕ → Option (Class × List ℕ)
 class_at t =
     if bytes_eq (word t) (codes "done") then Some (class.Done, after t)
@@ -150,7 +151,7 @@ class_at t =
     else if bytes_eq (word t) (codes "noack") then Some (class.NoAck, after t)
     else None
 
--- the refusal of this name
+-- The refusal with this name.
 unfoldable pub refusal_in : List ℕ → Option Refusal
 refusal_in w =
     if bytes_eq w (codes "no-interface") then Some refusal.NoInterface
@@ -164,14 +165,14 @@ refusal_in w =
     else if bytes_eq w (codes "interface-down") then Some refusal.Down
     else None
 
--- the counts of a closed socket
+-- Reads the counts of a closed socket.
 unfoldable pub closed_at : List ℕ → Option (Reply × List ℕ)
 closed_at t = do
   u ← long_at t
   d ← long_at u.1
   Some (reply.Closed (record { unread = u.0; dropped = d.0 }), d.1)
 
--- a data frame that was received
+-- Reads the reply for a received frame.
 unfoldable pub data_at : List ℕ → Option (Reply × List ℕ)
 data_at t = do
   i ← number_at 16 t
@@ -180,7 +181,7 @@ data_at t = do
   m ← moment_at f.1
   Some (reply.Received (Some (record { item = item.Data f.0; from = i.0; number = n.0; moment = m.0 })), m.1)
 
--- an error message frame that was received
+-- Reads the reply for a received error message frame.
 unfoldable pub error_at : List ℕ → Option (Reply × List ℕ)
 error_at t = do
   i ← number_at 16 t
@@ -188,16 +189,16 @@ error_at t = do
   m ← moment_at e.1
   Some (reply.Received (Some (record { item = e.0; from = i.0; number = 0; moment = m.0 })), m.1)
 
--- what follows the first word, and the byte that ends it
+-- The rest of a text from the byte that ends the first word.
 abbrev pub past_word : List ℕ → List ℕ
 past_word t = drop (length (word t)) t
 
--- the interfaces that an attempt restarted, after the reply's other words
+-- Reads the interfaces that an attempt restarted, after the other words of the reply.
 unfoldable pub restarted_at : List ℕ → Option (IfaceSet × List ℕ)
 restarted_at t =
     if begins_with (codes " restarted ") (past_word t) then set_from 11 (past_word t) else Some (no_ifaces, after t)
 
--- a frame that was tried at this moment
+-- Reads the reply of an attempt at this moment that tried a frame.
 unfoldable pub tried_at : ℕ → List ℕ → Option (Reply × List ℕ)
 tried_at moment t = do
   w ← number_at 16 t
@@ -221,14 +222,14 @@ tried_at moment t = do
     r.1,
   )
 
--- the reply of this one word
+-- The reply that this single word spells.
 unfoldable pub fixed_in : List ℕ → Option Reply
 fixed_in w =
     if bytes_eq w (codes "ok") then Some reply.Done
     else if bytes_eq w (codes "none") then Some (reply.Received None)
     else (refusal_in w >>= λ why. Some (reply.Refused why))
 
--- the reply to an attempt of this moment, or to another event
+-- Reads a reply: to an attempt at this moment, or to another event if there is no moment.
 unfoldable pub reply_at : Option ℕ → List ℕ → Option (Reply × List ℕ)
 reply_at moment t =
     if bytes_eq (word t) (codes "number") then (long_at (after t) >>= λ n. Some (reply.Sent n.0, n.1))
@@ -241,30 +242,30 @@ reply_at moment t =
     else if bytes_eq (word t) (codes "closed") then closed_at (after t)
     else (fixed_in (word t) >>= λ r. Some (r, after t))
 
--- the moment of an attempt
+-- The moment of an attempt, or None for another event.
 abbrev pub moment_of : Event → Option ℕ
 moment_of (Attempt m v) = Some m
 moment_of _ = None
 
--- one filter more
+-- Reads one more filter.
 unfoldable pub filter_at : List CanFilter → List ℕ → Option (List CanFilter × List ℕ)
 filter_at fs t = do
   i ← mask_at t
   m ← mask_at i.1
   if bit_and m.0 (2 ^ 29) == 0 then Some (fs ++ record { id = i.0; mask = m.0 } ∷ [], m.1) else None
 
--- this many filters more
+-- Reads this many more filters.
 unfoldable pub filters_at : List CanFilter → ℕ → List ℕ → Option (List CanFilter × List ℕ)
 filters_at fs zero t = Some (fs, t)
 filters_at fs (suc n) t = filter_at fs t >>= λ f. filters_at f.0 n f.1
 
--- filters were read after those that were there, unless memory was refused
+-- The filters that were read are added after those already in the list, unless memory was refused.
 abbrev pub GivesFilters : Result (Bor (List ℕ)) Unread → List CanFilter → Option (List CanFilter × List ℕ) → Type 0
 GivesFilters (Ok rest) filters read = read ≡ Some (filters, rest.now)
 GivesFilters (Err unread.NoMemory) filters read = Unit {0}
 GivesFilters (Err unread.Bad) filters read = read ≡ None
 
--- the filters of a socket
+-- Reads an event that sets the filters of a socket, after its first word.
 unfoldable pub set_filters_at : List ℕ → Option (Event × List ℕ)
 set_filters_at t = do
   s ← socket_at t
@@ -272,7 +273,8 @@ set_filters_at t = do
   fs ← filters_at [] n.0 n.1
   Some (SetFilters s.0 fs.0, fs.1)
 
--- an event whose line begins with this word and goes on with this text: of those that set a bus up
+-- Reads an event that opens, closes or configures a socket, or that restarts an interface or takes it down. The first
+-- word of its line is given.
 unfoldable pub setting_at : List ℕ → List ℕ → Option (Event × List ℕ)
 setting_at w t =
     if bytes_eq w (codes "open")
@@ -286,7 +288,7 @@ setting_at w t =
     then (number_at 16 t >>= λ i. moment_at i.1 >>= λ m. Some (Down i.0 m.0, m.1))
     else None
 
--- of the other events, but for one that sets filters
+-- Reads any event that does not set filters. The first word of its line is given.
 unfoldable pub plain_at : List ℕ → List ℕ → Option (Event × List ℕ)
 plain_at w t =
     if bytes_eq w (codes "attempt") then (moment_at t >>= λ m. verdict_at m.1 >>= λ v. Some (Attempt m.0 v.0, v.1))
@@ -294,37 +296,37 @@ plain_at w t =
     else if bytes_eq w (codes "send") then (socket_at t >>= λ s. frame_at s.1 >>= λ f. Some (Send s.0 f.0, f.1))
     else setting_at w t
 
--- the moment and the verdict of an attempt, after its first word
+-- Reads the moment and the verdict of an attempt, after its first word.
 unfoldable pub attempted_in : List ℕ → Option (ℕ × Verdict)
 attempted_in t = moment_at t >>= λ m. verdict_at m.1 >>= λ v. Some (m.0, v.0)
 
--- the socket and the frame of a send, after its first word
+-- Reads the socket and the frame of a send call, after its first word.
 unfoldable pub sent_in : List ℕ → Option (SocketId × CanFrame)
 sent_in t = socket_at t >>= λ s. frame_at s.1 >>= λ f. Some (s.0, f.0)
 
--- the event of a line as it seems to be spelled, and what follows it
+-- Reads the event that a line seems to spell.
 unfoldable pub event_at : List ℕ → Option (Event × List ℕ)
 event_at t = if bytes_eq (word t) (codes "filters") then set_filters_at (after t) else plain_at (word t) (after t)
 
--- the event that a line seems to be of
+-- The line seems to spell this event.
 abbrev pub SeemsToBe : List ℕ → Event → Type 0
 SeemsToBe t e = (rest : List ℕ) × (event_at t ≡ Some (e, rest))
 
--- an entry as its line seems to spell it
+-- Reads the entry that a line seems to spell.
 unfoldable pub entry_at : List ℕ → Option Entry
 entry_at t = do
   e ← event_at t
   r ← reply_at (moment_of e.0) (after e.1)
   Some (record { event = e.0; reply = r.0 })
 
--- who acknowledges
+-- Reads the acknowledgement mode.
 unfoldable pub ack_at : List ℕ → Option (AckMode × List ℕ)
 ack_at t =
     if bytes_eq (word t) (codes "always") then Some (ack.Always, after t)
     else if bytes_eq (word t) (codes "peers") then Some (ack.Peers, after t)
     else None
 
--- after how many attempts an interface is restarted: never in version 1
+-- Reads the number of attempts until an automatic restart; 0 (never) in version 1.
 unfoldable pub auto_restart_at : Version → List ℕ → Option (ℕ × List ℕ)
 auto_restart_at version.One t = Some (0, t)
 auto_restart_at version.Two t = number_at (2 ^ 32) t
@@ -333,7 +335,7 @@ auto_restart_at version.Four t = number_at (2 ^ 32) t
 auto_restart_at version.Five t = number_at (2 ^ 32) t
 auto_restart_at version.Six t = number_at (2 ^ 32) t
 
--- the configuration of a bus
+-- Reads the configuration of a bus.
 unfoldable pub config_at : Version → List ℕ → Option BusConfig
 config_at v t = do
   i ← number_at 256 (after t)

@@ -8,16 +8,16 @@ use Rattle.can_record.specs.PackedEntry.{entry_in}
 use Rattle.can_record.specs.StoredEntry.{entry_stored}
 use Rattle.can_record_text.specs.Spelling.{entry_line}
 
--- The lines of entries as a record stores them (own choice).
+-- The lines of entries in their stored form (own choice).
 
--- the line of an entry as it is stored
+-- The line of a stored entry.
 abbrev pub stored_line : StoredEntry → List ℕ
 stored_line s = entry_line (entry_stored s) []
 
--- the line of a packed entry, whichever FD frames the record keeps
+-- The line of a packed entry, for any list of FD frames.
 abbrev pub IsPackedLine : List ℕ → PackedEntry → Type 0
 IsPackedLine line kept = (frames : List CanFrame) → line ≡ entry_line (entry_in frames kept) []
 
--- the entry's reply fits its event
+-- The reply of the entry fits its event.
 abbrev pub HasFittingReply : Entry → Type 0
 HasFittingReply e = FitsReply e.event e.reply

@@ -7,7 +7,7 @@ use Rattle.can_record_text.specs.Spelling.{all_needs, bus_words, end_words, fron
 use Rattle.can_record_text.proofs.Whole.{whole_text, end_is_wrong, made_text, needless_text, short_fault}
 use Rattle.can_record_text.proofs.record_reading.read_text.Goals as goal
 
--- what the entries need, as it was found
+-- the needs of the entries that were read
 needed : {b : Bool} (v : Version) (es ds : List Entry) (n : Needs) → ds ≡ es → n ≡ all_needs ds → is_needless v n ≡ b → is_needless v (all_needs es) ≡ b
 needed v es ds n same is told = ap (λ (xs : List Entry). is_needless v (all_needs xs)) (sym same) ∙ ap (is_needless v) (sym is) ∙ told
 

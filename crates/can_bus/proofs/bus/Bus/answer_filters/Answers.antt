@@ -9,7 +9,7 @@ use Rattle.can_bus.proofs.bus.Bus.answer_filters.Given as given
 use Rattle.can_bus.proofs.bus.Bus.answer_filters.Goals as goal
 use Rattle.can_bus.proofs.bus.Bus.answer_filters.Goals.{After-push_boxed}
 
--- there was room in the record
+-- the record had room
 with_room : {j : Journal} {k : Journal} → j ≡ k → length k.history < k.config.limit → length j.history < j.config.limit
 with_room view room = subst (λ (j : Journal). length j.history < j.config.limit) (sym view) room
 

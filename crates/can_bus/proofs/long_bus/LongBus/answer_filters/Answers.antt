@@ -19,7 +19,7 @@ answer-reply-requires g c = is_ready (record_of c.self.inside.config c.self.insi
 pub push_boxed-requires : goal.push_boxed-requires
 push_boxed-requires g c = record { room = place_in c.self.view_is c.requires.place c.self.invariant.holds }
 
--- the entry that is noted
+-- the event of the entry that is recorded
 abbrev asked : (g : given.Over) → After-push_boxed g → Event
 asked g c = event.SetFilters c.args.id c.args.filters.now
 

@@ -7,7 +7,7 @@ use Rattle.can_record.specs.StoredEntry.{entry_stored}
 use Rattle.can_record.specs.EntryStore.{entries_in}
 use Rattle.can_record.proofs.entry_store.EntryStore.to_entries.Goals as goal
 
--- one entry more is copied
+-- one more entry is copied
 one_more : (es copies new : List Entry) (k : ℕ) (e : Entry) → copies ≡ take k es → slice_get es k ≡ Some e → new ≡ copies ++ e ∷ [] → new ≡ take (k + 1) es
 one_more es copies new k e before here is =
     let more : take (k + 1) es ≡ take k es ++ e ∷ [] = rw add-one (take-suc es k e (slice_get_within es k e here) ∙ ap (λ (x : Entry). take k es ++ x ∷ []) (get_or_from_slice_get es k e e here)) in
