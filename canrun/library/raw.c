@@ -16,7 +16,7 @@
 /* The maximum number of bytes of control messages that the kernel accepts. */
 #define MOST_CONTROL 20480
 
-/* Prints once that the server accepts error message frames but does not send them. */
+/* Prints once that an error message frame was accepted but will not be sent. */
 static void note_error_frame(void) {
     static const char text[] =
         "canbusd-run: note: error message frames that are written go nowhere: the server makes its "
