@@ -1,6 +1,6 @@
-/* The names of J1939, and the addresses that their nodes have claimed, as in net/can/j1939/bus.c and address-claim.c of
- * the kernel. A claim becomes good if it is not contested for 250 ms. The host's own claims count from the moment at
- * which they were on the bus. */
+/* The names of J1939 nodes and the addresses that the nodes have claimed, as in net/can/j1939/bus.c and address-claim.c
+ * in the kernel. An address claim becomes valid if it is not contested for 250 ms. For the host's own claims this time
+ * starts when they were on the bus. */
 #include "j1939_host.h"
 
 #include <errno.h>
@@ -47,7 +47,7 @@ static bool has_address(const struct node *node) {
     return is_unicast(node->address) && addresses[node->address].node == node;
 }
 
-/* Frees a node that no socket uses, and that neither has an address nor claims one. */
+/* Frees a node that no socket uses, and that neither has nor claims an address. */
 static void forget_idle(struct node *node) {
     struct node **place = &nodes;
     if (node->users || node->due != NEVER || has_address(node)) {
@@ -118,7 +118,7 @@ bool names_claim(uint64_t name, uint8_t address) {
     return node;
 }
 
-/* The node claims this address. The address's present node keeps it only if its name is lower. */
+/* Handles the claim of this address by a node. Another node that has the address keeps it only if its name is lower. */
 static void contest(struct node *node, uint8_t address, uint64_t moment) {
     if (node->address != address) {
         take_address(node);
