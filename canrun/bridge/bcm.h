@@ -26,14 +26,14 @@ struct bcm_task {
     struct bcm_task *next;
     bool is_rx;
     int index;            /* the task's interface; 0: an RX task of all interfaces */
-    struct bcm_head head; /* with the present flags, timers and count */
-    unsigned at;          /* the frame that is sent next */
+    struct bcm_head head; /* with the current flags, timers and count */
+    unsigned at;          /* the index of the frame that is sent next */
     uint64_t due;         /* when the next frame or the timeout is due; 0: never */
     uint64_t held_until;  /* the end of the throttle; 0: the throttle is off */
     uint64_t reported;    /* when the program last got a frame */
-    unsigned asked;       /* remote frames that were not answered yet */
-    int detected; /* for an RX task with timers and for all interfaces: the interface of the first frame, the only one
-                     from then on */
+    unsigned asked;       /* how many remote frames have not been answered yet */
+    int detected; /* for an RX task of all interfaces that has timers: the interface of its first frame. The task then
+                     receives only from this interface */
     struct bcm_last *last; /* one entry for each frame of an RX task */
     struct canfd_frame frames[];
 };

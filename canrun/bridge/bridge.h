@@ -60,26 +60,26 @@ struct session {
     uint32_t number;            /* unique among the bridge's sessions, and never 0 */
     int index;                  /* the index of the interface */
     bool is_local;              /* the connection is a Unix socket, which takes a command in full or not at all */
-    bool is_shared;             /* programs have copies of its descriptor */
+    bool is_shared;             /* programs have copies of the session's file descriptor */
     bool is_receiving;          /* the session receives for the socket; otherwise it only sends */
     bool is_counting;           /* a reply to session_ask_counts is due */
     uint32_t dropped;           /* how many frames the server has dropped, as far as the bridge knows */
-    uint64_t seen;              /* received items */
-    bool is_asked, is_answered; /* session_ask_all: the counts were asked for; `queued` has their answer */
+    uint64_t seen;              /* how many items were received */
+    bool is_asked, is_answered; /* for session_ask_all: the counts were asked for; `queued` has the answer */
     uint64_t queued;
-    struct options given; /* the options that the server has */
+    struct options given; /* the options as last sent to the server */
     enum due due;         /* the reply that has not come yet */
     bool is_silent;       /* no reply came in time, so the next wait is short */
-    char reply[160];      /* the first reply to the last commands that is not ok */
+    char reply[160];      /* the first reply other than ok to the last commands */
     size_t have;
     char input[32768];
-    uint64_t gone, waiting; /* the last counts of the queue: frames that have left it, and frames that wait there */
-    uint64_t since;         /* frames of this session that the queue took since then */
+    uint64_t gone, waiting; /* the last counts of the queue: frames that have left it, and frames waiting there */
+    uint64_t since;         /* how many frames of this session entered the queue after these counts */
     uint64_t places;        /* the largest number of frames seen in the queue; this is its size once it was full */
     bool was_full;          /* a frame that waits for room has found the queue full */
-    unsigned missed;        /* how often others had taken the room that became free */
-    uint64_t look_at;       /* while a frame waits for room: the time of the next look at the counts */
-    int64_t pause;          /* while a frame waits for room: the pause after that look */
+    unsigned missed;        /* at how many checks in a row other senders had taken the free room */
+    uint64_t look_at;       /* while a frame waits for room: when to check the counts next */
+    int64_t pause;          /* while a frame waits for room: the pause after that check */
     bool is_stuck;          /* a short wait for room failed, and the server has accepted no frame since */
     uint64_t sent_end;      /* 1 + the highest number of a frame of this session */
     uint8_t sent[NUMBERS_KEPT / 8]; /* a bit for each of the last numbers: whether a frame of this session has it */
@@ -174,7 +174,7 @@ bool room_has_unasked(void);
 extern struct session *sessions[INTERFACE_MOST];
 extern int session_count;
 extern bool is_bound;
-extern int bound_index; /* 0: all interfaces */
+extern int bound_index; /* the index of the interface; 0: all interfaces */
 
 /* Binds the socket to the interface with this index, or to all interfaces if the index is 0. */
 int sessions_bind(int index);

@@ -65,7 +65,7 @@ static void count(struct card *card, const struct canfd_frame *frame) {
     facts->bus_errors += (frame->can_id & CAN_ERR_BUSERROR) != 0;
     facts->lost_arbitrations += (frame->can_id & CAN_ERR_LOSTARB) != 0;
     if (frame->can_id & CAN_ERR_RESTARTED) {
-        facts->restarts += !card->was_down; /* An interface that is set up has not restarted. */
+        facts->restarts += !card->was_down; /* Setting an interface up does not count as a restart. */
         card->was_down = false;
     }
     if (frame->can_id & (CAN_ERR_BUSOFF | CAN_ERR_RESTARTED | CAN_ERR_CRTL)) {

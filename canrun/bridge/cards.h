@@ -13,14 +13,14 @@
 struct card {
     int fd; /* -1: the server is gone */
     struct link_facts facts;
-    uint64_t restart_at;  /* by the clock, or NEVER */
-    bool is_answered;     /* the last request has its reply */
-    unsigned long items;  /* the items that have come */
-    unsigned long queued; /* the items that the server had for this session at the last request */
-    uint32_t said;        /* the state by the items that have come */
-    bool was_down;        /* the interface was down since its last restart */
+    uint64_t restart_at;  /* when to restart the interface, by the clock, or NEVER */
+    bool is_answered;     /* the server has replied to the last request */
+    unsigned long items;  /* how many items have arrived */
+    unsigned long queued; /* how many items the server had queued for this session at the last request */
+    uint32_t said;        /* the state according to the items that have arrived */
+    bool was_down;        /* the interface has been down since its last restart */
     bool has_news;        /* the state has changed, and the watchers do not know it yet */
-    char refusal[128];    /* the refusal of the last command */
+    char refusal[128];    /* why the last command was refused */
     size_t have;
     char input[4096];
 };

@@ -40,9 +40,9 @@ uint64_t isotp_last_number(void);
 /* ---- isotp_timer.c ---- */
 
 struct isotp_timer {
-    unsigned steps;  /* remaining steps */
+    unsigned steps;  /* how many steps remain */
     uint64_t due;    /* when this step should be over, by the clock; 0: the timer is off */
-    unsigned rounds; /* how many questions the server has answered since then, if it was asked */
+    unsigned rounds; /* how many questions the server was asked after `due` */
 };
 void isotp_timer_start(struct isotp_timer *timer, unsigned seconds);
 void isotp_timer_stop(struct isotp_timer *timer);

@@ -9,7 +9,7 @@
 
 static struct j1939_socket own = {.pgn = J1939_NO_PGN, .from = J1939_NO_ADDR, .to = J1939_NO_ADDR};
 static int own_index;               /* the interface that the socket is bound to */
-static uint32_t pgn = J1939_NO_PGN; /* the PGN of messages whose address has none */
+static uint32_t pgn = J1939_NO_PGN; /* the PGN of a message whose address contains no PGN */
 static uint8_t priority = 6;
 static struct j1939_filter *filters;
 static size_t filter_count;

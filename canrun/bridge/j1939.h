@@ -43,7 +43,7 @@ static inline bool has_destination(uint32_t pgn) {
 /* The properties that decide whether a socket receives a message. */
 struct j1939_socket {
     uint64_t name, to_name;
-    uint32_t pgn; /* the only PGN that is received, or J1939_NO_PGN */
+    uint32_t pgn; /* the only PGN that the socket receives, or J1939_NO_PGN for all */
     uint8_t from, to;
     bool is_connected, is_promiscuous, is_broadcast;
 };
@@ -51,7 +51,7 @@ struct j1939_socket {
 /* A request from a bridge to the host. Filters or data may follow it. The host replies once to each request. */
 struct j1939_ask {
     enum { ASK_BIND, ASK_CHANGE, ASK_SEND, ASK_LEAVE } kind;
-    uint32_t key, size; /* the key and the size of a message; its first bytes follow, or the next */
+    uint32_t key, size; /* the key and the size of a message; its first or next bytes follow */
     bool is_first;
     struct wire_way way;
     struct j1939_socket socket;
@@ -60,12 +60,12 @@ struct j1939_ask {
 /* A message from the host to a bridge. */
 struct j1939_told {
     enum {
-        TOLD_REPLY,   /* an error and its text; or 0 */
+        TOLD_REPLY,   /* the reply to a request: 0, or an error and its text */
         TOLD_MESSAGE, /* a received message; its data follow */
         TOLD_NOTICE,  /* an entry for the error queue */
         TOLD_ERROR,   /* the socket's error, if it has no error queue */
         TOLD_FREED,   /* a segment of this length has been sent */
-        TOLD_ENDED,   /* the message with this key is over */
+        TOLD_ENDED,   /* the message with this key has ended */
         TOLD_GONE,    /* the server is gone */
     } kind;
     int32_t error;

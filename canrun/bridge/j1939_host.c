@@ -173,7 +173,7 @@ static int64_t learn(uint64_t now) {
         session_ask_all(sessions[0]);
     }
     if (now - asked_at > PATIENCE * SECOND) {
-        rounds = 0; /* It does not wait for a server that does not reply. */
+        rounds = 0; /* Give up waiting for a server that does not reply. */
         known = now;
         return 0;
     }

@@ -19,9 +19,9 @@ struct member {
 /* A received frame with its source and destination. */
 struct heard {
     struct wire_way way;
-    bool is_from_us, is_to_us; /* the addresses belong to sockets of this host */
-    bool is_local;             /* sent by this interface, but not by a transfer of several frames */
-    bool is_frame;             /* a single frame; false for a message that was put together */
+    bool is_from_us, is_to_us; /* the source or destination belongs to a socket of this host */
+    bool is_local;             /* the frame was sent by this interface, but not in a transfer of several frames */
+    bool is_frame;             /* a single frame; false for a message assembled from several frames */
     const struct member *sender;
     uint64_t moment;
     size_t length;
@@ -91,23 +91,23 @@ enum transfer_state { TRANSFER_NEW, TRANSFER_ACTIVE, TRANSFER_ABORTING, TRANSFER
 
 struct transfer {
     struct transfer *next, *next_queued;
-    struct member *owner; /* NULL: a received message, or its socket is gone */
+    struct member *owner; /* NULL: the message is received, or its socket is gone */
     bool is_sent, is_queued;
     enum transfer_kind kind;
     enum transfer_state state;
     struct wire_way way;
     bool is_from_us, is_to_us;
     uint8_t last_heard, last_sent; /* the last command in each direction */
-    uint32_t size, filled, freed;  /* bytes: of the whole message, present, and no longer needed */
+    uint32_t size, filled, freed;  /* numbers of bytes: in the whole message, present, and no longer needed */
     uint8_t *data;
     unsigned retries;
     int error;
     uint32_t key;
-    uint64_t frame; /* the number of the only frame */
+    uint64_t frame; /* the number of the frame, for a message of one frame */
     /* Numbers of packets. `total`: in the message. `last`: up to the end of the block. `sent`, `confirmed` and
      * `received`: so far. `block`: in a block. `offset`: before the current block. */
     uint32_t total, last, sent, confirmed, received, block, offset;
-    uint64_t send_at, due; /* when it continues, and when it is given up, by the clock; or NEVER */
+    uint64_t send_at, due; /* when the transfer continues, and when it is given up, by the clock; or NEVER */
 };
 
 /* Finds an active transfer between these ends, in this direction or in reverse. Returns NULL if there is none. */
@@ -172,7 +172,7 @@ enum {
     ETP_OFFSET = 0x16,
     ETP_DONE = 0x17,
     ABORT = 0xff,
-    SOME_DATA = 0xff /* takes the place of the last received command */
+    SOME_DATA = 0xff /* stored in place of the last command after a data packet */
 };
 enum abort_reason {
     ABORT_BUSY = 1,

@@ -115,7 +115,7 @@ static int reply(void) {
         if (length >= 0) {
             keep(&told, (size_t)length);
         } else if (fd >= 0 && poll(&(struct pollfd){fd, POLLIN, 0}, 1, PATIENCE * 1000) <= 0 && clock_now() >= until) {
-            link_close(); /* A late reply must not be taken for the reply to another request. */
+            link_close(); /* A late reply must not be mistaken for the reply to the next request. */
             return refused(ETIMEDOUT, "the host of the interface does not reply");
         }
     }

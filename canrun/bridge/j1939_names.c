@@ -11,16 +11,16 @@
 struct node {
     struct node *next;
     uint64_t name;
-    uint64_t due;    /* when its claim becomes good, by the clock, or NEVER; */
-    uint64_t until;  /* the same by the timestamps of frames */
-    uint8_t address; /* the address of its last claim */
-    unsigned users;  /* sockets that are bound to the name */
+    uint64_t due;    /* when the node's claim becomes valid, by the clock, or NEVER */
+    uint64_t until;  /* the same time, by the timestamps of frames */
+    uint8_t address; /* the address that the node claimed last */
+    unsigned users;  /* how many sockets are bound to the name */
 };
 static struct node *nodes;
 
 static struct {
     struct node *node; /* the node that has this address */
-    unsigned users;    /* sockets that are bound to this address, or to the name of its node */
+    unsigned users;    /* how many sockets are bound to this address, or to the name of its node */
 } addresses[256];
 
 static struct node *find(uint64_t name) {

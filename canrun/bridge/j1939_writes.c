@@ -32,11 +32,11 @@ struct turn {
 static struct turn *turns;
 static unsigned turn_count;
 
-static uint32_t keys, keys_before; /* the number of messages; and its value when counting began anew */
-static unsigned pending;           /* messages that are not over yet */
+static uint32_t keys, keys_before; /* the number of messages so far, and its value when counting restarted */
+static unsigned pending;           /* how many messages have not ended yet */
 static int used, room = ROOM_MOST;
 /* The key of a message whose remaining bytes come with the next write. */
-static uint32_t open_key, open_left; /* the length of the rest */
+static uint32_t open_key, open_left; /* how many bytes remain */
 
 static int cost_of(uint32_t length) {
     int size = BUFFER_LEAST;
@@ -200,7 +200,7 @@ int writes_add(const struct wire_request *request, const struct wire_way *way, u
                size_t length, int reply_to) {
     bool is_rest = request->option;
     if (is_rest && !open_left) {
-        return 0; /* As in the kernel, the rest of a message that is over is dropped. */
+        return 0; /* As in the kernel, the rest of a message that has ended is dropped. */
     }
     if (!is_rest && open_left && open_left != size) {
         return refused(EIO, "the rest of the message before has another length");

@@ -100,7 +100,7 @@ bool quick_serve(const char *data, size_t length) {
         return false;
     }
     if (quick.ifindex == WIRE_LEFT) {
-        return true; /* The write has its reply since this bridge woke. */
+        return true; /* The write got its reply when this bridge woke up. */
     }
     data += sizeof quick;
     length -= sizeof quick;

@@ -43,7 +43,7 @@ static void lose(struct session *session) {
 void session_end(struct session *session) {
     if (session && session->fd >= 0) {
         if (session->is_shared) {
-            shutdown(session->fd, SHUT_RDWR); /* Programs have copies of the descriptor. */
+            shutdown(session->fd, SHUT_RDWR); /* because programs have copies of the file descriptor */
         }
         close(session->fd);
     }
@@ -274,7 +274,7 @@ void session_note_number(struct session *session, uint64_t number) {
 
 int session_take_over(struct session *session, const char *text, size_t length, bool is_new) {
     if (!length && !is_new) {
-        set_silent(session, true); /* The program has already waited. */
+        set_silent(session, true); /* because the program has already waited for the reply */
     }
     memcpy(session->input, text, length);
     session->have = length;

@@ -43,7 +43,7 @@ static int start_raw(int index, bool is_receiving, struct session **started) {
     session->index = index;
     session->is_receiving = is_receiving;
     raw_setup(session, text + length, sizeof text - length);
-    session->is_receiving = false; /* Before the filters are set, too many frames would come. */
+    session->is_receiving = false; /* too many frames would arrive before the filters are set */
     error = session_command(session, text);
     session->is_receiving = is_receiving;
     if (error) {

@@ -93,7 +93,7 @@ enum talk loan_talk(struct wire_memory *memory, const struct loaned *copy, const
         return TALK_NONE;
     }
     if (__atomic_load_n(&place->state, __ATOMIC_ACQUIRE) != PLACE_ASKED) {
-        return TALK_DONE; /* The bridge needed the session, and has read the reply. */
+        return TALK_DONE; /* The bridge has taken the session back and read the reply. */
     }
     loan->asked = 0;
     if (is_accepted(text, (size_t)length, &number)) {

@@ -91,7 +91,7 @@ NO_RETURN static int become_bridge(void *argument) {
     char *words[] = {"canbusd-bridge", NULL};
     long memory = start->memory;
     if (memory == WIRE_PROGRAM) {
-        memory = syscall(SYS_fcntl, memory, F_DUPFD, WIRE_MEMORY + 1L); /* `end` needs this number. */
+        memory = syscall(SYS_fcntl, memory, F_DUPFD, WIRE_MEMORY + 1L); /* WIRE_PROGRAM is needed for `end`. */
     }
     put_at(start->end, WIRE_PROGRAM);
     put_at(memory, WIRE_MEMORY);
