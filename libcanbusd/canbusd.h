@@ -93,7 +93,7 @@ typedef struct canbusd_config {
 enum { CANBUSD_ACK_ALWAYS = 0, CANBUSD_ACK_PEERS = 1 };
 
 /* The default configuration: frames are always acknowledged, transmit queues hold 10 frames, the record holds a million
-   entries, and the bus has no bit rate. */
+ * entries, and the bus has no bit rate. */
 
 #define CANBUSD_CONFIG \
     { CANBUSD_ACK_ALWAYS, 0, 10, 1000000, 0, 0, 0 }

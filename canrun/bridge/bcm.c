@@ -87,7 +87,7 @@ static struct bcm_task *new_task(const struct bcm_head *head, int index, bool is
 }
 
 /* Replaces the header of a task with the header of a message. The count and the timers are replaced only if SETTIMER is
-   set. */
+ * set. */
 static void change_head(struct bcm_task *task, const struct bcm_head *head) {
     struct bcm_head before = task->head;
     if (head->nframes != before.nframes || head->flags & TX_RESET_MULTI_IDX) {

@@ -20,7 +20,7 @@
 /* The file descriptor of the bridge's end of the socket pair. */
 #define PROGRAM WIRE_PROGRAM
 /* For how many of the last frame numbers a session remembers whether the frame was its own. An older frame has left
-   every queue long ago. */
+ * every queue long ago. */
 #define NUMBERS_KEPT (1u << 24)
 /* How many seconds the bridge waits for a reply from the server. */
 #define PATIENCE 5
@@ -111,7 +111,7 @@ int session_take_over(struct session *session, const char *text, size_t length, 
 void session_ask_counts(struct session *session);
 
 /* The first function begins to ask how many items the server has queued for this session. The second returns whether
-   all these items have arrived. */
+ * all these items have arrived. */
 void session_ask_all(struct session *session);
 bool session_has_all(struct session *session);
 
@@ -141,7 +141,7 @@ struct later {
 #define NOBODY (-1)
 
 /* Sends a frame. Returns 0 or an errno. If the queue is full and `later` is not NULL, the frame waits and the result is
-   SENT_LATER. */
+ * SENT_LATER. */
 #define SENT_LATER (-1)
 int room_send(struct session *to, const struct canfd_frame *frame, bool is_fd, const struct later *later);
 
@@ -220,7 +220,7 @@ int64_t order_due(void);
 void order_flush(void);
 
 /* Returns whether an item has arrived since the sessions were last asked. In that case order_due must be called before
-   a wait. */
+ * a wait. */
 bool order_has_news(void);
 
 /* ---- outbox.c: messages for the program ---- */
@@ -229,7 +229,7 @@ bool order_has_news(void);
 void outbox_put(const void *data, size_t length, uint64_t moment, int index, uint32_t message_flags);
 
 /* Adds a message together with its source and destination. A protocol whose messages have them calls outbox_keep_ways
-   first. */
+ * first. */
 void outbox_keep_ways(void);
 void outbox_put_way(const void *data, size_t length, const struct wire_note *note, const struct wire_way *way);
 
@@ -262,7 +262,7 @@ int64_t outbox_counts_due(void);
 /* ---- error.c: the socket's error, like sk_err in the kernel ---- */
 
 /* Sets the socket's error. The next call that takes the error returns this errno: a read, a write of ISO-TP, or
-   getsockopt with SO_ERROR. */
+ * getsockopt with SO_ERROR. */
 void error_set(int error);
 
 /* Sets the socket's error. If the previous error has not been taken yet, the readers are not woken again. */

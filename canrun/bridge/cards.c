@@ -1,5 +1,5 @@
 /* The interfaces of a keeper: the facts that the server reports about each one, and counts that the keeper makes from
-   error message frames. */
+ * error message frames. */
 #define _GNU_SOURCE
 #include "cards.h"
 
@@ -59,7 +59,7 @@ static uint32_t state_said(const struct canfd_frame *frame) {
 }
 
 /* Counts an error in the same way as CAN drivers, and sets the state. As in can_change_state of the kernel, a new state
-   is counted only if it is worse. */
+ * is counted only if it is worse. */
 static void count(struct card *card, const struct canfd_frame *frame) {
     struct link_facts *facts = &card->facts;
     facts->bus_errors += (frame->can_id & CAN_ERR_BUSERROR) != 0;
@@ -136,7 +136,7 @@ void card_read(struct card *card) {
 }
 
 /* Returns whether the reply and all items that were queued before it have arrived. A reply of the server may overtake
-   such items. */
+ * such items. */
 static bool is_whole(const struct card *card) {
     return card->is_answered && card->items >= card->queued;
 }

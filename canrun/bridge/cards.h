@@ -38,11 +38,11 @@ bool card_ask(struct card *card, const char *commands);
 void card_read(struct card *card);
 
 /* Sets an interface up or down. The state of the interface must be known. Returns 0, or an errno with the reason in
-   `why`. */
+ * `why`. */
 int card_set_up(struct card *card, bool is_up, struct link_reply *why);
 
 /* Makes the interface restart this many milliseconds after it goes bus off. If the number is 0, the interface does not
-   restart by itself. */
+ * restart by itself. */
 void card_set_restart(struct card *card, uint32_t milliseconds);
 
 #endif

@@ -208,7 +208,7 @@ static void isotp_receive(const struct item *item, int index) {
 }
 
 /* Starts to send a message. If the write waits until the message has been sent, it keeps the reply pipe and returns
-   SENT_LATER. */
+ * SENT_LATER. */
 static int start(const char *data, size_t length, int reply_to) {
     int error = error_take();
     error = error ? refused(error, "the message before did not get through") : isotp_send_start(data, length);

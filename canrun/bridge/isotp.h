@@ -9,7 +9,7 @@
 /* The maximum length of a message in bytes, as in the kernel. */
 #define ISOTP_LONGEST 66000
 /* How many seconds the other end may be silent, and how many seconds a frame may take until it has been sent on the
-   bus. */
+ * bus. */
 #define ISOTP_TIMEOUT 1
 #define ISOTP_ECHO_TIMEOUT 2
 
@@ -62,7 +62,7 @@ void isotp_send_flow_control(const struct canfd_frame *frame);
 /* Sends the frames that are due. Returns when the next frame is due, by the clock, or 0. */
 uint64_t isotp_send_due(void);
 /* Called at the end of a message, with 0 if the last frame was sent on the bus, or else with an errno. This function is
-   in isotp.c. */
+ * in isotp.c. */
 void isotp_send_done(int error);
 
 /* ---- isotp_receive.c ---- */

@@ -14,7 +14,7 @@ enum { CONTINUE, WAIT, OVERFLOW_ };
 
 static struct {
     /* The sender waits for the first flow control frame (WAITS_FIRST), for another one (WAITS), for the echo of a frame
-       (SENDING), or for the end of a pause (PAUSES). */
+     * (SENDING), or for the end of a pause (PAUSES). */
     enum { IDLE, WAITS_FIRST, WAITS, SENDING, PAUSES } state;
     char data[ISOTP_LONGEST];
     size_t at, length;
@@ -40,7 +40,7 @@ static void begin_waiting(void) {
 }
 
 /* Called when a frame that had waited for room was sent, or could not be sent. In the latter case its missing echo ends
-   the message, as in the kernel. */
+ * the message, as in the kernel. */
 static void sent_late(const struct later *later, int error) {
     (void)later;
     tx.frame = error ? NO_FRAME : isotp_last_number();
@@ -154,7 +154,7 @@ static uint64_t separation(uint8_t stmin) {
 }
 
 /* Sends the next consecutive frame. As in the kernel, a refused frame is not sent again, and its missing echo ends the
-   message. */
+ * message. */
 static void send_consecutive(void) {
     unsigned address = isotp_address_size();
     struct canfd_frame frame;

@@ -13,7 +13,7 @@
 #include <sys/un.h>
 
 /* The first part of a host's abstract name. The number of the user, a hash that identifies the server, and the name of
-   the interface follow. */
+ * the interface follow. */
 #define J1939_NAME "canbusd-j1939/"
 
 #define MILLISECOND 1000000ull
@@ -78,7 +78,7 @@ struct j1939_told {
 /* ---- j1939_writes.c: the socket's writes ---- */
 
 /* Handles a write: a whole message of this size, its first bytes or the rest of them. Returns 0, an errno, or
-   SENT_LATER. */
+ * SENT_LATER. */
 int writes_add(const struct wire_request *request, const struct wire_way *way, uint32_t size, const char *data,
                size_t length, int reply_to);
 void writes_cancel(int asks);
@@ -89,7 +89,7 @@ bool writes_are_full(unsigned kept);
 /* Continues the waiting writes as far as there is room. */
 void writes_go_on(void);
 /* Record that a segment of this length has been sent, that the message with this key has ended, and that the host is
-   gone. */
+ * gone. */
 void writes_free(uint32_t length);
 void writes_end(uint32_t key);
 void writes_leave(void);
@@ -99,7 +99,7 @@ bool writes_are_pending(void);
 void writes_set_room(int number);
 int writes_room(void);
 /* The first function returns the number of a message in the socket's error queue. The second restarts these numbers
-   from 0. */
+ * from 0. */
 uint32_t writes_number(const struct wire_notice *notice);
 void writes_count_anew(void);
 

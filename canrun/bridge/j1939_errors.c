@@ -1,5 +1,5 @@
 /* The error queue of a J1939 socket. Its entries are about messages that the socket sends, and about messages that it
-   receives. */
+ * receives. */
 #include "j1939.h"
 
 #include <linux/net_tstamp.h>

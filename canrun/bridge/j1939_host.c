@@ -15,7 +15,7 @@
 
 #define MEMBERS 1000
 /* The size of the queue of received frames. Frames are queued because nothing can be sent while messages of the server
-   are being read. */
+ * are being read. */
 #define WAITING 8192
 /* How many questions the server must answer before a transfer or a claim is timed out. A frame and the reply to it
  * would arrive in that time, so a frame that was on the bus in time is not missed on a busy machine. */
@@ -86,7 +86,7 @@ int host_put(const struct wire_way *way, const uint8_t *data, size_t length, uin
 }
 
 /* Sets the names of a received frame's source and destination. An address claim contains its name; the claimed address
-   is recorded. */
+ * is recorded. */
 static void name_heard(struct heard *heard) {
     struct wire_way *way = &heard->way;
     if (way->pgn != J1939_PGN_ADDRESS_CLAIMED) {

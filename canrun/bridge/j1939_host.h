@@ -113,7 +113,7 @@ struct transfer {
 /* Finds an active transfer between these ends, in this direction or in reverse. Returns NULL if there is none. */
 struct transfer *transfer_find(const struct wire_way *way, enum transfer_kind kind, bool is_reverse, bool is_sent);
 /* Create a new transfer. transfer_receive makes one for receiving, with a zeroed buffer; transfer_make makes one for
-   sending, without data. Both return NULL if there is no memory. */
+ * sending, without data. Both return NULL if there is no memory. */
 struct transfer *transfer_receive(const struct wire_way *way, enum transfer_kind kind, uint32_t size);
 struct transfer *transfer_make(const struct wire_way *way, enum transfer_kind kind, uint32_t size);
 /* Makes the transfer active. Returns false if another transfer is active between the same ends. */
@@ -122,7 +122,7 @@ bool transfer_activate(struct transfer *transfer);
 void transfer_settle(struct transfer *transfer);
 void transfer_forget(struct transfer *transfer);
 /* Called after the receiver has confirmed packets: the segments before the confirmed bytes no longer count against
-   SO_SNDBUF. */
+ * SO_SNDBUF. */
 void transfer_drop_old(struct transfer *transfer);
 /* Set the timers of a transfer. In this order: it continues after some milliseconds; it continues after a random pause;
  * it is given up after some milliseconds; both timers are off. */
@@ -138,7 +138,7 @@ void transfer_cancel(struct transfer *transfer, uint8_t reason);
 void transfer_notice(const struct transfer *transfer, enum wire_event what);
 void transfer_tell_error(const struct transfer *transfer);
 /* The first function returns the socket whose transfer sent the frame with this number. The second records that this
-   frame was on the bus. */
+ * frame was on the bus. */
 const struct member *transfers_echo(uint64_t number);
 void transfers_sent(uint64_t number);
 /* The first function continues transfers that are due, and gives up those without an answer until `known`; it returns
@@ -196,7 +196,7 @@ int errno_of_abort(uint8_t reason);
 /* Sends the transfer's next frame. Returns an errno, or 0. */
 int transfer_send_next(struct transfer *transfer);
 /* send_abort sends an abort about messages of this parameter group to the sender of a frame. transfer_send_abort sends
-   one to the other end of a transfer. */
+ * one to the other end of a transfer. */
 void send_abort(const struct heard *heard, enum transfer_kind kind, uint8_t reason, uint32_t pgn);
 void transfer_send_abort(const struct transfer *transfer, uint8_t reason);
 

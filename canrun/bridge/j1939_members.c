@@ -146,7 +146,7 @@ static int send_of(struct member *member, const struct j1939_ask *ask, const voi
 }
 
 /* Handles a socket that leaves. The last socket closes the listening socket first, so that a later socket does not get
-   this host with its outdated tables. */
+ * this host with its outdated tables. */
 static void leave(struct member *member) {
     unbind(member);
     if (member_count == 1) {

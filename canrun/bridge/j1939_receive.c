@@ -15,7 +15,7 @@ static uint32_t group_of(const uint8_t *data) {
 }
 
 /* Returns the abort reason for a command whose parameter group differs from that of the transfer. If the result is 0,
-   no abort is sent. */
+ * no abort is sent. */
 static uint8_t reason_for_group(uint8_t command) {
     switch (command) {
     case TP_RTS:

@@ -5,7 +5,7 @@
 #include <string.h>
 
 /* Times in milliseconds: between two packets to all nodes; for a reply; for the echo of a frame from the bus; and for
-   the echo of a message of one frame. */
+ * the echo of a message of one frame. */
 enum { PAUSE_TO_ALL = 50, REPLY_TIME = 1250, ECHO_TIME = 250, SIMPLE_TIME = 10000 };
 
 bool is_of_transport(uint32_t pgn) {
@@ -126,7 +126,7 @@ static int send_packet(struct transfer *transfer) {
 }
 
 /* Sends the remaining packets of the block, as far as there is data and room. To all nodes it sends only one packet at
-   a time. */
+ * a time. */
 static int send_packets(struct transfer *transfer) {
     uint32_t end = is_to_all(&transfer->way) ? transfer->total : transfer->last, before = transfer->sent;
     int error = 0;

@@ -7,7 +7,7 @@
 #include <string.h>
 
 /* Milliseconds: how long an aborted transfer is kept, and the pause before a refused frame is sent again, which is 10
-   to 25. */
+ * to 25. */
 enum { ABORT_TIME = 500, LEAST_PAUSE = 10, PAUSES = 16, RETRIES = 100 };
 
 static struct transfer *active, **active_end = &active;
@@ -60,7 +60,7 @@ void transfer_settle(struct transfer *transfer) {
 }
 
 /* Adds a transfer to the list. A finished transfer stays in the list until it is freed, because its timers may still be
-   running. */
+ * running. */
 static void list(struct transfer *transfer) {
     transfer->next = NULL;
     *active_end = transfer;

@@ -110,7 +110,7 @@ static int hand_on(struct turn *turn, size_t length, int cost) {
         return error;
     }
     /* EBUSY means that another message is active. This message counts as begun nevertheless, and its end will be
-       reported. */
+     * reported. */
     used += cost;
     pending += turn->is_first;
     keys += turn->is_first;
@@ -123,7 +123,7 @@ static int hand_on(struct turn *turn, size_t length, int cost) {
 }
 
 /* Continues a write as far as there is room. Returns 0 if all bytes were sent to the host, SENT_LATER if the write has
-   to wait, or an errno. */
+ * to wait, or an errno. */
 static int go_on(struct turn *turn) {
     bool is_over = false;
     while (!is_over) {

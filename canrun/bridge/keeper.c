@@ -1,5 +1,5 @@
 /* The keeper of the interfaces (see ../shared/link.h): waits for requests, for input of its sessions, and for the time
-   of restarts. */
+ * of restarts. */
 #define _GNU_SOURCE
 #include "cards.h"
 
@@ -19,7 +19,7 @@
 #include <unistd.h>
 
 /* The maximum number of interfaces that get a session when a program watches all interfaces. It is limited because the
-   server has only 64 sessions. */
+ * server has only 64 sessions. */
 #define WATCHED_MOST 16
 
 /* ---- changes ---- */
@@ -41,7 +41,7 @@ static int check_rate(uint32_t asked, uint32_t rate, const char *option, struct 
 }
 
 /* Checks the requested bit rates. If the bus has no bit rates, the request changes nothing and its reply contains a
-   note. */
+ * note. */
 static int check_rates(const struct link_request *asked, const struct link_facts *facts, struct link_reply *reply) {
     if (asked->bitrate && !facts->bitrate) {
         snprintf(reply->text, sizeof reply->text,
@@ -227,7 +227,7 @@ static void carry_out(const struct link_request *asked, int fd, pid_t process, s
 }
 
 /* Reads the request from a connection, and the file descriptor that may come with it. Returns false if no request
-   arrives within a second. */
+ * arrives within a second. */
 static bool read_request(int connection, struct link_request *request, int *fd) {
     union {
         char room[CMSG_SPACE(sizeof(int))];

@@ -12,7 +12,7 @@
 /* How many messages may wait for a program that has set no limit. At most this many more are in its socket. */
 #define USUAL_ROOM 4096
 /* If this many messages wait, the server holds back further items. The remaining room is for items that arrive together
-   with replies to commands. */
+ * with replies to commands. */
 #define CROWDED 2048
 /* The number of messages that may wait for a program that has set SO_RCVBUF, and so accepts that frames are lost. */
 #define SMALL_ROOM 64
@@ -134,7 +134,7 @@ void outbox_has_room(void) {
 }
 
 /* Writes the note of a message, if the message has data. Returns the total length of all datagrams including this
-   message. */
+ * message. */
 static uint64_t write_note(struct wire_note *note, uint64_t *notes, uint64_t bytes) {
     note->from = bytes;
     if (note->length) {
@@ -210,7 +210,7 @@ bool outbox_is_empty(void) {
 }
 
 /* Sets the room for received frames (SO_RCVBUF). For a Unix socket the kernel counts datagrams at the sending end, so
-   this sets SO_SNDBUF of the bridge's end. Frames beyond the number of notes wait in the ring. */
+ * this sets SO_SNDBUF of the bridge's end. Frames beyond the number of notes wait in the ring. */
 static void set_room(int option, int number) {
     int most = MIN(number, WIRE_ROOM / 2), beyond = (number - most) / FRAME_ROOM;
     setsockopt(PROGRAM, SOL_SOCKET, option == SO_RCVBUF ? SO_SNDBUF : SO_SNDBUFFORCE, &most, sizeof most);

@@ -1,5 +1,5 @@
 /* Quick writes: the reply to a quick write comes in memory that this bridge shares with the program. See
-   library/quick.c. */
+ * library/quick.c. */
 #define _GNU_SOURCE
 #include "bridge.h"
 

@@ -30,7 +30,7 @@ static bool is_of_errors(const struct can_filter *filter) {
 }
 
 /* Returns the effective filter, as in the kernel: a filter for 11-bit identifiers ignores the remaining identifier
-   bits. */
+ * bits. */
 static struct can_filter reduced(const struct can_filter *filter) {
     struct can_filter result = *filter;
     if (filter->can_mask & CAN_EFF_FLAG && !(filter->can_id & CAN_EFF_FLAG)) {
@@ -68,7 +68,7 @@ static int filter_words(char words[FILTER_TEXT + 20]) {
 }
 
 /* Writes the filter command. If there are too many filters, the command passes all frames; with `is_none` it passes
-   none. */
+ * none. */
 static size_t filter_command(char *text, size_t size, bool is_none) {
     char words[FILTER_TEXT + 20] = " 0 0";
     int count = is_none ? 0 : filters_here ? 1 : filter_words(words);
@@ -208,7 +208,7 @@ int raw_send(struct session *to, const struct canfd_frame *frame, bool is_fd, co
         return refused(EINVAL, "the frame is too long");
     }
     /* The server generates error message frames itself and accepts none. As with vcan, writing one succeeds, but it is
-       not sent. */
+     * not sent. */
     if (frame->can_id & CAN_ERR_FLAG) {
         return 0;
     }
@@ -263,7 +263,7 @@ static int raw_bind(const struct sockaddr_can *address) {
 }
 
 /* Returns whether an identifier passes the filters, by the rule of linux/can.h. This is used for filters that do not
-   fit into a message to the server. */
+ * fit into a message to the server. */
 static bool passes(canid_t identifier) {
     bool any = false, all = true;
     for (size_t i = 0; i < filter_count; i++) {

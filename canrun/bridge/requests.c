@@ -40,7 +40,7 @@ void request_release(void) {
 }
 
 /* Prints a single line, and only the first time, on standard error of the process that created the socket. The number
-   of the process is part of the socket's name. */
+ * of the process is part of the socket's name. */
 static void say(const char *what, int error) {
     static bool is_said;
     char path[64], line[400];

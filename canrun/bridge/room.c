@@ -115,7 +115,7 @@ static bool is_abandoned(const struct later *later) {
 }
 
 /* Checks the counts and sends the frames for which there is room. If the check fails, the waits of all frames of this
-   interface fail. */
+ * interface fail. */
 static void look(struct session *session) {
     uint64_t gone_before = session->gone;
     int error = session_look(session);

@@ -53,7 +53,7 @@ void session_end(struct session *session) {
 /* ---- which received frames came from this session ---- */
 
 /* Records that the frame with this number belongs to this session. The numbers between the previous such frame and this
-   one belong to frames of other sessions. */
+ * one belong to frames of other sessions. */
 static void keep_number(struct session *session, uint64_t number) {
     if (!session->sent_end) {
         session->sent_end = number;

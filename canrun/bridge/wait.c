@@ -20,11 +20,11 @@ bool wait_for_input(int64_t nanoseconds, bool takes_requests) {
     static struct pollfd polled[3 + INTERFACE_MOST];
     short events = (short)((takes_requests ? POLLIN : 0) | (outbox_is_empty() ? 0 : POLLOUT));
     /* While requests stay in the socket, poll always reports the socket as readable. So the bridge polls an epoll
-       descriptor for new requests instead. */
+     * descriptor for new requests instead. */
     int news = takes_requests && protocol->is_full ? request_news() : -1;
     bool is_kept = news >= 0 && request_is_kept();
     /* If the other end is closed, poll always reports the socket as ready, even though there are no requests. So the
-       bridge polls the waiting close instead. */
+     * bridge polls the waiting close instead. */
     bool is_closing = !takes_requests && program_is_gone();
     polled[0] = (struct pollfd){is_closing ? close_waiter_fd() : PROGRAM, is_closing ? POLLIN : events, 0};
     polled[0].events &= (short)(news >= 0 ? ~POLLIN : ~0);

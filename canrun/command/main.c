@@ -88,7 +88,7 @@ static const char *value_of(const char *name, char ***at) {
 }
 
 /* Parses an option that belongs to --virtual. Returns false if the word is another option. Sets `status` if the value
-   is invalid. */
+ * is invalid. */
 static int take_virtual(char ***at, struct words *words, int *status) {
     static const char *const names[] = {"date", "until", "stall", "seed", "jitter"};
     for (size_t i = 0; i < sizeof names / sizeof *names; i++) {
@@ -109,7 +109,7 @@ static int take_virtual(char ***at, struct words *words, int *status) {
 }
 
 /* Refuses combinations of options that exclude each other. With --virtual no server is running yet, because PROGRAM
-   starts it. */
+ * starts it. */
 static int check_words(const struct words *words) {
     if (words->virtual_word && !words->is_virtual) {
         return fault("only --virtual has this option", words->virtual_word);
@@ -177,7 +177,7 @@ static int no_interface(const char *name, size_t length, const char *all) {
 }
 
 /* Makes only the interfaces in `list` visible to the program. Returns 0. On an error it prints a line and returns an
-   exit status. */
+ * exit status. */
 static int show_interfaces(const char *list, const char *all) {
     for (const char *at = list;; at++) {
         char name[IFNAMSIZ] = "";
@@ -225,7 +225,7 @@ static int preload(const char *name) {
     }
     put_first("LD_PRELOAD", library, ":");
     /* The address sanitizer of gcc insists on being the first library, although it need not be. This option turns that
-       check off. */
+     * check off. */
     put_first("ASAN_OPTIONS", "verify_asan_link_order=0", ":");
     return 0;
 }

@@ -15,7 +15,7 @@
 #include <time.h>
 
 /* ERESTARTSYS of the kernel: the interrupted call is restarted or returns EINTR, depending on the flags of the signal
-   handler. */
+ * handler. */
 #define RESTART 512
 /* A waiting call checks for signals every LOOK milliseconds, because nothing else reports them. */
 #define LOOK 20
@@ -96,7 +96,7 @@ static bool may_wait(const struct call *call, int flags) {
 }
 
 /* Sends a message. An ISO-TP message may have to wait until the message before it has been sent; a signal ends that
-   wait. */
+ * wait. */
 static int64_t put_message(const struct call *call, const struct msghdr *message, int flags) {
     const struct timeval no_limit = {0, 0};
     int type = 0;

@@ -43,7 +43,7 @@ static bool read_at(int fd, void *data, size_t length, size_t offset) {
 }
 
 /* Returns whether a segment contains the note of the Go linker. In a Go program with C code this note comes after other
-   notes. */
+ * notes. */
 static bool has_note_of_go(int fd, const Elf64_Phdr *segment) {
     struct {
         Elf64_Nhdr head;

@@ -1,5 +1,5 @@
 /* Accesses the memory, file descriptors and signals of a program that has a supervisor, and replies to its calls. See
-   supervise.h. */
+ * supervise.h. */
 #define _GNU_SOURCE
 #include "supervise.h"
 

@@ -74,7 +74,7 @@ static void read_message(int fd, char *message, size_t size) {
 }
 
 /* Returns NULL if this is the greeting of a canbusd with room for a session; otherwise a text that describes the
-   greeting. */
+ * greeting. */
 static const char *other_greeting(char *greeting) {
     static char said[160];
     if (!strncmp(greeting, "< hi >", 6)) {

@@ -1,5 +1,5 @@
 /* Finds the server for a program: checks that the server is running, and gets its address and the names of its
-   interfaces for the bridges. */
+ * interfaces for the bridges. */
 #ifndef SERVER_H
 #define SERVER_H
 

@@ -60,7 +60,7 @@ static const unsigned CALLS[] = {
     SYS_accept, SYS_accept4, SYS_shutdown,   SYS_recvfrom,   SYS_recvmsg,     SYS_sendto,      SYS_sendmsg,
     SYS_write,  SYS_writev,  SYS_read,       SYS_readv,      SYS_dup,         SYS_close,       SYS_fcntl};
 /* The ioctl requests about interfaces, which go to the supervisor on any file descriptor. Requests about a socket
-   itself go there because of the socket's descriptor. */
+ * itself go there because of the socket's descriptor. */
 static const unsigned REQUESTS[] = {SIOCGIFINDEX,  SIOCGIFNAME,   SIOCGIFMTU, SIOCGIFFLAGS, SIOCGIFHWADDR,
                                     SIOCGIFTXQLEN, SIOCGIFMETRIC, SIOCGIFMAP, SIOCSIFFLAGS};
 #define COUNT(list) (sizeof(list) / sizeof *(list))
@@ -80,7 +80,7 @@ static size_t compare(struct sock_filter *code, const unsigned *list, size_t cou
 static int install(void) {
     const struct sock_filter head[] = {LOAD(arch), IS(ARCHITECTURE, 1, 0), ALLOW, LOAD(nr), IS(SYS_socket, 0, 8),
                                        /* The program creates a socket of AF_CAN, or of AF_NETLINK with NETLINK_ROUTE,
-                                          which is 0. */
+                                        * which is 0. */
                                        LOAD_WORD(0), IS(AF_CAN, 0, 1), NOTIFY, IS(AF_NETLINK, 0, 3), LOAD_WORD(2),
                                        IS(0, 0, 1), NOTIFY, ALLOW, IS(SYS_ioctl, 0, COUNT(REQUESTS) + 5), LOAD_WORD(0),
                                        IS_FROM(STATIC_FIRST, COUNT(REQUESTS) + 1, 0), LOAD_WORD(1)};

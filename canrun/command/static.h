@@ -14,7 +14,7 @@
 #define STATIC_PAST 1024
 
 /* Replaces this process by the program, with a supervisor for its system calls. If this fails, it prints a line and
-   returns an exit status, or returns -1 with errno set if only execv fails. */
+ * returns an exit status, or returns -1 with errno set if only execv fails. */
 int static_run(const char *path, char **program);
 
 /* The main loop of the supervisor: serves the calls of this listener until no process is left that makes any. `program`

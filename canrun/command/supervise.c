@@ -67,7 +67,7 @@ static void hand_over(const struct call *call, int fd, bool is_cloexec) {
 }
 
 /* Prints once that --static does not support CAN_J1939, because its errors and its close need the library in the
-   program. */
+ * program. */
 static void note_no_j1939(void) {
     static bool is_said;
     if (!__atomic_exchange_n(&is_said, true, __ATOMIC_RELAXED)) {
@@ -98,7 +98,7 @@ static bool is_copying(const struct call *call) {
 }
 
 /* Returns whether a file descriptor is a socket that the library handles. The program may have other files in the range
-   for sockets. */
+ * for sockets. */
 static bool is_ours(int fd, bool *is_can) {
     int domain = 0;
     getsockopt(fd, SOL_SOCKET, SO_DOMAIN, &domain, &(socklen_t){sizeof domain});

@@ -32,7 +32,7 @@ void reply(const struct call *call, int64_t value, uint32_t flags);
 void let_go_on(const struct call *call);
 
 /* Return whether the program still waits for the call, and whether its thread has a pending signal that is neither
-   blocked nor ignored. */
+ * blocked nor ignored. */
 bool is_waited_for(const struct call *call);
 bool has_signal(const struct call *call);
 
@@ -49,7 +49,7 @@ int copy_descriptor(pid_t process, int fd);
 /* ---- parcels.c ---- */
 
 /* Waits until the socket can be read or written. Returns 0; or the negative errno that ends the call, if a signal comes
-   or `limit` is over. */
+ * or `limit` is over. */
 int64_t wait_for(const struct call *call, short events, const struct timeval *limit);
 
 /* Makes a system call that sends or receives a message. */

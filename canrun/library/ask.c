@@ -34,7 +34,7 @@ int put_request(int fd, int with, const struct wire_request *request, const stru
     rights->cmsg_len = CMSG_LEN(sizeof(int));
     memcpy(CMSG_DATA(rights), &with, sizeof(int));
     /* The bridge reads requests at once, so the socket has room soon. This call therefore waits even for a program that
-       does not want to wait. */
+     * does not want to wait. */
     return syscall(SYS_sendmsg, fd, &message, MSG_NOSIGNAL) >= 0 ? 0 : errno;
 }
 
@@ -47,7 +47,7 @@ struct asked {
 };
 
 /* Asks the bridge to end the wait of a write. If this comes too late, the write has already been done and the reply
-   reports it. */
+ * reports it. */
 static void cancel(struct asked *asked) {
     struct wire_request request = {.kind = WIRE_CANCEL};
     while (put_request(asked->fd, asked->reply_from, &request, NULL, 0) == EINTR) {
@@ -109,7 +109,7 @@ int ask(int fd, const char *what, const struct wire_request *request, const stru
     int result = error ? refuse_unsent(what, error) : get_reply(&asked, answer);
     error = result ? errno : before;
     /* A program whose handler has SA_RESTART does not expect EINTR, so the write fails with ENOBUFS, as it does without
-       --wait. */
+     * --wait. */
     error = wait_end(wait) && result && error == EINTR && !asked.is_interrupted ? ENOBUFS : error;
     syscall(SYS_close, ends[0]);
     errno = error;

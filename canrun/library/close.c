@@ -52,7 +52,7 @@ EXPORT int close(int fd) {
 }
 
 /* Duplicates a socket that dup2 or dup3 is about to replace. The duplicate is closed after the call. Returns -1 if no
-   duplicate is needed. */
+ * duplicate is needed. */
 static int copy_of_replaced(int from, int to) {
     return from != to && lingers(to) ? fcntl(to, F_DUPFD_CLOEXEC, 0) : -1;
 }

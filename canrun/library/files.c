@@ -22,7 +22,7 @@
 #define FLAG_ECHO 0x40000
 
 /* The interface in a path, and the name of the file in its directory. The name is empty if the path is the directory
-   itself. */
+ * itself. */
 struct place {
     int index;
     const char *file;

@@ -41,7 +41,7 @@ static void *ours(void *function) {
 #endif
 
 /* The result for RTLD_NEXT depends on the address of the caller. This call is therefore a jump, so that the C library
-   sees the original caller. */
+ * sees the original caller. */
 EXPORT EARLY void *dlsym(void *restrict handle, const char *restrict name) {
     if (handle == RTLD_NEXT || handle == RTLD_DEFAULT) {
         JUMP return real_dlsym()(handle, name);

@@ -9,7 +9,7 @@
 #include <sys/syscall.h>
 
 /* Called after a failed write. If the socket's error caused the failure, this removes the error, so that no other call
-   reports it. */
+ * reports it. */
 static void forget_error(int fd) {
     static const int known[] = {EMSGSIZE, ECOMM, EBADMSG, EILSEQ, ETIMEDOUT};
     for (size_t i = 0; i < sizeof known / sizeof *known; i++) {
@@ -39,7 +39,7 @@ static ssize_t isotp_sendmsg(const struct socket *sock, const struct msghdr *mes
 }
 
 /* Checks a read. The kernel refuses flags other than these. It also refuses a socket that is not bound, which cannot
-   have received anything. */
+ * have received anything. */
 static int check_read(const struct socket *sock, int flags) {
     struct sockaddr_can can = {0};
     struct answer answer = {.data = &can, .room = sizeof can};

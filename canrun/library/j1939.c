@@ -109,7 +109,7 @@ static int j1939_setsockopt(const struct socket *sock, int level, int option, co
     }
     if (level == SOL_SOCKET && (option == SO_SNDBUF || option == SO_SNDBUFFORCE)) {
         /* In the kernel this is the room for messages, but SO_SNDBUF of the socket pair is room for requests. So the
-           option goes to the bridge. */
+         * option goes to the bridge. */
         struct wire_request request = {.kind = WIRE_SOCKET_SET, .option = option};
         return length < sizeof number ? fail(EINVAL)
                : !copy_from(&request.number, value, sizeof number)

@@ -57,7 +57,7 @@ static int start_keeper(const struct sockaddr_un *name, socklen_t length) {
 }
 
 /* Connects to the keeper. Returns a file descriptor, or -1 with errno set. A keeper that belongs to another user is
-   refused. */
+ * refused. */
 static int connect_keeper(const struct sockaddr_un *name, socklen_t length) {
     struct ucred peer = {0};
     int fd = (int)syscall(SYS_socket, AF_UNIX, SOCK_SEQPACKET | SOCK_CLOEXEC, 0);

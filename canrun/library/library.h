@@ -214,7 +214,7 @@ bool note_of(struct wire_memory *memory, int fd, bool is_peeked, const void *hea
              struct wire_note *note, struct wire_way *way);
 
 /* The first function returns whether this process looks for notes. The second records that a datagram was read without
-   looking for its note. */
+ * looking for its note. */
 bool notes_are_looked_for(void);
 void note_plain_read(struct wire_notes *received);
 
@@ -264,7 +264,7 @@ int watched_poll(struct pollfd *fds, nfds_t count, const struct timespec *timeou
 int j1939_describe(struct msghdr *message, size_t room, const struct wire_way *way, int index);
 
 /* The first function returns whether the next message of a socket reports an error, which another call may already have
-   taken. The second removes that message. */
+ * taken. The second removes that message. */
 bool has_error(int fd);
 void drop_error(int fd);
 

@@ -69,7 +69,7 @@ static const struct nlattr *attribute(const struct question *question, unsigned 
 }
 
 /* Parses a message about links. Returns false if the message is about something else. A dump request may have a short
-   header. */
+ * header. */
 static bool read_question(const struct nlmsghdr *head, struct question *question) {
     bool is_of_link = head->nlmsg_type == RTM_GETLINK || head->nlmsg_type == RTM_NEWLINK ||
                       head->nlmsg_type == RTM_SETLINK || head->nlmsg_type == RTM_DELLINK;
@@ -213,7 +213,7 @@ struct link_facts links_facts(int index) {
 /* ---- changes ---- */
 
 /* Returns the requested bit rate. If it is not given directly, it is computed from the time quantum and the number of
-   quanta in a bit. */
+ * quanta in a bit. */
 static uint32_t rate_asked(const struct nlattr *data, unsigned type) {
     struct can_bittiming timing;
     if (!get(find_in(data, type), &timing, sizeof timing)) {
@@ -333,7 +333,7 @@ int links_set_up(int index, bool is_up) {
 }
 
 /* If a supervisor (see ../command/static.h) uses this thread to make calls for a process, this is the process;
-   otherwise 0. */
+ * otherwise 0. */
 static __thread pid_t served;
 
 EXPORT void canbusd_run_serves(pid_t process) {
@@ -359,7 +359,7 @@ bool links_answer(const struct nlmsghdr *asked, struct outgoing *out) {
         put_link(out, asked, index);
     }
     /* Like a hardware interface, an interface of the server cannot be removed, but a request to remove it is not an
-       error. */
+     * error. */
     int error = is_get || asked->nlmsg_type == RTM_DELLINK ? 0 : change(&question, index, &reply);
     if (error) {
         int before = errno;

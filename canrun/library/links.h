@@ -41,7 +41,7 @@ struct dump {
 };
 
 /* Writes the messages of the next interfaces into the buffer, which has room for at least one message. Returns the
-   total length of the messages. */
+ * total length of the messages. */
 size_t links_dump(const struct nlmsghdr *asked, struct dump *dump, char *room, size_t size);
 
 /* Returns the facts of an interface that the keeper already knows. */

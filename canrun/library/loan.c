@@ -15,7 +15,7 @@
 #include <sys/syscall.h>
 
 /* The lowest number for the copied file descriptor. It is high so that it does not change the numbers that the
-   program's own descriptors get. */
+ * program's own descriptors get. */
 #define HIGH_DESCRIPTOR 640
 /* How many seconds to wait for a reply. After that, handling the reply is left to the bridge. */
 #define PATIENCE_SECONDS 5

@@ -69,7 +69,7 @@ EXPORT char *if_indextoname(unsigned index, char name[IF_NAMESIZE]) {
 }
 
 /* Lists the kernel's interfaces and then the server's. The list is one block of memory, so that if_freenameindex can
-   free it. */
+ * free it. */
 static struct if_nameindex *joined(const struct if_nameindex *kernel) {
     size_t count = 0, most = INTERFACE_MOST;
     for (; kernel && kernel[count].if_index; count++, most++) {
@@ -111,14 +111,14 @@ struct link {
 };
 
 /* Returns whether the entry was made by this library. In the entries of the C library, the name and the counts are
-   elsewhere. */
+ * elsewhere. */
 static bool is_ours(const struct ifaddrs *entry) {
     const struct link *link = (const struct link *)entry;
     return entry->ifa_name == link->name && entry->ifa_data == &link->counts;
 }
 
 /* Makes list entries for the server's interfaces, in one block of memory. Returns NULL if there are no interfaces, or
-   no memory. */
+ * no memory. */
 static struct link *links(void) {
     char name[IFNAMSIZ];
     int count = 0;

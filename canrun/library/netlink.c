@@ -212,7 +212,7 @@ static ssize_t netlink_sendmsg(const struct socket *sock, const struct msghdr *m
 /* ---- receiving ---- */
 
 /* Copies this message to the program in place of the received one. As in the kernel, a message that does not fit is cut
-   off. */
+ * off. */
 static ssize_t give(struct msghdr *message, const char *data, size_t length, int flags) {
     size_t done = 0;
     for (size_t i = 0; i < message->msg_iovlen && done < length; i++) {

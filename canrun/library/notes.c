@@ -10,7 +10,7 @@
 #include <time.h>
 
 /* How many times to wait for a bridge that is putting datagrams into the socket, because it may be waiting for a
-   processor. */
+ * processor. */
 #define PATIENCE 20000
 #define YIELDS 100
 #define PAUSE 100000 /* nanoseconds */
@@ -55,7 +55,7 @@ static struct range range_of(const struct wire_notes *received) {
 }
 
 /* The result of a search for a note: the number of the note, from 1, or 0 if there is none; and whether it is the only
-   match. */
+ * match. */
 struct match {
     uint64_t at;
     bool is_one;

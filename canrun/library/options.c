@@ -210,7 +210,7 @@ static int socket_refusal(int option) {
 }
 
 /* Copies as much of a value as the kernel would. A value is cut off if the buffer is too short, except a list of
-   filters. */
+ * filters. */
 static int get_protocol_option(const struct socket *sock, int option, void *value, socklen_t *length) {
     char whole[WIRE_REPLY];
     struct answer answer = {.data = whole, .room = sizeof whole};

@@ -29,7 +29,7 @@ struct protocol {
     bool has_ways;          /* the protocol is J1939: messages have ways, and sockets have error queues */
 
     /* NULL means that the kernel's own call is used. All pointers point to the program's memory, except those to a
-       message and its list of pieces. */
+     * message and its list of pieces. */
     int (*bind)(const struct socket *sock, const struct sockaddr *address, socklen_t length);
     int (*connect)(const struct socket *sock, const struct sockaddr *address, socklen_t length);
     int (*getname)(const struct socket *sock, struct sockaddr *address, socklen_t *length, bool is_peer);

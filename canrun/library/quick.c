@@ -42,7 +42,7 @@ static int put_quick(int fd, const struct wire_quick *quick, const struct iovec 
     parts[0] = (struct iovec){(void *)quick, sizeof *quick};
     memcpy(parts + 1, data, pieces * sizeof *data);
     /* The socket nearly always has room, so it is not checked first: in virtual time a check would be one more system
-       call. */
+     * call. */
     return syscall(SYS_sendmsg, fd, &message, MSG_NOSIGNAL | MSG_DONTWAIT) >= 0 ? 0
            : errno != EAGAIN                                                    ? errno
            : syscall(SYS_sendmsg, fd, &message, MSG_NOSIGNAL) >= 0              ? 0

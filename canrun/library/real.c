@@ -34,7 +34,7 @@ int fail(int error) {
 }
 
 /* Returns whether this is the first refusal that is caused by a limit of the server. Such a refusal is printed even
-   without CANBUSD_RUN_DEBUG. */
+ * without CANBUSD_RUN_DEBUG. */
 static bool is_news(int error) {
     static bool is_said[2];
     return (error == EUSERS || error == ENOSPC) &&

@@ -215,7 +215,7 @@ ssize_t can_recvmsg(const struct socket *sock, struct msghdr *message, int flags
 }
 
 /* Copies as much of the sender's address as fits. As in the kernel, an error is found only after the message has been
-   taken. */
+ * taken. */
 static int give_name(struct sockaddr *from, socklen_t *room, const struct msghdr *message) {
     socklen_t has;
     if (!room || !copy_from(&has, room, sizeof has)) {
@@ -303,7 +303,7 @@ EXPORT ssize_t readv(int fd, const struct iovec *parts, int count) {
 }
 
 /* Writes the remaining time to `timeout`, and returns whether the time is over. Like the kernel, recvmmsg checks this
-   after each message. */
+ * after each message. */
 static bool is_over(struct timespec *timeout, const struct timespec *end) {
     struct timespec now;
     clock_gettime(CLOCK_MONOTONIC, &now);

@@ -1,5 +1,5 @@
 /* Sending: all calls that write to a socket. Each call waits for the server's verdict on the frame, so that it returns
-   the right error. */
+ * the right error. */
 #define _GNU_SOURCE
 #include "library.h"
 
@@ -25,7 +25,7 @@ static bool is_deaf(void) {
 }
 
 /* Returns how long a write may wait for room. It reads the signal mask only if necessary, because that is a system
-   call. */
+ * call. */
 static enum wire_wait wait_for_room(void) {
     return !waits_for_room ? WIRE_WAIT : waits_are_over() ? WIRE_NO_WAIT : is_deaf() ? WIRE_SHORT_WAIT : WIRE_WAIT;
 }

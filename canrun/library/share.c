@@ -156,7 +156,7 @@ static struct wire_memory *map(int memory_fd) {
 }
 
 /* Asks the bridge for the memory of a socket and stores it. It checks the name, because the file descriptor may belong
-   to another socket by now. */
+ * to another socket by now. */
 static bool ask_for_memory(const struct socket *sock) {
     int before = errno, fds[2] = {-1, -1};
     ask_for_descriptors(sock->fd, fds);

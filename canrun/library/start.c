@@ -58,7 +58,7 @@ static long copy_process(int (*function)(void *), void *stack, void *argument) {
 #endif
 
 /* The data that the start of a bridge needs. They are not on the stack, because the thread of the program may have a
-   small stack. */
+ * small stack. */
 struct start {
     int end, memory, failed;
     pid_t bridge;

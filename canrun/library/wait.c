@@ -124,7 +124,7 @@ static void mark(struct epoll_event *events, int count, int fd, uint64_t data) {
 }
 
 /* Reads a line of the epoll's file in /proc, such as `tfd: 5 events: 19 data: 7fff0005 pos:0 ..`. Returns false if the
-   line is of another kind. */
+ * line is of another kind. */
 static bool read_line(const char *line, int *fd, uint64_t *data) {
     unsigned long long number;
     bool is_one = sscanf(line, "tfd: %d events: %*x data: %llx", fd, &number) == 2;

@@ -7,7 +7,7 @@
 #include <stdbool.h>
 
 /* The largest number of interfaces of a server (16 buses with 16 interfaces each), and the size of the comma-separated
-   list of their names. */
+ * list of their names. */
 #define INTERFACE_MOST 256
 #define INTERFACE_NAMES (INTERFACE_MOST * IFNAMSIZ)
 /* The index of the first interface; the other interfaces follow in the server's order. The kernel numbers its own

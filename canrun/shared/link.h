@@ -77,7 +77,7 @@ struct link_message {
 };
 
 /* Writes the netlink message that describes an interface. If the length of the transmit queue is 0, the message leaves
-   it out. */
+ * it out. */
 void link_write(struct link_message *message, int index, const struct link_facts *facts, uint32_t queue);
 
 #endif

@@ -1,5 +1,5 @@
 /* Converts frames to and from the text messages of the server's raw mode: see messages.h. The manual page canbusd.1
-   explains the messages. */
+ * explains the messages. */
 #include "messages.h"
 
 #include <string.h>

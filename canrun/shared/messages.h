@@ -1,5 +1,5 @@
 /* Frames as text messages of the server's raw mode. The bridge and the library write such messages; the bridge also
-   reads them. */
+ * reads them. */
 #ifndef MESSAGES_H
 #define MESSAGES_H
 

@@ -113,7 +113,7 @@ struct wire_loan {
     uint64_t numbers[WIRE_NUMBERS]; /* numbers that the server gave to frames */
 };
 /* A value for `ifindex` in a struct wire_quick. It marks a message that is not a write but asks the bridge to look at
-   `left`. */
+ * `left`. */
 #define WIRE_LEFT INT32_MIN
 
 /* A note: everything about a received datagram except its bytes. */
