@@ -42,8 +42,7 @@ struct rest {
     size_t length;
 };
 
-/* Copies the frames of a message into a task. Returns EFAULT if frames are missing, as for memory that cannot be read.
- */
+/* Copies the frames of a message into a task. Missing frames give EFAULT, as memory that cannot be read does. */
 static int copy_frames(struct bcm_task *task, const struct bcm_head *head, struct rest rest) {
     const char *data = rest.data;
     size_t each = bcm_frame_size(head->flags);

@@ -19,7 +19,7 @@
 
 /* The file descriptor of the bridge's end of the socket pair. */
 #define PROGRAM WIRE_PROGRAM
-/* For how many of the last frame numbers a session remembers whether the frame was its own. An older frame has left
+/* The number of recent frame numbers for which a session remembers whether the frame was its own. An older frame left
  * every queue long ago. */
 #define NUMBERS_KEPT (1u << 24)
 /* How many seconds the bridge waits for a reply from the server. */
@@ -51,7 +51,7 @@ struct options {
 };
 #define NO_FILTERS UINT32_MAX
 
-/* The reply that the session still expects. DUE_COUNTS: the counts of the interface, which nothing needs at once.
+/* The reply that the session still expects. DUE_COUNTS: the counts of the interface, which no call needs at once.
  * DUE_ECHO: the echo after commands. DUE_VERDICT: the verdict on a frame. */
 enum due { DUE_NOTHING, DUE_COUNTS, DUE_ECHO, DUE_VERDICT, DUE_VERDICT_AND_COUNTS };
 
@@ -166,7 +166,7 @@ void room_leave(int index);
 /* Returns whether no frame is waiting. */
 bool room_is_idle(void);
 
-/* Returns whether a frame is waiting whose write has already returned. */
+/* Returns whether any of the waiting frames has no reply pipe, because no write waits for it. */
 bool room_has_unasked(void);
 
 /* ---- sessions.c: the sessions of this socket ---- */
@@ -274,13 +274,13 @@ bool error_is_set(void);
 
 /* ---- raw.c: CAN_RAW, and session options for the other protocols ---- */
 
-/* Sends the frame of a program's write. The result is the same as of room_send. */
+/* Sends the frame of a program's write. Returns the result of room_send. */
 int raw_write(int index, const void *data, size_t length, const struct later *later);
 
 /* Returns whether the data are an error message frame. */
 bool raw_is_error(const void *data);
 
-/* Sends a frame in this session. The result is the same as of room_send. */
+/* Sends a frame in this session. Returns the result of room_send. */
 int raw_send(struct session *to, const struct canfd_frame *frame, bool is_fd, const struct later *later);
 
 /* Returns whether writes wait for room (--wait). */
@@ -323,8 +323,7 @@ void quick_take_back(void);
 /* Replies to a request with this error or this value. */
 void request_reply(int to, int error, int value);
 
-/* The first function replies to a write that has waited. The second makes the `later` of a write that may have to wait.
- */
+/* The first function replies to a write that has waited. The second makes the struct later of a write that may wait. */
 void request_done(const struct later *later, int error);
 struct later request_later(const struct wire_request *request, int to, int value);
 

@@ -9,7 +9,7 @@ enum { CONTINUE, WAIT, OVERFLOW_ };
 /* The maximum length of a message whose length field has 12 bits. */
 #define SHORT_LENGTH 4095
 
-/* The number of no frame: the frame is still waiting for room, or could not be sent. */
+/* A frame number that no frame has: the frame is still waiting for room, or could not be sent. */
 #define NO_FRAME UINT64_MAX
 
 static struct {

@@ -16,7 +16,7 @@ static size_t filter_count;
 
 /* ---- addresses ---- */
 
-/* Returns whether the destination byte of a PGN is 0, if the PGN has a destination. */
+/* Returns false if a PGN has a destination byte that is not 0. */
 static bool is_clean(uint32_t number) {
     return !is_pgn(number) || !has_destination(number) || !(number & 0xff);
 }

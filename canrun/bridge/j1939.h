@@ -114,8 +114,7 @@ void link_close(void);
 /* Sends a request to the host and waits for its reply. Other messages that arrive meanwhile are kept for link_take.
  * Returns 0, or an errno. */
 int link_ask(const struct j1939_ask *ask, const void *data, size_t length);
-/* Takes the next message from the host. Returns false if there is none. If the host is gone, the message is TOLD_GONE.
- */
+/* Takes the next message from the host. It is TOLD_GONE if the host is gone. Returns false if there is no message. */
 bool link_take(struct j1939_told *told, const char **data, size_t *length);
 
 /* ---- j1939_errors.c: the error queue ---- */

@@ -124,8 +124,8 @@ void transfer_forget(struct transfer *transfer);
 /* Called after the receiver has confirmed packets: the segments before the confirmed bytes no longer count against
  * SO_SNDBUF. */
 void transfer_drop_old(struct transfer *transfer);
-/* Set the timers of a transfer. In this order: it continues after some milliseconds; it continues after a random pause;
- * it is given up after some milliseconds; both timers are off. */
+/* Set the timers of a transfer. transfer_go_on: it continues after some milliseconds. transfer_try_again: it continues
+ * after a random pause. transfer_wait: it is given up after some milliseconds. transfer_stop: both timers are off. */
 void transfer_go_on(struct transfer *transfer, unsigned milliseconds);
 void transfer_try_again(struct transfer *transfer);
 void transfer_wait(struct transfer *transfer, unsigned milliseconds);

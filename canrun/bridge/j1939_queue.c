@@ -1,5 +1,4 @@
-/* The messages that a J1939 socket sends. They wait in the socket's queue, and their transfers begin one after another.
- */
+/* The messages that a J1939 socket sends. They wait in its queue, and their transfers begin one after another. */
 #include "j1939_host.h"
 
 #include <errno.h>

@@ -11,8 +11,8 @@
 #define TURNS 64
 /* The maximum number of requests that are left in the socket. */
 #define KEPT 64
-/* For computing how many bytes the kernel counts for a segment. The size of a kernel buffer is a power of two, and a
- * part of the buffer does not hold data. */
+/* The numbers from which cost_of computes how many bytes the kernel counts for a segment. The size of a kernel buffer
+ * is a power of two, and a part of the buffer does not hold data. */
 #define BUFFER_HEAD 256
 #define BUFFER_LEAST 512
 #define BUFFER_OTHER 384

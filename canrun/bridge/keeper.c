@@ -29,7 +29,7 @@ static int refuse(struct link_reply *reply, int error, const char *text) {
     return reply->error = error;
 }
 
-/* Checks a requested bit rate, which must be the same as the bus has. */
+/* Checks that a requested bit rate is the bit rate of the bus. */
 static int check_rate(uint32_t asked, uint32_t rate, const char *option, struct link_reply *reply) {
     char text[sizeof reply->text];
     if (!asked || asked == rate) {
@@ -188,7 +188,7 @@ static bool has_cards(void) {
 
 /* ---- requests ---- */
 
-/* Writes the current facts of those of the requested interfaces that have sessions. */
+/* Writes the current facts of the requested interfaces, except those that have no session. */
 static void look(const struct link_request *asked, struct link_reply *reply) {
     for (int i = 0; i < INTERFACE_MOST; i++) {
         struct link_reply ignored;

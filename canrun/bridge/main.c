@@ -33,8 +33,7 @@ bool protocol_is_busy(void) {
     return protocol->is_busy && protocol->is_busy();
 }
 
-/* Detaches the bridge from the program's output, session and directory, so that no other process waits for the bridge.
- */
+/* Detaches the bridge from the program's output, session and directory, so that no process waits for the bridge. */
 static void leave_program(void) {
     sigset_t none;
     struct rlimit limit;
@@ -56,7 +55,7 @@ static void leave_program(void) {
     }
     setsid();
     if (chdir("/")) {
-        /* If this fails, the current directory only stays in use. */
+        /* The program's directory then stays in use. */
     }
     for (int number = 1; number < NSIG; number++) {
         signal(number, SIG_DFL);

@@ -35,8 +35,7 @@ static uint32_t dropped, dropped_before;
 static bool is_full, is_small;
 /* The number and the total length of the datagrams that were put into the program's socket. */
 static uint64_t put_count, put_bytes;
-/* In virtual time: the program's socket has no room until poll reports room. Trying earlier would cost a system call.
- */
+/* Whether the program's socket has no room until poll reports it. In virtual time another try costs a system call. */
 static bool is_blocked;
 static bool is_counted, is_stamped;
 static unsigned uncounted;

@@ -75,7 +75,7 @@ static size_t filter_command(char *text, size_t size, bool is_none) {
     return (size_t)snprintf(text, size, "< filter %d%s >", count, is_none ? "" : words);
 }
 
-/* Whether the program's queue is full, so that the server is to queue nothing for the program. */
+/* Whether the program's queue is full. If so, the server is told to queue nothing for the program. */
 static bool is_full;
 
 void raw_setup(struct session *session, char *text, size_t size) {

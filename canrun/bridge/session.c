@@ -198,8 +198,7 @@ bool session_read(struct session *session, bool waits) {
 /* ---- commands ---- */
 
 /* Writes the whole text, or drops the session. While waiting, it handles input, because a server whose output is not
- * read takes no commands. A server that has closed the connection takes none either, but it may have sent the reason.
- */
+ * read takes no commands. A server that has closed the connection takes none either, but may have sent the reason. */
 static void put_text(struct session *session, const char *text, size_t length) {
     uint64_t until = 0;
     size_t written = 0;
@@ -225,7 +224,8 @@ static void set_silent(struct session *session, bool is_silent) {
     setsockopt(session->fd, SOL_SOCKET, SO_RCVTIMEO, &time, sizeof time);
 }
 
-/* Waits until no reply later than `most` is due. Returns false if a reply does not arrive in time. */
+/* Waits until the reply that is due is `most`, or one before it in enum due. Returns false if a reply does not arrive
+ * in time. */
 static bool settle(struct session *session, enum due most) {
     while (session->due > most && session->fd >= 0) {
         if (!session_read(session, true)) {

@@ -29,8 +29,7 @@ bool wait_for_input(int64_t nanoseconds, bool takes_requests) {
     polled[0] = (struct pollfd){is_closing ? close_waiter_fd() : PROGRAM, is_closing ? POLLIN : events, 0};
     polled[0].events &= (short)(news >= 0 ? ~POLLIN : ~0);
     polled[1] = (struct pollfd){news, POLLIN, 0};
-    /* A program that has borrowed the session reads its replies, so the bridge only watches whether the session ends.
-     */
+    /* A program that has borrowed the session reads its replies. The bridge only watches whether the session ends. */
     short news_of_session = quick_lend() ? POLLRDHUP : POLLIN;
     for (int i = 0; i < session_count; i++) {
         polled[2 + i] = (struct pollfd){outbox_is_crowded() ? -1 : sessions[i]->fd, news_of_session, 0};

@@ -265,7 +265,7 @@ static int begin_supervised(char **program) {
     return fault("/proc/self/exe can't be run", strerror(errno));
 }
 
-/* Runs in virtual time: the program, or the child process of a run, and everything that it starts. */
+/* Runs the program, or the child process of a run, in virtual time, together with everything that it starts. */
 static int run_virtual(const struct words *words) {
     char path[PATH_MAX];
     int status = 0, child, settings;

@@ -17,7 +17,7 @@ int program_find(const char *name, char path[PATH_MAX]);
 /* Returns why this program's CAN sockets will be the kernel's, or NULL if no reason is found. */
 const char *program_obstacle(const char *path);
 
-/* Returns such a reason if it lies in the kind of the program, and so holds for every user; otherwise NULL. */
+/* Like program_obstacle, but returns only reasons that lie in the kind of program, and so hold for every user. */
 const char *program_bypass(const char *path);
 
 /* Returns whether the loader loads the library into this program. */
@@ -26,7 +26,7 @@ bool program_takes_library(const char *path);
 /* Returns whether the program is dynamically linked with musl, whose loader fails to load the library. */
 bool program_is_of_musl(const char *path);
 
-/* Returns the remedy for such a program: the end of a sentence, or an empty text. */
+/* Returns the remedy for a program that does not load the library: the end of a sentence, or an empty text. */
 const char *program_cure(const char *path);
 
 #endif

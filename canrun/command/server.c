@@ -19,8 +19,7 @@
 #define REPLY_TIME 5000
 #define PAUSE 100
 
-/* Error texts about a server that is running, but is too old to list its interfaces or has no room for another session.
- */
+/* Error texts about a server that runs, but is too old to list its interfaces or has no room for another session. */
 static const char TOO_OLD[] = "is older than canbusd-run " VERSION ": start one of the same version";
 static const char FULL[] = "has as many sessions as it can, 64: close some";
 

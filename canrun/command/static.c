@@ -79,8 +79,8 @@ static size_t compare(struct sock_filter *code, const unsigned *list, size_t cou
 /* Installs the filter. Returns the file descriptor of the notifications, or -1 with errno set. */
 static int install(void) {
     const struct sock_filter head[] = {LOAD(arch), IS(ARCHITECTURE, 1, 0), ALLOW, LOAD(nr), IS(SYS_socket, 0, 8),
-                                       /* The program creates a socket of AF_CAN, or of AF_NETLINK with NETLINK_ROUTE,
-                                        * which is 0. */
+                                       /* The supervisor is notified of a new socket of AF_CAN, or of AF_NETLINK with
+                                        * NETLINK_ROUTE, which is 0. */
                                        LOAD_WORD(0), IS(AF_CAN, 0, 1), NOTIFY, IS(AF_NETLINK, 0, 3), LOAD_WORD(2),
                                        IS(0, 0, 1), NOTIFY, ALLOW, IS(SYS_ioctl, 0, COUNT(REQUESTS) + 5), LOAD_WORD(0),
                                        IS_FROM(STATIC_FIRST, COUNT(REQUESTS) + 1, 0), LOAD_WORD(1)};
@@ -165,7 +165,7 @@ static void leave_program(unsigned kept) {
     signal(SIGPIPE, SIG_IGN);
     prctl(PR_SET_NAME, "canbusd-static");
     if (chdir("/")) {
-        /* If this fails, the current directory only stays in use. */
+        /* The program's directory then stays in use. */
     }
 }
 

@@ -17,7 +17,7 @@
  * returns an exit status, or returns -1 with errno set if only execv fails. */
 int static_run(const char *path, char **program);
 
-/* The main loop of the supervisor: serves the calls of this listener until no process is left that makes any. `program`
+/* The main loop of the supervisor: serves the calls of this listener until no process that uses it is left. `program`
  * is a pidfd of the process that was started. */
 void static_serve(int listener, int program);
 

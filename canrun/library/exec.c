@@ -11,7 +11,7 @@
 #include <stdio.h>
 #include <sys/syscall.h>
 
-/* Prints the note for the program in `file`, if one is needed. If `is_searched`, the file is searched in PATH. */
+/* Prints the note for the program in `file`, if one is needed. If `is_searched`, the file is looked up in PATH. */
 static void note(const char *file, bool is_searched) {
     char path[PATH_MAX], line[PATH_MAX + 192];
     int before = errno;

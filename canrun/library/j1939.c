@@ -1,5 +1,4 @@
-/* CAN_J1939: the host of an interface splits messages into frames, and an error queue reports how each message ended.
- */
+/* CAN_J1939: the host of an interface splits messages into frames. An error queue reports how messages ended. */
 #define _GNU_SOURCE
 #include "library.h"
 
@@ -160,8 +159,7 @@ static int j1939_getsockopt(const struct socket *sock, int level, int option, vo
 
 /* ---- writes ---- */
 
-/* Fills `pieces` with the part of a message that begins at `from` and has `length` bytes. Returns the number of pieces.
- */
+/* Fills `pieces` with the `length` bytes of a message that begin at `from`. Returns the number of pieces. */
 static size_t pieces_from(const struct msghdr *message, size_t from, size_t length, struct iovec *pieces) {
     size_t count = 0;
     for (size_t i = 0; i < message->msg_iovlen && length; i++) {

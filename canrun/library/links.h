@@ -29,8 +29,7 @@ bool links_are_asked(const struct nlmsghdr *asked);
  * would list links of all types. */
 bool links_are_all(const struct nlmsghdr *asked);
 
-/* Returns whether the request asks for the addresses of an interface of the server. Such an interface has no addresses.
- */
+/* Returns whether the request asks for the addresses of an interface of the server. Such interfaces have none. */
 bool addresses_are_asked(const struct nlmsghdr *asked);
 
 /* The position of a dump: the index of the next interface and, after the keeper was asked, the index of the last

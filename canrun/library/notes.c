@@ -14,7 +14,7 @@
 #define PATIENCE 20000
 #define YIELDS 100
 #define PAUSE 100000 /* nanoseconds */
-/* How many of the oldest notes the bridge may be overwriting at the moment. */
+/* How many of the oldest notes the bridge may be overwriting now. */
 #define BEING_WRITTEN 64
 
 /* The minimum and maximum number of bytes that have been read from the socket so far. They differ while the bridge is

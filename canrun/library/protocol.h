@@ -12,7 +12,7 @@
 #include <sys/types.h>
 #include <sys/uio.h>
 
-/* The file descriptor of a call, with the protocol of its socket. */
+/* The file descriptor that a call was made on, and the protocol of its socket. */
 struct socket {
     int fd;
     const struct protocol *protocol; /* NULL: the descriptor is another socket, or no socket */
@@ -40,7 +40,7 @@ struct protocol {
 };
 extern const struct protocol raw_protocol, bcm_protocol, isotp_protocol, j1939_protocol, netlink_protocol;
 
-/* Find the protocol of a file descriptor, and whether it is a CAN socket. Both leave errno unchanged. */
+/* Return the protocol of a file descriptor, and whether it is a CAN socket. Both leave errno unchanged. */
 struct socket socket_of(int fd);
 bool is_can_socket(int fd);
 
@@ -78,8 +78,7 @@ int begin_write(const struct msghdr *message, struct wire_request *request);
 #define FILLERS 64
 size_t add_fillers(int fd, size_t length, struct iovec fillers[FILLERS]);
 
-/* Reads the interface index from the destination address of a message, if it has one. Returns 0, or -1 with errno set.
- */
+/* Reads the interface index from the destination address of a message, if any. Returns 0, or -1 with errno set. */
 int read_target(const struct msghdr *message, int32_t *index);
 
 /* ---- receive.c ---- */

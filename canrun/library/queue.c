@@ -30,8 +30,7 @@ static ssize_t read_proc(const char *process, const char *name, char *room, size
     return have;
 }
 
-/* Returns the queue length on the command line of a server, or the default if this is not the command line of a server.
- */
+/* Returns the queue length on a server's command line, or the default if this is another program's command line. */
 static int length_of(const char *words, size_t size) {
     static const char option[] = "--txqueue";
     const size_t length = sizeof option - 1;

@@ -1,6 +1,5 @@
 /* Quick writes of CAN_RAW sockets: the reply comes in memory that the bridge shares (share.c), at a third of the cost
- * of a reply through a pipe. In virtual time the virtual time library waits for the reply; a key identifies the wait.
- */
+ * of a pipe. In virtual time the virtual time library waits for the reply; a key identifies the wait. */
 #define _GNU_SOURCE
 #include "library.h"
 
@@ -13,7 +12,7 @@
 #include <sys/syscall.h>
 #include <time.h>
 
-/* At this number of writes to a socket, a process borrows the session that the bridge lends. */
+/* The number of the write to a socket at which a process borrows the session that the bridge lends. */
 #define BORROWING 4
 static bool is_off;
 

@@ -69,7 +69,7 @@ int read_target(const struct msghdr *message, int32_t *index) {
     if (can.can_family != AF_CAN) {
         return refuse("sendto", EINVAL, "the address is not of AF_CAN");
     }
-    /* INT32_MAX is the index of no interface, like each negative index. */
+    /* No interface has the index INT32_MAX. It replaces a negative index, which no interface has either. */
     *index = can.can_ifindex < 0 ? INT32_MAX : can.can_ifindex;
     return 0;
 }

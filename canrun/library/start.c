@@ -29,9 +29,9 @@ static const char *const SETTINGS[] = {
 };
 #define SETTING_COUNT (sizeof SETTINGS / sizeof *SETTINGS)
 
-/* Runs a function on this stack, in a copy of the process that shares its memory, while the caller waits. Returns the
- * process number of the copy, or a negative errno. It does not use the C library's clone, which the thread sanitizer
- * would treat as a fork. */
+/* Runs a function on the given stack, in a copy of the process that shares its memory, while the caller waits. Returns
+ * the process number of the copy, or a negative errno. It does not use the C library's clone, which the thread
+ * sanitizer would treat as a fork. */
 #ifdef __x86_64__
 static long copy_process(int (*function)(void *), void *stack, void *argument) {
     long result;

@@ -22,8 +22,8 @@ struct noted {
     uint64_t words[KNOWN_MOST / WORD];
     bool has_any;
 };
-/* `known`: descriptors that were sockets with an own error when they were last used. This is only a hint, because the
- * number may belong to another file now. `queues`: descriptors of sockets with an error queue. */
+/* `known`: descriptors that were sockets with an error of their own when they were last used. This is only a hint,
+ * because the number may belong to another file now. `queues`: descriptors of sockets with an error queue. */
 static struct noted known, queues;
 
 static void note(struct noted *noted, int fd) {

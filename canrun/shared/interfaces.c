@@ -6,8 +6,7 @@
 
 #define PAST_LAST (INTERFACE_FIRST + INTERFACE_MOST)
 
-/* Removes the first name from a comma-separated list and copies it to `name`. At the end of the list `name` is empty.
- */
+/* Moves the first name of a comma-separated list to `name`. At the end of the list `name` is empty. */
 static void next_name(const char **list, char name[IFNAMSIZ]) {
     size_t length = strcspn(*list, ",");
     memset(name, 0, IFNAMSIZ);

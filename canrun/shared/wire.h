@@ -96,8 +96,7 @@ enum wire_state {
     PLACE_TAKEN, /* the bridge has taken the lent session back, and reads the reply */
     PLACE_REPLIED
 };
-/* The error of a quick write that found no room but is allowed to wait: the library sends the write again with a pipe.
- */
+/* The error of a quick write that found no room but may wait: the library then sends the write again with a pipe. */
 #define WIRE_NO_ROOM (-1)
 
 /* The loan of a session in virtual time. In a lent session the server sends only replies. While the bridge waits, it
