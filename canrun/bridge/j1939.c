@@ -180,7 +180,7 @@ static bool set_socket(int option, int number) {
 
 /* ---- writes ---- */
 
-/* Makes the checks of a write that come before all others. */
+/* Checks a write. These checks come before all others. */
 static int check_write(const struct wire_j1939 *head) {
     const struct sockaddr_can *to = &head->address;
     bool is_to_all = head->has_address ? !to->can_addr.j1939.name && to->can_addr.j1939.addr == J1939_NO_ADDR

@@ -34,7 +34,8 @@ struct protocol {
     /* Ends the wait of the write with this reply pipe, because a signal has come. */
     void (*cancel)(int asks);
 
-    /* Handles data that came without a request, unless they are a message. Returns false if they are a message. */
+    /* Handles data that came without a request and are not a message, such as a quick write. Returns false for other
+     * data. */
     bool (*takes)(const char *data, size_t length);
     /* Handles a frame that a session has received. This function must not send anything. */
     void (*receive)(const struct item *item, int index);

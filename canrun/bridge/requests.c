@@ -13,7 +13,7 @@
 #include <sys/stat.h>
 #include <unistd.h>
 
-/* How many nanoseconds a write waits for room if it is in a thread whose waits no signal can end. */
+/* How many nanoseconds a write waits for room in a thread in which no signal can end the wait. */
 #define SHORT_WAIT SECOND
 
 struct reply {

@@ -1,5 +1,5 @@
-/* close, dup2 and dup3. If a protocol lingers, closing its socket waits until the socket's message has been sent, as in
- * the kernel. */
+/* close, dup2 and dup3. As in the kernel, closing a socket of some protocols (`lingers`) waits until the socket's
+ * message has been sent. */
 #define _GNU_SOURCE
 #include "library.h"
 
