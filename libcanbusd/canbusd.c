@@ -1,7 +1,7 @@
-/* The layer between a C program and the proved exports of crates/canbusd_c: it checks pointers, and contains the texts
- * of the codes.
+/* The layer between a C program and the proved exports of crates/canbusd_c. It checks pointers for NULL, and contains
+ * the texts of the error codes.
  *
- * A bus is the pointer from canbusd_c_new. Each export takes this pointer in a struct, by reference. */
+ * A bus is the pointer that canbusd_c_new returned. Each export takes this pointer inside a struct handle. */
 #include "canbusd.h"
 
 #include <string.h>
@@ -39,7 +39,7 @@ extern void canbusd_c_bench_output(struct handle *handle, uint8_t *output, size_
 extern uint32_t canbusd_c_bench_record(struct handle *handle, uint8_t *text, size_t room, size_t *len);
 extern uint32_t canbusd_c_bench_log(struct handle *handle, uint8_t *text, size_t room, size_t *len);
 
-/* The handle of a bus. */
+/* Wraps the pointer of a bus in a handle for the exports. */
 #define HANDLE(bus) (&(struct handle){bus})
 
 uint32_t canbusd_new(const char *names, const canbusd_config *config, canbusd **bus) {
@@ -193,7 +193,7 @@ void canbusd_bench_free(canbusd_bench *bench) {
         canbusd_c_bench_free((struct handle){bench});
 }
 
-/* Whether there is no place for a text and its length. */
+/* Returns whether the caller gave no place for a text or for its length. */
 static int has_no_place(const char *text, size_t room, const size_t *len) {
     return len == NULL || (text == NULL && room != 0);
 }

@@ -11,20 +11,21 @@
  *     canbusd_receive(bus, tester, &item);
  *
  * Frames move only in canbusd_attempt and canbusd_run. No call waits, starts a thread, or reads a clock.
- * The calls are those of Rattle's proved bus: each returns what docs/DEFINITIONS.md says.
+ * The calls are those of the proved Rattle bus: docs/DEFINITIONS.md defines what each one returns.
  *
- * What a program must keep, since nothing checks it; else anything may happen:
- * - A bus is used by one thread at a time, and so is a bench. Two buses have nothing in common, so two threads may use
- * them at once.
- * - A bus is not used after canbusd_free, which frees it once. Its sockets end with it.
- * - A bus is what canbusd_new gave. Pointers point to as much as their types and lengths say, and not into each other.
+ * A program must keep these rules. Nothing checks them, and the behavior is undefined if a program breaks one:
+ * - Only one thread at a time uses a bus or a bench. Two buses share nothing, so two threads may use them at once.
+ * - A bus is freed only once, and not used after canbusd_free. Its sockets end with it.
+ * - A bus is a pointer that canbusd_new returned. Each other pointer points to as much memory as its type and the given
+ * length say, and these areas do not overlap.
  *
- * Each call but those that free and canbusd_strerror returns CANBUSD_OK or why it was refused. A refused call writes no
- * result but that canbusd_new sets its bus to NULL, as canbusd_bench_new its bench, and that lines have an output. A
- * null pointer is CANBUSD_NULL, but where it `may be NULL`.
+ * Each call returns CANBUSD_OK or the reason for its refusal, except canbusd_strerror and the calls that free. A
+ * refused call writes no result, with two exceptions: canbusd_new and canbusd_bench_new set their result to NULL, and
+ * canbusd_bench_take has an output. A null pointer is refused with CANBUSD_NULL, unless the argument `may be NULL`.
  *
- * Interfaces are numbers from 0, in the order of their names; a set of them has bit i for interface i. Sockets are
- * numbers that no other socket of the bus has had. Moments are microseconds, below 10^16. Bit rates are bits a second.
+ * Interfaces are numbered from 0, in the order of their names; in a set of interfaces bit i stands for interface i. The
+ * number of a socket is never used again on the same bus. Moments are timestamps in microseconds, below 10^16. Bit
+ * rates are in bits per second.
  */
 #ifndef CANBUSD_H
 #define CANBUSD_H
@@ -36,20 +37,20 @@
 extern "C" {
 #endif
 
-/* The version of this header's functions and structs, which is also the number in the soname. */
+/* The version of the functions and structs in this header, and the number in the soname. */
 #define CANBUSD_ABI 0
 
 /* A bus. */
 typedef struct canbusd canbusd;
 
-/* A bench: a bus with sessions that take lines, as `canbusd bench` reads them. */
+/* A bench: a bus with sessions that execute lines in the format of `canbusd bench`. */
 typedef struct canbusd_bench canbusd_bench;
 
-/* Why a call was refused, or CANBUSD_OK. canbusd_strerror has their texts. */
+/* The result of a call: CANBUSD_OK, or the reason for its refusal. canbusd_strerror returns the text of each code. */
 enum {
     CANBUSD_OK = 0,
-    CANBUSD_RECORD_FULL = 1,       /* the record has `limit` entries: nothing more happens on this bus */
-    CANBUSD_NO_INTERFACE = 2,      /* the bus has no such interface, or a rule names one that the bus does not have */
+    CANBUSD_RECORD_FULL = 1,       /* the record already has `limit` entries: the bus does nothing more */
+    CANBUSD_NO_INTERFACE = 2,      /* the bus does not have this interface, or one that a rule names */
     CANBUSD_BAD_CAPACITY = 3,      /* the capacity is not 1 to 65,536 */
     CANBUSD_TOO_MANY_SOCKETS = 4,  /* 64 sockets are open */
     CANBUSD_NO_SOCKET = 5,         /* no such socket is open */
@@ -59,22 +60,22 @@ enum {
     CANBUSD_NOT_BUS_OFF = 9,       /* the interface is neither bus off nor down */
     CANBUSD_NO_MEMORY = 10,        /* no memory; the bus is unchanged */
     CANBUSD_DOWN = 11,             /* the interface is down */
-    CANBUSD_NOTHING = 12,          /* no item waits */
-    CANBUSD_BAD_FRAME = 13,        /* no frame has this identifier, length and flags */
-    CANBUSD_BAD_MOMENT = 14,       /* 10^16 or more */
-    CANBUSD_BAD_OPTION = 15,       /* not one of CANBUSD_ERR_FILTER .. */
-    CANBUSD_BAD_FILTER = 16,       /* a mask has bit 29 set */
-    CANBUSD_TOO_MANY_FILTERS = 17, /* more than 512 */
+    CANBUSD_NOTHING = 12,          /* the socket's queue is empty */
+    CANBUSD_BAD_FRAME = 13,        /* the identifier, length or flags are invalid */
+    CANBUSD_BAD_MOMENT = 14,       /* the moment is 10^16 or more */
+    CANBUSD_BAD_OPTION = 15,       /* the option is not one of CANBUSD_ERR_FILTER .. */
+    CANBUSD_BAD_FILTER = 16,       /* the mask of a filter has bit 29 set */
+    CANBUSD_TOO_MANY_FILTERS = 17, /* there are more than 512 filters */
     CANBUSD_BAD_RULE = 18,         /* the text is not a rule */
-    CANBUSD_TOO_MANY_RULES = 19,   /* 64 rules are kept already */
+    CANBUSD_TOO_MANY_RULES = 19,   /* the bus already has 64 rules */
     CANBUSD_BAD_NAMES = 20,        /* not 1 to 16 names, two equal names, or an invalid name */
     CANBUSD_BAD_CONFIG = 21,       /* a number is outside its limits */
-    CANBUSD_BAD_BIT_RATES = 22,    /* outside their limits, or a data bit rate without a bit rate */
-    CANBUSD_BAD_RUN = 23,          /* no bit rate, or the bus is past that moment */
+    CANBUSD_BAD_BIT_RATES = 22,    /* outside the limits, or a data bit rate without a bit rate */
+    CANBUSD_BAD_RUN = 23,          /* the bus has no bit rate, or is already past the moment */
     CANBUSD_NULL = 24,             /* a null pointer */
     CANBUSD_BAD_LINE = 25,         /* a line of a bench or of its faults is wrong */
-    CANBUSD_REPEATED_ATTEMPT = 26, /* a line of faults is for an attempt that another line is for */
-    CANBUSD_TOO_LONG = 27          /* lines of more than 16,777,216 bytes */
+    CANBUSD_REPEATED_ATTEMPT = 26, /* two lines of the faults are for the same attempt */
+    CANBUSD_TOO_LONG = 27          /* the lines have more than 16,777,216 bytes */
 };
 
 /* The configuration of a new bus. */
@@ -88,10 +89,11 @@ typedef struct canbusd_config {
     uint32_t data_bitrate; /* for FD frames with BRS, from `bitrate` to 20,000,000; 0: the same as `bitrate` */
 } canbusd_config;
 
-/* How frames are acknowledged: always, or by an interface of the bus that has received the whole frame. */
+/* How frames are acknowledged: always, or only if another interface of the bus has received the whole frame. */
 enum { CANBUSD_ACK_ALWAYS = 0, CANBUSD_ACK_PEERS = 1 };
 
-/* The default bus: queues of 10 frames, a record of a million entries, and no bit rate. */
+/* The default configuration: frames are always acknowledged, transmit queues hold 10 frames, the record holds a million
+ * entries, and the bus has no bit rate. */
 
 #define CANBUSD_CONFIG \
     { CANBUSD_ACK_ALWAYS, 0, 10, 1000000, 0, 0, 0 }
@@ -112,16 +114,16 @@ typedef struct canbusd_frame {
 #define CANBUSD_ESI 2                /* CANFD_ESI, with CANBUSD_FDF */
 #define CANBUSD_FDF 4                /* CANFD_FDF: an FD frame */
 
-/* A frame or an error message frame that a socket received. */
+/* A data or remote frame, or an error message frame, that a socket received. */
 typedef struct canbusd_item {
     canbusd_frame frame;
-    uint32_t iface;  /* the interface that it comes from */
-    uint64_t number; /* its number at that interface: how many frames were sent there before it */
-    uint64_t moment; /* the moment of its attempt */
+    uint32_t iface;  /* the interface that sent the frame */
+    uint64_t number; /* the frame's number: how many frames were sent there before it */
+    uint64_t moment; /* the moment of the attempt */
 } canbusd_item;
 
-/* A filter as in linux/can.h: a frame matches if its identifier equals `id` in the bits of `mask`. CANBUSD_INVERTED in
- * `id` inverts the filter. */
+/* A filter as in linux/can.h. A frame matches if its identifier equals `id` in the bits that are set in `mask`.
+ * CANBUSD_INVERTED in `id` inverts the filter. */
 typedef struct canbusd_filter {
     uint32_t id;
     uint32_t mask;
@@ -129,27 +131,27 @@ typedef struct canbusd_filter {
 
 #define CANBUSD_INVERTED 0x20000000u /* CAN_INV_FILTER */
 
-/* The items of a socket at its close. */
+/* The counts of a socket's items when it was closed. */
 typedef struct canbusd_closed {
-    uint64_t unread;  /* items that were not received */
+    uint64_t unread;  /* items that the program has not received */
     uint64_t dropped; /* items that were dropped for lack of room */
 } canbusd_closed;
 
-/* The result of an attempt. */
+/* The result of an attempt to send a frame. */
 typedef struct canbusd_tried {
     canbusd_frame frame;
     uint32_t outcome;   /* CANBUSD_IDLE and so on; for CANBUSD_IDLE all fields but `restarted` are 0 */
     uint32_t iface;     /* the interface that won */
-    uint64_t number;    /* the number of its frame, as returned by canbusd_send */
-    uint64_t moment;    /* the moment of its items; on a bus with bit rates its end */
+    uint64_t number;    /* the number of the frame, as canbusd_send returned it */
+    uint64_t moment;    /* the moment in the items; on a bus with bit rates the end of the attempt */
     uint32_t accepted;  /* the set of interfaces that received the frame */
     uint32_t off;       /* the set of interfaces that went bus off */
-    uint32_t restarted; /* the set of interfaces that it restarted */
+    uint32_t restarted; /* the set of interfaces that restarted */
     uint32_t unused;    /* 0 */
 } canbusd_tried;
 
-/* The outcome of an attempt. IDLE: no frame waited. DONE: the frame was sent. LAST_BIT: a fault in the last bit, so the
- * frame was received and is sent again. DESTROYED: a fault destroyed the frame. NO_ACK: the frame was not
+/* The outcome of an attempt. IDLE: no frame was waiting. DONE: the frame was sent. LAST_BIT: a fault in the last bit,
+ * so the frame was received but is sent again. DESTROYED: a fault destroyed the frame. NO_ACK: the frame was not
  * acknowledged. */
 enum { CANBUSD_IDLE = 0, CANBUSD_DONE = 1, CANBUSD_LAST_BIT = 2, CANBUSD_DESTROYED = 3, CANBUSD_NO_ACK = 4 };
 
@@ -159,14 +161,14 @@ typedef struct canbusd_status {
     uint32_t tec;     /* the transmit error counter */
     uint32_t rec;     /* the receive error counter */
     uint32_t unused;  /* 0 */
-    uint64_t sent;    /* frames put into its transmit queue: the sum of the next three */
+    uint64_t sent;    /* frames put into the transmit queue: the sum of the next three */
     uint64_t done;    /* sent on the bus */
     uint64_t waiting; /* frames in the queue */
-    uint64_t lost;    /* frames lost because it went bus off or down */
-    uint64_t refused; /* sends that found the queue full */
+    uint64_t lost;    /* frames lost because the interface went bus off or down */
+    uint64_t refused; /* sends refused because the queue was full */
 } canbusd_status;
 
-/* The states: error active, at the error warning limit, error passive, bus off, down. */
+/* The state of an interface: error active, at the error warning limit, error passive, bus off, or down. */
 
 enum {
     CANBUSD_STATE_ACTIVE = 0,
@@ -183,7 +185,7 @@ typedef struct canbusd_stats {
     uint64_t taken;   /* items that were received */
 } canbusd_stats;
 
-/* The load of the wire. */
+/* The bus load. */
 typedef struct canbusd_load {
     uint32_t permille;     /* how busy the wire was in the last whole second, in 1/1,000 */
     uint32_t bitrate;      /* 0 on a bus without bit rates, like all other fields */
@@ -192,9 +194,10 @@ typedef struct canbusd_load {
     uint64_t micros;       /* the total busy time in microseconds */
 } canbusd_load;
 
-/* Options of a socket, as in linux/can/raw.h. CANBUSD_ERR_FILTER is a mask of error classes, at first 0; the others are
- * 0 or not. At first CANBUSD_LOOPBACK is on: other sockets of the interface receive the socket's frames. The others are
- * off: the socket does not receive its own frames, takes no FD frames, and a frame must match one filter, not all. */
+/* The options of a socket, as in linux/can/raw.h. CANBUSD_ERR_FILTER is a mask of error classes, initially 0. The other
+ * options are off if 0, and on otherwise. CANBUSD_LOOPBACK is initially on: other sockets of the interface receive the
+ * socket's frames. The remaining options are initially off: the socket does not receive its own frames, accepts no FD
+ * frames, and receives a frame that matches any one of its filters. */
 enum {
     CANBUSD_ERR_FILTER = 2,
     CANBUSD_LOOPBACK = 3,
@@ -203,55 +206,55 @@ enum {
     CANBUSD_JOIN_FILTERS = 6
 };
 
-/* Makes a bus whose interfaces have these names, joined by commas: 1 to 16 different names, each of 1 to 15 ASCII
+/* Creates a bus. `names` lists its interfaces, separated by commas: 1 to 16 different names, each of 1 to 15 ASCII
  * letters, digits, `_`, `-` and `.`. The record's memory is reserved now, but only touched as entries are added. */
 uint32_t canbusd_new(const char *names, const canbusd_config *config, canbusd **bus);
 
 /* Frees a bus; NULL is allowed. */
 void canbusd_free(canbusd *bus);
 
-/* Opens a socket on an interface, with a queue of `capacity` items, 1 to 65,536. At most 64 sockets may be open. At
- * first the socket receives every frame. */
+/* Opens a socket on an interface, with a receive queue of `capacity` items, 1 to 65,536. At most 64 sockets may be
+ * open. A new socket receives every frame. */
 uint32_t canbusd_open(canbusd *bus, uint32_t iface, uint32_t capacity, uint32_t *socket);
 
-/* Closes a socket. Frames that it has sent stay in their queue. `left` may be NULL. */
+/* Closes a socket. Frames that it has put into the transmit queue stay there. `left` may be NULL. */
 uint32_t canbusd_close(canbusd *bus, uint32_t socket, canbusd_closed *left);
 
-/* Sets the filters of a socket, at most 512. Without filters it receives only error message frames, and `filters` may
- * be NULL. */
+/* Sets the filters of a socket, at most 512. If `count` is 0, the socket receives only error message frames, and
+ * `filters` may be NULL. */
 uint32_t canbusd_set_filters(canbusd *bus, uint32_t socket, const canbusd_filter *filters, size_t count);
 
 /* Sets an option of a socket, such as CANBUSD_ERR_FILTER. */
 uint32_t canbusd_set_option(canbusd *bus, uint32_t socket, uint32_t option, uint32_t value);
 
-/* Puts a frame into the transmit queue of the socket's interface. `number` is the number of frames put there before; it
- * may be NULL. */
+/* Puts a frame into the transmit queue of the socket's interface. `number` is set to the number of frames that were put
+ * there before; it may be NULL. */
 uint32_t canbusd_send(canbusd *bus, uint32_t socket, const canbusd_frame *frame, uint64_t *number);
 
-/* Takes the oldest item of a socket, or returns CANBUSD_NOTHING. */
+/* Takes the oldest item from a socket's queue. Returns CANBUSD_NOTHING if the queue is empty. */
 uint32_t canbusd_receive(canbusd *bus, uint32_t socket, canbusd_item *item);
 
-/* Attempts to send the frame that wins the arbitration, at this moment, with the verdict of the rules. On a bus with
- * bit rates the attempt begins at this moment, or once the wire is free. `tried` may be NULL. */
+/* Attempts to send the frame that wins arbitration at this moment; the fault rules decide the result. On a bus with bit
+ * rates the attempt begins at this moment, or as soon as the wire is free after it. `tried` may be NULL. */
 uint32_t canbusd_attempt(canbusd *bus, uint64_t moment, canbusd_tried *tried);
 
-/* On a bus with bit rates: makes attempts while the next one would begin before this moment. `made` is the number of
- * attempts; it may be NULL. After CANBUSD_RECORD_FULL some attempts were made. */
+/* Makes attempts on a bus with bit rates, as long as the next attempt begins before this moment. `made` is set to the
+ * number of attempts; it may be NULL. If the call returns CANBUSD_RECORD_FULL, some attempts were made. */
 uint32_t canbusd_run(canbusd *bus, uint64_t moment, uint64_t *made);
 
-/* Restarts an interface that is bus off or down: its error counters are 0 again. */
+/* Restarts an interface that is bus off or down, and resets its error counters to 0. */
 uint32_t canbusd_restart(canbusd *bus, uint32_t iface, uint64_t moment);
 
-/* Takes an interface down; the frames in its transmit queue are lost. */
+/* Takes an interface down. The frames in its transmit queue are lost. */
 uint32_t canbusd_down(canbusd *bus, uint32_t iface, uint64_t moment);
 
-/* Adds a fault rule, such as `next 1 from can0 id 123 lastbit`. At most 64 rules are kept. */
+/* Adds a fault rule, such as `next 1 from can0 id 123 lastbit`. A bus keeps at most 64 rules. */
 uint32_t canbusd_inject(canbusd *bus, const char *rule);
 
 /* Ends all rules. */
 uint32_t canbusd_end_rules(canbusd *bus);
 
-/* Return the state and the counts of an interface; the counts of a socket; the load of the wire before a moment. */
+/* Return the state and counts of an interface, the counts of a socket, and the bus load before a moment. */
 uint32_t canbusd_get_status(canbusd *bus, uint32_t iface, canbusd_status *status);
 uint32_t canbusd_get_stats(canbusd *bus, uint32_t socket, canbusd_stats *stats);
 uint32_t canbusd_get_load(canbusd *bus, uint64_t moment, canbusd_load *load);
@@ -265,43 +268,45 @@ uint32_t canbusd_get_load(canbusd *bus, uint64_t moment, canbusd_load *load);
  * the record: only their verdicts are. */
 uint32_t canbusd_record(canbusd *bus, char *text, size_t room, size_t *len);
 
-/* Makes a bench: the names and the struct are those of canbusd_new, `capacity` is the number of items that a session's
- * socket holds, 1 to 65,536. With `shows_faults` other than 0 the lines of attempts show their faults. `faults` is the
- * text of a script and rules, `faults_len` bytes, or NULL.
+/* Creates a bench. `names` and `config` are as in canbusd_new, and `capacity` is the number of items that a session's
+ * socket holds, 1 to 65,536. If `shows_faults` is not 0, the output lines of attempts show their faults. `faults` is
+ * NULL, or a text of `faults_len` bytes that contains a script and rules.
  *
- * Errors, in this order: _BAD_NAMES, _BAD_BIT_RATES, _BAD_CONFIG of `ack` and `reporting`; of a line of the faults
- * _BAD_LINE, _NO_INTERFACE, _REPEATED_ATTEMPT, _TOO_MANY_RULES; _BAD_CONFIG of the other numbers and of `capacity`;
- * _NO_MEMORY at any point. `line` is the number of the wrong line of the faults, from 1, or 0 where there is none, as
- * in a text that is no UTF-8; it may be NULL. */
+ * Errors are checked in this order: _BAD_NAMES; _BAD_BIT_RATES; _BAD_CONFIG for `ack` and `reporting`; _BAD_LINE,
+ * _NO_INTERFACE, _REPEATED_ATTEMPT and _TOO_MANY_RULES for a line of `faults`; _BAD_CONFIG for the other numbers and
+ * for `capacity`. _NO_MEMORY can occur at any point. `line` is set to the number of the wrong line in `faults`, from 1;
+ * or to 0 if no line is to blame, for example if the text is not UTF-8. `line` may be NULL. */
 uint32_t canbusd_bench_new(const char *names, const canbusd_config *config, uint32_t capacity, uint32_t shows_faults,
                            const char *faults, size_t faults_len, canbusd_bench **bench, size_t *line);
 
-/* Frees a bench; NULL is none. */
+/* Frees a bench; NULL is allowed. */
 void canbusd_bench_free(canbusd_bench *bench);
 
-/* Carries out lines, one after another, each with its LF, which the last may lack. What they put out is written to
- * `output`, as much of it as there is room for, without a zero after it; `len` is how long it is. It is kept until the
- * next call: canbusd_bench_output writes it again. With `room` 0 `output` may be NULL. A full record is no error: the
- * output says it.
+/* Executes lines one after another. Each line ends with LF, which may be missing from the last one. As much of their
+ * output as fits is written to `output`, without a terminating zero; `len` is the length of the whole output. The
+ * output is kept until the next call, and canbusd_bench_output writes it again. If `room` is 0, `output` may be NULL. A
+ * full record is not an error: the output reports it.
  *
- * After an error but CANBUSD_NULL the lines before it were carried out, and their output is there. `line` is the number
- * of the wrong line among those of this call, from 1; else it is 0. It may be NULL. After CANBUSD_BAD_LINE the bench
- * goes on as if the line were not there, but that a change that the bus refused, as `up can0` of an interface that is
- * neither bus off nor down, is in its record. After CANBUSD_NO_MEMORY a line may be half done, and output be missing.
+ * After any error except CANBUSD_NULL, the lines before the error have been executed and their output is available.
+ * `line` is set to the number of the wrong line, counted from 1 within this call, or to 0 if no line is wrong. `line`
+ * may be NULL. After CANBUSD_BAD_LINE the bench continues as if the wrong line were absent, with one exception: a
+ * change that the bus refused, such as `up can0` for an interface that is neither bus off nor down, is in the record.
+ * After CANBUSD_NO_MEMORY a line may be half executed, and some output may be missing.
  *
- * A line has at most 4,096 bytes. The time grows with the lines and what they do; each call allocates 8,192 bytes. */
+ * A line has at most 4,096 bytes. The running time grows with the number of lines and the work that they do. Each call
+ * allocates 8,192 bytes. */
 uint32_t canbusd_bench_take(canbusd_bench *bench, const char *lines, size_t lines_len, char *output, size_t room,
                             size_t *len, size_t *line);
 
-/* Writes what the lines of the last call put out, as canbusd_bench_take does. */
+/* Writes the output of the last canbusd_bench_take again, in the same way. */
 uint32_t canbusd_bench_output(canbusd_bench *bench, char *output, size_t room, size_t *len);
 
-/* Writes the text of the record so far, and the log of the frames that were tried so far, as canbusd_record does. The
- * time grows with the record. */
+/* Write the text of the record, and the log of the frames that attempts have tried to send, in the same way as
+ * canbusd_record. The running time grows with the length of the record. */
 uint32_t canbusd_bench_record(canbusd_bench *bench, char *text, size_t room, size_t *len);
 uint32_t canbusd_bench_log(canbusd_bench *bench, char *text, size_t room, size_t *len);
 
-/* The text of a code, which stays for ever. */
+/* Returns the text of a code. The text stays valid for ever. */
 const char *canbusd_strerror(uint32_t code);
 
 #ifdef __cplusplus

@@ -1,5 +1,5 @@
-/* CAN_BCM, the broadcast manager: handles a program's writes. They make, change and end tasks: frames that are sent
- * again and again, and frames that are reported only if they change. */
+/* CAN_BCM, the broadcast manager: handles the writes of a program. A write creates, changes or deletes a task. A TX
+ * task sends frames repeatedly; an RX task reports received frames only if they have changed. */
 #include "bcm.h"
 
 #include <errno.h>
@@ -12,7 +12,7 @@
 
 struct bcm_task *bcm_tasks;
 
-/* Finds the task that a message is about; otherwise the end of the list. */
+/* Returns the place of the task that a message is about, or the end of the list if there is no such task. */
 static struct bcm_task **find(const struct bcm_head *head, int index, bool is_rx) {
     struct bcm_task **place = &bcm_tasks;
     while (*place && !((*place)->is_rx == is_rx && (*place)->head.can_id == head->can_id && (*place)->index == index &&
@@ -22,7 +22,7 @@ static struct bcm_task **find(const struct bcm_head *head, int index, bool is_rx
     return place;
 }
 
-/* Makes the sessions receive only the frames that the tasks need. */
+/* Sets the filters of the sessions, so that they receive only the frames that the tasks need. */
 static int want_all(void) {
     static struct can_filter filters[CAN_RAW_FILTER_MAX];
     size_t count = 0;
@@ -36,13 +36,13 @@ static int want_all(void) {
     return raw_want(filters, count);
 }
 
-/* The rest of a message, after its head. */
+/* The part of a message after its header. */
 struct rest {
     const char *data;
     size_t length;
 };
 
-/* Copies the frames of a message. Missing frames are EFAULT, like memory that cannot be read. */
+/* Copies the frames of a message into a task. Missing frames give EFAULT, as memory that cannot be read does. */
 static int copy_frames(struct bcm_task *task, const struct bcm_head *head, struct rest rest) {
     const char *data = rest.data;
     size_t each = bcm_frame_size(head->flags);
@@ -68,7 +68,7 @@ static void free_task(struct bcm_task *task) {
     }
 }
 
-/* Makes a task without frames, timers or count. */
+/* Creates a task that has no frames, timers or count yet. */
 static struct bcm_task *new_task(const struct bcm_head *head, int index, bool is_rx) {
     size_t count = head->nframes ? head->nframes : 1;
     struct bcm_task *task = calloc(1, sizeof *task + count * sizeof *task->frames);
@@ -85,7 +85,8 @@ static struct bcm_task *new_task(const struct bcm_head *head, int index, bool is
     return task;
 }
 
-/* Replaces the head of a task by the head of a message. Count and timers are replaced only with SETTIMER. */
+/* Replaces the header of a task with the header of a message. The count and the timers are replaced only if SETTIMER is
+ * set. */
 static void change_head(struct bcm_task *task, const struct bcm_head *head) {
     struct bcm_head before = task->head;
     if (head->nframes != before.nframes || head->flags & TX_RESET_MULTI_IDX) {
@@ -106,12 +107,12 @@ static void change_head(struct bcm_task *task, const struct bcm_head *head) {
     }
 }
 
-/* Whether a time is invalid, or longer than 400 days. */
+/* Returns whether a time is invalid or longer than 400 days. */
 static bool is_bad(struct bcm_timeval time) {
     return time.tv_sec < 0 || time.tv_sec > 400 * 24 * 60 * 60 || time.tv_usec < 0 || time.tv_usec >= 1000000;
 }
 
-/* Makes the task of this message, with its frames. An existing task is changed. */
+/* Creates the task of this message with its frames, or changes the task if it already exists. */
 static int set_up(const struct bcm_head *head, struct rest rest, int index, bool is_rx, struct bcm_task **made) {
     struct bcm_task **place = find(head, index, is_rx), *fresh = NULL;
     if (head->flags & SETTIMER && (is_bad(head->ival1) || is_bad(head->ival2))) {

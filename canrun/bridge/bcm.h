@@ -1,5 +1,5 @@
-/* Declarations of CAN_BCM: bcm.c handles a program's writes, and bcm_tasks.c the tasks. The rules are those of
- * net/can/bcm.c of the kernel. */
+/* Declarations for CAN_BCM: bcm.c handles the writes of a program, and bcm_tasks.c runs the tasks. The rules are those
+ * of net/can/bcm.c in the kernel. */
 #ifndef BCM_H
 #define BCM_H
 
@@ -7,7 +7,7 @@
 
 #include <linux/can/bcm.h>
 
-/* The head of a message: struct bcm_msg_head without its frames. */
+/* The header of a message: struct bcm_msg_head without the frames after it. */
 struct bcm_head {
     uint32_t opcode, flags, count;
     struct bcm_timeval ival1, ival2;
@@ -16,7 +16,7 @@ struct bcm_head {
 };
 _Static_assert(sizeof(struct bcm_head) == sizeof(struct bcm_msg_head), "the head of linux/can/bcm.h");
 
-/* The last frame that a task received for one of its frames. */
+/* The last received frame that belongs to one of the frames of an RX task. */
 struct bcm_last {
     struct canfd_frame frame;
     bool is_received, is_held; /* the throttle holds the frame back */
@@ -26,14 +26,14 @@ struct bcm_task {
     struct bcm_task *next;
     bool is_rx;
     int index;            /* the task's interface; 0: an RX task of all interfaces */
-    struct bcm_head head; /* with the present flags, timers and count */
-    unsigned at;          /* the frame that is sent next */
+    struct bcm_head head; /* with the current flags, timers and count */
+    unsigned at;          /* the index of the frame that is sent next */
     uint64_t due;         /* when the next frame or the timeout is due; 0: never */
     uint64_t held_until;  /* the end of the throttle; 0: the throttle is off */
     uint64_t reported;    /* when the program last got a frame */
-    unsigned asked;       /* remote frames that were not answered yet */
-    int detected; /* for an RX task with timers and for all interfaces: the interface of the first frame, the only one
-                     from then on */
+    unsigned asked;       /* how many remote frames have not been answered yet */
+    int detected; /* for an RX task of all interfaces that has timers: the interface of its first frame. The task then
+                     receives only from this interface */
     struct bcm_last *last; /* one entry for each frame of an RX task */
     struct canfd_frame frames[];
 };
@@ -55,14 +55,14 @@ static inline size_t bcm_frame_size(uint32_t flags) {
 
 /* ---- bcm_tasks.c ---- */
 
-/* Sends a message with this opcode and these frames to the program. */
+/* Sends the program a message with this opcode and these frames. */
 void bcm_inform(const struct bcm_task *task, uint32_t opcode, const struct canfd_frame *frames, uint32_t count,
                 uint64_t moment, int index);
 
 /* Sends the next frame of a task. As in the kernel, errors are not reported. */
 void bcm_send_next(struct bcm_task *task);
 
-/* When the next frame after this moment is due; 0: never. */
+/* Returns when the next frame after this moment is due; 0 means never. */
 uint64_t bcm_due_after(const struct bcm_task *task, uint64_t moment);
 
 void bcm_receive(const struct item *item, int index);

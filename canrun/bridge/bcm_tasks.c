@@ -1,5 +1,5 @@
-/* CAN_BCM: the tasks. A TX task sends its frames again and again. An RX task reports a frame that has changed, or that
- * does not come in time. */
+/* CAN_BCM: runs the tasks. A TX task sends its frames repeatedly. An RX task reports a frame that has changed, or that
+ * has not arrived in time. */
 #include "bcm.h"
 
 #include <string.h>
@@ -42,7 +42,7 @@ static void send_due(struct bcm_task *task, uint64_t now) {
     if (is_counted && !task->head.count && task->head.flags & TX_COUNTEVT) {
         bcm_inform(task, TX_EXPIRED, NULL, 0, 0, task->index);
     }
-    /* A late frame does not make the next one late, unless it is late by more than a period. */
+    /* If a frame is sent late, the next one is still sent on time, unless the delay exceeds a period. */
     task->due = bcm_due_after(task, due);
     if (task->due && task->due <= now) {
         task->due = bcm_due_after(task, now);
@@ -56,7 +56,7 @@ static void hand_over(struct bcm_task *task, struct bcm_last *last, uint64_t mom
     bcm_inform(task, RX_CHANGED, &last->frame, 1, moment, index);
 }
 
-/* Reports a new or changed frame: at once, or at the end of the throttle's period. */
+/* Reports a new or changed frame to the program: at once, or at the end of the throttle period. */
 static void has_changed(struct bcm_task *task, struct bcm_last *last, const struct item *item, int index) {
     uint64_t pause = bcm_nanoseconds(task->head.ival2), now = clock_now();
     last->frame = item->frame;
@@ -71,8 +71,8 @@ static void has_changed(struct bcm_task *task, struct bcm_last *last, const stru
     }
 }
 
-/* At the end of a throttle's period: reports the frames that were held back. If there were none, the throttle is
- * off. */
+/* Called at the end of a throttle period. Reports the frames that were held back. If there were none, the throttle
+ * ends. */
 static void release(struct bcm_task *task, uint64_t now) {
     bool has_any = false;
     for (unsigned i = 0; i < (task->head.nframes ? task->head.nframes : 1); i++) {
@@ -85,7 +85,7 @@ static void release(struct bcm_task *task, uint64_t now) {
     task->reported = has_any ? task->reported : 0;
 }
 
-/* Whether the frames differ in the bits of the mask. Like the kernel, it compares words of 8 bytes. */
+/* Returns whether two frames differ in the bits of the mask. Like the kernel, this compares whole words of 8 bytes. */
 static bool differs(const struct canfd_frame *mask, const struct canfd_frame *one, const struct canfd_frame *other,
                     unsigned length) {
     for (unsigned i = 0; i < (length + 7) / 8 * 8; i++) {
@@ -105,8 +105,8 @@ static void compare(struct bcm_task *task, unsigned at, const struct item *item,
     }
 }
 
-/* If a task has several frames, frame 0 is the multiplexer's mask. The first frame that is equal in these bits is
- * compared. */
+/* Compares a frame for a task with several frames. Frame 0 is the multiplex mask: the received frame is compared with
+ * the first frame that has the same bits under this mask. */
 static void compare_multiplex(struct bcm_task *task, const struct item *item, int index) {
     for (unsigned i = 1; i < task->head.nframes; i++) {
         if (!differs(&task->frames[0], &item->frame, &task->frames[i], CAN_MAX_DLEN)) {
@@ -118,7 +118,7 @@ static void compare_multiplex(struct bcm_task *task, const struct item *item, in
 
 static void receive(struct bcm_task *task, const struct item *item, int index) {
     if (task->head.flags & RX_RTR_FRAME) {
-        /* bcm_due sends the reply, because nothing can be sent while input is read. */
+        /* bcm_due sends the reply, because nothing can be sent while input is being read. */
         task->asked++;
         task->due = clock_now();
         return;
@@ -136,7 +136,7 @@ static void receive(struct bcm_task *task, const struct item *item, int index) {
     }
 }
 
-/* Whether the task receives frames of this interface. */
+/* Returns whether the task receives frames from this interface. */
 static bool is_from(struct bcm_task *task, int index) {
     bool is_timed = bcm_nanoseconds(task->head.ival1) || bcm_nanoseconds(task->head.ival2);
     if (task->index || task->head.flags & RX_RTR_FRAME || !is_timed) {
@@ -156,7 +156,7 @@ void bcm_receive(const struct item *item, int index) {
     }
 }
 
-/* No frame came in time. With RX_ANNOUNCE_RESUME the next frame counts as new. */
+/* Reports that no frame has arrived in time. With RX_ANNOUNCE_RESUME the next frame then counts as new. */
 static void time_out(struct bcm_task *task) {
     if (task->head.flags & RX_ANNOUNCE_RESUME) {
         memset(task->last, 0, (task->head.nframes ? task->head.nframes : 1) * sizeof *task->last);

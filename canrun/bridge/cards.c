@@ -1,4 +1,5 @@
-/* The interfaces of a keeper: the server's facts about each, and counts that follow only from error message frames. */
+/* The interfaces of a keeper: the facts that the server reports about each one, and counts that the keeper makes from
+ * error message frames. */
 #define _GNU_SOURCE
 #include "cards.h"
 
@@ -22,7 +23,7 @@ static void lose(struct card *card) {
     card->fd = -1;
 }
 
-/* ---- messages of the server ---- */
+/* ---- messages from the server ---- */
 
 static uint32_t state_of(const char *word) {
     static const char *const words[] = {"active", "warning", "passive", "off", "down"};
@@ -46,7 +47,7 @@ static void set_state(struct card *card, uint32_t state) {
     }
 }
 
-/* The state that an error message frame reports, as defined in linux/can/error.h. */
+/* Returns the state that an error message frame reports, as defined in linux/can/error.h. */
 static uint32_t state_said(const struct canfd_frame *frame) {
     const uint8_t passive = CAN_ERR_CRTL_RX_PASSIVE | CAN_ERR_CRTL_TX_PASSIVE;
     const uint8_t warning = CAN_ERR_CRTL_RX_WARNING | CAN_ERR_CRTL_TX_WARNING;
@@ -57,13 +58,14 @@ static uint32_t state_said(const struct canfd_frame *frame) {
                                                : CAN_STATE_ERROR_ACTIVE;
 }
 
-/* Counts an error, as drivers do, and changes to a worse state, as in can_change_state of the kernel. */
+/* Counts an error in the same way as CAN drivers, and sets the state. As in can_change_state of the kernel, a new state
+ * is counted only if it is worse. */
 static void count(struct card *card, const struct canfd_frame *frame) {
     struct link_facts *facts = &card->facts;
     facts->bus_errors += (frame->can_id & CAN_ERR_BUSERROR) != 0;
     facts->lost_arbitrations += (frame->can_id & CAN_ERR_LOSTARB) != 0;
     if (frame->can_id & CAN_ERR_RESTARTED) {
-        facts->restarts += !card->was_down; /* An interface that is set up has not restarted. */
+        facts->restarts += !card->was_down; /* Setting an interface up does not count as a restart. */
         card->was_down = false;
     }
     if (frame->can_id & (CAN_ERR_BUSOFF | CAN_ERR_RESTARTED | CAN_ERR_CRTL)) {
@@ -104,7 +106,7 @@ static void handle(struct card *card, const char *text) {
     }
 }
 
-/* Handles the complete messages in the input; the rest stays there. */
+/* Handles the complete messages in the input buffer. An incomplete message stays there. */
 static void handle_input(struct card *card) {
     char *at = card->input, *end = at + card->have, *last;
     while ((last = memchr(at, '>', (size_t)(end - at)))) {
@@ -133,7 +135,8 @@ void card_read(struct card *card) {
     }
 }
 
-/* Replies of the server may overtake items that had been queued before them. */
+/* Returns whether the reply and all items that were queued before it have arrived. A reply of the server may overtake
+ * such items. */
 static bool is_whole(const struct card *card) {
     return card->is_answered && card->items >= card->queued;
 }
@@ -169,7 +172,7 @@ static struct card *refuse(struct link_reply *why, int error, const char *text) 
     return NULL;
 }
 
-/* Whether there were errors before this session; the keeper could not count them. */
+/* Returns whether errors occurred before this session began. The keeper could not count them. */
 static bool had_errors(const struct link_facts *facts) {
     bool is_fresh = facts->state == CAN_STATE_ERROR_ACTIVE || facts->state == CAN_STATE_STOPPED;
     return !is_fresh || facts->tec || facts->rec || facts->lost;
@@ -235,8 +238,8 @@ static int command(struct card *card, const char *text, struct link_reply *why) 
     return why->error;
 }
 
-/* An older server has no command that takes an interface off the bus, so the interface stays on it. If it is bus off it
- * restarts, as if it had been set up again. */
+/* Handles a server that is too old to have a command for taking an interface down. The interface stays on the bus; if
+ * it is bus off, it restarts. */
 static int stay_up(struct card *card, struct link_reply *why) {
     why->error = 0;
     snprintf(why->text, sizeof why->text,

@@ -1,5 +1,5 @@
-/* Declarations that the files of the keeper share; see ../shared/link.h. The keeper is the bridge's program, with a
- * listening socket in place of a program's socket. A card is an interface for which the keeper has a session. */
+/* Declarations that the files of the keeper share; see ../shared/link.h. The keeper is the bridge program, started with
+ * a listening socket in place of a program's socket. A card is an interface for which the keeper has a session. */
 #ifndef CARDS_H
 #define CARDS_H
 
@@ -13,34 +13,36 @@
 struct card {
     int fd; /* -1: the server is gone */
     struct link_facts facts;
-    uint64_t restart_at;  /* by the clock, or NEVER */
-    bool is_answered;     /* the last request has its reply */
-    unsigned long items;  /* the items that have come */
-    unsigned long queued; /* the items that the server had for this session at the last request */
-    uint32_t said;        /* the state by the items that have come */
-    bool was_down;        /* the interface was down since its last restart */
+    uint64_t restart_at;  /* when to restart the interface, by the clock, or NEVER */
+    bool is_answered;     /* the server has replied to the last request */
+    unsigned long items;  /* how many items have arrived */
+    unsigned long queued; /* how many items the server had queued for this session at the last request */
+    uint32_t said;        /* the state according to the items that have arrived */
+    bool was_down;        /* the interface has been down since its last restart */
     bool has_news;        /* the state has changed, and the watchers do not know it yet */
-    char refusal[128];    /* the refusal of the last command */
+    char refusal[128];    /* why the last command was refused */
     size_t have;
     char input[4096];
 };
 #define NEVER UINT64_MAX
 
-/* Returns the card of this interface; NULL if it has no card. With `opens` it makes the card; then NULL means an error,
- * and `why` has the reason. */
+/* Returns the card of this interface, or NULL if it has none. If `opens`, it creates a missing card; NULL then means an
+ * error, and `why` has the reason. */
 struct card *card_of(int index, bool opens, struct link_reply *why);
 
-/* Sends these commands to the server, and asks for its facts about the interface. False if the server does not
+/* Sends these commands to the server, and asks it for the facts of the interface. Returns false if the server does not
  * reply. */
 bool card_ask(struct card *card, const char *commands);
 
-/* Reads the server's messages that are there. */
+/* Reads the messages that the server has already sent. */
 void card_read(struct card *card);
 
-/* Sets an interface up or down; its state must be known. Returns 0, or an errno with the reason in `why`. */
+/* Sets an interface up or down. The state of the interface must be known. Returns 0, or an errno with the reason in
+ * `why`. */
 int card_set_up(struct card *card, bool is_up, struct link_reply *why);
 
-/* Makes the interface restart so many milliseconds after bus off; 0: it does not restart by itself. */
+/* Makes the interface restart this many milliseconds after it goes bus off. If the number is 0, the interface does not
+ * restart by itself. */
 void card_set_restart(struct card *card, uint32_t milliseconds);
 
 #endif

@@ -1,4 +1,4 @@
-/* The socket's error, like sk_err of the kernel: one call returns the last error. */
+/* The error of the socket, like sk_err in the kernel: it is returned by one call, which clears it. */
 #include "bridge.h"
 
 static int socket_error;

@@ -6,8 +6,8 @@
 #include <string.h>
 #include <sys/socket.h>
 
-/* The size of the queue of received frames: nothing can be sent while the server's messages are read. A read brings at
- * most 1,024 frames. */
+/* The size of the queue of received frames. Frames are queued because nothing can be sent while messages of the server
+ * are being read. One read returns at most 1,024 frames. */
 #define WAITING 8192
 
 struct isotp isotp = {
@@ -21,11 +21,11 @@ struct isotp isotp = {
 static struct item waiting[WAITING];
 static unsigned first_waiting, end_waiting;
 
-/* The reply pipe of the write that waits for the end of its message, or NOBODY. */
+/* The reply pipe of the write that is waiting until its message has been sent, or NOBODY. */
 static int waits_for_end = NOBODY;
 static size_t sent_length;
 
-/* Writes that wait for the end of an earlier message, the oldest first. */
+/* The writes that wait until an earlier message has been sent, the oldest first. */
 #define TURNS 64
 struct turn {
     struct turn *next;
@@ -89,7 +89,7 @@ uint64_t isotp_last_number(void) {
 
 /* ---- options ---- */
 
-/* The address of an option, and its size. */
+/* Returns the address of an option's value, and its size. */
 static void *place_of(int option, size_t *size) {
     switch (option) {
     case CAN_ISOTP_OPTS: *size = sizeof isotp.options; return &isotp.options;
@@ -156,12 +156,12 @@ static int isotp_getsockopt(int option, void *room, uint32_t *length) {
     return 0;
 }
 
-/* Whether this is an identifier without other bits. */
+/* Returns whether this is an identifier with no other bits set. */
 static bool is_identifier(canid_t id) {
     return id == (id & (id & CAN_EFF_FLAG ? CAN_EFF_FLAG | CAN_EFF_MASK : CAN_SFF_MASK));
 }
 
-/* A filter that passes only this identifier. */
+/* Returns a filter that passes only frames with this identifier. */
 static struct can_filter only(canid_t id) {
     canid_t mask = (id & CAN_EFF_FLAG ? CAN_EFF_MASK : CAN_SFF_MASK) | CAN_EFF_FLAG | CAN_RTR_FLAG;
     return (struct can_filter){id, mask};
@@ -184,7 +184,7 @@ static int isotp_bind(const struct sockaddr_can *address) {
     }
     isotp.rx_id = rx_id;
     isotp.tx_id = tx_id;
-    /* The socket's own frames come back once they were on the bus. */
+    /* The socket receives its own frames too, after they were sent on the bus. */
     struct can_filter wanted[] = {only(tx_id), only(rx_id)};
     int error = raw_want(wanted, is_to_all ? 1 : 2);
     raw_want_fd(isotp.link.mtu == CANFD_MTU);
@@ -207,7 +207,8 @@ static void isotp_receive(const struct item *item, int index) {
     }
 }
 
-/* Starts a message. If the write waits for the end, returns SENT_LATER and keeps the pipe. */
+/* Starts to send a message. If the write waits until the message has been sent, it keeps the reply pipe and returns
+ * SENT_LATER. */
 static int start(const char *data, size_t length, int reply_to) {
     int error = error_take();
     error = error ? refused(error, "the message before did not get through") : isotp_send_start(data, length);
@@ -219,7 +220,7 @@ static int start(const char *data, size_t length, int reply_to) {
     return error;
 }
 
-/* Queues a write until the messages before it are over. */
+/* Queues a write until the messages before it have been sent. */
 static int queue(const char *data, size_t length, int reply_to) {
     struct turn *turn = malloc(sizeof *turn + length), **last = &turns;
     if (!turn) {
@@ -265,7 +266,7 @@ void isotp_send_done(int error) {
     }
 }
 
-/* Removes a write from the queue, and replies to it. */
+/* Removes a write from the queue and replies to it. */
 static void leave(struct turn **place, int error) {
     struct turn *turn = *place;
     *place = turn->next;
@@ -292,7 +293,7 @@ static bool isotp_takes_requests(void) {
     return turn_count < TURNS;
 }
 
-/* Starts the next writes of the queue. */
+/* Starts the next writes in the queue. */
 static void start_next(void) {
     while (turns && !isotp_is_sending()) {
         struct turn *turn = turns;
@@ -306,7 +307,7 @@ static void start_next(void) {
     }
 }
 
-/* Handles a received frame: the echo of a frame from this socket, or a frame for this socket. */
+/* Handles a received frame: the echo of a frame that this socket sent, or a frame for this socket. */
 static void take_item(const struct item *item) {
     if (item->message_flags & MSG_CONFIRM) {
         isotp_send_echo(item->number);

@@ -1,4 +1,4 @@
-/* The common part of the files of CAN_ISOTP (ISO 15765-2). The rules are those of net/can/isotp.c of the kernel. */
+/* Declarations for CAN_ISOTP (ISO 15765-2). The rules are those of net/can/isotp.c in the kernel. */
 #ifndef ISOTP_H
 #define ISOTP_H
 
@@ -6,9 +6,10 @@
 
 #include <linux/can/isotp.h>
 
-/* The longest message, as in the kernel. */
+/* The maximum length of a message in bytes, as in the kernel. */
 #define ISOTP_LONGEST 66000
-/* How many seconds the other end may be silent, and how many a frame may take to reach the bus. */
+/* How many seconds the other end may be silent, and how many seconds a frame may take until it has been sent on the
+ * bus. */
 #define ISOTP_TIMEOUT 1
 #define ISOTP_ECHO_TIMEOUT 2
 
@@ -22,52 +23,53 @@ struct isotp {
 };
 extern struct isotp isotp;
 
-/* Returns the flag for messages to all nodes, without flow control: one of the two flags, or 0. */
+/* Returns the flag of a socket that sends to all nodes, without flow control: one of these two flags, or 0. */
 #define ALL_BROADCAST (CAN_ISOTP_SF_BROADCAST | CAN_ISOTP_CF_BROADCAST)
 uint32_t isotp_broadcast(void);
-/* How many bytes of a frame the address takes: 0 or 1. */
+/* Returns how many bytes of a frame the address takes: 0 or 1. */
 unsigned isotp_address_size(void);
-/* The padded length of a frame that holds so many bytes. */
+/* Returns the padded length of a frame that holds this many bytes. */
 unsigned isotp_padded(unsigned length);
-/* Whether a received frame is padded from this byte on, as the options demand. */
+/* Returns whether a received frame is padded from this byte on in the way that the options require. */
 bool isotp_is_well_padded(const struct canfd_frame *frame, unsigned from);
-/* Sends a frame. With --wait the frame may wait for room; then the result is SENT_LATER. */
+/* Sends a frame. With --wait the frame may wait for room; the result is then SENT_LATER. */
 int isotp_put(const struct canfd_frame *frame, void (*done)(const struct later *later, int error));
-/* The number of the frame sent last. */
+/* Returns the number of the frame that was sent last. */
 uint64_t isotp_last_number(void);
 
 /* ---- isotp_timer.c ---- */
 
 struct isotp_timer {
-    unsigned steps;  /* remaining steps */
+    unsigned steps;  /* how many steps remain */
     uint64_t due;    /* when this step should be over, by the clock; 0: the timer is off */
-    unsigned rounds; /* how many questions the server has answered since then, if it was asked */
+    unsigned rounds; /* how many questions the server was asked after `due` */
 };
 void isotp_timer_start(struct isotp_timer *timer, unsigned seconds);
 void isotp_timer_stop(struct isotp_timer *timer);
-/* Whether the timer has just run out. */
+/* Returns whether the timer has just expired. */
 bool isotp_timer_is_over(struct isotp_timer *timer);
 
 /* ---- isotp_send.c ---- */
 
-/* Begins to send a message; returns an errno. The sender is busy until isotp_send_done reports the end. */
+/* Starts to send a message. Returns an errno, or 0. The sender is busy until it calls isotp_send_done. */
 int isotp_send_start(const char *data, size_t length);
 bool isotp_is_sending(void);
-/* Gives the message up, without calling isotp_send_done. */
+/* Abandons the message without calling isotp_send_done. */
 void isotp_send_abort(void);
-/* Notes that the frame with this number, which this socket has sent, was on the bus. */
+/* Handles the echo of a frame that this socket has sent, after the frame with this number was sent on the bus. */
 void isotp_send_echo(uint64_t number);
 void isotp_send_flow_control(const struct canfd_frame *frame);
-/* Sends the frames that are due. Returns when the next is due, by the clock, or 0. */
+/* Sends the frames that are due. Returns when the next frame is due, by the clock, or 0. */
 uint64_t isotp_send_due(void);
-/* Called at the end of a message, with an errno, or 0 if its last frame was on the bus. This function is in isotp.c. */
+/* Called at the end of a message, with 0 if the last frame was sent on the bus, or else with an errno. This function is
+ * in isotp.c. */
 void isotp_send_done(int error);
 
 /* ---- isotp_receive.c ---- */
 
 void isotp_receive_frame(const struct canfd_frame *frame, uint64_t moment);
 bool isotp_is_receiving(void);
-/* Gives up a message whose frames have stopped. Returns when the message would be given up, by the clock, or 0. */
+/* Abandons a message if its next frame has not arrived in time. Returns when that time ends, by the clock, or 0. */
 uint64_t isotp_receive_due(void);
 
 #endif

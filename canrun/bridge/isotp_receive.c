@@ -1,4 +1,4 @@
-/* CAN_ISOTP: puts received frames together to a message, and sends flow control frames. */
+/* CAN_ISOTP: assembles received frames into messages, and sends flow control frames. */
 #include "isotp.h"
 
 #include <errno.h>
@@ -29,7 +29,7 @@ static void give_up(int error) {
     error_set(error);
 }
 
-/* As in the kernel, a flow control frame that could not be sent is not reported. */
+/* Ignores the result of a flow control frame. As in the kernel, a frame that could not be sent is not reported. */
 static void flow_control_sent(const struct later *later, int error) {
     (void)later;
     (void)error;
@@ -56,7 +56,7 @@ static void receive_single(const struct canfd_frame *frame, uint64_t moment) {
     isotp_timer_stop(&rx.timer);
     if (frame->len > CAN_MAX_DLEN) {
         if (length) {
-            return; /* The length of a long frame has a separate byte. */
+            return; /* A frame of more than 8 bytes has its length in a separate byte. */
         }
         length = frame->data[front++];
     }

@@ -1,4 +1,4 @@
-/* CAN_ISOTP: cuts a message into frames, and sends them at the pace that the receiver asks for. */
+/* CAN_ISOTP: splits a message into frames, and sends them at the pace that the receiver asks for. */
 #include "isotp.h"
 
 #include <errno.h>
@@ -6,20 +6,21 @@
 
 enum { SINGLE = 0x00, FIRST = 0x10, CONSECUTIVE = 0x20 };
 enum { CONTINUE, WAIT, OVERFLOW_ };
-/* The longest message with a length of 12 bits. */
+/* The maximum length of a message whose length field has 12 bits. */
 #define SHORT_LENGTH 4095
 
-/* No frame is on its way: the frame waits for room, or could not be sent. */
+/* A frame number that no frame has: the frame is still waiting for room, or could not be sent. */
 #define NO_FRAME UINT64_MAX
 
 static struct {
-    /* The sender waits for flow control, the first or another; for the echo of a frame; or for the end of a pause. */
+    /* The sender waits for the first flow control frame (WAITS_FIRST), for another one (WAITS), for the echo of a frame
+     * (SENDING), or for the end of a pause (PAUSES). */
     enum { IDLE, WAITS_FIRST, WAITS, SENDING, PAUSES } state;
     char data[ISOTP_LONGEST];
     size_t at, length;
-    unsigned number, block, in_block; /* the next number; frames until flow control, and since the last one */
+    unsigned number, block, in_block; /* the next sequence number; frames in a block, and in this block so far */
     uint64_t frame;                   /* the number of the frame whose echo is due */
-    uint64_t gap, next;               /* the pause before a frame, and its end */
+    uint64_t gap, next;               /* the length of the pause before a frame, and when the pause ends */
     struct isotp_timer timer;         /* the timer for the echo or for flow control */
 } tx;
 
@@ -33,12 +34,13 @@ static void end(int error) {
     isotp_send_done(error);
 }
 
-/* A frame has entered the transmit queue. Its echo or its reply must now come in time. */
+/* Starts the timer after a frame has entered the transmit queue. Its echo, or the reply to it, must arrive in time. */
 static void begin_waiting(void) {
     isotp_timer_start(&tx.timer, tx.state == SENDING ? ISOTP_ECHO_TIMEOUT : ISOTP_TIMEOUT);
 }
 
-/* A frame that could not be sent has no echo; this ends the message, as in the kernel. */
+/* Called when a frame that had waited for room was sent, or could not be sent. In the latter case its missing echo ends
+ * the message, as in the kernel. */
 static void sent_late(const struct later *later, int error) {
     (void)later;
     tx.frame = error ? NO_FRAME : isotp_last_number();
@@ -51,7 +53,7 @@ void isotp_send_abort(void) {
     room_forget(sent_late);
 }
 
-/* Sends a frame of the message. The state is set before the frame is sent, because the reply may come at once. */
+/* Sends a frame of the message. The state is set before the frame is sent, because the reply may arrive at once. */
 static int put(const struct canfd_frame *frame, int state) {
     tx.state = state;
     tx.frame = NO_FRAME;
@@ -67,7 +69,7 @@ static int put(const struct canfd_frame *frame, int state) {
     return error;
 }
 
-/* Sends the first or only frame of a message. If the frame is refused, so is the message. */
+/* Sends the first or only frame of a message. If the frame is refused, the message is abandoned. */
 static int put_first(const struct canfd_frame *frame, int state) {
     int error = put(frame, state);
     if (error) {
@@ -76,7 +78,7 @@ static int put_first(const struct canfd_frame *frame, int state) {
     return error;
 }
 
-/* Fills a frame with the next data after the protocol's bytes. */
+/* Fills a frame with the next data of the message. The data begin after `front` bytes, which are for the protocol. */
 static void fill(struct canfd_frame *frame, unsigned front) {
     size_t part = MIN(tx.length - tx.at, (size_t)isotp.link.tx_dl - front);
     bool pads = isotp.options.flags & CAN_ISOTP_TX_PADDING;
@@ -140,7 +142,7 @@ int isotp_send_start(const char *data, size_t length) {
     return length <= single ? send_single() : send_first();
 }
 
-/* The pause that a receiver asks for (STmin). Reserved values mean the longest pause. */
+/* Returns the pause that a receiver asks for with STmin, in nanoseconds. A reserved value means the longest pause. */
 static uint64_t separation(uint8_t stmin) {
     if (isotp.options.flags & CAN_ISOTP_FORCE_TXSTMIN) {
         return isotp.tx_stmin;
@@ -151,7 +153,8 @@ static uint64_t separation(uint8_t stmin) {
     return stmin <= 0x7F ? stmin * 1000000ull : (stmin - 0xF0) * 100000ull;
 }
 
-/* As in the kernel, a refused frame is not sent again: its missing echo ends the message. */
+/* Sends the next consecutive frame. As in the kernel, a refused frame is not sent again, and its missing echo ends the
+ * message. */
 static void send_consecutive(void) {
     unsigned address = isotp_address_size();
     struct canfd_frame frame;

@@ -9,14 +9,14 @@
 
 static struct j1939_socket own = {.pgn = J1939_NO_PGN, .from = J1939_NO_ADDR, .to = J1939_NO_ADDR};
 static int own_index;               /* the interface that the socket is bound to */
-static uint32_t pgn = J1939_NO_PGN; /* the PGN of messages whose address has none */
+static uint32_t pgn = J1939_NO_PGN; /* the PGN of a message whose address contains no PGN */
 static uint8_t priority = 6;
 static struct j1939_filter *filters;
 static size_t filter_count;
 
 /* ---- addresses ---- */
 
-/* Whether a PGN with a destination has 0 in the destination's place. */
+/* Returns false if a PGN has a destination byte that is not 0. */
 static bool is_clean(uint32_t number) {
     return !is_pgn(number) || !has_destination(number) || !(number & 0xff);
 }
@@ -28,13 +28,13 @@ static int check_address(const struct sockaddr_can *address) {
     return is_clean(address->can_addr.j1939.pgn) ? 0 : refused(EINVAL, "the group has a destination in its number");
 }
 
-/* Sends the socket's address and filters to the host. */
+/* Sends the address and filters of the socket to the host. */
 static int change(void) {
     const struct j1939_ask ask = {.kind = ASK_CHANGE, .socket = own};
     return link_fd() < 0 ? 0 : link_ask(&ask, filters, filter_count * sizeof *filters);
 }
 
-/* Binds the socket at the host. A host that is just ending counts as none. */
+/* Binds the socket in the host. A host that is just ending counts as no host. */
 static int join(int index) {
     char name[IFNAMSIZ];
     if (!interface_name(index, name)) {
@@ -180,7 +180,7 @@ static bool set_socket(int option, int number) {
 
 /* ---- writes ---- */
 
-/* The checks that come before all others in a write. */
+/* Checks a write. These checks come before all others. */
 static int check_write(const struct wire_j1939 *head) {
     const struct sockaddr_can *to = &head->address;
     bool is_to_all = head->has_address ? !to->can_addr.j1939.name && to->can_addr.j1939.addr == J1939_NO_ADDR
@@ -234,9 +234,9 @@ static int j1939_sendmsg(const struct wire_request *request, const char *data, s
     return writes_add(request, &way, head.size, data, length, reply_to);
 }
 
-/* ---- messages of the host ---- */
+/* ---- messages from the host ---- */
 
-/* Messages without data. Their datagrams are empty, so the library asks for their ways. */
+/* Received messages without data. Their datagrams are empty, so the library asks for their source and destination. */
 #define EMPTIES 64
 static struct wire_empty empties[EMPTIES];
 static unsigned first_empty, empty_count;
@@ -254,7 +254,7 @@ static void take_message(const struct j1939_told *told, const char *data, size_t
     }
 }
 
-/* The server or the host is gone: the socket has an error, and is no longer bound. */
+/* Called when the server or the host is gone: the socket gets an error and is no longer bound. */
 static void leave(void) {
     link_close();
     if (own_index) {
@@ -301,7 +301,7 @@ static int64_t j1939_due(void) {
     return -1;
 }
 
-/* Makes room in the socket for the longest message. */
+/* Makes the socket's buffer large enough for the longest message. */
 static void open_socket(void) {
     const int room = WIRE_LARGEST_J1939;
     setsockopt(PROGRAM, SOL_SOCKET, SO_SNDBUF, &room, sizeof room);
@@ -344,7 +344,7 @@ static int j1939_request(const struct wire_request *request, int reply_to, struc
         if (error == ECONNREFUSED) {
             memcpy(data, &name, reply->length = length);
         }
-        /* Bind reports all other errors of the index. */
+        /* The bind request reports all other errors of this interface index. */
         return error == EACCES || error == EMFILE ? error : 0;
     default: return refused(EINVAL, "library and bridge are not of the same version");
     }

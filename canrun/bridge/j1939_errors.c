@@ -1,4 +1,5 @@
-/* The error queue of a J1939 socket: results of its messages, and of messages that it receives. */
+/* The error queue of a J1939 socket. Its entries are about messages that the socket sends, and about messages that it
+ * receives. */
 #include "j1939.h"
 
 #include <linux/net_tstamp.h>
@@ -6,9 +7,9 @@
 #include <unistd.h>
 #include <poll.h>
 
-/* The kernel's limit for a socket of the usual size. */
+/* The maximum number of entries. The kernel has the same limit for a socket of the usual size. */
 #define MOST 256
-/* The maximum number of pipes that wait for an error. */
+/* The maximum number of pipes on which processes wait for an error. */
 #define WATCHERS 64
 
 bool errors_are_on;
@@ -66,7 +67,7 @@ void errors_show(void) {
     }
 }
 
-/* Removes the pipes that no process reads any more. */
+/* Removes the pipes that no process reads any longer. */
 static void forget_gone(void) {
     unsigned kept = 0;
     for (unsigned i = 0; i < watcher_count; i++) {

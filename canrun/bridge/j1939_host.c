@@ -1,5 +1,6 @@
-/* The host of an interface: a process that its J1939 sockets share, with one session of the server. The library starts
- * it for the first socket; their bridges connect to its abstract name. It ends with the last socket. */
+/* The host of an interface: a process that the J1939 sockets of the interface share, with one session with the server.
+ * The library starts the host for the first socket, and the bridges of the sockets connect to its abstract name. The
+ * host ends after the last socket is closed. */
 #define _GNU_SOURCE
 #include "j1939_host.h"
 
@@ -13,10 +14,11 @@
 #include <unistd.h>
 
 #define MEMBERS 1000
-/* The size of the queue of received frames: nothing can be sent while the server's messages are read. */
+/* The size of the queue of received frames. Frames are queued because nothing can be sent while messages of the server
+ * are being read. */
 #define WAITING 8192
-/* How many questions the server must answer before something is given up. In that time a frame and its reply would have
- * come. So a frame that was on the bus in time is not missed on a busy machine. */
+/* How many questions the server must answer before a transfer or a claim is timed out. A frame and the reply to it
+ * would arrive in that time, so a frame that was on the bus in time is not missed on a busy machine. */
 #define ROUNDS 10
 #define PAUSE MILLISECOND
 
@@ -29,7 +31,7 @@ static bool asks_for_claims(const struct wire_way *way, const uint8_t *data, siz
     return way->pgn == J1939_PGN_REQUEST && length >= 3 && number_at(data, 3) == J1939_PGN_ADDRESS_CLAIMED;
 }
 
-/* A socket's claim: the address must be free of other addresses that the name had. */
+/* Checks the address claim of a socket, and takes away any other address that the name had. */
 static int resolve_claim(const struct wire_way *way, const uint8_t *data, size_t length) {
     uint64_t name = 0;
     memcpy(&name, data, MIN(length, sizeof name));
@@ -83,7 +85,8 @@ int host_put(const struct wire_way *way, const uint8_t *data, size_t length, uin
     return error;
 }
 
-/* Finds the names of a received frame. A claim contains its name; the address is noted. */
+/* Sets the names of a received frame's source and destination. An address claim contains its name; the claimed address
+ * is recorded. */
 static void name_heard(struct heard *heard) {
     struct wire_way *way = &heard->way;
     if (way->pgn != J1939_PGN_ADDRESS_CLAIMED) {
@@ -150,10 +153,10 @@ static void take_waiting(void) {
 
 /* ---- time ---- */
 
-/* All frames that were on the bus before this moment have been handled. */
+/* All frames that were on the bus before this time have been handled. */
 static uint64_t known;
 
-/* Asks the server for the frames until now. Returns how many nanoseconds to wait before the next look. */
+/* Asks the server for the frames up to now. Returns how many nanoseconds to wait before the next call. */
 static int64_t learn(uint64_t now) {
     static uint64_t asked_at;
     static unsigned rounds;
@@ -170,14 +173,14 @@ static int64_t learn(uint64_t now) {
         session_ask_all(sessions[0]);
     }
     if (now - asked_at > PATIENCE * SECOND) {
-        rounds = 0; /* It does not wait for a server that does not reply. */
+        rounds = 0; /* Give up waiting for a server that does not reply. */
         known = now;
         return 0;
     }
     return session_has_all(sessions[0]) ? 0 : sessions[0]->is_asked ? (int64_t)SECOND : (int64_t)PAUSE;
 }
 
-/* Does the work that is due. Returns the nanoseconds until more is due, or -1. */
+/* Does the work that is due. Returns the nanoseconds until more work is due, or -1. */
 static int64_t host_due(void) {
     while (session_count) {
         take_waiting();
@@ -221,7 +224,7 @@ bool host_is_asked(void) {
            !memcmp(name.sun_path + 1, J1939_NAME, sizeof J1939_NAME - 1);
 }
 
-/* The interface's name is the end of the socket's name. */
+/* Returns the index of the interface, whose name is the last part of the socket's name. */
 static int interface_asked(void) {
     struct sockaddr_un name = {0};
     socklen_t length = sizeof name - 1;
@@ -230,7 +233,7 @@ static int interface_asked(void) {
     return slash ? interface_index(slash + 1) : 0;
 }
 
-/* The listening socket for bridges, until the last bridge has left. */
+/* The listening socket to which bridges connect, or -1 after the last bridge has left. */
 static int door = PROGRAM;
 
 void host_close(void) {
@@ -240,7 +243,7 @@ void host_close(void) {
     door = -1;
 }
 
-/* Opens the interface for all extended frames, including its own. */
+/* Opens a session with the interface that receives all extended frames, including those that the host sends. */
 static int open_interface(void) {
     const struct can_filter all = {CAN_EFF_FLAG, CAN_EFF_FLAG | CAN_RTR_FLAG};
     raw_want_own();
@@ -248,7 +251,7 @@ static int open_interface(void) {
     return error ? error : sessions_bind(interface_asked());
 }
 
-/* Accepts a bridge, only from the user who has started this process. */
+/* Accepts the connection of a bridge, but only from the user who started this process. */
 static void let_in(void) {
     struct ucred peer = {0};
     int fd = accept4(door, NULL, NULL, SOCK_CLOEXEC | SOCK_NONBLOCK);
@@ -311,8 +314,8 @@ static void wait_for_all(int64_t nanoseconds) {
     }
 }
 
-/* Like the kernel, it gives up a message that was being received when the last socket was closed only after its
- * timeout. */
+/* Waits until the remaining transfers have ended. If a message was being received when the last socket was closed, it
+ * is abandoned only after its timeout, as in the kernel. */
 static void end_transfers(void) {
     while (!members && transfers_go_on() && !sessions_ended()) {
         first_waiting = end_waiting;

@@ -4,7 +4,7 @@
 
 #include "j1939.h"
 
-/* A socket of this interface. */
+/* A J1939 socket of this interface. */
 struct member {
     struct member *next;
     int fd;
@@ -16,12 +16,12 @@ struct member {
     struct told *backlog;   /* messages for which the bridge's connection had no room */
 };
 
-/* A received frame, with its source and destination. */
+/* A received frame with its source and destination. */
 struct heard {
     struct wire_way way;
-    bool is_from_us, is_to_us; /* the addresses belong to sockets of this host */
-    bool is_local;             /* sent by this interface, but not by a transfer of several frames */
-    bool is_frame;             /* a single frame; false for a message that was put together */
+    bool is_from_us, is_to_us; /* the source or destination belongs to a socket of this host */
+    bool is_local;             /* the frame was sent by this interface, but not in a transfer of several frames */
+    bool is_frame;             /* a single frame; false for a message assembled from several frames */
     const struct member *sender;
     uint64_t moment;
     size_t length;
@@ -35,14 +35,14 @@ int host_run(void);
 /* Stops accepting connections. */
 void host_close(void);
 
-/* Settles each claim whose time has passed, before the host resolves the next message: the claim becomes good, or was
- * contested. */
+/* Settles each claim whose 250 ms are over: the claim becomes valid, or was contested. This is called before the host
+ * resolves the names of the next message. */
 void host_settle_claims(void);
-/* The timestamp of the frame that is being handled, otherwise the present time, since 1970. */
+/* Returns the timestamp of the frame that is being handled, or the current time if there is none, since 1970. */
 uint64_t host_moment(void);
-/* Resolves the names of a frame and sends it. Returns an errno, or 0 and the frame's number. */
+/* Resolves the names of a frame and sends the frame. Returns 0 and the frame's number, or an errno. */
 int host_put(const struct wire_way *way, const uint8_t *data, size_t length, uint64_t *number);
-/* Resolves the names of a message before it is sent. Returns an errno, or 0. */
+/* Resolves the names of a message before the message is sent. Returns 0, or an errno. */
 int host_resolve(struct wire_way *way, const uint8_t *data, size_t length);
 
 /* ---- j1939_members.c: the sockets ---- */
@@ -50,110 +50,113 @@ int host_resolve(struct wire_way *way, const uint8_t *data, size_t length);
 extern struct member *members;
 extern unsigned member_count;
 void member_add(int fd);
-/* Handles a request of a bridge; removes the member if its bridge is gone. */
+/* Handles a request from a bridge. If the bridge is gone, it removes the member. */
 void member_serve(struct member *member);
-/* Ends the connection, and gives up the socket's messages. */
+/* Closes the connection and abandons the messages of the socket. */
 void member_remove(struct member *member);
-/* Sends messages that waited for room. */
+/* Sends the bridge the messages that had to wait for room in the connection. */
 void member_flush(struct member *member);
 void member_tell(struct member *member, const struct j1939_told *told, const void *data, size_t length);
-/* Reports that so many bytes, from the beginning of a segment on, no longer count for SO_SNDBUF. */
+/* Reports to the bridge that this many bytes, from the beginning of a segment on, no longer count against SO_SNDBUF. */
 void member_tell_freed(struct member *member, uint32_t length);
-/* Whether this socket, or any socket, receives messages with this source and destination. */
+/* Return whether this socket, or any socket, receives messages with this source and destination. */
 bool member_wants(const struct member *member, const struct wire_way *way);
 bool members_want(const struct wire_way *way);
-/* Hands a message to all sockets that receive it. */
+/* Delivers a message to all sockets that receive it. */
 void members_deliver(const struct wire_way *way, const void *data, size_t length, const struct heard *heard);
 
 /* ---- j1939_names.c: the addresses of nodes ---- */
 
-/* Notes that a socket is bound to this name and address, or no longer bound. Returns an errno, or 0. */
+/* Record that a socket is bound to this name and address, or is no longer bound. names_use returns 0, or an errno. */
 int names_use(uint64_t name, uint8_t address);
 void names_release(uint64_t name, uint8_t address);
 bool names_are_local(uint8_t address);
-/* The name that has the address, or 0; the address of the name: J1939_IDLE_ADDR if it has no address, and J1939_NO_ADDR
- * if the name is 0. */
+/* The first function returns the name that has the address, or 0. The second returns the address of the name:
+ * J1939_IDLE_ADDR if the name has no address, and J1939_NO_ADDR if the name is 0. */
 uint64_t names_at(uint8_t address);
 uint8_t names_address(uint64_t name);
-/* Notes that a claim was on the bus at this moment; and that a socket is about to send a claim: false if no socket has
- * the name. */
+/* The first function records that an address claim was on the bus at this moment. The second prepares a claim that a
+ * socket is about to send; it returns false if the name is not known. */
 void names_claimed(uint64_t name, uint8_t address, uint64_t moment);
 bool names_claim(uint64_t name, uint8_t address);
-/* Makes claims good that were not contested until this moment. Returns when the next claim is due. */
+/* Makes claims valid that were not contested up to this time. Returns when the next claim becomes valid. */
 uint64_t names_due(uint64_t known);
-/* Makes claims good that were good before the frame with this timestamp. */
+/* Makes claims valid that became valid before the frame with this timestamp. */
 void names_expire(uint64_t moment);
 
-/* ---- j1939_transfers.c: messages on their way ---- */
+/* ---- j1939_transfers.c: messages that are being sent or received ---- */
 
 enum transfer_kind { TRANSFER_TP, TRANSFER_ETP, TRANSFER_SIMPLE };
 enum transfer_state { TRANSFER_NEW, TRANSFER_ACTIVE, TRANSFER_ABORTING, TRANSFER_OVER };
 
 struct transfer {
     struct transfer *next, *next_queued;
-    struct member *owner; /* NULL: a received message, or its socket is gone */
+    struct member *owner; /* NULL: the message is received, or its socket is gone */
     bool is_sent, is_queued;
     enum transfer_kind kind;
     enum transfer_state state;
     struct wire_way way;
     bool is_from_us, is_to_us;
     uint8_t last_heard, last_sent; /* the last command in each direction */
-    uint32_t size, filled, freed;  /* bytes: of the whole message, present, and no longer needed */
+    uint32_t size, filled, freed;  /* numbers of bytes: in the whole message, present, and no longer needed */
     uint8_t *data;
     unsigned retries;
     int error;
     uint32_t key;
-    uint64_t frame; /* the number of the only frame */
-    /* Packets: all; the end of the block; sent; confirmed; received; how many a block has, and how many come before the
-     * block. */
+    uint64_t frame; /* the number of the frame, for a message of one frame */
+    /* Numbers of packets. `total`: in the message. `last`: up to the end of the block. `sent`, `confirmed` and
+     * `received`: so far. `block`: in a block. `offset`: before the current block. */
     uint32_t total, last, sent, confirmed, received, block, offset;
-    uint64_t send_at, due; /* when it continues, and when it is given up, by the clock; or NEVER */
+    uint64_t send_at, due; /* when the transfer continues, and when it is given up, by the clock; or NEVER */
 };
 
-/* Finds an active transfer between these ends, in this direction or the reverse; NULL if there is no such transfer. */
+/* Finds an active transfer between these ends, in this direction or in reverse. Returns NULL if there is none. */
 struct transfer *transfer_find(const struct wire_way *way, enum transfer_kind kind, bool is_reverse, bool is_sent);
-/* Makes a new transfer: to receive, with a zeroed buffer; or to send, without data. NULL if there is no memory. */
+/* Create a new transfer. transfer_receive makes one for receiving, with a zeroed buffer; transfer_make makes one for
+ * sending, without data. Both return NULL if there is no memory. */
 struct transfer *transfer_receive(const struct wire_way *way, enum transfer_kind kind, uint32_t size);
 struct transfer *transfer_make(const struct wire_way *way, enum transfer_kind kind, uint32_t size);
-/* Makes the transfer active; false if another is active between the same ends. */
+/* Makes the transfer active. Returns false if another transfer is active between the same ends. */
 bool transfer_activate(struct transfer *transfer);
-/* Frees a transfer to which nothing more will happen; or frees it in any case. */
+/* transfer_settle frees a transfer if nothing more will happen to it. transfer_forget frees it in any case. */
 void transfer_settle(struct transfer *transfer);
 void transfer_forget(struct transfer *transfer);
-/* After a confirmation of the receiver: a segment before the confirmed bytes no longer counts. */
+/* Called after the receiver has confirmed packets: the segments before the confirmed bytes no longer count against
+ * SO_SNDBUF. */
 void transfer_drop_old(struct transfer *transfer);
-/* Sets the timers: the transfer continues after some milliseconds, or after a pause; it is given up after some
- * milliseconds; or both timers are off. */
+/* Set the timers of a transfer. transfer_go_on: it continues after some milliseconds. transfer_try_again: it continues
+ * after a random pause. transfer_wait: it is given up after some milliseconds. transfer_stop: both timers are off. */
 void transfer_go_on(struct transfer *transfer, unsigned milliseconds);
 void transfer_try_again(struct transfer *transfer);
 void transfer_wait(struct transfer *transfer, unsigned milliseconds);
 void transfer_stop(struct transfer *transfer);
-/* Ends a transfer that is complete, or that has failed; the socket's next transfer begins. */
+/* End a transfer that is complete, or that has failed. The next transfer of the socket then begins. */
 void transfer_complete(struct transfer *transfer, const struct heard *heard);
 void transfer_end(struct transfer *transfer);
-/* Sends an abort with this reason, and waits for the end. */
+/* Sends an abort with this reason, and keeps the transfer until ABORT_TIME is over. */
 void transfer_cancel(struct transfer *transfer, uint8_t reason);
 void transfer_notice(const struct transfer *transfer, enum wire_event what);
 void transfer_tell_error(const struct transfer *transfer);
-/* Returns the socket whose transfer sent this frame; and notes that the frame was on the bus. */
+/* The first function returns the socket whose transfer sent the frame with this number. The second records that this
+ * frame was on the bus. */
 const struct member *transfers_echo(uint64_t number);
 void transfers_sent(uint64_t number);
-/* Continues transfers that are due, and gives up those that had no answer until `known`. Returns when the next is
- * due. */
+/* The first function continues transfers that are due, and gives up those without an answer until `known`; it returns
+ * when the next transfer is due. The second returns whether any transfers are left. */
 uint64_t transfers_due(uint64_t now, uint64_t known);
 bool transfers_go_on(void);
 /* Frees the transfers of a socket. */
 void transfers_leave(const struct member *owner);
 
-/* ---- j1939_queue.c: a socket's messages, one after the other ---- */
+/* ---- j1939_queue.c: the queue of a socket's messages ---- */
 
-/* Takes a message with its first bytes. Returns an errno, or 0. */
+/* Accepts a message with its first bytes. Returns 0, or an errno. */
 int queue_send(struct member *owner, const struct j1939_ask *ask, const void *data, size_t length);
-/* Adds the next bytes of a message; drops them if the message is over. */
+/* Adds the next bytes of a message. If the message has already ended, the bytes are dropped. */
 void queue_fill(struct member *owner, uint32_t key, const void *data, size_t length);
-/* If this transfer is the first of its socket, begins the next one. */
+/* If this transfer is the first in its socket's queue, starts the next one. */
 void queue_begin_next(struct transfer *transfer);
-/* Gives up all messages of the socket. */
+/* Abandons all messages of the socket. */
 void queue_leave(struct member *owner);
 
 /* ---- j1939_send.c: the frames of transfers ---- */
@@ -169,7 +172,7 @@ enum {
     ETP_OFFSET = 0x16,
     ETP_DONE = 0x17,
     ABORT = 0xff,
-    SOME_DATA = 0xff /* takes the place of the last received command */
+    SOME_DATA = 0xff /* stored in place of the last command after a data packet */
 };
 enum abort_reason {
     ABORT_BUSY = 1,
@@ -192,13 +195,14 @@ uint32_t number_at(const uint8_t *data, unsigned bytes);
 int errno_of_abort(uint8_t reason);
 /* Sends the transfer's next frame. Returns an errno, or 0. */
 int transfer_send_next(struct transfer *transfer);
-/* Sends an abort to the sender of this frame, about messages of this group; or to the other end of a transfer. */
+/* send_abort sends an abort about messages of this parameter group to the sender of a frame. transfer_send_abort sends
+ * one to the other end of a transfer. */
 void send_abort(const struct heard *heard, enum transfer_kind kind, uint8_t reason, uint32_t pgn);
 void transfer_send_abort(const struct transfer *transfer, uint8_t reason);
 
 /* ---- j1939_receive.c: received frames of transfers ---- */
 
-/* Handles a frame of a transfer; false if the frame belongs to no transfer. */
+/* Handles a frame that belongs to a transfer. Returns false if the frame belongs to no transfer. */
 bool transfers_take(const struct heard *heard);
 
 #endif

@@ -15,7 +15,7 @@
 static int fd = -1;
 static char data_room[WIRE_LARGEST_J1939];
 
-/* Messages of the host that came before the reply. */
+/* Messages from the host that arrived before the reply. */
 static struct kept {
     struct kept *next;
     struct j1939_told told;
@@ -34,7 +34,7 @@ void link_close(void) {
     fd = -1;
 }
 
-/* Continues the hash FNV-1a with a text. The texts identify the server and, in virtual time, the run. */
+/* Continues an FNV-1a hash with a text. The hashed texts identify the server and, in virtual time, the run. */
 static uint64_t hash_of(const char *text, uint64_t hash) {
     for (; text && *text; text++) {
         hash = (hash ^ (uint8_t)*text) * 0x100000001b3;
@@ -78,8 +78,8 @@ int link_open(int index, struct sockaddr_un *name, socklen_t *length) {
     return 0;
 }
 
-/* Reads the next message of the connection. Returns the length of its data; -1 if there is no message, or the host is
- * gone. */
+/* Reads the next message from the connection. Returns the length of its data, or -1 if there is no message or the host
+ * is gone. */
 static ssize_t read_one(struct j1939_told *told) {
     struct iovec parts[] = {{told, sizeof *told}, {data_room, sizeof data_room}};
     ssize_t length = recvmsg(fd, &(struct msghdr){.msg_iov = parts, .msg_iovlen = 2}, MSG_DONTWAIT);
@@ -102,7 +102,7 @@ static void keep(const struct j1939_told *told, size_t length) {
     }
 }
 
-/* Waits for the reply. */
+/* Waits for the host's reply. Returns its error. */
 static int reply(void) {
     static char why[256];
     struct j1939_told told;
@@ -115,7 +115,7 @@ static int reply(void) {
         if (length >= 0) {
             keep(&told, (size_t)length);
         } else if (fd >= 0 && poll(&(struct pollfd){fd, POLLIN, 0}, 1, PATIENCE * 1000) <= 0 && clock_now() >= until) {
-            link_close(); /* A late reply must not be taken for the reply to another request. */
+            link_close(); /* A late reply must not be mistaken for the reply to the next request. */
             return refused(ETIMEDOUT, "the host of the interface does not reply");
         }
     }

@@ -1,4 +1,4 @@
-/* The J1939 sockets of an interface, each with a connection to its bridge. */
+/* The J1939 sockets of an interface. The host has a connection to the bridge of each socket. */
 #define _GNU_SOURCE
 #include "j1939_host.h"
 
@@ -9,8 +9,8 @@
 #include <sys/uio.h>
 #include <unistd.h>
 
-/* The maximum number of messages that wait for a bridge that does not read. Further messages are lost, as at a full
- * socket. */
+/* The maximum number of messages that wait for a bridge that does not read. Further messages are lost, as for a socket
+ * whose buffer is full. */
 #define BACKLOG 1024
 
 struct member *members;
@@ -37,7 +37,7 @@ void member_add(int fd) {
     member_count++;
 }
 
-/* Unbinds the socket, and gives up its messages. */
+/* Unbinds the socket and abandons its messages. */
 static void unbind(struct member *member) {
     queue_leave(member);
     if (member->is_bound) {
@@ -111,7 +111,7 @@ static void reply(struct member *member, int error) {
     member_tell(member, &told, refusal, error ? strlen(refusal) : 0);
 }
 
-/* ---- requests of a bridge ---- */
+/* ---- requests from a bridge ---- */
 
 static int bind_member(struct member *member, const struct j1939_socket *socket) {
     if (member->is_bound) {
@@ -145,7 +145,8 @@ static int send_of(struct member *member, const struct j1939_ask *ask, const voi
     return 0;
 }
 
-/* The last socket that leaves first closes the listening socket. So a later socket does not find an outdated table. */
+/* Handles a socket that leaves. The last socket closes the listening socket first, so that a later socket does not get
+ * this host with its outdated tables. */
 static void leave(struct member *member) {
     unbind(member);
     if (member_count == 1) {

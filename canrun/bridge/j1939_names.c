@@ -1,6 +1,6 @@
-/* The names of J1939, and the addresses that their nodes have claimed, as in net/can/j1939/bus.c and address-claim.c of
- * the kernel. A claim becomes good if it is not contested for 250 ms. The host's own claims count from the moment at
- * which they were on the bus. */
+/* The names of J1939 nodes and the addresses that the nodes have claimed, as in net/can/j1939/bus.c and address-claim.c
+ * in the kernel. An address claim becomes valid if it is not contested for 250 ms. For the host's own claims this time
+ * starts when they were on the bus. */
 #include "j1939_host.h"
 
 #include <errno.h>
@@ -11,16 +11,16 @@
 struct node {
     struct node *next;
     uint64_t name;
-    uint64_t due;    /* when its claim becomes good, by the clock, or NEVER; */
-    uint64_t until;  /* the same by the timestamps of frames */
-    uint8_t address; /* the address of its last claim */
-    unsigned users;  /* sockets that are bound to the name */
+    uint64_t due;    /* when the node's claim becomes valid, by the clock, or NEVER */
+    uint64_t until;  /* the same time, by the timestamps of frames */
+    uint8_t address; /* the address that the node claimed last */
+    unsigned users;  /* how many sockets are bound to the name */
 };
 static struct node *nodes;
 
 static struct {
     struct node *node; /* the node that has this address */
-    unsigned users;    /* sockets that are bound to this address, or to the name of its node */
+    unsigned users;    /* how many sockets are bound to this address, or to the name of its node */
 } addresses[256];
 
 static struct node *find(uint64_t name) {
@@ -47,7 +47,7 @@ static bool has_address(const struct node *node) {
     return is_unicast(node->address) && addresses[node->address].node == node;
 }
 
-/* Frees a node that no socket uses, and that neither has an address nor claims one. */
+/* Frees a node that no socket uses, and that neither has nor claims an address. */
 static void forget_idle(struct node *node) {
     struct node **place = &nodes;
     if (node->users || node->due != NEVER || has_address(node)) {
@@ -118,7 +118,7 @@ bool names_claim(uint64_t name, uint8_t address) {
     return node;
 }
 
-/* The node claims this address. The address's present node keeps it only if its name is lower. */
+/* Handles the claim of this address by a node. Another node that has the address keeps it only if its name is lower. */
 static void contest(struct node *node, uint8_t address, uint64_t moment) {
     if (node->address != address) {
         take_address(node);

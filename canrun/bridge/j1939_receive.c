@@ -1,5 +1,6 @@
-/* CAN_J1939: received frames of transfers, including those of this host. As in the kernel, a sent frame counts once it
- * was on the bus. A transfer between two sockets of one interface has both a sender and a receiver here. */
+/* CAN_J1939: handles received frames of transfers, including frames that this host has sent. As in the kernel, a sent
+ * frame counts only after it was on the bus. If a transfer is between two sockets of one interface, both its sender and
+ * its receiver are here. */
 #include "j1939_host.h"
 
 #include <stddef.h>
@@ -13,7 +14,8 @@ static uint32_t group_of(const uint8_t *data) {
     return has_destination(pgn) ? pgn & 0xffff00 : pgn;
 }
 
-/* The reason for refusing a command whose group is not the transfer's group; 0: no abort is sent. */
+/* Returns the abort reason for a command whose parameter group differs from that of the transfer. If the result is 0,
+ * no abort is sent. */
 static uint8_t reason_for_group(uint8_t command) {
     switch (command) {
     case TP_RTS:
@@ -44,9 +46,9 @@ static void cancel(struct transfer *transfer, uint8_t reason) {
     transfer_cancel(transfer, reason);
 }
 
-/* ---- the beginning ---- */
+/* ---- the start of a transfer ---- */
 
-/* The reason why a transfer of this size cannot begin; 0: it can. */
+/* Returns the abort reason if a transfer of this size cannot begin, or 0 if it can. */
 static uint8_t reason_for_size(enum transfer_kind kind, uint32_t size) {
     if (kind == TRANSFER_ETP) {
         return size > ETP_LONGEST || size <= TP_LONGEST ? ABORT_FAULT : size > WIRE_LARGEST_J1939 ? ABORT_RESOURCE : 0;
@@ -85,7 +87,7 @@ static struct transfer *begin(const struct heard *heard, enum transfer_kind kind
     return transfer;
 }
 
-/* Handles a repeated request for an active transfer; false if the request has been dealt with. */
+/* Handles a repeated request for an active transfer. Returns false if nothing more is to be done for the request. */
 static bool request_again(struct transfer *transfer, const struct heard *heard) {
     if (!transfer->is_sent) {
         if (is_of_other_group(transfer, heard)) {
@@ -179,7 +181,7 @@ static void take_done(const struct heard *heard, enum transfer_kind kind, bool i
     }
 }
 
-/* An abort may come from either end. */
+/* Handles an abort, which may come from either end of the transfer. */
 static void take_abort(const struct heard *heard, enum transfer_kind kind, bool is_sent) {
     for (int is_reverse = 0; is_reverse < 2; is_reverse++) {
         struct transfer *transfer = transfer_find(&heard->way, kind, is_reverse, is_sent);
@@ -212,8 +214,8 @@ static void take_command(const struct heard *heard, enum transfer_kind kind) {
         }
         return;
     }
-    /* Frames of a receiver belong to transfers that this host sends; frames of a sender belong to those that it
-     * receives. */
+    /* A reply (CTS or DONE) that is addressed to this host belongs to a transfer that the host sends. Any other command
+     * to it belongs to a transfer that it receives. For commands from this host it is the other way round. */
     bool is_reply = command != ETP_OFFSET && command != ABORT;
     for (int side = 0; side < 2; side++) {
         bool is_sent = is_reply ? side : !side;
@@ -234,7 +236,7 @@ static void take_command(const struct heard *heard, enum transfer_kind kind) {
 
 /* ---- packets ---- */
 
-/* Whether packets may come now. */
+/* Returns whether data packets may arrive now. */
 static bool awaits_data(const struct transfer *transfer) {
     bool is_extended = transfer->kind == TRANSFER_ETP;
     switch (transfer->last_heard) {
@@ -246,7 +248,7 @@ static bool awaits_data(const struct transfer *transfer) {
     }
 }
 
-/* The number of a packet, from 0 on; UINT32_MAX if there is no room for the packet. */
+/* Returns the number of a packet, from 0 on, or UINT32_MAX if there is no room for the packet. */
 static uint32_t place_of(const struct transfer *transfer, const uint8_t *data) {
     int64_t packet = (int64_t)data[0] - 1 + transfer->offset;
     bool fits = packet >= 0 && packet <= transfer->total && transfer->received < transfer->total &&

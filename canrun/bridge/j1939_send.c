@@ -4,7 +4,8 @@
 #include <errno.h>
 #include <string.h>
 
-/* Times in milliseconds: between packets to all nodes; for a reply; for a frame to come back from the bus. */
+/* Times in milliseconds: between two packets to all nodes; for a reply; for the echo of a frame from the bus; and for
+ * the echo of a message of one frame. */
 enum { PAUSE_TO_ALL = 50, REPLY_TIME = 1250, ECHO_TIME = 250, SIMPLE_TIME = 10000 };
 
 bool is_of_transport(uint32_t pgn) {
@@ -30,7 +31,7 @@ int errno_of_abort(uint8_t reason) {
     return reason < sizeof known / sizeof *known ? known[reason] : EPROTO;
 }
 
-/* The way back to the sender of a message. */
+/* Returns the way of a reply: source and destination are swapped. */
 static struct wire_way back(const struct wire_way *way) {
     struct wire_way result = *way;
     result.name = way->to_name;
@@ -40,7 +41,7 @@ static struct wire_way back(const struct wire_way *way) {
     return result;
 }
 
-/* Sends a control frame about messages of this group; `front` are its first 5 bytes. */
+/* Sends a control frame about messages of this parameter group. `front` contains its first 5 bytes. */
 static int put_control(const struct wire_way *way, enum transfer_kind kind, const uint8_t front[5]) {
     uint8_t data[CAN_MAX_DLEN];
     struct wire_way control = *way;
@@ -109,7 +110,7 @@ static int send_offset(struct transfer *transfer) {
     return error;
 }
 
-/* Sends the next packet. */
+/* Sends the next packet of a transfer. */
 static int send_packet(struct transfer *transfer) {
     uint8_t data[CAN_MAX_DLEN];
     struct wire_way way = transfer->way;
@@ -124,7 +125,8 @@ static int send_packet(struct transfer *transfer) {
     return error;
 }
 
-/* Sends the rest of the block, as far as there are data and room; or one packet to all nodes. */
+/* Sends the remaining packets of the block, as far as there is data and room. To all nodes it sends only one packet at
+ * a time. */
 static int send_packets(struct transfer *transfer) {
     uint32_t end = is_to_all(&transfer->way) ? transfer->total : transfer->last, before = transfer->sent;
     int error = 0;

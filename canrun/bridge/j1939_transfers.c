@@ -1,17 +1,18 @@
-/* The transfers of J1939: messages of one or several frames, from and to all sockets of an interface. A socket's
- * transfers begin one after the other. Two transfers with the same ends are never active at the same time. */
+/* The transfers of J1939: messages of one or several frames, to and from all sockets of an interface. The transfers of
+ * a socket begin one after another. Two transfers between the same ends are never active at the same time. */
 #include "j1939_host.h"
 
 #include <errno.h>
 #include <stdlib.h>
 #include <string.h>
 
-/* The time for the end of an abort in milliseconds; and the pause before a refused frame is tried again, 10 to 25. */
+/* Milliseconds: how long an aborted transfer is kept, and the pause before a refused frame is sent again, which is 10
+ * to 25. */
 enum { ABORT_TIME = 500, LEAST_PAUSE = 10, PAUSES = 16, RETRIES = 100 };
 
 static struct transfer *active, **active_end = &active;
 
-/* ---- the list, and the queues of sockets ---- */
+/* ---- the list of transfers, and the queues of sockets ---- */
 
 struct transfer *transfer_make(const struct wire_way *way, enum transfer_kind kind, uint32_t size) {
     struct transfer *transfer = calloc(1, sizeof *transfer);
@@ -38,7 +39,7 @@ void transfer_drop_old(struct transfer *transfer) {
     }
 }
 
-/* Like the kernel, it reports the end only now. */
+/* Frees a transfer if nothing more will happen to it. Like the kernel, it reports the end of the transfer only now. */
 void transfer_settle(struct transfer *transfer) {
     bool is_used = transfer->is_queued || transfer->send_at != NEVER || transfer->due != NEVER ||
                    transfer->state == TRANSFER_ACTIVE || transfer->state == TRANSFER_ABORTING;
@@ -58,7 +59,8 @@ void transfer_settle(struct transfer *transfer) {
     transfer_forget(transfer);
 }
 
-/* Finished transfers keep their place until they are freed, because their timers may still run. */
+/* Adds a transfer to the list. A finished transfer stays in the list until it is freed, because its timers may still be
+ * running. */
 static void list(struct transfer *transfer) {
     transfer->next = NULL;
     *active_end = transfer;
@@ -133,14 +135,14 @@ void transfer_stop(struct transfer *transfer) {
     transfer->send_at = transfer->due = NEVER;
 }
 
-/* The pause differs each time, so that two senders do not collide again and again. */
+/* Continues a transfer after a pause. The pause varies, so that two senders do not collide again and again. */
 void transfer_try_again(struct transfer *transfer) {
     static uint32_t state = 1;
     state = state * 1664525u + 1013904223u;
     transfer_go_on(transfer, LEAST_PAUSE + (state >> 16) % PAUSES);
 }
 
-/* ---- the end ---- */
+/* ---- the end of a transfer ---- */
 
 void transfer_end(struct transfer *transfer) {
     if (!is_going_on(transfer)) {
@@ -206,7 +208,7 @@ void transfer_cancel(struct transfer *transfer, uint8_t reason) {
     }
 }
 
-/* The next frame has not come in time. */
+/* Handles a transfer whose next frame has not arrived in time. */
 static void time_out(struct transfer *transfer) {
     transfer->due = NEVER;
     if (transfer->state == TRANSFER_ABORTING) {
@@ -227,7 +229,7 @@ static void time_out(struct transfer *transfer) {
     transfer_settle(transfer);
 }
 
-/* A frame was refused, for another reason than lack of room. */
+/* Handles a frame that was refused for another reason than lack of room. */
 static void fail(struct transfer *transfer, int error) {
     if (error == ENETDOWN) {
         return; /* The transfer will time out. */
@@ -241,7 +243,7 @@ static void fail(struct transfer *transfer, int error) {
     }
 }
 
-/* ---- going on ---- */
+/* ---- continuing a transfer ---- */
 
 static void go_on(struct transfer *transfer) {
     transfer->send_at = NEVER;
@@ -286,7 +288,7 @@ void transfers_sent(uint64_t number) {
     }
 }
 
-/* Returns the first transfer that is due, or that had no answer until `known`; NULL if there is none. */
+/* Returns the first transfer that is due, or that had no answer until `known`. Returns NULL if there is none. */
 static struct transfer *next_due(uint64_t now, uint64_t known) {
     struct transfer *best = NULL;
     uint64_t soonest = NEVER;

@@ -1,5 +1,5 @@
-/* The messages of a J1939 socket's writes go to the host as far as SO_SNDBUF has room for their segments. The write
- * waits with the rest. */
+/* The writes of a J1939 socket. The bytes of a message go to the host as far as SO_SNDBUF has room for their segments,
+ * and the write waits until there is room for the rest. */
 #include "j1939.h"
 
 #include <errno.h>
@@ -9,14 +9,14 @@
 
 /* The maximum number of waiting writes. */
 #define TURNS 64
-/* The maximum number of requests that stay in the socket. */
+/* The maximum number of requests that are left in the socket. */
 #define KEPT 64
-/* How many bytes the kernel counts for a segment. Its buffer's size is a power of two, and part of the buffer is not
- * data. */
+/* The numbers from which cost_of computes how many bytes the kernel counts for a segment. The size of a kernel buffer
+ * is a power of two, and a part of the buffer does not hold data. */
 #define BUFFER_HEAD 256
 #define BUFFER_LEAST 512
 #define BUFFER_OTHER 384
-/* The smallest value of SO_SNDBUF, and the largest without privilege. */
+/* The minimum of SO_SNDBUF, and its maximum without privileges. */
 #define ROOM_LEAST 4608
 #define ROOM_MOST 212992
 
@@ -32,11 +32,11 @@ struct turn {
 static struct turn *turns;
 static unsigned turn_count;
 
-static uint32_t keys, keys_before; /* the number of messages; and its value when counting began anew */
-static unsigned pending;           /* messages that are not over yet */
+static uint32_t keys, keys_before; /* the number of messages so far, and its value when counting restarted */
+static unsigned pending;           /* how many messages have not ended yet */
 static int used, room = ROOM_MOST;
-/* The message whose rest comes with the next write. */
-static uint32_t open_key, open_left; /* the length of the rest */
+/* The key of a message whose remaining bytes come with the next write. */
+static uint32_t open_key, open_left; /* how many bytes remain */
 
 static int cost_of(uint32_t length) {
     int size = BUFFER_LEAST;
@@ -86,7 +86,7 @@ void writes_end(uint32_t key) {
     }
 }
 
-/* How many bytes of a write have room, and their cost. */
+/* Returns how many bytes of a write have room, and sets `cost` to what they count against SO_SNDBUF. */
 static size_t fitting(const struct turn *turn, int *cost) {
     size_t length = 0, left = turn->length - turn->done;
     *cost = 0;
@@ -101,7 +101,7 @@ static size_t fitting(const struct turn *turn, int *cost) {
     return length;
 }
 
-/* Sends the next bytes to the host. Returns an errno, or 0. */
+/* Sends the next bytes of a write to the host. Returns 0, or an errno. */
 static int hand_on(struct turn *turn, size_t length, int cost) {
     struct j1939_ask ask = {
         .kind = ASK_SEND, .key = turn->key, .size = turn->size, .is_first = turn->is_first, .way = turn->way};
@@ -109,7 +109,8 @@ static int hand_on(struct turn *turn, size_t length, int cost) {
     if (error && error != EBUSY) {
         return error;
     }
-    /* A message that is refused because another is active has begun, and will end. */
+    /* EBUSY means that another message is active. This message counts as begun nevertheless, and its end will be
+     * reported. */
     used += cost;
     pending += turn->is_first;
     keys += turn->is_first;
@@ -121,7 +122,8 @@ static int hand_on(struct turn *turn, size_t length, int cost) {
     return error;
 }
 
-/* Continues a write as far as there is room. Returns an errno; 0 if all bytes were sent to the host; or SENT_LATER. */
+/* Continues a write as far as there is room. Returns 0 if all bytes were sent to the host, SENT_LATER if the write has
+ * to wait, or an errno. */
 static int go_on(struct turn *turn) {
     bool is_over = false;
     while (!is_over) {
@@ -143,7 +145,7 @@ static int go_on(struct turn *turn) {
     return 0;
 }
 
-/* Replies to a write. If it has waited in vain, the result is the number of bytes sent to the host. */
+/* Replies to a write. If it has waited in vain, the result is the number of bytes that were sent to the host. */
 static void finish(const struct turn *turn, int error) {
     bool is_part = turn->done && (error == EAGAIN || error == EINTR);
     request_reply(turn->reply_to, is_part ? 0 : error, (int)turn->done | (writes_are_full(0) ? WIRE_FULL : 0));
@@ -198,7 +200,7 @@ int writes_add(const struct wire_request *request, const struct wire_way *way, u
                size_t length, int reply_to) {
     bool is_rest = request->option;
     if (is_rest && !open_left) {
-        return 0; /* As in the kernel, the rest of a message that is over is dropped. */
+        return 0; /* As in the kernel, the rest of a message that has ended is dropped. */
     }
     if (!is_rest && open_left && open_left != size) {
         return refused(EIO, "the rest of the message before has another length");

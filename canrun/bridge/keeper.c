@@ -1,4 +1,5 @@
-/* The keeper of the interfaces (see ../shared/link.h): waits for requests, its sessions and restarts. */
+/* The keeper of the interfaces (see ../shared/link.h): waits for requests, for input of its sessions, and for the time
+ * of restarts. */
 #define _GNU_SOURCE
 #include "cards.h"
 
@@ -17,7 +18,8 @@
 #include <sys/un.h>
 #include <unistd.h>
 
-/* The most interfaces that get a session when a program watches all interfaces: the server has 64 sessions. */
+/* The maximum number of interfaces that get a session when a program watches all interfaces. It is limited because the
+ * server has only 64 sessions. */
 #define WATCHED_MOST 16
 
 /* ---- changes ---- */
@@ -27,7 +29,7 @@ static int refuse(struct link_reply *reply, int error, const char *text) {
     return reply->error = error;
 }
 
-/* A requested bit rate must be the bus's own. */
+/* Checks that a requested bit rate is the bit rate of the bus. */
 static int check_rate(uint32_t asked, uint32_t rate, const char *option, struct link_reply *reply) {
     char text[sizeof reply->text];
     if (!asked || asked == rate) {
@@ -38,7 +40,8 @@ static int check_rate(uint32_t asked, uint32_t rate, const char *option, struct 
     return refuse(reply, EINVAL, text);
 }
 
-/* A bus without bit rates stays unchanged, with a note. */
+/* Checks the requested bit rates. If the bus has no bit rates, the request changes nothing and its reply contains a
+ * note. */
 static int check_rates(const struct link_request *asked, const struct link_facts *facts, struct link_reply *reply) {
     if (asked->bitrate && !facts->bitrate) {
         snprintf(reply->text, sizeof reply->text,
@@ -52,7 +55,7 @@ static int check_rates(const struct link_request *asked, const struct link_facts
     return error ? error : check_rate(asked->data_bitrate, facts->data_bitrate, "dbitrate", reply);
 }
 
-/* Each interface has FD mode, and no other mode. */
+/* Checks the requested modes. Each interface has FD mode, and no other mode. */
 static int check_modes(const struct link_request *asked, struct link_reply *reply) {
     uint32_t on = asked->modes & asked->modes_changed, off = ~asked->modes & asked->modes_changed;
     if (on & CAN_CTRLMODE_BERR_REPORTING) {
@@ -64,7 +67,7 @@ static int check_modes(const struct link_request *asked, struct link_reply *repl
     return off & CAN_CTRLMODE_FD ? refuse(reply, EOPNOTSUPP, "an interface of canbusd always carries FD frames") : 0;
 }
 
-/* As in can_changelink and can_restart_now of the kernel. */
+/* Restarts an interface under the same conditions as can_changelink and can_restart_now in the kernel. */
 static int restart(struct card *card, struct link_reply *reply) {
     if (card->facts.state == CAN_STATE_STOPPED) {
         return refuse(reply, EINVAL, "the interface is down");
@@ -93,7 +96,7 @@ static int change(struct card *card, const struct link_request *asked, struct li
     if (!error && asked->link_changed & IFF_UP) {
         error = card_set_up(card, asked->link_flags & IFF_UP, reply);
     }
-    /* Like the kernel, it reports changes of the device. */
+    /* Like the kernel, the keeper reports changes of the device as an event. */
     card->has_news |= !error && (asked->has_restart_ms || asked->restarts || asked->bitrate || asked->modes_changed);
     return error;
 }
@@ -107,7 +110,7 @@ struct watcher {
 };
 static struct watcher *watchers;
 
-/* Whether a process still has this socket. */
+/* Returns whether a process still has this socket open. */
 static bool has_socket(pid_t process, int fd) {
     struct stat own, other;
     char path[64];
@@ -125,7 +128,7 @@ static bool has_socket(pid_t process, int fd) {
     return is_found;
 }
 
-/* Closes the sockets that their processes have closed. */
+/* Drops the watchers whose processes have closed their sockets. */
 static void drop_watchers(void) {
     for (struct watcher **at = &watchers; *at;) {
         struct watcher *one = *at;
@@ -156,7 +159,7 @@ static int watch(int fd, pid_t process, struct link_reply *reply) {
     return why.error ? refuse(reply, why.error, why.text) : 0;
 }
 
-/* Sends each watcher an event through its own socket, as the library sends an answer. */
+/* Sends an event to each watcher through its own socket, in the same way as the library sends an answer. */
 static void put_event(int index, const struct card *card) {
     struct {
         struct nlmsghdr head;
@@ -172,7 +175,7 @@ static void put_event(int index, const struct card *card) {
     }
 }
 
-/* Whether the keeper has a session. */
+/* Returns whether the keeper has any session. */
 static bool has_cards(void) {
     struct link_reply ignored;
     for (int i = 0; i < INTERFACE_MOST; i++) {
@@ -185,7 +188,7 @@ static bool has_cards(void) {
 
 /* ---- requests ---- */
 
-/* Returns the present facts of several interfaces, as far as these have sessions. */
+/* Writes the current facts of the requested interfaces, except those that have no session. */
 static void look(const struct link_request *asked, struct link_reply *reply) {
     for (int i = 0; i < INTERFACE_MOST; i++) {
         struct link_reply ignored;
@@ -223,7 +226,8 @@ static void carry_out(const struct link_request *asked, int fd, pid_t process, s
     }
 }
 
-/* Reads the request of a connection, and the descriptor that may come with it. False if no request comes soon. */
+/* Reads the request from a connection, and the file descriptor that may come with it. Returns false if no request
+ * arrives within a second. */
 static bool read_request(int connection, struct link_request *request, int *fd) {
     union {
         char room[CMSG_SPACE(sizeof(int))];
@@ -242,7 +246,7 @@ static bool read_request(int connection, struct link_request *request, int *fd) 
     return length == sizeof *request;
 }
 
-/* Serves the next request, if it comes from the same user. */
+/* Accepts the next connection, and serves its request if it comes from the same user. */
 static void serve(void) {
     static struct link_reply reply;
     struct link_request request;
@@ -262,7 +266,7 @@ static void serve(void) {
 
 /* ---- the loop ---- */
 
-/* Restarts an interface if that is due, and sends its events. Returns the moment of the next restart. */
+/* Restarts an interface if its restart is due, and sends its events. Returns when the next restart is due. */
 static uint64_t do_due(int index, struct card *card) {
     if (card->restart_at <= clock_now()) {
         card->restart_at = NEVER;
@@ -281,7 +285,7 @@ static void wait_until(struct pollfd *polled, nfds_t count, uint64_t moment) {
     ppoll(polled, count, moment == NEVER ? NULL : &time, NULL);
 }
 
-/* Waits for the next event and handles it. False once the server is gone. */
+/* Waits for the next event and handles it. Returns false when the server is gone. */
 static bool do_next(void) {
     struct pollfd polled[1 + INTERFACE_MOST] = {{PROGRAM, POLLIN, 0}};
     struct card *of[1 + INTERFACE_MOST];
@@ -325,7 +329,7 @@ void keeper_run(void) {
     if (poll(&polled, 1, PATIENCE * 1000) > 0) {
         serve();
     }
-    /* Without a session the keeper would not learn that the server has ended. */
+    /* The keeper learns only from its sessions that the server has ended, so without a session it ends too. */
     while (has_cards() && do_next()) {
     }
 }

@@ -1,4 +1,4 @@
-/* The bridge of one CAN socket: its start, its loop and its end. */
+/* The bridge of one CAN socket: its start, main loop and end. */
 #define _GNU_SOURCE
 #include "bridge.h"
 #include "j1939_host.h"
@@ -13,7 +13,7 @@
 #include <sys/un.h>
 #include <unistd.h>
 
-/* The protocols, by their numbers in linux/can.h. */
+/* The protocols, indexed by their numbers in linux/can.h. */
 static const struct protocol *const protocols[CAN_NPROTO] = {
     [CAN_RAW] = &raw_protocol,
     [CAN_BCM] = &bcm_protocol,
@@ -33,7 +33,7 @@ bool protocol_is_busy(void) {
     return protocol->is_busy && protocol->is_busy();
 }
 
-/* Leaves the program's output, session and folder, so that no other process waits for the bridge. */
+/* Detaches the bridge from the program's output, session and directory, so that no process waits for the bridge. */
 static void leave_program(void) {
     sigset_t none;
     struct rlimit limit;
@@ -48,14 +48,14 @@ static void leave_program(void) {
     if (null > WIRE_MEMORY) {
         close(null);
     }
-    /* The program's limit of descriptors is not meant for the bridge. */
+    /* The program's limit on file descriptors is not meant for the bridge. */
     if (!getrlimit(RLIMIT_NOFILE, &limit)) {
         limit.rlim_cur = limit.rlim_max;
         setrlimit(RLIMIT_NOFILE, &limit);
     }
     setsid();
     if (chdir("/")) {
-        /* The folder stays in use then. */
+        /* The program's directory then stays in use. */
     }
     for (int number = 1; number < NSIG; number++) {
         signal(number, SIG_DFL);
@@ -69,8 +69,8 @@ static int64_t sooner(int64_t one, int64_t other) {
     return one < 0 ? other : other < 0 ? one : MIN(one, other);
 }
 
-/* Items may come with the verdict on a frame that is sent here. So order_due asks the sessions about them before the
- * wait. */
+/* While this runs, items may arrive together with the verdict on a frame that is sent here. So the loop repeats until
+ * order_due has asked the sessions about these items. */
 static int64_t do_due(void) {
     int64_t due;
     do {
@@ -80,19 +80,19 @@ static int64_t do_due(void) {
     return sooner(due, outbox_counts_due());
 }
 
-/* Whether an accepted message is still unsent. Frames that wait for room are given up after a while. */
+/* Returns whether an accepted message has not been sent yet. Frames that wait for room are dropped after a while. */
 static bool is_busy(uint64_t closed) {
     return protocol_is_busy() || (room_has_unasked() && clock_now() - closed < PATIENCE * SECOND);
 }
 
-/* Whether a signal has ended a waiting close: as in the kernel, the message is given up. */
+/* Returns whether a signal has ended the wait of a close. The message is then abandoned, as in the kernel. */
 static bool close_is_over(void) {
     struct pollfd polled = {close_waiter_fd(), POLLIN, 0};
     return polled.fd >= 0 && poll(&polled, 1, 0) > 0;
 }
 
-/* Serves the socket until it is closed and the accepted messages are sent. Once the server is gone the socket has an
- * error, and is no longer bound. */
+/* Serves the socket until it is closed and all accepted messages have been sent. After the server is gone, the socket
+ * has an error and is no longer bound. */
 static void serve(void) {
     uint64_t closed = 0;
     for (;;) {
@@ -112,7 +112,7 @@ static void serve(void) {
     }
 }
 
-/* Finds the protocol for this digit of the name; false if there is none. */
+/* Finds the protocol for the digit in the socket's name. Returns false if there is none. */
 static bool find_protocol(char digit) {
     protocol = digit >= '0' && digit < '0' + CAN_NPROTO ? protocols[digit - '0'] : NULL;
     return protocol;

@@ -1,15 +1,16 @@
-/* Merges the items of a socket's sessions by their timestamps. A server sends to each session separately. So an item
- * waits until no session can have an older item on its way. After the item came, each session is asked how many items
- * were queued for it, and these items have to come first. */
+/* Merges the items of a socket's sessions in the order of their timestamps. The server sends to each session
+ * separately, so an item must wait as long as another session may still deliver an older one. After an item has
+ * arrived, the bridge asks each session how many items the server had queued for it. The item is passed on when all
+ * these items have arrived. */
 #include "../shared/planted.h"
 #include "bridge.h"
 
 #include <poll.h>
 #include <stdlib.h>
 
-/* The maximum number of waiting items; beyond that, the oldest are handed over without waiting. */
+/* The maximum number of waiting items. If there are more, the items are passed on without waiting. */
 #define HELD 4096
-/* How many nanoseconds until a question that found no room is repeated. */
+/* How many nanoseconds to wait before a question is repeated that could not be sent for lack of room. */
 #define PAUSE 1000000
 
 static struct held {
@@ -19,7 +20,7 @@ static struct held {
                       has the same rank at each interface */
 } held[HELD];
 static unsigned count;
-/* A question is open, for items up to this timestamp. */
+/* Whether the sessions are being asked about items up to the timestamp `until`. */
 static bool is_open;
 static uint64_t until;
 
@@ -31,7 +32,7 @@ static int compare(const void *one, const void *other) {
     return first->rank != second->rank ? (int)(first->rank - second->rank) : first->index - second->index;
 }
 
-/* Hands over the items up to this timestamp. */
+/* Passes the items up to this timestamp to the protocol. */
 static void release(uint64_t moment) {
     unsigned done = 0;
     qsort(held, count, sizeof *held, compare);
@@ -46,7 +47,7 @@ static void release(uint64_t moment) {
     outbox_flush();
 }
 
-/* Waits if a sweep delays this frame. Returns whether the sweep loses the frame. */
+/* Waits if a sweep delays this frame. Returns whether the sweep drops the frame. */
 static bool is_lost(const struct item *item, int index) {
     static struct planted planted;
     static bool is_read;
@@ -89,7 +90,7 @@ void order_flush(void) {
     release(UINT64_MAX);
 }
 
-/* Begins to ask about all items until now. */
+/* Begins to ask all sessions about the items up to now. */
 static void ask_all(void) {
     until = 0;
     for (unsigned i = 0; i < count; i++) {

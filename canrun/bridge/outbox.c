@@ -1,5 +1,5 @@
-/* Messages on their way to the program: a ring of messages that its socket has no room for yet, and the counts of lost
- * messages. */
+/* Messages for the program: a ring buffer of messages for which the program's socket has no room yet, and the counts of
+ * lost messages. */
 #define _GNU_SOURCE
 #include "bridge.h"
 
@@ -9,38 +9,39 @@
 #include <sys/socket.h>
 
 #define RING 1048576
-/* How many messages wait for a program that has set no limit. At most as many more are in its socket. */
+/* How many messages may wait for a program that has set no limit. At most this many more are in its socket. */
 #define USUAL_ROOM 4096
-/* From here on the server keeps further items. The rest of the room is for items that come with replies to commands. */
+/* If this many messages wait, the server holds back further items. The remaining room is for items that arrive together
+ * with replies to commands. */
 #define CROWDED 2048
-/* The room for a program that has set SO_RCVBUF, and so wants frames to be lost. */
+/* The number of messages that may wait for a program that has set SO_RCVBUF, and so accepts that frames are lost. */
 #define SMALL_ROOM 64
-/* Half of the bytes that the kernel counts for a frame, as in SO_RCVBUF. */
+/* Half of the bytes that the kernel counts for one frame in SO_RCVBUF. */
 #define FRAME_ROOM 384
-/* How many messages are sent in one call. */
+/* The maximum number of messages that are sent by one system call. */
 #define BATCH 32
-/* When the server is asked for its count of lost frames: after so many frames, or so many nanoseconds after the
- * first. */
+/* When to ask the server for its count of lost frames: after this many frames, or this many nanoseconds after the first
+ * of them. */
 #define COUNT_FRAMES 256
 #define COUNT_PAUSE 20000000
 
-/* A message is its note and its data; each begins at a multiple of this. */
+/* In the ring, a message consists of its note and its data. Each part begins at a multiple of PLACE. */
 #define PLACE 8
 static char ring[RING] __attribute__((aligned(PLACE)));
-/* Messages begin at `first`. If `end` is not after `first`, they continue at 0 after `wrap`. */
+/* The messages begin at `first`. If `end` is not greater than `first`, they run up to `wrap` and continue at 0. */
 static size_t first, end, wrap;
 static unsigned count, room = USUAL_ROOM;
 static uint32_t dropped, dropped_before;
 static bool is_full, is_small;
-/* The number and the total length of datagrams that were put into the program's socket. */
+/* The number and the total length of the datagrams that were put into the program's socket. */
 static uint64_t put_count, put_bytes;
-/* In virtual time: the program's socket has no room until poll reports it. To try again would be one more call. */
+/* Whether the program's socket has no room until poll reports it. In virtual time another try costs a system call. */
 static bool is_blocked;
 static bool is_counted, is_stamped;
 static unsigned uncounted;
 static uint64_t count_at;
 
-/* The size of the way before a message's data; 0 if messages have no ways. */
+/* The size of the source and destination before a message's data, or 0 if the messages of the protocol have none. */
 static size_t way_size;
 
 static size_t size_of(size_t length) {
@@ -51,7 +52,7 @@ static struct wire_note *note_at(size_t at) {
     return (struct wire_note *)(void *)(ring + at);
 }
 
-/* Takes a place for a message of this length; NULL if there is none. */
+/* Reserves a place in the ring for a message of this length. Returns NULL if there is no room. */
 static struct wire_note *place_for(size_t length) {
     size_t size = size_of(length), at = end;
     if (count == 0) {
@@ -73,7 +74,7 @@ static char *data_of(struct wire_note *note) {
     return (char *)(note + 1) + way_size;
 }
 
-/* Returns the place, or NULL if the message is lost. */
+/* Adds a message to the ring. Returns its place, or NULL if the message is lost. */
 static struct wire_note *put(const void *data, size_t length, const struct wire_note *note) {
     struct wire_note *place = place_for(length);
     if (!place) {
@@ -131,7 +132,8 @@ void outbox_has_room(void) {
     is_blocked = false;
 }
 
-/* Writes the note of a message, if the message has data. Returns the total length with this message. */
+/* Writes the note of a message, if the message has data. Returns the total length of all datagrams including this
+ * message. */
 static uint64_t write_note(struct wire_note *note, uint64_t *notes, uint64_t bytes) {
     note->from = bytes;
     if (note->length) {
@@ -143,7 +145,7 @@ static uint64_t write_note(struct wire_note *note, uint64_t *notes, uint64_t byt
     return bytes + note->length;
 }
 
-/* Lays out the next messages to be sent, and writes their notes. Returns their number. */
+/* Prepares the next messages for sending, and writes their notes. Returns the number of these messages. */
 static unsigned lay_out(struct mmsghdr messages[BATCH], struct iovec parts[BATCH]) {
     uint64_t notes = put_count, bytes = put_bytes;
     unsigned batch = MIN(count, BATCH);
@@ -159,7 +161,7 @@ static unsigned lay_out(struct mmsghdr messages[BATCH], struct iovec parts[BATCH
     return batch;
 }
 
-/* Removes the first message after it was sent. */
+/* Removes the first message after it has been sent. */
 static void take_first(void) {
     put_count += note_at(first)->length > 0;
     put_bytes += note_at(first)->length;
@@ -206,7 +208,8 @@ bool outbox_is_empty(void) {
     return count == 0;
 }
 
-/* For a Unix socket the kernel counts a frame at its sender. Frames without room for their notes wait here. */
+/* Sets the room for received frames (SO_RCVBUF). For a Unix socket the kernel counts datagrams at the sending end, so
+ * this sets SO_SNDBUF of the bridge's end. Frames beyond the number of notes wait in the ring. */
 static void set_room(int option, int number) {
     int most = MIN(number, WIRE_ROOM / 2), beyond = (number - most) / FRAME_ROOM;
     setsockopt(PROGRAM, SOL_SOCKET, option == SO_RCVBUF ? SO_SNDBUF : SO_SNDBUFFORCE, &most, sizeof most);

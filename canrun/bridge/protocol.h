@@ -1,5 +1,6 @@
-/* The functions in which protocols differ, like struct proto_ops of the kernel. A protocol is a file of this folder, or
- * several, and a line of the table in main.c. NULL: the protocol does nothing there. */
+/* The functions that each protocol implements, like struct proto_ops in the kernel. A protocol consists of one or more
+ * files in this directory and an entry in the table in main.c. If a function is NULL, the protocol does nothing in that
+ * case. */
 #ifndef PROTOCOL_H
 #define PROTOCOL_H
 
@@ -9,43 +10,43 @@
 #include <stddef.h>
 
 struct protocol {
-    /* While this returns true, requests stay in the socket, so that the program finds no room. `kept` requests are
-     * already there. */
+    /* While this returns true, requests stay in the socket, so that the program finds no room. `kept` is the number of
+     * requests that are already there. */
     bool (*is_full)(unsigned kept);
 
     /* Called before the first request. */
     void (*open)(void);
 
-    /* Requests, see enum wire_kind. Each returns an errno, or 0. */
+    /* These functions handle requests of the kinds in enum wire_kind. Each returns 0, or an errno. */
     int (*bind)(const struct sockaddr_can *address);
     int (*connect)(const struct sockaddr_can *address);
-    /* Completes the address of the socket or its peer, which already has the interface. */
+    /* Completes the address of the socket or of its peer. The interface is already filled in. */
     int (*getname)(struct sockaddr_can *address, bool is_peer);
     int (*setsockopt)(int option, const void *value, size_t length);
     int (*getsockopt)(int option, void *room, uint32_t *length);
-    /* Takes an option of SOL_SOCKET; false if the outbox needs the option too. */
+    /* Handles a SOL_SOCKET option. Returns false if the outbox must handle the option too. */
     bool (*set_socket)(int option, int number);
-    /* Sends a message. If the message must wait, it returns SENT_LATER, and the reply is sent on the pipe in the
-     * end. */
+    /* Sends a message. If the message has to wait, it returns SENT_LATER, and the reply is later sent on the pipe. */
     int (*sendmsg)(const struct wire_request *request, const char *data, size_t length, int reply_to,
                    struct wire_reply *reply);
-    /* Handles other requests, and writes the reply's data to `data`. */
+    /* Handles the other kinds of requests. The data of the reply are written to `data`. */
     int (*request)(const struct wire_request *request, int reply_to, struct wire_reply *reply, char *data);
-    /* Ends the wait of the write with this reply pipe, because of a signal. */
+    /* Ends the wait of the write with this reply pipe, because a signal has come. */
     void (*cancel)(int asks);
 
-    /* Takes data that came without a request, if they are not a message. */
+    /* Handles data that came without a request and are not a message, such as a quick write. Returns false for other
+     * data. */
     bool (*takes)(const char *data, size_t length);
-    /* Takes a frame that a session has received. This function must not send. */
+    /* Handles a frame that a session has received. This function must not send anything. */
     void (*receive)(const struct item *item, int index);
 
-    /* Does the work that is due. Returns the nanoseconds until more is due, or -1. */
+    /* Does the work that is due. Returns the nanoseconds until more work is due, or -1. */
     int64_t (*due)(void);
-    /* Whether an accepted message is still unsent. A close waits for its end. */
+    /* Returns whether an accepted message has not been sent yet. A close waits until it has been sent. */
     bool (*is_busy)(void);
-    /* Whether the bridge may read more requests. */
+    /* Returns whether the bridge may read more requests. */
     bool (*takes_requests)(void);
-    /* A descriptor whose input makes `due` run, or -1. */
+    /* Returns a file descriptor whose input makes the bridge call `due`, or -1. */
     int (*descriptor)(void);
 };
 extern const struct protocol raw_protocol, bcm_protocol, isotp_protocol, j1939_protocol;

@@ -1,4 +1,5 @@
-/* Quick writes: their replies come in memory that this bridge shares with the program. See library/quick.c. */
+/* Quick writes: the reply to a quick write comes in memory that this bridge shares with the program. See
+ * library/quick.c. */
 #define _GNU_SOURCE
 #include "bridge.h"
 
@@ -12,7 +13,7 @@
 #include <sys/syscall.h>
 #include <unistd.h>
 
-/* The session that may be lent; NULL if there is none. The socket must have only this one session. */
+/* Returns the session that may be lent, or NULL. A session may be lent only if it is the socket's only one. */
 static struct session *session_to_lend(void) {
     bool is_one = is_virtual() && session_count == 1 && is_bound && sessions[0]->index == bound_index;
     return is_one && sessions[0]->fd >= 0 && sessions[0]->is_local ? sessions[0] : NULL;
@@ -39,7 +40,7 @@ static void send_descriptors(int to) {
         session->is_shared = true;
     }
     if (sendmsg(to, &message, MSG_NOSIGNAL | MSG_DONTWAIT) < 0) {
-        /* The program that asked is gone. */
+        /* If this fails, the program that sent the request is gone. */
     }
 }
 
@@ -99,7 +100,7 @@ bool quick_serve(const char *data, size_t length) {
         return false;
     }
     if (quick.ifindex == WIRE_LEFT) {
-        return true; /* The write has its reply since this bridge woke. */
+        return true; /* The write got its reply when this bridge woke up. */
     }
     data += sizeof quick;
     length -= sizeof quick;

@@ -1,5 +1,5 @@
-/* CAN_RAW: options, filters, and frames in both directions. The server has the options too and filters the frames,
- * unless the filters are too many for one of its messages. */
+/* CAN_RAW: options, filters, and frames in both directions. The server also has the options and filters the frames. If
+ * there are too many filters for one message to the server, the bridge filters instead. */
 #define _GNU_SOURCE
 #include "bridge.h"
 
@@ -10,9 +10,9 @@
 #include <stdlib.h>
 #include <string.h>
 
-/* CAN_RAW_XL_FRAMES, which older headers lack. No interface has CAN XL, but this option also allows FD frames. */
+/* CAN_RAW_XL_FRAMES, which older headers lack. No interface supports CAN XL, but this option also enables FD frames. */
 #define RAW_XL_FRAMES 7
-/* The maximum number of characters of filters in a message. With its command the message has 1024. */
+/* The maximum number of characters of the filters in a message to the server. The whole message may have 1024. */
 #define FILTER_TEXT 1000
 
 static struct options options = {.loopback = 1};
@@ -24,12 +24,13 @@ static bool filters_here; /* the filters are too many for the server */
 
 /* ---- options ---- */
 
-/* A filter whose mask has CAN_ERR_FLAG asks for error message frames, as in the kernel. */
+/* Returns whether a filter asks for error message frames. As in the kernel, CAN_ERR_FLAG is then set in its mask. */
 static bool is_of_errors(const struct can_filter *filter) {
     return filter->can_mask & CAN_ERR_FLAG;
 }
 
-/* A filter as the kernel reduces it: a filter for 11-bit identifiers ignores the other bits. */
+/* Returns the effective filter, as in the kernel: a filter for 11-bit identifiers ignores the remaining identifier
+ * bits. */
 static struct can_filter reduced(const struct can_filter *filter) {
     struct can_filter result = *filter;
     if (filter->can_mask & CAN_EFF_FLAG && !(filter->can_id & CAN_EFF_FLAG)) {
@@ -47,7 +48,7 @@ static uint32_t error_classes(void) {
     return classes;
 }
 
-/* Writes the filters for frames. Returns their number, or -1 if they do not fit. */
+/* Writes the frame filters as text. Returns the number of filters, or -1 if they do not fit. */
 static int filter_words(char words[FILTER_TEXT + 20]) {
     size_t length = 0;
     int count = 0;
@@ -66,14 +67,15 @@ static int filter_words(char words[FILTER_TEXT + 20]) {
     return count;
 }
 
-/* The filter command. If the filters are too many, all frames pass; with `is_none` no frame passes. */
+/* Writes the filter command. If there are too many filters, the command passes all frames; with `is_none` it passes
+ * none. */
 static size_t filter_command(char *text, size_t size, bool is_none) {
     char words[FILTER_TEXT + 20] = " 0 0";
     int count = is_none ? 0 : filters_here ? 1 : filter_words(words);
     return (size_t)snprintf(text, size, "< filter %d%s >", count, is_none ? "" : words);
 }
 
-/* Whether the program's queue is full, so that the server queues nothing for the program. */
+/* Whether the program's queue is full. If so, the server is told to queue nothing for the program. */
 static bool is_full;
 
 void raw_setup(struct session *session, char *text, size_t size) {
@@ -111,7 +113,7 @@ void raw_setup(struct session *session, char *text, size_t size) {
     *given = wanted;
 }
 
-/* The address of an option with a single number; NULL for others. */
+/* Returns the address of an option that has a single number, or NULL for other options. */
 static void *place_of(int option) {
     switch (option) {
     case CAN_RAW_LOOPBACK: return &options.loopback;
@@ -205,7 +207,8 @@ int raw_send(struct session *to, const struct canfd_frame *frame, bool is_fd, co
     if (frame->len > (is_fd ? CANFD_MAX_DLEN : CAN_MAX_DLEN)) {
         return refused(EINVAL, "the frame is too long");
     }
-    /* The server makes its own error message frames and accepts none. As by vcan, they are accepted, but not sent. */
+    /* The server generates error message frames itself and accepts none. As with vcan, writing one succeeds, but it is
+     * not sent. */
     if (frame->can_id & CAN_ERR_FLAG) {
         return 0;
     }
@@ -218,8 +221,8 @@ bool raw_is_error(const void *data) {
     return identifier & CAN_ERR_FLAG;
 }
 
-/* In virtual time: makes the server queue nothing for a program that would lose it, so that no thread takes a turn for
- * it. */
+/* In virtual time: tells the server to queue nothing for a program that would lose it, so that no thread takes a turn
+ * for lost frames. */
 static int64_t raw_due(void) {
     if (is_virtual() && outbox_is_full() != is_full) {
         is_full = !is_full;
@@ -245,7 +248,7 @@ int raw_write(int index, const void *data, size_t length, const struct later *la
 static int raw_sendmsg(const struct wire_request *request, const char *data, size_t length, int reply_to,
                        struct wire_reply *reply) {
     struct later later = request_later(request, reply_to, (int)length);
-    /* A reply with a byte of data makes the library report that this frame is not sent. */
+    /* A reply with one byte of data makes the library print a note that this frame is not sent. */
     reply->length = length >= CAN_MTU && raw_is_error(data);
     return raw_write(request->ifindex, data, length, request_waits(request, reply_to) ? &later : NULL);
 }
@@ -259,7 +262,8 @@ static int raw_bind(const struct sockaddr_can *address) {
     return sessions_bind(address->can_ifindex);
 }
 
-/* The rule of linux/can.h, for filters that do not fit into the server's message. */
+/* Returns whether an identifier passes the filters, by the rule of linux/can.h. This is used for filters that do not
+ * fit into a message to the server. */
 static bool passes(canid_t identifier) {
     bool any = false, all = true;
     for (size_t i = 0; i < filter_count; i++) {

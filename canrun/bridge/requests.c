@@ -1,4 +1,4 @@
-/* The program's requests, one at a time, each with a pipe for its reply. */
+/* Handles the requests of the program, one at a time. Each request comes with a pipe for its reply. */
 #define _GNU_SOURCE
 #include "bridge.h"
 
@@ -13,7 +13,7 @@
 #include <sys/stat.h>
 #include <unistd.h>
 
-/* How many nanoseconds a write waits in a thread in which no signal ends the wait. */
+/* How many nanoseconds a write waits for room in a thread in which no signal can end the wait. */
 #define SHORT_WAIT SECOND
 
 struct reply {
@@ -21,8 +21,8 @@ struct reply {
     char data[WIRE_REPLY];
 };
 
-/* While a protocol is full, the request that has filled it stays in the socket. So the program's end has no room, and
- * poll does not report it as writable. Later requests stay there too, but the bridge reads them. */
+/* While a protocol is full, the request that filled it stays in the socket. So the program's end of the pair has no
+ * room, and poll does not report it as writable. Later requests stay in the socket too, but the bridge handles them. */
 static int kept_length;
 static unsigned kept_count;
 
@@ -32,14 +32,15 @@ void request_release(void) {
         if (recv(PROGRAM, &(char){0}, 1, MSG_DONTWAIT) >= 0) {
             kept_count--;
         } else if (errno != ECONNRESET) {
-            /* If the program has left data unread, ECONNRESET comes once in place of a request. */
+            /* If the program has left data unread, recv returns ECONNRESET once in place of a request. */
             kept_count = 0;
         }
     }
     kept_length = kept_count ? kept_length : 0;
 }
 
-/* Prints one line, only once, on standard error of the process that made the socket; its number is in the name. */
+/* Prints a single line, and only the first time, on standard error of the process that created the socket. The number
+ * of the process is part of the socket's name. */
 static void say(const char *what, int error) {
     static bool is_said;
     char path[64], line[400];
@@ -50,20 +51,20 @@ static void say(const char *what, int error) {
     if (fd >= 0) {
         int length = snprintf(line, sizeof line, "canbusd-run: %s: %s: %s\n", what, strerror(error), refusal);
         if (write(fd, line, MIN((size_t)length, sizeof line - 1)) < 0) {
-            /* No process reads the line. */
+            /* If this fails, no process reads the line. */
         }
         close(fd);
     }
 }
 
-/* Refuses a write that bypassed the library. The write has already returned as successful, so the socket gets the
- * error. */
+/* Refuses a write that bypassed the library. The write has already returned successfully, so the error becomes the
+ * socket's error. */
 static void refuse_bare(int error) {
     say("a write that went past canbusd-run, as by io_uring, was refused", error);
     error_set(error);
 }
 
-/* Sends the reply. Before that it makes the socket writable again, if possible, for the program that gets the reply. */
+/* Sends the reply to a request. Before that, it makes the socket writable again for the program, if possible. */
 static void put_reply(int to, int error, struct reply *reply) {
     request_release();
     if (to == NOBODY) {
@@ -78,7 +79,7 @@ static void put_reply(int to, int error, struct reply *reply) {
         memcpy(reply->data, refusal, reply->head.length);
     }
     if (write(to, reply, sizeof reply->head + reply->head.length) < 0) {
-        /* The program that asked is gone. */
+        /* If this fails, the program that sent the request is gone. */
     }
     close(to);
 }
@@ -110,7 +111,7 @@ bool is_same_pipe(int one, int other) {
            first.st_dev == second.st_dev;
 }
 
-/* Ends the wait of the write with this reply pipe. The write may already have its reply. */
+/* Ends the wait of the write with this reply pipe, unless the write already has its reply. */
 static int cancel(int asks) {
     if (protocol->cancel) {
         protocol->cancel(asks);
@@ -120,15 +121,15 @@ static int cancel(int asks) {
     return SENT_LATER;
 }
 
-/* Once the socket is closed: the end of the pair through which a close waits. */
+/* After the socket is closed: the end of the socket pair through which a close is waiting. */
 static int close_waiter = -1;
 
 int close_waiter_fd(void) {
     return close_waiter;
 }
 
-/* The program closes a copy of the socket. If this was the last copy, and a message is being sent, the close waits for
- * the end of this bridge. */
+/* Handles the close of a copy of the socket. If it was the last copy and a message is being sent, the close waits until
+ * this bridge ends. */
 static int begin_close(int pair) {
     struct pollfd polled = {pair, POLLIN, 0};
     if (protocol_is_busy() && poll(&polled, 1, PATIENCE * 1000) > 0 && program_is_gone() && close_waiter < 0) {
@@ -166,7 +167,7 @@ static int get_address(bool is_peer, struct reply *reply) {
     return error;
 }
 
-/* The interface that the socket is bound to as a device; CAN ignores it. */
+/* The index of the interface that SO_BINDTODEVICE has set. CAN sockets ignore it. */
 static int device;
 
 static int set_socket_option(const struct wire_request *request) {
@@ -176,7 +177,7 @@ static int set_socket_option(const struct wire_request *request) {
     return 0;
 }
 
-/* Handles a request with these data, and with this reply pipe. Returns an errno, 0, or SENT_LATER. */
+/* Handles a request with these data and this reply pipe. Returns 0, an errno, or SENT_LATER. */
 static int carry_out(const struct wire_request *request, const char *data, size_t length, int to, struct reply *reply) {
     switch (request->kind) {
     case WIRE_SEND: return protocol->sendmsg(request, data, length, to, &reply->head);
@@ -228,8 +229,8 @@ bool request_is_kept(void) {
     return recv(PROGRAM, &(char){0}, 1, MSG_DONTWAIT | MSG_PEEK | MSG_TRUNC) > 0;
 }
 
-/* Handles a quick write, or a write that bypassed the library. The latter waits for room, because it has no reply to
- * report a lack of room. */
+/* Handles a quick write, or a write that bypassed the library. The latter waits for room, because there is no reply
+ * that could report a lack of room. */
 static void serve_bare(const char *data, size_t length) {
     struct wire_request request = {.kind = WIRE_SEND, .ifindex = WIRE_BOUND, .length = (uint32_t)length};
     struct reply reply = {.head = {0}};
@@ -256,7 +257,7 @@ bool request_serve(void) {
     int to;
     ssize_t length = next_request(&message);
     if (length <= 0) {
-        /* ECONNRESET: the program has left frames unread. Its earlier requests come first. */
+        /* ECONNRESET means that the program has left frames unread. Requests that it sent earlier are still handled. */
         return length < 0 && (errno == EAGAIN || errno == EINTR || errno == ECONNRESET);
     }
     length = MIN(length, (ssize_t)sizeof data);

@@ -1,20 +1,20 @@
-/* Frames that wait for room in a transmit queue, in their order at each interface. Other work does not wait for
- * them. */
+/* Frames that wait for room in a transmit queue. They are sent in their order at each interface, and other work does
+ * not wait for them. */
 #include "bridge.h"
 
 #include <errno.h>
 #include <poll.h>
 #include <string.h>
 
-/* The maximum number of waiting frames. When so many wait, no more requests are taken. */
+/* The maximum number of waiting frames. When this many are waiting, the bridge takes no more requests. */
 #define WAITERS 64
-/* The pause between two looks at the counts of an interface, in nanoseconds: the shortest and the longest. */
+/* The shortest and the longest pause between two checks of an interface's counts, in nanoseconds. */
 #define SHORT_PAUSE 100000
 #define LONG_PAUSE 2000000
-/* A waiting frame is sent only if there is room for it, because a refused send is an entry of the server's record.
- * After so many looks in a row at which others had taken the free room, it is sent all the same. */
+/* A waiting frame is sent only if there is room, because each refused frame adds an entry to the server's record. If
+ * other senders have taken the free room at this many checks in a row, the frame is sent nevertheless. */
 #define MOST_MISSED 16
-/* Half the assumed length of a queue that was never full. */
+/* Half of the queue length that is assumed for a queue that has never been full. */
 #define FEW_PLACES 4
 
 static struct waiter {
@@ -25,7 +25,7 @@ static struct waiter {
 } waiters[WAITERS];
 static unsigned count;
 
-/* The index of the first waiting frame of this interface; `count` if there is none. */
+/* Returns the index of the first waiting frame of this interface, or `count` if there is none. */
 static unsigned first_at(int index) {
     unsigned at = 0;
     while (at < count && waiters[at].index != index) {
@@ -34,7 +34,7 @@ static unsigned first_at(int index) {
     return at;
 }
 
-/* Removes a waiting frame, and reports the end of its wait. */
+/* Removes a waiting frame and reports the end of its wait. */
 static void finish(unsigned at, int error) {
     struct later later = waiters[at].later;
     count--;
@@ -44,13 +44,13 @@ static void finish(unsigned at, int error) {
     }
 }
 
-/* The queue was full: begins to look at its counts. */
+/* Starts to check the counts of a queue that was full. */
 static void begin_looking(struct session *session) {
     session->pause = SHORT_PAUSE;
     session->look_at = clock_now();
 }
 
-/* Whether the queue may be half full with one more frame, as far as its size is known. If so, the counts are asked
+/* Returns whether one more frame may make the queue half full, as far as its size is known. If so, the counts are asked
  * for. */
 static bool is_half_full(const struct session *session) {
     uint64_t half = session->was_full ? (session->places + 1) / 2 : FEW_PLACES;
@@ -64,7 +64,7 @@ static int send_now(struct session *to, const struct canfd_frame *frame, bool is
     return error;
 }
 
-/* Sends a frame that may wait, but only if the queue has room. */
+/* Sends a frame that may wait for room, but only if the queue has room now. */
 static int send_to_room(struct session *to, const struct canfd_frame *frame, bool is_fd) {
     if (!session_has_room(to)) {
         int error = session_look(to);
@@ -100,7 +100,7 @@ void room_look(int index) {
     }
 }
 
-/* Whether to send the first waiting frame: there is room, or others were always faster. */
+/* Returns whether to send the first waiting frame: there is room, or other senders have always taken it first. */
 static bool is_time(struct session *session, uint64_t gone_before) {
     session->missed += session->gone != gone_before;
     bool is_time = session_has_room(session) || session->missed >= MOST_MISSED;
@@ -108,13 +108,14 @@ static bool is_time(struct session *session, uint64_t gone_before) {
     return is_time;
 }
 
-/* Whether a waiting write has ended, because its process was killed. */
+/* Returns whether the process of a waiting write was killed. */
 static bool is_abandoned(const struct later *later) {
     struct pollfd polled = {later->reply_to, 0, 0};
     return later->reply_to >= 0 && poll(&polled, 1, 0) > 0 && polled.revents & POLLERR;
 }
 
-/* Sends the frames that have room. If a send fails for another reason, all waits fail. */
+/* Checks the counts and sends the frames for which there is room. If the check fails, the waits of all frames of this
+ * interface fail. */
 static void look(struct session *session) {
     uint64_t gone_before = session->gone;
     int error = session_look(session);
@@ -143,7 +144,7 @@ static void look(struct session *session) {
     }
 }
 
-/* Ends waits whose time is over. Returns the nanoseconds until the next end, or -1. */
+/* Ends the waits whose time is over. Returns the nanoseconds until the next one ends, or -1. */
 static int64_t end_vain(void) {
     uint64_t now = count ? clock_now() : 0, until = UINT64_MAX;
     for (unsigned at = 0; at < count;) {

@@ -1,4 +1,4 @@
-/* A session of the server: its messages, its commands, and the verdicts on its frames. */
+/* A session with the server: its messages, its commands, and the server's verdicts on frames. */
 #define _GNU_SOURCE
 #include "bridge.h"
 
@@ -12,9 +12,9 @@
 #include <sys/time.h>
 #include <unistd.h>
 
-/* The longest text of commands in one write: filters and the echo. */
+/* The maximum length of the commands in one write: filters and the echo. */
 #define LONGEST 2048
-/* The errno for a server's refusal, as in SocketCAN. */
+/* Returns the errno for a refusal by the server, as SocketCAN would return it. */
 static int error_of(const char *reply) {
     static const struct {
         const char *text;
@@ -43,7 +43,7 @@ static void lose(struct session *session) {
 void session_end(struct session *session) {
     if (session && session->fd >= 0) {
         if (session->is_shared) {
-            shutdown(session->fd, SHUT_RDWR); /* Programs have copies of the descriptor. */
+            shutdown(session->fd, SHUT_RDWR); /* because programs have copies of the file descriptor */
         }
         close(session->fd);
     }
@@ -52,7 +52,8 @@ void session_end(struct session *session) {
 
 /* ---- which received frames came from this session ---- */
 
-/* Notes that a frame of this session has this number. The numbers since the last one belong to other frames. */
+/* Records that the frame with this number belongs to this session. The numbers between the previous such frame and this
+ * one belong to frames of other sessions. */
 static void keep_number(struct session *session, uint64_t number) {
     if (!session->sent_end) {
         session->sent_end = number;
@@ -75,7 +76,7 @@ uint64_t session_last_number(const struct session *session) {
     return session->sent_end - 1;
 }
 
-/* Reads a message that accepts a frame, and the frame's number; false if it is another message. */
+/* Reads a message that accepts a frame, and records the frame's number. Returns false if it is another message. */
 static bool note_sent(struct session *session, const char *text) {
     static const char word[] = "ack ";
     uint64_t number;
@@ -89,8 +90,8 @@ static bool note_sent(struct session *session, const char *text) {
     return true;
 }
 
-/* The flags of recvmsg: MSG_DONTROUTE for frames of the same interface, and MSG_CONFIRM for frames of this socket. The
- * server accepts a frame before it sends the frame back. */
+/* Returns the flags of a received frame for recvmsg: MSG_DONTROUTE if it was sent by the same interface, and
+ * MSG_CONFIRM if it was sent by this socket. The server always accepts a frame before it sends the frame back. */
 static uint32_t message_flags(const struct session *session, const struct item *item) {
     if (item->origin != ORIGIN_SAME) {
         return 0;
@@ -98,9 +99,9 @@ static uint32_t message_flags(const struct session *session, const struct item *
     return MSG_DONTROUTE | (is_own_number(session, item->number) ? MSG_CONFIRM : 0);
 }
 
-/* ---- messages of the server ---- */
+/* ---- messages from the server ---- */
 
-/* Reads the counts; false if the message is another one. */
+/* Reads a message with the counts. Returns false if it is another message. */
 static bool note_counts(struct session *session, const char *text, unsigned long *queued, unsigned *dropped) {
     unsigned long done, waiting, lost;
     if (strncmp(text, "stats ", 6) ||
@@ -141,7 +142,7 @@ static void handle_reply(struct session *session, const char *text) {
     }
 }
 
-/* Handles the complete messages in the input; the rest stays there. */
+/* Handles the complete messages in the input buffer. An incomplete message stays there. */
 static void handle_input(struct session *session) {
     char *at = session->input, *end = at + session->have, *close_at;
     while ((close_at = memchr(at, '>', (size_t)(end - at)))) {
@@ -173,8 +174,8 @@ static void handle_input(struct session *session) {
     }
 }
 
-/* How many nanoseconds a read waits. For a server that does not reply the time is short, so that writes of several
- * threads do not wait one after the other. */
+/* Returns how many nanoseconds a read waits. The time is short for a server that has not replied before, so that writes
+ * in several threads do not all wait one after another. */
 static uint64_t patience_with(const struct session *session) {
     return session->is_silent ? SECOND / 10 : PATIENCE * SECOND;
 }
@@ -196,8 +197,8 @@ bool session_read(struct session *session, bool waits) {
 
 /* ---- commands ---- */
 
-/* Writes the whole text, or drops the session. Meanwhile it handles input: a server that waits for its reader takes no
- * commands. Nor does a server that has closed, but it may have sent the reason. */
+/* Writes the whole text, or drops the session. While waiting, it handles input, because a server whose output is not
+ * read takes no commands. A server that has closed the connection takes none either, but may have sent the reason. */
 static void put_text(struct session *session, const char *text, size_t length) {
     uint64_t until = 0;
     size_t written = 0;
@@ -223,7 +224,8 @@ static void set_silent(struct session *session, bool is_silent) {
     setsockopt(session->fd, SOL_SOCKET, SO_RCVTIMEO, &time, sizeof time);
 }
 
-/* Waits until at most this is due; false if the rest does not come in time. */
+/* Waits until the reply that is due is `most`, or one before it in enum due. Returns false if a reply does not arrive
+ * in time. */
 static bool settle(struct session *session, enum due most) {
     while (session->due > most && session->fd >= 0) {
         if (!session_read(session, true)) {
@@ -237,18 +239,18 @@ static bool settle(struct session *session, enum due most) {
     return true;
 }
 
-/* Waits for the verdict. Returns 0, or the errno of the refusal. */
+/* Waits for the verdict on a frame. Returns 0, or the errno of the refusal. */
 static int verdict(struct session *session) {
     if (!settle(session, DUE_COUNTS)) {
         return refused(ETIMEDOUT, "the server does not reply");
     }
-    /* The server's last message counts: it may have too many sessions. */
+    /* The last message of the server may contain the reason, for example too many sessions. So it is checked first. */
     int error = error_of(session->reply);
     return error ? error : session->due > DUE_COUNTS ? refused(ENXIO, "the server is gone") : 0;
 }
 
-/* Sends commands that end with this reply, and waits for it. Before that it waits for a reply that was given up
- * earlier. */
+/* Sends commands and waits for the reply `due` that ends them. Before that, it waits for the reply to an earlier
+ * command whose wait was given up. */
 static int give(struct session *session, const char *text, size_t length, enum due due) {
     if (!settle(session, DUE_NOTHING)) {
         return refused(ETIMEDOUT, "the server does not reply");
@@ -272,7 +274,7 @@ void session_note_number(struct session *session, uint64_t number) {
 
 int session_take_over(struct session *session, const char *text, size_t length, bool is_new) {
     if (!length && !is_new) {
-        set_silent(session, true); /* The program has already waited. */
+        set_silent(session, true); /* because the program has already waited for the reply */
     }
     memcpy(session->input, text, length);
     session->have = length;

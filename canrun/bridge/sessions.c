@@ -1,5 +1,5 @@
-/* The sessions of a socket: one for each interface that it is bound to, and one for each other interface that it sends
- * on. */
+/* The sessions of a socket: one for each interface that the socket is bound to, and one for each other interface on
+ * which it sends. */
 #define _GNU_SOURCE
 #include "bridge.h"
 
@@ -13,7 +13,7 @@ int session_count;
 bool is_bound;
 int bound_index;
 
-/* Names the interface, if the server has no room for one more session. */
+/* If the server has no room for another session, stores an explanation that names the interface. Returns the error. */
 static int explain(int error, const char *name) {
     static char why[240];
     const char *address = getenv("CANBUSD_ADDRESS");
@@ -27,7 +27,7 @@ static int explain(int error, const char *name) {
     return refused(error, why);
 }
 
-/* Opens the interface with this index in raw mode, and returns its session, which the caller owns. */
+/* Opens the interface with this index in raw mode. Returns 0 and a session that the caller owns, or an errno. */
 static int start_raw(int index, bool is_receiving, struct session **started) {
     char name[IFNAMSIZ], text[2048];
     if (!interface_name(index, name)) {
@@ -43,7 +43,7 @@ static int start_raw(int index, bool is_receiving, struct session **started) {
     session->index = index;
     session->is_receiving = is_receiving;
     raw_setup(session, text + length, sizeof text - length);
-    session->is_receiving = false; /* Before the filters are set, too many frames would come. */
+    session->is_receiving = false; /* too many frames would arrive before the filters are set */
     error = session_command(session, text);
     session->is_receiving = is_receiving;
     if (error) {
@@ -54,7 +54,7 @@ static int start_raw(int index, bool is_receiving, struct session **started) {
     return 0;
 }
 
-/* Starts a session for each interface. */
+/* Starts a session for each interface of the server. */
 static int start_all(struct session *started[INTERFACE_MOST], int *count) {
     char name[IFNAMSIZ];
     int error = 0;
@@ -65,7 +65,7 @@ static int start_all(struct session *started[INTERFACE_MOST], int *count) {
     return *count || error ? error : refused(ENODEV, "CANBUSD_INTERFACES has no interface");
 }
 
-/* Ends all sessions, and gives up the frames that wait for them. */
+/* Ends all sessions and drops the frames that wait for room in them. */
 static void end_all(void) {
     order_flush();
     while (session_count) {
@@ -84,7 +84,7 @@ bool sessions_leave(void) {
     return was_bound;
 }
 
-/* As in the kernel, a refused bind changes nothing. */
+/* Binds the socket. As in the kernel, a refused bind changes nothing. */
 int sessions_bind(int index) {
     struct session *started[INTERFACE_MOST];
     int count = 0, error;

@@ -1,4 +1,4 @@
-/* Waits for the program, the sessions, or a moment. */
+/* Waits for the program, for the sessions, or until a given time. */
 #define _GNU_SOURCE
 #include "bridge.h"
 
@@ -19,15 +19,17 @@ static int wait_for(struct pollfd *polled, nfds_t count, int64_t nanoseconds) {
 bool wait_for_input(int64_t nanoseconds, bool takes_requests) {
     static struct pollfd polled[3 + INTERFACE_MOST];
     short events = (short)((takes_requests ? POLLIN : 0) | (outbox_is_empty() ? 0 : POLLOUT));
-    /* While requests stay in the socket, poll always reports it as readable. */
+    /* While requests stay in the socket, poll always reports the socket as readable. So the bridge polls an epoll
+     * descriptor for new requests instead. */
     int news = takes_requests && protocol->is_full ? request_news() : -1;
     bool is_kept = news >= 0 && request_is_kept();
-    /* If the other end is closed, poll always reports the socket as ready, though there are no requests. */
+    /* If the other end is closed, poll always reports the socket as ready, even though there are no requests. So the
+     * bridge polls the waiting close instead. */
     bool is_closing = !takes_requests && program_is_gone();
     polled[0] = (struct pollfd){is_closing ? close_waiter_fd() : PROGRAM, is_closing ? POLLIN : events, 0};
     polled[0].events &= (short)(news >= 0 ? ~POLLIN : ~0);
     polled[1] = (struct pollfd){news, POLLIN, 0};
-    /* The program that has borrowed the session reads its replies. The bridge only watches for the session's end. */
+    /* A program that has borrowed the session reads its replies. The bridge only watches whether the session ends. */
     short news_of_session = quick_lend() ? POLLRDHUP : POLLIN;
     for (int i = 0; i < session_count; i++) {
         polled[2 + i] = (struct pollfd){outbox_is_crowded() ? -1 : sessions[i]->fd, news_of_session, 0};

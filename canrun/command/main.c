@@ -1,4 +1,4 @@
-/* canbusd-run: becomes a program with CAN sockets of a canbusd server. */
+/* canbusd-run: runs a program whose CAN sockets are sockets of a canbusd server. */
 #define _GNU_SOURCE
 #include "program.h"
 #include "server.h"
@@ -19,8 +19,8 @@
 
 #define LIBRARY "libcanbusd-run.so"
 #define VIRTUAL_LIBRARY "libcanbusd-virtual.so"
-/* The statuses of env, timeout and similar commands: an error of the command itself, a program that cannot be run, no
- * such program. */
+/* The exit statuses, as in env, timeout and similar commands: canbusd-run itself failed, the program cannot be run, and
+ * there is no such program. */
 enum { STATUS_FAULT = 125, STATUS_NOT_RUN = 126, STATUS_NOT_FOUND = 127 };
 
 /* clang-format off */
@@ -61,11 +61,11 @@ static const char HELP[] =
 struct words {
     const char *address, *interfaces;
     int waits, is_virtual, is_static;
-    int is_supervised;        /* with the library: a supervisor is to be started for PROGRAM */
+    int is_supervised;        /* --supervised: start PROGRAM with a supervisor; the library is loaded */
     const char *virtual_word; /* an option that is only valid with --virtual */
     struct virtual_options virtual;
     char **program;
-    int is_ready;      /* PROGRAM itself begins runs in virtual time, in its children */
+    int is_ready;      /* --ready: PROGRAM itself starts runs in virtual time, in its children */
     const char *child; /* a run's first process, which this process has forked: its number, a colon, and the descriptor
                           of the pipe to it */
 };
@@ -75,7 +75,7 @@ static int fault(const char *text, const char *word) {
     return STATUS_FAULT;
 }
 
-/* The value of an option, `--name VALUE` or `--name=VALUE`; NULL if the word is another option. */
+/* Returns the value of an option, `--name VALUE` or `--name=VALUE`. Returns NULL if the word is another option. */
 static const char *value_of(const char *name, char ***at) {
     size_t length = strlen(name);
     if (strncmp(**at, name, length) != 0) {
@@ -87,7 +87,8 @@ static const char *value_of(const char *name, char ***at) {
     return (**at)[length] ? NULL : (*at)[1] ? *++*at : "";
 }
 
-/* Takes an option of --virtual; false if it is another option. Sets `status` if the value is invalid. */
+/* Parses an option that belongs to --virtual. Returns false if the word is another option. Sets `status` if the value
+ * is invalid. */
 static int take_virtual(char ***at, struct words *words, int *status) {
     static const char *const names[] = {"date", "until", "stall", "seed", "jitter"};
     for (size_t i = 0; i < sizeof names / sizeof *names; i++) {
@@ -107,7 +108,8 @@ static int take_virtual(char ***at, struct words *words, int *status) {
     return 0;
 }
 
-/* Refuses options that exclude each other. canbusd-run starts no server, so with --virtual there is no server yet. */
+/* Refuses combinations of options that exclude each other. With --virtual no server is running yet, because PROGRAM
+ * starts it. */
 static int check_words(const struct words *words) {
     if (words->virtual_word && !words->is_virtual) {
         return fault("only --virtual has this option", words->virtual_word);
@@ -125,7 +127,7 @@ static int check_words(const struct words *words) {
     return *words->program || words->child ? 0 : fault("which program? --help shows how it is used", NULL);
 }
 
-/* Reads the command line. Returns 0, or a status after a line on standard error. */
+/* Parses the command line. Returns 0. On an error it prints a line on standard error and returns an exit status. */
 static int read_words(char **at, struct words *words) {
     int status = 0;
     for (; *at && !strncmp(*at, "--", 2); at++) {
@@ -174,7 +176,8 @@ static int no_interface(const char *name, size_t length, const char *all) {
     return STATUS_FAULT;
 }
 
-/* Lets the program see only these interfaces of the server. Returns 0, or a status after a line. */
+/* Makes only the interfaces in `list` visible to the program. Returns 0. On an error it prints a line and returns an
+ * exit status. */
 static int show_interfaces(const char *list, const char *all) {
     for (const char *at = list;; at++) {
         char name[IFNAMSIZ] = "";
@@ -191,7 +194,7 @@ static int show_interfaces(const char *list, const char *all) {
     }
 }
 
-/* Puts a text before the other entries of an environment variable, unless it is already there. */
+/* Puts an entry at the beginning of an environment variable, unless the variable already contains it. */
 static void put_first(const char *variable, const char *text, const char *separator) {
     const char *before = getenv(variable);
     char *whole;
@@ -203,7 +206,7 @@ static void put_first(const char *variable, const char *text, const char *separa
     }
 }
 
-/* Makes the loader load a library before all others. The library's own files are in the same folder. */
+/* Makes the loader load this library before all others. The library is in the same directory as canbusd-run. */
 static int preload(const char *name) {
     char path[PATH_MAX], library[PATH_MAX + sizeof VIRTUAL_LIBRARY];
     ssize_t length = readlink("/proc/self/exe", path, sizeof path - 1);
@@ -221,7 +224,8 @@ static int preload(const char *name) {
         return fault(library, strerror(errno));
     }
     put_first("LD_PRELOAD", library, ":");
-    /* gcc's address sanitizer wants to be the first library, without needing to be. */
+    /* The address sanitizer of gcc insists on being the first library, although it need not be. This option turns that
+     * check off. */
     put_first("ASAN_OPTIONS", "verify_asan_link_order=0", ":");
     return 0;
 }
@@ -247,7 +251,7 @@ static int become(char **program, int is_supervised) {
     return error == ENOENT ? STATUS_NOT_FOUND : STATUS_NOT_RUN;
 }
 
-/* Starts this command again with the library, as the supervisor of the program. */
+/* Runs this command again with the library loaded, as --supervised: it will be the supervisor of the program. */
 static int begin_supervised(char **program) {
     size_t count = 0;
     while (program[count]) {
@@ -261,7 +265,7 @@ static int begin_supervised(char **program) {
     return fault("/proc/self/exe can't be run", strerror(errno));
 }
 
-/* Runs the program or the child, and all that it starts, in virtual time. */
+/* Runs the program, or the child process of a run, in virtual time, together with everything that it starts. */
 static int run_virtual(const struct words *words) {
     char path[PATH_MAX];
     int status = 0, child, settings;
@@ -300,7 +304,7 @@ int main(int count, char **all) {
         return run_virtual(&words);
     }
     if (words.is_ready) {
-        personality(ADDR_NO_RANDOMIZE); /* Then its children have the same addresses in each run. */
+        personality(ADDR_NO_RANDOMIZE); /* so that its children have the same addresses in each run */
         status = preload(VIRTUAL_LIBRARY);
         return status ? status : become(words.program, 0);
     }

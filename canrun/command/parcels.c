@@ -1,4 +1,4 @@
-/* Messages of a program with a supervisor. See supervise.h. */
+/* Sends and receives the messages of a program that has a supervisor. See supervise.h. */
 #define _GNU_SOURCE
 #include "supervise.h"
 
@@ -14,16 +14,17 @@
 #include <sys/uio.h>
 #include <time.h>
 
-/* The kernel's ERESTARTSYS: the interrupted call is restarted or returns EINTR, as the handler's flags say. */
+/* ERESTARTSYS of the kernel: the interrupted call is restarted or returns EINTR, depending on the flags of the signal
+ * handler. */
 #define RESTART 512
-/* How many milliseconds a waiting call sleeps between two checks for signals, which nothing else reports. */
+/* A waiting call checks for signals every LOOK milliseconds, because nothing else reports them. */
 #define LOOK 20
-/* The largest message, its largest control data, and its most pieces. */
+/* The maximum size of a message, the maximum size of its control data, and the maximum number of its pieces. */
 #define LONGEST WIRE_LARGEST
 #define CONTROL 1024
 #define PIECES 1024
 
-/* A message of the program, with its copy here. */
+/* A message of the program, and the supervisor's copy of it. */
 struct parcel {
     struct msghdr theirs, ours;
     struct iovec parts[PIECES], whole;
@@ -32,7 +33,7 @@ struct parcel {
     char data[LONGEST + 1];
 };
 
-/* The total length of the message's pieces, up to the size of the copy. */
+/* Returns the total length of the message's pieces, limited to the size of the copy. */
 static size_t length_of(const struct parcel *parcel) {
     size_t length = 0;
     for (size_t i = 0; i < parcel->theirs.msg_iovlen; i++) {
@@ -41,7 +42,7 @@ static size_t length_of(const struct parcel *parcel) {
     return length;
 }
 
-/* Reads the head of a message: its struct msghdr, or the single piece and the address among the call's arguments. */
+/* Reads the header of a message: its struct msghdr, or the piece and the address in the arguments of the call. */
 static int read_head(const struct call *call, struct parcel *parcel) {
     int number = call->asked->data.nr;
     const __u64 *words = call->words;
@@ -89,12 +90,13 @@ int64_t wait_for(const struct call *call, short events, const struct timeval *li
     }
 }
 
-/* Whether a call with these flags may wait. */
+/* Returns whether a call with these flags may wait. */
 static bool may_wait(const struct call *call, int flags) {
     return !(flags & (MSG_DONTWAIT | MSG_ERRQUEUE)) && !(fcntl(call->fd, F_GETFL) & O_NONBLOCK);
 }
 
-/* Sends a message. An ISO-TP message may have to wait for the one before; a signal ends the wait. */
+/* Sends a message. An ISO-TP message may have to wait until the message before it has been sent; a signal ends that
+ * wait. */
 static int64_t put_message(const struct call *call, const struct msghdr *message, int flags) {
     const struct timeval no_limit = {0, 0};
     int type = 0;
@@ -142,8 +144,8 @@ static int64_t send_message(const struct call *call, struct parcel *parcel, int 
     return put_message(call, &parcel->ours, flags);
 }
 
-/* Writes a message's address into the program's buffer, as much as fits. Like the kernel, it does so after the message
- * was received. */
+/* Copies the sender's address to the program, as much as fits into its buffer. As in the kernel, an error is found only
+ * after the message has been received. */
 static int64_t give_name(const struct call *call, const struct parcel *parcel, int64_t value) {
     socklen_t room;
     if (!parcel->theirs.msg_name) {
@@ -161,7 +163,7 @@ static int64_t give_name(const struct call *call, const struct parcel *parcel, i
                : -EFAULT;
 }
 
-/* Writes the facts of a message besides its bytes to the program. */
+/* Copies everything about a message except its bytes to the program. */
 static int64_t give_head(const struct call *call, struct parcel *parcel, int64_t value) {
     struct msghdr *theirs = &parcel->theirs;
     const struct msghdr *ours = &parcel->ours;
@@ -177,7 +179,7 @@ static int64_t give_head(const struct call *call, struct parcel *parcel, int64_t
     return give(call, call->words[1], theirs, sizeof *theirs) ? value : -EFAULT;
 }
 
-/* Writes a received message to the program. */
+/* Copies a received message to the program. */
 static int64_t give_message(const struct call *call, struct parcel *parcel, size_t length, int64_t value) {
     size_t at = 0;
     for (size_t i = 0; at < length && i < parcel->theirs.msg_iovlen; i++) {

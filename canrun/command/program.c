@@ -1,4 +1,4 @@
-/* Checks from its file how a program is loaded, and whether it can be run in this way. See program.h. */
+/* Checks the file of a program: how it will be loaded, and whether it can use the library. See program.h. */
 #define _GNU_SOURCE
 #include "program.h"
 
@@ -42,7 +42,8 @@ static bool read_at(int fd, void *data, size_t length, size_t offset) {
     return pread(fd, data, length, (off_t)offset) == (ssize_t)length;
 }
 
-/* Whether a segment has Go's note. The linker of a Go program with C code puts this note after others. */
+/* Returns whether a segment contains the note of the Go linker. In a Go program with C code this note comes after other
+ * notes. */
 static bool has_note_of_go(int fd, const Elf64_Phdr *segment) {
     struct {
         Elf64_Nhdr head;
@@ -72,14 +73,14 @@ static bool is_loader_of_musl(int fd, const Elf64_Phdr *segment) {
 
 static const char OF_MUSL[] = "is linked with musl, and not with glibc";
 
-/* The reason why the program in this file does not load the library. For a 32-bit program there is no other way
+/* Returns why the program in this file does not load the library, or NULL. For a 32-bit program --static does not help
  * either. */
 static const char *elf_obstacle(int fd, bool *is_32_bit) {
     Elf64_Ehdr head;
     Elf64_Phdr segment;
     bool is_dynamic = false, is_go = false, is_musl = false;
     if (!read_at(fd, &head, sizeof head, 0) || memcmp(head.e_ident, ELFMAG, SELFMAG) != 0) {
-        return NULL; /* A script: its interpreter counts. */
+        return NULL; /* This is a script; its interpreter decides. */
     }
     *is_32_bit = head.e_ident[EI_CLASS] != ELFCLASS64;
     if (*is_32_bit) {
@@ -97,7 +98,7 @@ static const char *elf_obstacle(int fd, bool *is_32_bit) {
                          : NULL;
 }
 
-/* Whether a program gets other rights from its file; then the loader ignores the library. */
+/* Returns whether the file gives the program other privileges. In that case the loader ignores LD_PRELOAD. */
 static bool is_privileged(const char *path) {
     struct stat status;
     if (stat(path, &status)) {
@@ -108,8 +109,8 @@ static bool is_privileged(const char *path) {
            (geteuid() != 0 && getxattr(path, "security.capability", NULL, 0) > 0);
 }
 
-/* Whether a statically linked program causes no wrong CAN sockets: ldconfig makes none, and valgrind and the loader run
- * another program, with the library. */
+/* Returns whether a statically linked program causes no problem: ldconfig creates no CAN sockets, while valgrind and
+ * the loader run another program that does load the library. */
 static bool is_harmless(const char *path) {
     static const char *const names[] = {"ldconfig", "sln", "ld-linux", "ld.so", "ld64.so"};
     const char *slash = strrchr(path, '/'), *name = slash ? slash + 1 : path;
@@ -121,7 +122,7 @@ static bool is_harmless(const char *path) {
     return strstr(path, "/valgrind/");
 }
 
-/* The reason why the program in the file with this path does not load the library. */
+/* Returns why the program at this path does not load the library, or NULL. */
 static const char *file_obstacle(const char *path, bool *is_32_bit) {
     int fd = open(path, O_RDONLY | O_CLOEXEC);
     const char *obstacle = fd >= 0 ? elf_obstacle(fd, is_32_bit) : NULL;

@@ -1,4 +1,5 @@
-/* The memory, descriptors and signals of a program with a supervisor, and replies to it. See supervise.h. */
+/* Accesses the memory, file descriptors and signals of a program that has a supervisor, and replies to its calls. See
+ * supervise.h. */
 #define _GNU_SOURCE
 #include "supervise.h"
 
@@ -62,7 +63,7 @@ bool has_signal(const struct call *call) {
 
 /* ---- programs ---- */
 
-/* A cache of checked program files. */
+/* A cache of program files that were checked: whether each one loads the library. */
 static struct {
     dev_t device;
     ino_t file;

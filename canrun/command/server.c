@@ -1,4 +1,4 @@
-/* The server for a program: see server.h. */
+/* Finds the server for a program: see server.h. */
 #define _GNU_SOURCE
 #include "server.h"
 
@@ -15,15 +15,15 @@
 #include <time.h>
 #include <unistd.h>
 
-/* How many milliseconds to wait for each reply of the server, and between two tries to find it. */
+/* How many milliseconds to wait for each reply of the server, and between two attempts to connect to it. */
 #define REPLY_TIME 5000
 #define PAUSE 100
 
-/* Messages about a server that runs, but is too old to list its interfaces, or has no room. */
+/* Error texts about a server that runs, but is too old to list its interfaces or has no room for another session. */
 static const char TOO_OLD[] = "is older than canbusd-run " VERSION ": start one of the same version";
 static const char FULL[] = "has as many sessions as it can, 64: close some";
 
-/* Converts a host to a number, and a path to an absolute one. Returns an error text, or NULL. */
+/* Replaces a host name by its number, and a relative path by an absolute one. Returns an error text, or NULL. */
 static const char *resolve(struct address *address) {
     struct addrinfo hints = {.ai_socktype = SOCK_STREAM, .ai_flags = AI_ADDRCONFIG}, *found;
     if (address->is_path) {
@@ -57,7 +57,7 @@ static void write_address(const struct address *address, struct server *server) 
     }
 }
 
-/* Reads the server's next message. It is incomplete if it does not end with >. */
+/* Reads the next message of the server. If the message does not end with >, it is incomplete. */
 static void read_message(int fd, char *message, size_t size) {
     size_t have = 0;
     struct pollfd polled = {fd, POLLIN, 0};
@@ -72,7 +72,8 @@ static void read_message(int fd, char *message, size_t size) {
     }
 }
 
-/* Returns NULL for the greeting of a canbusd with room; otherwise a description of it. */
+/* Returns NULL if this is the greeting of a canbusd with room for a session; otherwise a text that describes the
+ * greeting. */
 static const char *other_greeting(char *greeting) {
     static char said[160];
     if (!strncmp(greeting, "< hi >", 6)) {
@@ -90,8 +91,8 @@ static const char *other_greeting(char *greeting) {
     return said;
 }
 
-/* Asks for the names of all interfaces. False if the server does not know the question, or a terminal could not show
- * the names. */
+/* Asks the server for the names of all its interfaces. Returns false if the server does not know the question, or a
+ * name contains a character that is not printable. */
 static bool ask_interfaces(int fd, struct server *server) {
     static const char question[] = "< interfaces >", before[] = "< interfaces ", after[] = " >";
     char message[sizeof before + INTERFACE_NAMES + sizeof after];
@@ -114,8 +115,8 @@ static bool ask_interfaces(int fd, struct server *server) {
     return true;
 }
 
-/* Returns NULL if a canbusd with room listens there, or an error text. `is_absent` is set if the server may still
- * start. */
+/* Returns NULL if a canbusd with room for a session listens at this address; otherwise an error text. `is_absent` is
+ * set if nothing listens there yet, so a server may still start. */
 static const char *look(const struct address *address, bool *is_absent, struct server *server) {
     char greeting[64];
     int fd = address_connect(address);

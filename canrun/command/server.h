@@ -1,4 +1,5 @@
-/* The server for a program: checks that it runs, and finds its address and names for the bridges. */
+/* Finds the server for a program: checks that the server is running, and gets its address and the names of its
+ * interfaces for the bridges. */
 #ifndef SERVER_H
 #define SERVER_H
 
@@ -8,14 +9,14 @@
 #include <stdbool.h>
 
 struct server {
-    /* The address in a form for the bridges: an absolute path, or a host that is a number. */
+    /* The address in a form that the bridges understand: an absolute path, or a host that is a number. */
     char address[PATH_MAX + 300];
-    /* The names of all its interfaces, joined by commas. */
+    /* The names of all interfaces of the server, separated by commas. */
     char interfaces[INTERFACE_NAMES];
 };
 
-/* Checks whether a canbusd listens at this address; with `waits` it waits for one. False after a line on standard
- * error. */
+/* Checks that a canbusd listens at this address. If `waits`, it waits until a canbusd listens there. On an error it
+ * prints a line on standard error and returns false. */
 bool server_find(const char *text, bool waits, struct server *server);
 
 #endif

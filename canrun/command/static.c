@@ -1,4 +1,4 @@
-/* Starts a program with a supervisor for its system calls: see static.h. */
+/* Starts a program with a supervisor that makes its system calls: see static.h. */
 #define _GNU_SOURCE
 #include "static.h"
 
@@ -23,7 +23,7 @@
 #include <unistd.h>
 
 #define STATUS_FAULT 125
-/* The stack size of a thread that makes one call. */
+/* The stack size of a supervisor thread, which makes one call of the program. */
 #define STACK 262144
 
 #ifdef __x86_64__
@@ -33,8 +33,8 @@
 #else
 #define ARCHITECTURE 0
 #endif
-/* This flag is newer than some headers. Once the supervisor has received a call, only a fatal signal ends the call. So
- * no frame is written twice, or is lost with an interrupted call. */
+/* Some headers are too old for this flag. With it, only a fatal signal ends a call that the supervisor has received. So
+ * no frame is written twice, and none is lost because its call was interrupted. */
 #ifndef SECCOMP_FILTER_FLAG_WAIT_KILLABLE_RECV
 #define SECCOMP_FILTER_FLAG_WAIT_KILLABLE_RECV (1UL << 5)
 #endif
@@ -53,19 +53,20 @@ static int fault(const char *why) {
 #define ALLOW BPF_STMT(BPF_RET | BPF_K, SECCOMP_RET_ALLOW)
 #define NOTIFY BPF_STMT(BPF_RET | BPF_K, SECCOMP_RET_USER_NOTIF)
 
-/* Calls on sockets, whose descriptors begin at STATIC_FIRST. A read that has to wait does so in the kernel, and gets
- * the frame unchanged. */
+/* The calls that go to the supervisor if their file descriptor is STATIC_FIRST or higher. If a read has to wait, the
+ * kernel makes the read, which then gets the frame unchanged. */
 static const unsigned CALLS[] = {
     SYS_bind,   SYS_connect, SYS_setsockopt, SYS_getsockopt, SYS_getsockname, SYS_getpeername, SYS_listen,
     SYS_accept, SYS_accept4, SYS_shutdown,   SYS_recvfrom,   SYS_recvmsg,     SYS_sendto,      SYS_sendmsg,
     SYS_write,  SYS_writev,  SYS_read,       SYS_readv,      SYS_dup,         SYS_close,       SYS_fcntl};
-/* Requests about interfaces, on any descriptor. The requests on a socket itself are caught as calls on the socket. */
+/* The ioctl requests about interfaces, which go to the supervisor on any file descriptor. Requests about a socket
+ * itself go there because of the socket's descriptor. */
 static const unsigned REQUESTS[] = {SIOCGIFINDEX,  SIOCGIFNAME,   SIOCGIFMTU, SIOCGIFFLAGS, SIOCGIFHWADDR,
                                     SIOCGIFTXQLEN, SIOCGIFMETRIC, SIOCGIFMAP, SIOCSIFFLAGS};
 #define COUNT(list) (sizeof(list) / sizeof *(list))
 
-/* Adds a comparison with each value of a list. If one is equal, the following instructions run; otherwise so many are
- * skipped. */
+/* Adds a comparison with each value of a list. If one value is equal, the instructions after the list run; otherwise
+ * the first `skipped` of them are skipped. */
 static size_t compare(struct sock_filter *code, const unsigned *list, size_t count, unsigned skipped) {
     for (size_t i = 0; i < count; i++) {
         bool is_last = i + 1 == count;
@@ -75,10 +76,11 @@ static size_t compare(struct sock_filter *code, const unsigned *list, size_t cou
     return count;
 }
 
-/* Installs the filter. Returns the descriptor of the notifications, or -1 and errno. */
+/* Installs the filter. Returns the file descriptor of the notifications, or -1 with errno set. */
 static int install(void) {
     const struct sock_filter head[] = {LOAD(arch), IS(ARCHITECTURE, 1, 0), ALLOW, LOAD(nr), IS(SYS_socket, 0, 8),
-                                       /* CAN, and NETLINK_ROUTE, which is 0. */
+                                       /* The supervisor is notified of a new socket of AF_CAN, or of AF_NETLINK with
+                                        * NETLINK_ROUTE, which is 0. */
                                        LOAD_WORD(0), IS(AF_CAN, 0, 1), NOTIFY, IS(AF_NETLINK, 0, 3), LOAD_WORD(2),
                                        IS(0, 0, 1), NOTIFY, ALLOW, IS(SYS_ioctl, 0, COUNT(REQUESTS) + 5), LOAD_WORD(0),
                                        IS_FROM(STATIC_FIRST, COUNT(REQUESTS) + 1, 0), LOAD_WORD(1)};
@@ -113,7 +115,7 @@ static void *do_job(void *given) {
     return NULL;
 }
 
-/* Once the process that was started has ended, its standard error gets no more notes of the library. */
+/* After the program's first process has ended, sends no more notes of the library to its standard error. */
 static void leave_output(struct pollfd *program) {
     int null = open("/dev/null", O_RDWR | O_CLOEXEC);
     dup2(null, STDERR_FILENO);
@@ -146,8 +148,8 @@ void static_serve(int listener, int program) {
     }
 }
 
-/* Leaves the program's descriptors and session, so that no process waits for a supervisor. It keeps `kept` and standard
- * error. */
+/* Detaches the supervisor from the program's file descriptors and session, so that no process waits for the supervisor.
+ * Only `kept` and standard error stay open. */
 static void leave_program(unsigned kept) {
     int null = open("/dev/null", O_RDWR | O_CLOEXEC);
     dup2(null, STDIN_FILENO);
@@ -163,7 +165,7 @@ static void leave_program(unsigned kept) {
     signal(SIGPIPE, SIG_IGN);
     prctl(PR_SET_NAME, "canbusd-static");
     if (chdir("/")) {
-        /* The folder stays in use then. */
+        /* The program's directory then stays in use. */
     }
 }
 
@@ -197,7 +199,7 @@ static int take(int by) {
     return fd;
 }
 
-/* Forks a supervisor that is not a child of this process, and receives its process number on the pair. */
+/* Forks a supervisor that is not a child of this process, and receives its process number through the pair. */
 static pid_t start_supervisor(const int pair[2]) {
     pid_t number = -1, program = getpid(), child = fork();
     if (child == 0) {
@@ -236,7 +238,7 @@ int static_run(const char *path, char **program) {
     if (supervisor < 0) {
         return fault("no process for the supervisor");
     }
-    /* Needed if only ancestors may read a process's memory (Yama). */
+    /* Some kernels (Yama) allow only ancestors to read the memory of a process. This allows it to the supervisor. */
     prctl(PR_SET_PTRACER, supervisor, 0, 0, 0);
     int listener = ARCHITECTURE ? install() : (errno = ENOSYS, -1);
     if (listener < 0) {

@@ -1,26 +1,27 @@
-/* --static: programs that do not load the library, since they are linked statically or with musl, or are written in Go.
- * Their system calls on CAN sockets and netlink wait for a supervisor, through seccomp's user notification. The
- * supervisor makes these calls with the library's functions, on a copy of the descriptor. It is a process with the
- * library; the program keeps the process that was started. */
+/* --static, for programs that do not load the library, because they are linked statically or with musl, or are written
+ * in Go. Their system calls on CAN and netlink sockets are passed to a supervisor, through the user notification of
+ * seccomp. The supervisor is a process that has loaded the library. It makes each call with the library's functions, on
+ * a copy of the file descriptor. The program itself runs in the process that was started. */
 #ifndef STATIC_H
 #define STATIC_H
 
 #include <linux/seccomp.h>
 #include <stdbool.h>
 
-/* The range of the sockets' descriptors, so that the filter of system calls recognizes them. It is below the limit of
- * select. */
+/* The range of file descriptors for the sockets, so that the filter of system calls recognizes the sockets. The range
+ * is below the limit of select. */
 #define STATIC_FIRST 960
 #define STATIC_PAST 1024
 
-/* Becomes this program, with a supervisor for its calls. If this fails it prints a line and returns a status. */
+/* Replaces this process by the program, with a supervisor for its system calls. If this fails, it prints a line and
+ * returns an exit status, or returns -1 with errno set if only execv fails. */
 int static_run(const char *path, char **program);
 
-/* The supervisor: serves the calls of this listener until no process makes any. `program` is a pidfd of the process
- * that was started. */
+/* The main loop of the supervisor: serves the calls of this listener until no process that uses it is left. `program`
+ * is a pidfd of the process that was started. */
 void static_serve(int listener, int program);
 
-/* Makes a call of the program, and sends the reply to the listener. */
+/* Makes a system call of the program, and sends the reply to the listener. */
 void static_call(int listener, const struct seccomp_notif *asked);
 
 #endif

@@ -1,5 +1,5 @@
-/* Makes a system call for a program without the library: see static.h. It uses the functions of the library, which this
- * process has loaded. */
+/* Makes a system call for a program that does not load the library: see static.h. It calls the functions of the
+ * library, which is loaded into this process. */
 #define _GNU_SOURCE
 #include "supervise.h"
 
@@ -22,22 +22,22 @@
 #include <time.h>
 #include <unistd.h>
 
-/* The longest value of an option. */
+/* The maximum size of an option's value. */
 #define OPTION 8192
-/* How many seconds a close waits until a message has been sent. */
+/* How many seconds a close waits until the socket's message has been sent. */
 #define CLOSE_TIME 60
 
 /* ---- sockets ---- */
 
-/* Closes a copy of a descriptor. This is not the program's close, which may wait for the end of a message. */
+/* Closes a copy of a file descriptor without waiting. The library's close could wait until a message has been sent. */
 static void drop(int fd) {
     close_range((unsigned)fd, (unsigned)fd, 0);
 }
 
 static pthread_mutex_t places = PTHREAD_MUTEX_INITIALIZER;
 
-/* Puts a socket at a free descriptor of the program in the range; the program's call returns this descriptor. Returns
- * 0, or a negative errno. */
+/* Puts a socket at a free file descriptor of the program, between STATIC_FIRST and STATIC_PAST. The program's call
+ * returns this descriptor. Returns 0, or a negative errno. */
 static int put_socket(const struct call *call, int fd, bool is_cloexec) {
     char path[64], target[8];
     for (uint32_t at = STATIC_FIRST; at < STATIC_PAST; at++) {
@@ -55,7 +55,7 @@ static int put_socket(const struct call *call, int fd, bool is_cloexec) {
     return -EMFILE;
 }
 
-/* Gives a socket to the program together with the reply, and closes it here. */
+/* Passes a socket to the program together with the reply, and closes the socket here. */
 static void hand_over(const struct call *call, int fd, bool is_cloexec) {
     pthread_mutex_lock(&places);
     int error = put_socket(call, fd, is_cloexec);
@@ -66,7 +66,8 @@ static void hand_over(const struct call *call, int fd, bool is_cloexec) {
     }
 }
 
-/* Reports once that there is no CAN_J1939: its errors and its close need the library in the program. */
+/* Prints once that --static does not support CAN_J1939, because its errors and its close need the library in the
+ * program. */
 static void note_no_j1939(void) {
     static bool is_said;
     if (!__atomic_exchange_n(&is_said, true, __ATOMIC_RELAXED)) {
@@ -89,14 +90,15 @@ static void make_socket(const struct call *call) {
     }
 }
 
-/* Whether the call makes a copy of the descriptor; the copy must be in the range too. */
+/* Returns whether the call duplicates the file descriptor. The duplicate must be in the range for sockets too. */
 static bool is_copying(const struct call *call) {
     int number = call->asked->data.nr;
     return number == SYS_dup ||
            (number == SYS_fcntl && (call->words[1] == F_DUPFD || call->words[1] == F_DUPFD_CLOEXEC));
 }
 
-/* Whether a descriptor is a socket that the library handles: the program may have other files in the range. */
+/* Returns whether a file descriptor is a socket that the library handles. The program may have other files in the range
+ * for sockets. */
 static bool is_ours(int fd, bool *is_can) {
     int domain = 0;
     getsockopt(fd, SOL_SOCKET, SO_DOMAIN, &domain, &(socklen_t){sizeof domain});
@@ -138,7 +140,7 @@ static int64_t get_address(const struct call *call) {
                : -EFAULT;
 }
 
-/* Attaches a packet filter, which is in the program's memory. */
+/* Attaches a packet filter whose code is in the program's memory. */
 static int64_t attach_filter(const struct call *call) {
     struct sock_fprog program;
     struct sock_filter *code = malloc(BPF_MAXINSNS * sizeof *code);
@@ -199,7 +201,7 @@ static int64_t do_request(const struct call *call) {
     return value < 0 || give(call, call->words[2], &request, length) ? value : -EFAULT;
 }
 
-/* Whether the library handles this request on a descriptor; other requests are the kernel's. */
+/* Returns whether the library handles this ioctl request. The kernel handles all other requests. */
 static bool is_of_socket(const struct call *call, bool is_can) {
     unsigned request = (unsigned)call->words[1];
     return (request >> 8 == 0x89 && request != SIOCATMARK && request != SIOCGPGRP && request != SIOCSPGRP &&
@@ -209,8 +211,8 @@ static bool is_of_socket(const struct call *call, bool is_can) {
 
 /* ---- one call ---- */
 
-/* Whether the kernel may make the call: a read that waits for a frame and needs only its bytes. Other protocols may
- * have an error in place of a message. */
+/* Returns whether the kernel can make the call: it is a CAN_RAW read that has to wait and returns only the bytes of a
+ * frame. For other protocols an error may come in place of a message. */
 static bool is_plain_wait(const struct call *call) {
     int number = call->asked->data.nr, type = 0;
     struct pollfd polled = {call->fd, POLLIN, 0};
@@ -220,7 +222,7 @@ static bool is_plain_wait(const struct call *call) {
            type == SOCK_RAW && poll(&polled, 1, 0) == 0;
 }
 
-/* A function of the library: sets the process for which this thread now makes calls. */
+/* A function of the library. It sets the process for which this thread makes calls. */
 __attribute__((weak)) void canbusd_run_serves(pid_t process);
 
 static int64_t make_call(const struct call *call) {
@@ -247,7 +249,7 @@ static int64_t make_call(const struct call *call) {
     }
 }
 
-/* Reports once that this process is not allowed to read the program's memory. */
+/* Prints once that this process is not allowed to read the program's memory. */
 static void note_no_access(void) {
     static bool is_said;
     if (!__atomic_exchange_n(&is_said, true, __ATOMIC_RELAXED)) {
@@ -256,7 +258,7 @@ static void note_no_access(void) {
     }
 }
 
-/* Whether this process makes the call; otherwise the kernel does. */
+/* Returns whether this process makes the call. If not, the kernel makes it. */
 static bool is_wanted(const struct call *call, bool is_known, bool is_can) {
     int number = call->asked->data.nr;
     return number == SYS_ioctl   ? is_of_socket(call, is_can)
@@ -265,7 +267,7 @@ static bool is_wanted(const struct call *call, bool is_known, bool is_can) {
                                  : is_known && !(is_can && is_plain_wait(call));
 }
 
-/* Makes a call on a descriptor, or lets the kernel make it. */
+/* Makes a call on a file descriptor, or lets the kernel make it. */
 static void call_of_descriptor(struct call *call) {
     int number = call->asked->data.nr;
     bool is_can = false;
@@ -288,7 +290,7 @@ static void call_of_descriptor(struct call *call) {
     if (is_here) {
         value = make_call(call);
     } else if (number == SYS_close && is_can) {
-        wait_for(call, POLLOUT, &(struct timeval){CLOSE_TIME, 0}); /* Its message is sent before the close. */
+        wait_for(call, POLLOUT, &(struct timeval){CLOSE_TIME, 0}); /* The socket's message is sent before the close. */
     }
     drop(call->fd);
     if (is_here) {

@@ -9,7 +9,7 @@
 #include <sys/time.h>
 #include <sys/types.h>
 
-/* A call of the program, which waits for its reply. */
+/* A system call of the program, which waits for the reply of the supervisor. */
 struct call {
     int listener;
     const struct seccomp_notif *asked;
@@ -20,37 +20,39 @@ struct call {
 
 /* ---- remote.c: the program's memory and descriptors ---- */
 
-/* Copy from or to the program's memory; false if the address is invalid. */
+/* Copy from or to the program's memory. Return false if the address is invalid. */
 bool take(const struct call *call, void *here, uint64_t there, size_t length);
 bool give(const struct call *call, uint64_t there, const void *here, size_t length);
 
-/* Converts the result of a library call to the kernel's form: a failure is a negative errno. */
+/* Converts the result of a library call to the kernel's convention: a failure is a negative errno. */
 int64_t result(int64_t value);
 
-/* Replies to the call; or lets the kernel make it. */
+/* The first function replies to the call. The second lets the kernel make the call. */
 void reply(const struct call *call, int64_t value, uint32_t flags);
 void let_go_on(const struct call *call);
 
-/* Whether the program still waits for the call; whether its thread has a signal that it will handle. */
+/* Return whether the program still waits for the call, and whether its thread has a pending signal that is neither
+ * blocked nor ignored. */
 bool is_waited_for(const struct call *call);
 bool has_signal(const struct call *call);
 
-/* Whether a program has loaded the library, and so makes its calls itself. */
+/* Returns whether the program of this thread loads the library, and so makes its calls itself. */
 bool has_library(pid_t thread);
 
-/* The process of a thread. */
+/* Returns the process that a thread belongs to. */
 pid_t process_of(pid_t thread);
 
-/* Copies a descriptor of a process. Returns -1 and errno if the process has no such descriptor, or this process lacks
- * the rights. */
+/* Copies a file descriptor of a process. Returns -1 with errno set if the process has no such descriptor, or this
+ * process is not allowed to copy it. */
 int copy_descriptor(pid_t process, int fd);
 
 /* ---- parcels.c ---- */
 
-/* Waits until the socket can be read or written. Returns 0, or the result of the call. */
+/* Waits until the socket can be read or written. Returns 0; or the negative errno that ends the call, if a signal comes
+ * or `limit` is over. */
 int64_t wait_for(const struct call *call, short events, const struct timeval *limit);
 
-/* Makes a call that sends or receives a message. */
+/* Makes a system call that sends or receives a message. */
 int64_t carry_message(const struct call *call, bool sends);
 
 #endif

@@ -1,5 +1,5 @@
-/* A request to the bridge of a socket, and its reply. The reply comes on a separate pipe and no state is kept, so any
- * number of threads and processes can ask at once. */
+/* Sends a request to the bridge of a socket and waits for its reply. Each reply comes on a separate pipe and the
+ * library keeps no state, so any number of threads and processes can send requests at the same time. */
 #define _GNU_SOURCE
 #include "library.h"
 
@@ -33,7 +33,8 @@ int put_request(int fd, int with, const struct wire_request *request, const stru
     rights->cmsg_type = SCM_RIGHTS;
     rights->cmsg_len = CMSG_LEN(sizeof(int));
     memcpy(CMSG_DATA(rights), &with, sizeof(int));
-    /* The bridge takes requests at once, so there is room soon, even if the program does not want to wait. */
+    /* The bridge reads requests at once, so the socket has room soon. This call therefore waits even for a program that
+     * does not want to wait. */
     return syscall(SYS_sendmsg, fd, &message, MSG_NOSIGNAL) >= 0 ? 0 : errno;
 }
 
@@ -45,7 +46,8 @@ struct asked {
     bool is_interrupted; /* a signal came, and its handler has no SA_RESTART */
 };
 
-/* Makes the bridge end the wait of a write. If this comes too late, the reply says so. */
+/* Asks the bridge to end the wait of a write. If this comes too late, the write has already been done and the reply
+ * reports it. */
 static void cancel(struct asked *asked) {
     struct wire_request request = {.kind = WIRE_CANCEL};
     while (put_request(asked->fd, asked->reply_from, &request, NULL, 0) == EINTR) {
@@ -53,8 +55,8 @@ static void cancel(struct asked *asked) {
     asked->may_end = false;
 }
 
-/* Reads this many bytes; fewer only at the end of the pipe. After a signal it reads on, because the reply has the
- * request's result. The kernel itself continues the read if the handler has SA_RESTART. */
+/* Reads `length` bytes, or fewer at the end of the pipe. It continues after a signal, because the reply contains the
+ * result of the request. If the signal handler has SA_RESTART, the kernel itself continues the read. */
 static size_t read_whole(struct asked *asked, void *data, size_t length) {
     size_t done = 0;
     while (done < length) {
@@ -106,7 +108,8 @@ int ask(int fd, const char *what, const struct wire_request *request, const stru
     }
     int result = error ? refuse_unsent(what, error) : get_reply(&asked, answer);
     error = result ? errno : before;
-    /* A program with SA_RESTART does not expect EINTR, so it gets the error for no room, as without --wait. */
+    /* A program whose handler has SA_RESTART does not expect EINTR, so the write fails with ENOBUFS, as it does without
+     * --wait. */
     error = wait_end(wait) && result && error == EINTR && !asked.is_interrupted ? ENOBUFS : error;
     syscall(SYS_close, ends[0]);
     errno = error;

@@ -1,4 +1,4 @@
-/* CAN_BCM, the broadcast manager: it has connect in place of bind, no options, and returns no address. */
+/* CAN_BCM, the broadcast manager. Its sockets use connect instead of bind, and have no options and no address. */
 #define _GNU_SOURCE
 #include "library.h"
 
@@ -11,7 +11,7 @@ static int bcm_bind(const struct socket *sock, const struct sockaddr *address, s
     return refuse("bind", EOPNOTSUPP, "CAN_BCM has connect in its place");
 }
 
-/* As in the kernel, the family of the address does not matter. */
+/* As in the kernel, the address family is not checked. */
 static int bcm_connect(const struct socket *sock, const struct sockaddr *address, socklen_t length) {
     struct sockaddr_can can;
     return copy_address(sock, "connect", address, length, &can) ? -1 : ask_to_bind(sock, "connect", WIRE_CONNECT, &can);
@@ -27,7 +27,7 @@ static ssize_t bcm_sendmsg(const struct socket *sock, const struct msghdr *messa
                : answer.value;
 }
 
-/* As in the kernel, the program does not learn that a message was longer than its buffer. */
+/* Clears MSG_TRUNC: as in the kernel, the program is not told that a message was longer than its buffer. */
 static ssize_t bcm_recvmsg(const struct socket *sock, struct msghdr *message, int flags) {
     ssize_t done = can_recvmsg(sock, message, flags);
     message->msg_flags &= ~MSG_TRUNC;

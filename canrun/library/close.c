@@ -1,5 +1,5 @@
-/* close, dup2 and dup3: closing a socket of a protocol that lingers waits until its message has been sent, as in the
- * kernel. */
+/* close, dup2 and dup3. As in the kernel, closing a socket of some protocols (`lingers`) waits until the socket's
+ * message has been sent. */
 #define _GNU_SOURCE
 #include "library.h"
 
@@ -13,8 +13,8 @@ static void put_byte(int fd) {
     syscall(SYS_sendto, fd, "", 1L, MSG_NOSIGNAL, NULL, 0L);
 }
 
-/* Waits until the bridge ends or closes its end of the pair. A signal ends the wait: the bridge gives the message up,
- * and sends none of its frames after that. */
+/* Waits until the bridge ends, or closes its end of the pair. A signal ends the wait: the bridge then abandons the
+ * message and sends no more of its frames. */
 static void await_end(int fd) {
     struct pollfd polled = {fd, POLLIN, 0};
     if (syscall(SYS_ppoll, &polled, 1L, NULL, NULL, 0L) < 0) {
@@ -32,7 +32,7 @@ static int close_patiently(int fd) {
     int error = put_request(fd, pair[1], &request, NULL, 0);
     syscall(SYS_close, pair[1]);
     int result = real()->close(fd);
-    /* Now the bridge sees whether that was the last copy. */
+    /* Tells the bridge to check whether that was the last copy of the socket. */
     put_byte(pair[0]);
     if (!error) {
         await_end(pair[0]);
@@ -51,7 +51,8 @@ EXPORT int close(int fd) {
     return lingers(fd) ? close_patiently(fd) : real()->close(fd);
 }
 
-/* Makes a copy of a socket that a call will replace; the copy is closed after the call. -1 if no copy is needed. */
+/* Duplicates a socket that dup2 or dup3 is about to replace. The duplicate is closed after the call. Returns -1 if no
+ * duplicate is needed. */
 static int copy_of_replaced(int from, int to) {
     return from != to && lingers(to) ? fcntl(to, F_DUPFD_CLOEXEC, 0) : -1;
 }

@@ -1,5 +1,6 @@
-/* Starts of programs. If a program's file shows that it does not load the library, a line on standard error names it:
- * its CAN sockets are the kernel's. The calls themselves are the C library's own. */
+/* Replaces the calls that start programs. If the file of a program shows that the program will not load this library, a
+ * line on standard error names the program, because its CAN sockets will be the kernel's. The start itself is left to
+ * the C library. */
 #define _GNU_SOURCE
 #include "library.h"
 
@@ -10,7 +11,7 @@
 #include <stdio.h>
 #include <sys/syscall.h>
 
-/* Names the program of this file, if necessary; PATH is searched for it if `is_searched`. */
+/* Prints the note for the program in `file`, if one is needed. If `is_searched`, the file is looked up in PATH. */
 static void note(const char *file, bool is_searched) {
     char path[PATH_MAX], line[PATH_MAX + 192];
     int before = errno;

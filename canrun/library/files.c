@@ -1,6 +1,6 @@
-/* Files below /sys/class/net, in which programs such as Qt's look for devices. Each interface of the server has a
- * folder there with files of its facts. An opened file is a memory file that contains only the text. Facts of a folder,
- * and permissions, are those of lo. */
+/* Files below /sys/class/net, where programs such as those that use Qt look for devices. Each interface of the server
+ * has a directory there, with files that contain facts about it. An opened file is a memory file that contains only the
+ * text. The file status and permissions of a path are those of the same path for the interface lo. */
 #define _GNU_SOURCE
 #include "library.h"
 
@@ -21,13 +21,14 @@
 /* IFF_ECHO of linux/if.h. */
 #define FLAG_ECHO 0x40000
 
-/* The interface of a path, and the file in its folder; the name is empty for the folder itself. */
+/* The interface in a path, and the name of the file in its directory. The name is empty if the path is the directory
+ * itself. */
 struct place {
     int index;
     const char *file;
 };
 
-/* Whether a path is in the folder of one of the server's interfaces below /sys/class/net. */
+/* Returns whether a path is in the directory of one of the server's interfaces below /sys/class/net. */
 static bool find_place(const char *path, struct place *place) {
     const size_t length = sizeof FOLDER - 1;
     char name[IFNAMSIZ];
@@ -48,7 +49,7 @@ static bool find_place(const char *path, struct place *place) {
 
 /* ---- texts ---- */
 
-/* Writes the text of a file with a changing fact; false if there is no such file, or the fact is unknown. */
+/* Writes the text of a file whose content changes. Returns false if there is no such file, or the fact is unknown. */
 static bool write_fact(const struct place *place, char *text, size_t size) {
     struct link_facts facts = links_facts(place->index);
     const struct {
@@ -69,7 +70,7 @@ static bool write_fact(const struct place *place, char *text, size_t size) {
                                                : false;
 }
 
-/* Writes the text of a file; false if there is no such file. */
+/* Writes the text of a file. Returns false if there is no such file. */
 static bool write_text(const struct place *place, char *text, size_t size) {
     char name[IFNAMSIZ];
     const struct {
@@ -92,7 +93,7 @@ static bool write_text(const struct place *place, char *text, size_t size) {
                                             : write_fact(place, text, size);
 }
 
-/* Opens a file; returns its descriptor, or -1 and errno. */
+/* Opens a file. Returns its file descriptor, or -1 with errno set. */
 static int open_place(const struct place *place, int flags) {
     char text[128];
     if (!*place->file) {
@@ -115,7 +116,7 @@ static int open_place(const struct place *place, int flags) {
     return fd;
 }
 
-/* Returns the path whose facts the program gets for this path. */
+/* Returns the path whose status the program gets in place of this path's status. */
 static const char *stand_in(const char *path, char room[PATH_MAX]) {
     struct place place;
     char text[128];
@@ -226,7 +227,7 @@ EXPORT int faccessat(int folder, const char *path, int mode, int flags) {
 
 /* ---- the list of interfaces ---- */
 
-/* The open streams of /sys/class/net, each with the next interface of its list. */
+/* The open streams of /sys/class/net, each with the index of the next interface to list. */
 static struct {
     const DIR *stream;
     int next;
@@ -238,7 +239,7 @@ static struct {
 #define LISTS (sizeof lists / sizeof *lists)
 static pthread_mutex_t lists_lock = PTHREAD_MUTEX_INITIALIZER;
 
-/* The place of a stream in `lists`; LISTS if it has no place. NULL finds a free place. */
+/* Returns the index of a stream in `lists`, or LISTS if it is not there. NULL finds a free entry. */
 static size_t list_of(const DIR *stream) {
     size_t at = 0;
     while (at < LISTS && lists[at].stream != stream) {
@@ -283,8 +284,8 @@ EXPORT void rewinddir(DIR *stream) {
     real()->rewinddir(stream);
 }
 
-/* The next interface of the server, after the kernel's; NULL at the end. Both forms of an entry have the same
- * layout. */
+/* Returns the entry of the next interface of the server, or NULL at the end of the list. The kernel's interfaces come
+ * before the server's. Both struct dirent and struct dirent64 have the same layout. */
 static struct dirent64 *next_interface(const DIR *stream) {
     char name[IFNAMSIZ];
     int before = errno;
@@ -313,7 +314,7 @@ EXPORT struct dirent64 *readdir64(DIR *stream) {
     return next ? next : next_interface(stream);
 }
 
-/* Programs built with _FORTIFY_SOURCE call these. */
+/* Programs that were built with _FORTIFY_SOURCE call these functions. */
 EXPORT int __open_2(const char *path, int flags);
 EXPORT int __open64_2(const char *path, int flags);
 

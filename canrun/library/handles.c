@@ -1,17 +1,17 @@
-/* Calls through a handle of the C library, such as ctypes.CDLL("libc.so.6"): dlsym returns this library's functions
- * instead. */
+/* Replaces dlsym, for calls through a handle of the C library, such as ctypes.CDLL("libc.so.6"). dlsym then returns
+ * this library's functions instead of the C library's. */
 #define _GNU_SOURCE
 #include "library.h"
 
 #include <dlfcn.h>
 
-/* A sanitizer uses dlsym before it is ready to check other functions. */
+/* Sanitizers call dlsym before they are ready to check other functions. */
 #define EARLY __attribute__((no_sanitize("address", "undefined")))
 
 typedef void *(*finder)(void *restrict, const char *restrict);
 
 EARLY finder real_dlsym(void) {
-    /* The version since 2.34, and the first version on each architecture. */
+    /* The symbol version of dlsym since glibc 2.34, and the first version on each architecture. */
     static const char *const versions[] = {"GLIBC_2.34", "GLIBC_2.2.5", "GLIBC_2.17", "GLIBC_2.27"};
     static finder found;
     for (size_t i = 0; !found && i < sizeof versions / sizeof *versions; i++) {
@@ -20,8 +20,8 @@ EARLY finder real_dlsym(void) {
     return found;
 }
 
-/* Returns this library's function for a replaced function of the C library. Other functions are returned unchanged,
- * including those of a library between this one and the C library. */
+/* Returns this library's function in place of a function of the C library that it replaces. Returns any other function
+ * unchanged, including the functions of a library that was loaded between this one and the C library. */
 static void *ours(void *function) {
     const struct real *all = real();
 #define X(name)                                      \
@@ -33,14 +33,15 @@ static void *ours(void *function) {
     return function;
 }
 
-/* A tail call that becomes a jump, as in gcc at -O2. */
+/* Forces a tail call to become a jump; gcc does so at -O2 without help. */
 #ifdef __clang__
 #define JUMP __attribute__((musttail))
 #else
 #define JUMP
 #endif
 
-/* RTLD_NEXT depends on the caller's address. So this is a jump, and the C library sees the caller. */
+/* The result for RTLD_NEXT depends on the address of the caller. This call is therefore a jump, so that the C library
+ * sees the original caller. */
 EXPORT EARLY void *dlsym(void *restrict handle, const char *restrict name) {
     if (handle == RTLD_NEXT || handle == RTLD_DEFAULT) {
         JUMP return real_dlsym()(handle, name);

@@ -1,4 +1,4 @@
-/* ioctl: facts of an interface, and the timestamp of the last frame. */
+/* ioctl: requests for facts of an interface, and for the timestamp of the last received frame. */
 #define _GNU_SOURCE
 #include "library.h"
 
@@ -24,13 +24,13 @@ static bool is_of_stamp(unsigned long request) {
            request == SIOCGSTAMPNS_NEW;
 }
 
-/* A request has room for the first 16 flags only. */
+/* struct ifreq has room for only the first 16 flags. */
 static short flags_of(int index) {
     struct link_facts facts = links_facts(index);
     return (short)link_flags(&facts);
 }
 
-/* Writes a fact of an interface of the server. */
+/* Writes the requested fact about an interface of the server. */
 static int fact_of_interface(unsigned long request, struct ifreq *interface) {
     if (request == SIOCGIFNAME) {
         char name[IFNAMSIZ];
@@ -68,7 +68,7 @@ static int interface_ioctl(unsigned long request, void *argument) {
     return result || copy_to(argument, &interface, sizeof interface) ? result : fail(EFAULT);
 }
 
-/* Writes the timestamp of the last frame that was read. */
+/* Writes the timestamp of the last frame that the program read. */
 static int stamp_ioctl(const struct socket *sock, unsigned long request, void *argument) {
     struct shared *one = share_enter(sock);
     uint64_t stamp = one ? last_moment(one->memory, sock->fd) : 0;
@@ -102,7 +102,7 @@ EXPORT int ioctl(int fd, unsigned long request, ...) {
         return refuse("ioctl", ENOTTY, "a CAN socket does not count bytes");
     }
     int result = real()->ioctl(fd, request, argument);
-    /* Interfaces can be looked up by any socket. */
+    /* A program may look up interfaces through any socket, not only through a CAN socket. */
     if (result && is_ours && is_of_interface(request) && (errno == ENODEV || is_can)) {
         result = interface_ioctl(request, argument);
     }

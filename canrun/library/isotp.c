@@ -1,4 +1,4 @@
-/* CAN_ISOTP: messages that the bridge cuts into frames, one after the other. */
+/* CAN_ISOTP: the bridge splits each message into frames, and sends one message after another. */
 #define _GNU_SOURCE
 #include "library.h"
 
@@ -8,7 +8,8 @@
 #include <string.h>
 #include <sys/syscall.h>
 
-/* After a failed write: if the socket's error caused it, no other call gets that error. */
+/* Called after a failed write. If the socket's error caused the failure, this removes the error, so that no other call
+ * reports it. */
 static void forget_error(int fd) {
     static const int known[] = {EMSGSIZE, ECOMM, EBADMSG, EILSEQ, ETIMEDOUT};
     for (size_t i = 0; i < sizeof known / sizeof *known; i++) {
@@ -37,7 +38,8 @@ static ssize_t isotp_sendmsg(const struct socket *sock, const struct msghdr *mes
     return answer.value;
 }
 
-/* The kernel refuses other flags. It also refuses a socket that is not bound, which cannot have received anything. */
+/* Checks a read. The kernel refuses flags other than these. It also refuses a socket that is not bound, which cannot
+ * have received anything. */
 static int check_read(const struct socket *sock, int flags) {
     struct sockaddr_can can = {0};
     struct answer answer = {.data = &can, .room = sizeof can};

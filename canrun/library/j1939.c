@@ -1,4 +1,4 @@
-/* CAN_J1939: the host of an interface cuts messages into frames; an error queue reports their ends. */
+/* CAN_J1939: the host of an interface splits messages into frames. An error queue reports how messages ended. */
 #define _GNU_SOURCE
 #include "library.h"
 
@@ -13,15 +13,15 @@
 #include <sys/un.h>
 #include <time.h>
 
-/* The most bytes in one request: full segments of 1785. */
+/* The maximum number of message bytes in one request: 36 full segments of 1785 bytes. */
 #define PIECE (36 * 1785)
 _Static_assert(PIECE + sizeof(struct wire_j1939) <= WIRE_LARGEST, "a request has room for a piece");
-/* How often a request may find that the host has just ended. */
+/* How many times a request is repeated because the host has just ended. */
 #define TRIES 100
 
 /* ---- the host of an interface ---- */
 
-/* Starts the host with this name; another program may have been faster. Returns 0, or -1 and errno. */
+/* Starts the host with this name, unless another program has already started it. Returns 0, or -1 with errno set. */
 static int start_host(const struct sockaddr_un *name, socklen_t length) {
     int before = errno;
     int end = (int)syscall(SYS_socket, AF_UNIX, SOCK_SEQPACKET | SOCK_CLOEXEC, 0);
@@ -86,7 +86,7 @@ static int j1939_connect(const struct socket *sock, const struct sockaddr *addre
 
 /* ---- options ---- */
 
-/* As in the kernel, setting a flag returns its value; a negative value is an errno. */
+/* Returns the result of setting a flag. As in the kernel, it is the value of the flag; a negative value is an errno. */
 static int flag_result(int value) {
     return value < 0 && value > -4096 ? fail(-value) : value;
 }
@@ -107,7 +107,8 @@ static int j1939_setsockopt(const struct socket *sock, int level, int option, co
         return set_filters(sock, value, length);
     }
     if (level == SOL_SOCKET && (option == SO_SNDBUF || option == SO_SNDBUFFORCE)) {
-        /* The buffer size of the socket pair is for requests, not for messages. */
+        /* In the kernel this is the room for messages, but SO_SNDBUF of the socket pair is room for requests. So the
+         * option goes to the bridge. */
         struct wire_request request = {.kind = WIRE_SOCKET_SET, .option = option};
         return length < sizeof number ? fail(EINVAL)
                : !copy_from(&request.number, value, sizeof number)
@@ -122,7 +123,7 @@ static int j1939_setsockopt(const struct socket *sock, int level, int option, co
     return result;
 }
 
-/* The socket's priority is 7 minus the priority of its messages. */
+/* Gets SO_PRIORITY, which is 7 minus the priority of the socket's messages. */
 static int get_priority(const struct socket *sock, void *value, socklen_t *length, socklen_t has) {
     int priority = 0;
     struct answer answer = {.data = &priority, .room = sizeof priority};
@@ -158,8 +159,7 @@ static int j1939_getsockopt(const struct socket *sock, int level, int option, vo
 
 /* ---- writes ---- */
 
-/* Writes the rest of a message as pieces after the first piece, which is for other data. Returns the number of
- * pieces. */
+/* Fills `pieces` with the `length` bytes of a message that begin at `from`. Returns the number of pieces. */
 static size_t pieces_from(const struct msghdr *message, size_t from, size_t length, struct iovec *pieces) {
     size_t count = 0;
     for (size_t i = 0; i < message->msg_iovlen && length; i++) {
@@ -182,7 +182,7 @@ static int read_address(const struct msghdr *message, struct wire_j1939 *head) {
                : fail(EFAULT);
 }
 
-/* Fills the socket, so that poll does not report it as writable until the bridge takes this request. */
+/* Fills the socket, so that poll does not report it as writable until the bridge reads this request. */
 static void fill(int fd) {
     struct iovec fillers[FILLERS];
     struct pollfd polled = {fd, POLLOUT, 0};
@@ -232,7 +232,7 @@ static ssize_t j1939_sendmsg(const struct socket *sock, const struct msghdr *mes
 
 /* ---- reads ---- */
 
-/* Adds a control message. If there is no room for all of it, a part is added, as in the kernel. */
+/* Adds a control message. If only a part of it fits, that part is added, as in the kernel. */
 static void put_control(struct msghdr *message, size_t room, int level, int type, const void *data, size_t length) {
     size_t used = message->msg_controllen, left = room - used;
     if (left < sizeof(struct cmsghdr)) {
@@ -247,7 +247,7 @@ static void put_control(struct msghdr *message, size_t room, int level, int type
     message->msg_controllen = used + MIN(left, CMSG_SPACE(length));
 }
 
-/* Adds the source of a message and J1939's control messages, before those of all sockets. */
+/* Writes the source address of a message. Adds the control messages of J1939 before those that all CAN sockets have. */
 int j1939_describe(struct msghdr *message, size_t room, const struct wire_way *way, int index) {
     struct sockaddr_can can = {.can_family = AF_CAN, .can_ifindex = index};
     can.can_addr.j1939.name = way->name;
@@ -319,7 +319,7 @@ static struct sock_extended_err entry_of(const struct wire_notice *notice, int s
                                       .ee_data = stamps & SOF_TIMESTAMPING_OPT_ID ? notice->key : 0};
 }
 
-/* Copies bytes into the pieces of a message. Returns how many fitted, or -1. */
+/* Copies bytes into the pieces of a message. Returns the number of bytes that fitted, or -1 with errno set. */
 static ssize_t scatter(struct msghdr *message, const char *data, size_t length) {
     size_t room = room_of(message, length), done = 0;
     for (const struct iovec *part = message->msg_iov; done < room; part++) {

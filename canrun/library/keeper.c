@@ -1,4 +1,4 @@
-/* Asks the keeper of the interfaces (see link.h), and starts it if necessary. */
+/* Sends requests to the keeper of the interfaces (see link.h), and starts the keeper if necessary. */
 #define _GNU_SOURCE
 #include "library.h"
 
@@ -10,12 +10,12 @@
 #include <sys/syscall.h>
 #include <sys/un.h>
 
-/* How many milliseconds to wait for a keeper's reply: longer than the keeper waits for a server. */
+/* How many milliseconds to wait for the keeper's reply. This is longer than the keeper waits for the server. */
 #define PATIENCE 6000
-/* How many programs may ask at the same time. */
+/* How many connections of programs may wait for the keeper at the same time. */
 #define BACKLOG 128
 
-/* A step of the hash FNV-1a. */
+/* Adds data to an FNV-1a hash. */
 static uint64_t mix(uint64_t sum, const void *data, size_t length) {
     for (const unsigned char *at = data, *end = at + length; at < end; at++) {
         sum = (sum ^ *at) * 0x100000001B3u;
@@ -23,9 +23,9 @@ static uint64_t mix(uint64_t sum, const void *data, size_t length) {
     return sum;
 }
 
-/* The name of this user's keeper for this server and these interfaces. The names of the interfaces are part of it,
- * because an index is only a place in their list. So is the socket's file, because another server may get the same
- * path. */
+/* Makes the socket name of this user's keeper for this server and these interfaces. The hash includes the names of the
+ * interfaces, because an index is only a position in their list. It also includes the device and inode of the server's
+ * socket file, because another server may later use the same path. */
 static socklen_t name_keeper(struct sockaddr_un *name) {
     const char *server = getenv("CANBUSD_ADDRESS");
     struct stat file;
@@ -41,7 +41,7 @@ static socklen_t name_keeper(struct sockaddr_un *name) {
     return (socklen_t)(offsetof(struct sockaddr_un, sun_path) + 1 + (size_t)length);
 }
 
-/* Starts a keeper that listens at this name. It is not an error if another process was faster. */
+/* Starts a keeper that listens at this name. Returns 0 if another process has already started it. */
 static int start_keeper(const struct sockaddr_un *name, socklen_t length) {
     int fd = (int)syscall(SYS_socket, AF_UNIX, SOCK_SEQPACKET | SOCK_CLOEXEC | SOCK_NONBLOCK, 0), error = 0;
     if (fd < 0) {
@@ -56,7 +56,8 @@ static int start_keeper(const struct sockaddr_un *name, socklen_t length) {
     return error;
 }
 
-/* Connects to the keeper. Returns a descriptor, or -1 and errno. A keeper of another user is refused. */
+/* Connects to the keeper. Returns a file descriptor, or -1 with errno set. A keeper that belongs to another user is
+ * refused. */
 static int connect_keeper(const struct sockaddr_un *name, socklen_t length) {
     struct ucred peer = {0};
     int fd = (int)syscall(SYS_socket, AF_UNIX, SOCK_SEQPACKET | SOCK_CLOEXEC, 0);
@@ -71,8 +72,8 @@ static int connect_keeper(const struct sockaddr_un *name, socklen_t length) {
     return error ? fail(error) : fd;
 }
 
-/* Sends the request and receives the reply. Returns an errno, or 0. The copy of a socket goes with the request, if
- * there is one. */
+/* Sends the request and receives the reply. If `copy` is a file descriptor, it is sent with the request. Returns an
+ * errno, or 0. */
 static int talk(int fd, const struct link_request *request, int copy, struct link_reply *reply) {
     struct pollfd polled = {fd, POLLIN, 0};
     union {
@@ -103,7 +104,7 @@ int keeper_ask(const struct link_request *request, int copy, struct link_reply *
     socklen_t length = name_keeper(&name);
     int before = errno, error = 0;
     *reply = (struct link_reply){0};
-    /* The second try is for a keeper that ends because its server has ended. */
+    /* A second try is needed if the keeper is just ending because its server has ended. */
     for (int i = 0; i < 2; i++) {
         int fd = connect_keeper(&name, length);
         if (fd < 0 && errno == ECONNREFUSED && request->kind != LINK_LOOK) {

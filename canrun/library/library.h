@@ -1,7 +1,7 @@
-/* The common part of the preloaded library's files.
+/* Declarations that the files of the preloaded library share.
  *
- * The library keeps no state about sockets. A CAN socket is one end of a pair of Unix sockets; its name marks it, and
- * the mark survives fork, dup, exec and SCM_RIGHTS. poll, select, epoll, fcntl and close are the kernel's own. */
+ * The library keeps no state about sockets. A CAN socket is one end of a pair of Unix sockets, and its name identifies
+ * it. The name survives fork, dup, exec and SCM_RIGHTS. poll, select, epoll, fcntl and close are the kernel's own. */
 #ifndef LIBRARY_H
 #define LIBRARY_H
 
@@ -28,7 +28,7 @@
 
 #define EXPORT __attribute__((visibility("default")))
 
-/* The C library's functions that this library calls and replaces. */
+/* The functions of the C library that this library replaces and also calls. */
 #define REAL_FUNCTIONS(X) \
     X(socket)             \
     X(socketpair)         \
@@ -109,72 +109,73 @@ struct real {
 #undef X
 };
 
-/* Returns the C library's functions. They are looked up when this library is loaded, or by the first call if another
- * library calls before that. */
+/* Returns the C library's own functions. They are looked up when this library is loaded. If another library calls
+ * before that, the first call looks them up. */
 const struct real *real(void);
 
-/* This library replaces syscall(); its own system calls go to the C library's function. */
+/* This library replaces syscall(), so its own system calls use the C library's function. */
 #define syscall(...) real()->syscall(__VA_ARGS__)
 
-/* Returns dlsym of the C library, which this library replaces. */
+/* Returns the C library's dlsym, which this library replaces. */
 void *(*real_dlsym(void))(void *restrict, const char *restrict);
 
-/* Sets errno, and returns -1. */
+/* Sets errno and returns -1. */
 int fail(int error);
 
-/* Sets errno and returns -1. With CANBUSD_RUN_DEBUG=1 a line on standard error names the refused call and the
- * reason. */
+/* Sets errno and returns -1. With CANBUSD_RUN_DEBUG=1 it prints a line on standard error that names the refused call
+ * and the reason. */
 int refuse(const char *what, int error, const char *why);
 
-/* Copies from or to the program's memory. False if the address is invalid (EFAULT). It leaves errno unchanged. */
+/* Copy from or to the program's memory. Return false if the address is invalid (EFAULT), and leave errno unchanged. */
 bool copy_from(void *room, const void *program, size_t length);
 bool copy_to(void *program, const void *data, size_t length);
 
-/* The largest number of pieces of a message, as in the kernel. */
+/* The maximum number of pieces (iovec entries) in a message, as in the kernel. */
 #define PIECES_MOST 1024
 
-/* How many of these bytes fit into the pieces of a message. */
+/* Returns how many of these bytes fit into the pieces of a message. */
 size_t room_of(const struct msghdr *message, size_t length);
 
-/* The parts of a reply besides its error. The data are cut if the buffer is too small. */
+/* The parts of a reply other than its error. Data that do not fit into the buffer are cut off. */
 struct answer {
     int value;
     void *data;
     size_t room, length;
 };
 
-/* Sends a request with these pieces of data to the bridge of a socket, and waits for the reply. Returns 0, or -1 and
- * errno; a refusal's message names the call `what`. */
+/* Sends a request and these pieces of data to the bridge of a socket, and waits for the reply. Returns 0, or -1 with
+ * errno set. `what` is the name of the call in the message about a refusal. */
 int ask(int fd, const char *what, const struct wire_request *request, const struct iovec *data, size_t pieces,
         struct answer *answer);
 
-/* Sends a request for a write that may wait for room. */
+/* Sends the request of a write that may wait for room. */
 int ask_patiently(const struct socket *sock, struct wire_request *request, const struct msghdr *message,
                   struct answer *answer);
 
-/* Sends a request with a descriptor, and does not wait for a reply. Returns an errno, or 0. */
+/* Sends a request together with the file descriptor `with`, and does not wait for a reply. Returns an errno, or 0. */
 int put_request(int fd, int with, const struct wire_request *request, const struct iovec *data, size_t pieces);
 
-/* Refuses a call whose request could not be sent, for this errno. Returns -1 and sets errno. */
+/* Reports that a request could not be sent, because of this errno. Returns -1 with errno set. */
 int refuse_unsent(const char *what, int error);
 
 /* ---- stop.c: with --wait, signals end the writes that wait for room ---- */
 
-/* Registers a write that begins to wait for a reply on this pipe. Returns NULL without --wait, or if too many writes
- * wait. */
+/* Registers a write that is about to wait for its reply on this pipe. Returns NULL without --wait, or if too many
+ * writes are waiting. */
 struct wait *wait_begin(int fd, int reply_from);
-/* Notes that the request has been sent. True if such a signal came before that: the caller must then cancel the
- * request. */
+/* Records that the request has been sent. Returns true if one of these signals came before that: the caller must then
+ * cancel the request. */
 bool wait_is_over(struct wait *wait);
-/* Ends the registration after the reply. Returns whether such a signal came before the reply. */
+/* Ends the registration after the reply. Returns whether one of these signals came before the reply. */
 bool wait_end(struct wait *wait);
-/* Whether such a signal has ended a wait, and no write has found room since then. */
+/* Returns whether one of these signals has ended a wait, and no write has found room since then. */
 bool waits_are_over(void);
-/* Notes that a write has found room. */
+/* Records that a write has found room. */
 void waits_begin(void);
 
-/* Asks the bridge of a CAN_RAW socket for a quick write. The write is done; or it is refused, and errno has the reason;
- * or it is to wait for room; or no quick write is possible. In the last two cases the caller asks again with a pipe. */
+/* Sends a quick write to the bridge of a CAN_RAW socket. The possible results: the write is done; it is refused, with
+ * the reason in errno; it has to wait for room; or no quick write is possible. In the last two cases the caller sends
+ * the write again with a pipe. */
 enum quick { QUICK_DONE, QUICK_REFUSED, QUICK_NO_ROOM, QUICK_NONE };
 enum quick ask_quickly(const struct socket *sock, const struct wire_request *request, const struct msghdr *message,
                        struct answer *answer);
@@ -194,90 +195,94 @@ struct shared {
     struct loaned copy;
 };
 
-/* Returns the shared memory of a socket, valid until share_leave; NULL if it is not available. */
+/* Returns the shared memory of a socket, which stays valid until share_leave. Returns NULL if it is not available. */
 struct shared *share_enter(const struct socket *sock);
 void share_leave(struct shared *one);
 
-/* Asks the bridge for the descriptor of the session that it lends now. */
+/* Asks the bridge for the file descriptor of the session that it lends now. */
 void share_borrow(struct shared *one, int fd);
 
-/* Makes the shared memory of a new socket. Returns its descriptor, or -1 and errno. */
+/* Creates the shared memory of a new socket. Returns its file descriptor, or -1 with errno set. */
 int share_make(const char *name);
 
 /* ---- notes.c: facts about a datagram besides its bytes ---- */
 
 /* Finds the note of a datagram that begins with these bytes. The program has just read the datagram, or peeked at it
- * (`is_peeked`). For J1939 it finds the way too; otherwise `way` is NULL. False if there are no notes. */
+ * (`is_peeked`). For J1939 it also finds the source and destination; for other protocols `way` is NULL. Returns false
+ * if there are no notes. */
 bool note_of(struct wire_memory *memory, int fd, bool is_peeked, const void *head, size_t length,
              struct wire_note *note, struct wire_way *way);
 
-/* Returns whether this process looks for notes; records that a datagram was read without looking for its note. */
+/* The first function returns whether this process looks for notes. The second records that a datagram was read without
+ * looking for its note. */
 bool notes_are_looked_for(void);
 void note_plain_read(struct wire_notes *received);
 
-/* The timestamp of the last datagram that any process has read; 0 before the first read. */
+/* Returns the timestamp of the last datagram that any process has read from the socket, or 0 before the first read. */
 uint64_t last_moment(const struct wire_memory *memory, int fd);
 
 /* ---- loan.c: in virtual time, writes through a session that the bridge lends ---- */
 
 void loan_keep(struct loaned *copy, int fd, uint32_t session);
 void loan_forget(struct loaned *copy);
-/* Whether the bridge lends a session of which this is not a copy. */
+/* Returns whether the bridge lends a session other than the one whose descriptor `copy` holds. */
 bool loan_is_new(const struct wire_memory *memory, const struct loaned *copy);
 
-/* Makes a write through the lent session, with this place for the reply. The reply is there; or the bridge must handle
- * the reply's text; or the write cannot be made in this way. */
+/* Makes a write through the lent session; `at` is the index of the place for its reply. TALK_DONE: the reply is in its
+ * place. TALK_LEFT: the bridge must handle the text of the reply. TALK_NONE: the write cannot be made through the
+ * session. */
 enum talk { TALK_DONE, TALK_LEFT, TALK_NONE };
 enum talk loan_talk(struct wire_memory *memory, const struct loaned *copy, const struct wire_request *request,
                     const struct iovec *data, size_t pieces, uint32_t at);
 
-/* Takes the socket's own error, as SO_ERROR does; 0 if there is none. It leaves errno unchanged. */
+/* Takes the socket's own error, as SO_ERROR does. Returns 0 if there is none, and leaves errno unchanged. */
 int take_error(int fd);
 
-/* Takes the error of a socket from which a read got no bytes. Returns -1 and errno, or 0 if another call has taken the
- * error. */
+/* Takes the error of a socket after a read that got no bytes. Returns -1 with errno set, or 0 if another call has
+ * already taken the error. */
 int take_shown(int fd);
 
-/* Notes that this socket may have an error that poll reports. */
+/* Records that this socket may have an error that poll must report. */
 void note_error_of(int fd);
 
-/* Records that this socket has an error queue; returns whether a socket has an error queue. */
+/* The first function records that this socket has an error queue. The second returns whether a socket has one. */
 void note_queue_of(int fd);
 bool has_error_queue(int fd);
 
-/* Returns the events of a socket that has an error; `events` are the kernel's. */
+/* Returns the poll events of a socket that has an error. `events` are the events that the kernel reported. */
 uint32_t error_events(int fd, uint32_t events);
 
 /* ---- watch.c ---- */
 
-/* Does ppoll if one of the sockets has an error queue. */
+/* Does the work of ppoll if one of the sockets has an error queue. */
 int watched_poll(struct pollfd *fds, nfds_t count, const struct timespec *timeout, const sigset_t *mask);
 
 /* ---- j1939.c ---- */
 
-/* Fills in the source of a J1939 message; the control messages of all CAN sockets are already there. Returns 0, or -1
- * and errno. */
+/* Fills in the source address of a J1939 message. The control messages that all CAN sockets have must already be there.
+ * Returns 0, or -1 with errno set. */
 int j1939_describe(struct msghdr *message, size_t room, const struct wire_way *way, int index);
 
-/* Returns whether the next message of a socket reports an error, which may be taken already; removes that message. */
+/* The first function returns whether the next message of a socket reports an error, which another call may already have
+ * taken. The second removes that message. */
 bool has_error(int fd);
 void drop_error(int fd);
 
-/* The C library's abort of a program whose buffer is too small. */
+/* The function of the C library that aborts a program whose buffer is too small. */
 void __chk_fail(void) __attribute__((noreturn));
 
-/* Makes a CAN socket. */
+/* Creates a CAN socket. */
 int can_socket(int type, int protocol);
 
-/* Starts the bridge of a socket; `end` is the bridge's end of the pair, and `memory` the descriptor of the shared
- * memory. Returns 0, or an errno. */
+/* Starts the bridge of a socket. `end` is the bridge's end of the pair, and `memory` is the file descriptor of the
+ * shared memory. Returns 0, or an errno. */
 int start_bridge(int end, int memory);
 
-/* The length of the server's transmit queues, if it is known. */
+/* Returns the length of the server's transmit queues. If it is not known, returns the default. */
 int queue_length(void);
 
-/* The index of the interface with this name, and the name of the interface with this index; each returns -1 and errno
- * if there is no such interface. */
+/* Return the index of the interface with this name, and the name of the interface with this index. Both return -1 with
+ * errno set if there is no such interface. */
 int index_of_name(const char *name);
 int name_of_index(int index, char name[IFNAMSIZ]);
 

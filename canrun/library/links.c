@@ -1,4 +1,4 @@
-/* Interfaces of the server as links: reads the program's messages and makes the answers. */
+/* The interfaces of the server as netlink links: parses the messages of a program and builds the answers. */
 #define _GNU_SOURCE
 #include "links.h"
 
@@ -11,12 +11,12 @@
 #include <string.h>
 #include <sys/syscall.h>
 
-/* How many bytes of a refused request come back with the refusal. */
+/* The maximum number of bytes of a refused request that are returned with the refusal. */
 #define ECHOED 1024
 
 /* ---- attributes ---- */
 
-/* Finds the attribute of this type; NULL if there is none. The last one counts. */
+/* Returns the attribute of this type, or NULL if there is none. If there are several, it returns the last one. */
 static const struct nlattr *find(const void *attributes, size_t length, unsigned type) {
     const char *at = attributes;
     const struct nlattr *found = NULL;
@@ -41,7 +41,7 @@ static const struct nlattr *find_in(const struct nlattr *nest, unsigned type) {
     return nest ? find(nest + 1, length_of(nest), type) : NULL;
 }
 
-/* Copies a value of this length; false if there is no such value. */
+/* Copies a value of this length. Returns false if the attribute is missing or too short. */
 static bool get(const struct nlattr *one, void *value, size_t length) {
     if (length_of(one) < length) {
         return false;
@@ -68,7 +68,8 @@ static const struct nlattr *attribute(const struct question *question, unsigned 
     return find(question->attributes, question->length, type);
 }
 
-/* Reads a message about links; false if it is another message. A dump request may have a short head. */
+/* Parses a message about links. Returns false if the message is about something else. A dump request may have a short
+ * header. */
 static bool read_question(const struct nlmsghdr *head, struct question *question) {
     bool is_of_link = head->nlmsg_type == RTM_GETLINK || head->nlmsg_type == RTM_NEWLINK ||
                       head->nlmsg_type == RTM_SETLINK || head->nlmsg_type == RTM_DELLINK;
@@ -85,8 +86,8 @@ static bool read_question(const struct nlmsghdr *head, struct question *question
     return true;
 }
 
-/* The interface of the server that the message names by index or name; 0 if there is none. The kernel's own interfaces
- * take precedence. */
+/* Returns the index of the server's interface that the message names by index or name, or 0 if there is none. The
+ * kernel's own interfaces take precedence. */
 static int index_asked(const struct question *question) {
     char name[IFNAMSIZ] = "";
     if (question->link.ifi_index) {
@@ -130,8 +131,8 @@ bool addresses_are_asked(const struct nlmsghdr *asked) {
 
 /* ---- answers ---- */
 
-/* Adds the result of a request: an errno, or 0 if the program asked for an acknowledgement. The text is for the
- * kernel's extended acknowledgements. */
+/* Adds the result of a request: an errno, or 0 if the program asked for an acknowledgement. The text `why` is used in
+ * an extended acknowledgement, as the kernel sends it. */
 static void put_verdict(struct outgoing *out, const struct nlmsghdr *asked, int error, const char *why) {
     struct {
         struct nlmsghdr head;
@@ -161,7 +162,7 @@ static void put_verdict(struct outgoing *out, const struct nlmsghdr *asked, int 
     mail_put(out, LINK_ANSWER, &verdict.head, &verdict, verdict.head.nlmsg_len);
 }
 
-/* If the server does not reply, the interface is listed without facts. */
+/* Adds the message that describes an interface. If the server does not reply, the message has no facts. */
 static void put_link(struct outgoing *out, const struct nlmsghdr *asked, int index) {
     struct link_message message;
     struct link_reply reply;
@@ -211,7 +212,8 @@ struct link_facts links_facts(int index) {
 
 /* ---- changes ---- */
 
-/* The requested bit rate: the rate itself, or it follows from the time quantum and the number of quanta in a bit. */
+/* Returns the requested bit rate. If it is not given directly, it is computed from the time quantum and the number of
+ * quanta in a bit. */
 static uint32_t rate_asked(const struct nlattr *data, unsigned type) {
     struct can_bittiming timing;
     if (!get(find_in(data, type), &timing, sizeof timing)) {
@@ -221,7 +223,7 @@ static uint32_t rate_asked(const struct nlattr *data, unsigned type) {
     return timing.bitrate || !timing.tq ? timing.bitrate : (uint32_t)(1000000000 / bit);
 }
 
-/* Prints a note for the program's user, but not twice in a row. */
+/* Prints a note for the user, but not the same note twice in a row. */
 static void note(const char *text) {
     static pthread_mutex_t lock = PTHREAD_MUTEX_INITIALIZER;
     static char said[sizeof((struct link_reply *)0)->text];
@@ -238,7 +240,7 @@ static void note(const char *text) {
     }
 }
 
-/* Makes the keeper carry out a change. Returns an errno with its reason, or 0. */
+/* Makes the keeper carry out a change. Returns an errno with the reason in the reply, or 0. */
 static int ask_for_change(const struct link_request *request, struct link_reply *reply) {
     int error = keeper_ask(request, -1, reply);
     if (!error) {
@@ -247,8 +249,8 @@ static int ask_for_change(const struct link_request *request, struct link_reply 
     return error;
 }
 
-/* Refuses changes of facts that only the server sets, such as names and queues. Returns an errno with its reason, or
- * 0. */
+/* Refuses changes of properties that only the server sets, such as names and queue lengths. Returns an errno with the
+ * reason in `why`, or 0. */
 static int check_fixed(const struct question *question, int index, char *why) {
     static const struct {
         unsigned type;
@@ -280,14 +282,14 @@ static int check_fixed(const struct question *question, int index, char *why) {
     return 0;
 }
 
-/* As in the kernel: flags without a mask change all flags, unless they are 0. */
+/* Returns the flags that a request changes. As in the kernel, nonzero flags without a mask change all flags. */
 static uint32_t flags_changed(const struct ifinfomsg *link) {
     return link->ifi_flags && !link->ifi_change ? UINT32_MAX : link->ifi_change;
 }
 
-/* Carries out a request to change an interface. Returns an errno with its reason, or 0. */
+/* Carries out a request to change an interface. Returns an errno with the reason in the reply, or 0. */
 static int change(const struct question *question, int index, struct link_reply *reply) {
-    /* The kernel accepts this attribute only in RTM_NEWLINK. */
+    /* The kernel accepts IFLA_LINKINFO only in RTM_NEWLINK. */
     bool has_info = question->head->nlmsg_type == RTM_NEWLINK;
     const struct nlattr *info = has_info ? attribute(question, IFLA_LINKINFO) : NULL;
     const struct nlattr *data = find_in(info, IFLA_INFO_DATA);
@@ -330,7 +332,8 @@ int links_set_up(int index, bool is_up) {
     return ask_for_change(&request, &reply) ? refuse("ioctl", reply.error, reply.text) : 0;
 }
 
-/* The process whose calls this thread makes for a supervisor (see ../command/static.h); otherwise 0. */
+/* If a supervisor (see ../command/static.h) uses this thread to make calls for a process, this is the process;
+ * otherwise 0. */
 static __thread pid_t served;
 
 EXPORT void canbusd_run_serves(pid_t process) {
@@ -355,7 +358,8 @@ bool links_answer(const struct nlmsghdr *asked, struct outgoing *out) {
     if (is_get) {
         put_link(out, asked, index);
     }
-    /* Like a hardware interface, an interface of the server cannot be removed; the request is not an error. */
+    /* Like a hardware interface, an interface of the server cannot be removed, but a request to remove it is not an
+     * error. */
     int error = is_get || asked->nlmsg_type == RTM_DELLINK ? 0 : change(&question, index, &reply);
     if (error) {
         int before = errno;

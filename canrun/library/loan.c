@@ -1,6 +1,6 @@
-/* In virtual time: writes of CAN_RAW through a session that the bridge lends. See shared/wire.h and quick.c.
+/* In virtual time: CAN_RAW writes through a session that the bridge lends. See shared/wire.h and quick.c.
  *
- * Only the thread that has the turn runs, so no other thread or process looks at the loan until this one waits. */
+ * Only the thread that has the turn runs, so no other thread or process accesses the loan until this thread waits. */
 #define _GNU_SOURCE
 #include "library.h"
 
@@ -14,12 +14,13 @@
 #include <sys/stat.h>
 #include <sys/syscall.h>
 
-/* The least number of a copied descriptor, so that it does not disturb the program's numbers. */
+/* The lowest number for the copied file descriptor. It is high so that it does not change the numbers that the
+ * program's own descriptors get. */
 #define HIGH_DESCRIPTOR 640
-/* After so many seconds without a reply, the reply is left to the bridge. */
+/* How many seconds to wait for a reply. After that, handling the reply is left to the bridge. */
 #define PATIENCE_SECONDS 5
 
-/* These functions exist if the library of virtual time is loaded. */
+/* These functions exist only if the virtual time library is loaded. */
 __attribute__((weak)) bool canbusd_virtual_turn(void);
 __attribute__((weak)) long canbusd_virtual_talk(int fd, char *text, size_t length, size_t room, uint32_t *word,
                                                 uint64_t key, const struct timespec *time);
@@ -51,20 +52,20 @@ bool loan_is_new(const struct wire_memory *memory, const struct loaned *copy) {
     return canbusd_virtual_talk && memory->loan.session && memory->loan.session != copy->session;
 }
 
-/* Whether a frame can be sent in the session now, through a copy that the program has not closed. */
+/* Returns whether a frame can be sent in the session now, through a descriptor that the program has not closed. */
 static bool is_lent(const struct wire_loan *loan, const struct loaned *copy) {
     return loan->session && loan->session == copy->session && copy->fd && !loan->asked && !loan->left &&
            loan->count < WIRE_NUMBERS && inode_of(copy->fd) == copy->inode;
 }
 
-/* Reads the frame of a write: it must be one piece, and not an error message frame. */
+/* Reads the frame of a write. Returns false unless the frame is a single piece, and is not an error message frame. */
 static bool frame_of(const struct wire_request *request, const struct iovec *data, size_t pieces,
                      struct canfd_frame *frame) {
     return request->ifindex == WIRE_BOUND && pieces == 1 && data->iov_len == CAN_MTU &&
            copy_from(frame, data->iov_base, CAN_MTU) && !(frame->can_id & CAN_ERR_FLAG) && frame->len <= CAN_MAX_DLEN;
 }
 
-/* Whether a text is one reply that accepts a frame; reads the frame's number. */
+/* Returns whether the text is exactly one reply that accepts a frame, and reads the number of the frame. */
 static bool is_accepted(const char *text, size_t length, uint64_t *number) {
     static const char word[] = "< ack ", end[] = " >";
     const char *at = text + sizeof word - 1;
@@ -92,7 +93,7 @@ enum talk loan_talk(struct wire_memory *memory, const struct loaned *copy, const
         return TALK_NONE;
     }
     if (__atomic_load_n(&place->state, __ATOMIC_ACQUIRE) != PLACE_ASKED) {
-        return TALK_DONE; /* The bridge needed the session, and has read the reply. */
+        return TALK_DONE; /* The bridge has taken the session back and read the reply. */
     }
     loan->asked = 0;
     if (is_accepted(text, (size_t)length, &number)) {

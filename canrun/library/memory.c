@@ -1,6 +1,6 @@
-/* The program's memory. The kernel copies it, as in its own calls, so a wrong address is EFAULT and not SIGSEGV. Such a
- * copy takes as long as two other calls. So memory on the caller's stack, or on the page of the last copy, is copied
- * here. */
+/* Copies from and to the program's memory. The kernel makes the copy, as it does in its own calls, so a wrong address
+ * gives EFAULT instead of SIGSEGV. Such a copy takes as long as two other system calls. Therefore memcpy is used for
+ * memory on the caller's stack, and on the page of the last copy. */
 #define _GNU_SOURCE
 #include "library.h"
 
@@ -10,10 +10,10 @@
 #include <sys/syscall.h>
 
 #define PAGE 4096
-/* How far above the frame of a call the frames of its callers extend. */
+/* How many bytes above the current stack frame are assumed to belong to the frames of its callers. */
 #define NEAR 32768
 
-/* The pages of the last read and the last write. */
+/* The pages that were last read from and last written to. */
 static uintptr_t known[2] = {UINTPTR_MAX, UINTPTR_MAX};
 
 static bool is_known(uintptr_t from, size_t length, bool writes) {
@@ -24,8 +24,8 @@ static bool is_known(uintptr_t from, size_t length, bool writes) {
     return page == (from + length - 1) / PAGE && page == __atomic_load_n(&known[writes], __ATOMIC_RELAXED);
 }
 
-/* Copies by a system call, which reports how many bytes it has copied. If the call is forbidden, as in a sandbox,
- * memcpy does it. */
+/* Copies by a system call, which reports how many bytes were copied. If the system call is forbidden, for example in a
+ * sandbox, memcpy makes the copy. */
 static bool copy(void *here, void *program, size_t length, bool writes) {
     if (!length) {
         return true;

@@ -1,4 +1,4 @@
-/* Names and indices of interfaces: if_nametoindex and similar calls, which first ask for the kernel's own
+/* Names and indices of interfaces: if_nametoindex and similar calls. Each call first asks the kernel for its own
  * interfaces. */
 #define _GNU_SOURCE
 #include "library.h"
@@ -13,7 +13,7 @@
 #include <sys/syscall.h>
 #include <unistd.h>
 
-/* Reports once that the server has no interface with this name, and lists its names. */
+/* Prints once that the server has no interface with this name, and lists the names that it has. */
 static void note_names(const char *name) {
     static int is_said;
     char line[256];
@@ -49,7 +49,7 @@ EXPORT unsigned if_nametoindex(const char *name) {
     if (index) {
         return index;
     }
-    /* A program without a CAN socket may look for other interfaces. */
+    /* A program that has no CAN socket may be looking for an interface that is not a CAN interface. */
     int found = find_index(name, strstr(name, "can"));
     errno = found < 0 ? errno : before;
     return found < 0 ? 0 : (unsigned)found;
@@ -68,7 +68,8 @@ EXPORT char *if_indextoname(unsigned index, char name[IF_NAMESIZE]) {
     return NULL;
 }
 
-/* Lists the kernel's interfaces and then the server's, in one block for if_freenameindex. */
+/* Lists the kernel's interfaces and then the server's. The list is one block of memory, so that if_freenameindex can
+ * free it. */
 static struct if_nameindex *joined(const struct if_nameindex *kernel) {
     size_t count = 0, most = INTERFACE_MOST;
     for (; kernel && kernel[count].if_index; count++, most++) {
@@ -109,13 +110,15 @@ struct link {
     struct rtnl_link_stats counts;
 };
 
-/* In an entry of the C library the name and the counts are in other places. */
+/* Returns whether the entry was made by this library. In the entries of the C library, the name and the counts are
+ * elsewhere. */
 static bool is_ours(const struct ifaddrs *entry) {
     const struct link *link = (const struct link *)entry;
     return entry->ifa_name == link->name && entry->ifa_data == &link->counts;
 }
 
-/* Makes entries of the server's interfaces, in one block; NULL if there are no interfaces, or no memory. */
+/* Makes list entries for the server's interfaces, in one block of memory. Returns NULL if there are no interfaces, or
+ * no memory. */
 static struct link *links(void) {
     char name[IFNAMSIZ];
     int count = 0;
@@ -134,7 +137,7 @@ static struct link *links(void) {
     return all;
 }
 
-/* The place in a list at which the server's interfaces begin, or its end. */
+/* Returns the place in a list where the server's interfaces begin, or the end of the list. */
 static struct ifaddrs **place_of_ours(struct ifaddrs **list) {
     while (*list && !is_ours(*list)) {
         list = &(*list)->ifa_next;

@@ -1,9 +1,11 @@
-/* Sockets of netlink. They remain the kernel's own, so poll, groups and port numbers are unchanged, and the library
- * keeps no state about them. The answer to a message about a server's interface is sent to the kernel in its place,
- * with a type that the kernel does not know. The kernel's refusal brings the answer back, and the read that finds a
- * refusal takes the answer out. The request of a link dump comes back in the same way, and is answered when it is read;
- * the kernel's links follow. If the kernel does not send back refused messages, netlink does not find the
- * interfaces. */
+/* Netlink sockets. They remain the kernel's own sockets, so poll, groups and port numbers are unchanged, and the
+ * library keeps no state about them.
+ *
+ * If a program sends a message about one of the server's interfaces, the library sends the answer to the kernel in
+ * place of the message, with a message type that the kernel does not know. The kernel refuses it and returns it, and
+ * the read that finds such a refusal extracts the answer. The request for a link dump is returned in the same way and
+ * answered when it is read; the kernel's links follow. On a kernel that does not return refused messages, programs do
+ * not find the server's interfaces by netlink. */
 #define _GNU_SOURCE
 #include "library.h"
 
@@ -15,12 +17,12 @@
 #include <sys/mman.h>
 #include <sys/syscall.h>
 
-/* The maximum size of a dump's part in one datagram, as in the kernel. */
+/* The maximum size of the part of a dump in one datagram, as in the kernel. */
 #define CHUNK 8192
-/* The maximum size of a message with an answer. */
+/* The maximum size of a message that contains an answer. */
 #define MAIL 4096
 
-/* The head of a refusal with an answer. */
+/* The header of a refusal that contains an answer. */
 struct refusal {
     struct nlmsghdr head;
     int error;
@@ -40,7 +42,7 @@ static bool is_mail(const struct refusal *refusal, ssize_t length) {
            (size_t)length >= sizeof *refusal + refusal->refused.nlmsg_len - sizeof refusal->refused;
 }
 
-/* Whether the kernel sends back refused messages: gVisor does not. */
+/* Returns whether the kernel returns refused messages in full; gVisor does not. */
 static bool is_carried(void) {
     static int known; /* 0: not known yet; 1: yes; -1: no */
     int answer = __atomic_load_n(&known, __ATOMIC_RELAXED);
@@ -64,7 +66,7 @@ static bool is_carried(void) {
 
 /* ---- sending ---- */
 
-/* Makes room for a message of this length; NULL if there is no room. */
+/* Reserves room for a message of this length. Returns NULL if there is none. */
 static void *extend(struct outgoing *out, size_t length) {
     size_t at = NLMSG_ALIGN(out->length);
     if (at + length > sizeof out->data) {
@@ -87,7 +89,7 @@ bool mail_put(struct outgoing *out, enum link_mail type, const struct nlmsghdr *
     return mail;
 }
 
-/* Adds the request of a dump, with its position. */
+/* Adds a dump request together with the position of the dump. */
 static bool put_dump(struct outgoing *out, const struct nlmsghdr *asked, const struct dump *dump) {
     char data[MAIL];
     size_t length = sizeof *dump + asked->nlmsg_len;
@@ -99,7 +101,7 @@ static bool put_dump(struct outgoing *out, const struct nlmsghdr *asked, const s
     return mail_put(out, LINK_DUMP, asked, data, length);
 }
 
-/* Adds the end of a dump without links of the kernel. */
+/* Adds the end of a dump that has no links of the kernel. */
 static bool put_done(struct outgoing *out, const struct nlmsghdr *asked) {
     struct {
         struct nlmsghdr head;
@@ -120,7 +122,7 @@ static bool put_plain(struct outgoing *out, const struct nlmsghdr *asked) {
     return place;
 }
 
-/* Adds the answer to a message; false if the message is for the kernel. */
+/* Adds the answer to a message. Returns false if the message is for the kernel. */
 static bool put_answer(struct outgoing *out, const struct nlmsghdr *asked) {
     const struct dump start = {.next = INTERFACE_FIRST};
     char name[IFNAMSIZ];
@@ -133,8 +135,8 @@ static bool put_answer(struct outgoing *out, const struct nlmsghdr *asked) {
     return addresses_are_asked(asked) ? put_done(out, asked) : links_answer(asked, out);
 }
 
-/* Adds answers, and the kernel's messages unchanged, up to the first data that are not a message. False if no message
- * is for the server. */
+/* Adds answers to the messages that are for the server, and copies the other messages unchanged. It stops at data that
+ * are not a message. Returns false if no message is for the server. */
 static bool replace(const char *data, size_t length, struct outgoing *out) {
     bool has_ours = false;
     for (size_t at = 0; at + sizeof(struct nlmsghdr) <= length;) {
@@ -152,13 +154,13 @@ static bool replace(const char *data, size_t length, struct outgoing *out) {
     return has_ours;
 }
 
-/* The messages of a program and their replacement. They are not on the stack, which may be small. */
+/* The messages of a program and the messages that replace them. They are not on the stack, because it may be small. */
 struct exchange {
     struct outgoing out;
     char data[OUTGOING];
 };
 
-/* Whether the program wants the texts of refusals. */
+/* Returns whether the program wants the texts of refusals. */
 static bool wants_texts(int fd) {
     int is_wanted = 0;
     real()->getsockopt(fd, SOL_NETLINK, NETLINK_EXT_ACK, &is_wanted, &(socklen_t){sizeof is_wanted});
@@ -209,7 +211,8 @@ static ssize_t netlink_sendmsg(const struct socket *sock, const struct msghdr *m
 
 /* ---- receiving ---- */
 
-/* Returns this message to the program in place of the received one. As in the kernel, it is cut if there is no room. */
+/* Copies this message to the program in place of the received one. As in the kernel, a message that does not fit is cut
+ * off. */
 static ssize_t give(struct msghdr *message, const char *data, size_t length, int flags) {
     size_t done = 0;
     for (size_t i = 0; i < message->msg_iovlen && done < length; i++) {
@@ -223,7 +226,7 @@ static ssize_t give(struct msghdr *message, const char *data, size_t length, int
     return (ssize_t)(flags & MSG_TRUNC ? length : done);
 }
 
-/* Asks for the rest of a dump: the next part, or the kernel's links. */
+/* Asks for the next part of a dump, or for the kernel's links after the last part. */
 static bool go_on(int fd, const struct nlmsghdr *asked, const struct dump *dump) {
     struct outgoing *out = mmap(NULL, sizeof *out, PROT_READ | PROT_WRITE, MAP_PRIVATE | MAP_ANONYMOUS, -1, 0);
     char name[IFNAMSIZ];
@@ -238,7 +241,7 @@ static bool go_on(int fd, const struct nlmsghdr *asked, const struct dump *dump)
     return is_sent;
 }
 
-/* Returns a part of a dump, as much as fits into the program's buffer and a datagram. */
+/* Writes the next part of a dump: as much as fits into the program's buffer and into one datagram. */
 static ssize_t give_dump(int fd, struct msghdr *message, const char *request, uint32_t port, int flags) {
     struct dump dump;
     struct nlmsghdr asked[MAIL / sizeof(struct nlmsghdr)];
@@ -247,7 +250,7 @@ static ssize_t give_dump(int fd, struct msghdr *message, const char *request, ui
     memcpy(asked, request + sizeof dump, sizeof *asked);
     memcpy(asked, request + sizeof dump, MIN((size_t)asked->nlmsg_len, sizeof asked));
     size_t room = room_of(message, sizeof part);
-    /* A reader that only asks for the length will provide enough room later. */
+    /* A read with MSG_PEEK is used to learn the length, and the read after it will have a large enough buffer. */
     size_t length = links_dump(asked, &dump, part, flags & MSG_PEEK ? sizeof part : room);
     for (size_t at = 0; at < length; at += ((struct nlmsghdr *)(part + at))->nlmsg_len) {
         ((struct nlmsghdr *)(part + at))->nlmsg_pid = port;
@@ -258,7 +261,7 @@ static ssize_t give_dump(int fd, struct msghdr *message, const char *request, ui
     return give(message, part, length, flags);
 }
 
-/* Reads the next mail and returns its contents. Returns 0 if another thread has read it. */
+/* Reads the next refusal and copies its contents to the program. Returns 0 if another thread has already read it. */
 static ssize_t take_mail(int fd, struct msghdr *message, int flags) {
     char mail[sizeof(struct refusal) + MAIL];
     struct iovec part = {mail, sizeof mail};
@@ -309,7 +312,7 @@ static ssize_t netlink_recvmsg(const struct socket *sock, struct msghdr *message
 
 /* ---- groups and options ---- */
 
-/* Makes the socket receive events, if possible. */
+/* Makes the socket receive events of the server's links, if possible. */
 static int watched(int fd, bool is_watched) {
     int before = errno;
     if (is_watched && is_route(fd) && is_carried()) {
@@ -329,7 +332,7 @@ static int netlink_bind(const struct socket *sock, const struct sockaddr *addres
 
 static int netlink_setsockopt(const struct socket *sock, int level, int option, const void *value, socklen_t length) {
     unsigned group;
-    /* With this option the kernel would not send refused messages back in full. */
+    /* With NETLINK_CAP_ACK the kernel would not return refused messages in full. */
     if (level == SOL_NETLINK && option == NETLINK_CAP_ACK && is_route(sock->fd)) {
         return length < sizeof(int) ? fail(EINVAL) : 0;
     }

@@ -1,5 +1,5 @@
-/* The notes of received datagrams. The number of bytes left in the socket shows which note belongs to a datagram. So
- * reads that bypass the library, or by other threads and processes, cause no confusion. */
+/* Finds the notes of received datagrams. The number of unread bytes in the socket shows which note belongs to a
+ * datagram. So reads that bypass the library, and reads by other threads and processes, cause no confusion. */
 #define _GNU_SOURCE
 #include "library.h"
 
@@ -9,15 +9,16 @@
 #include <sys/syscall.h>
 #include <time.h>
 
-/* How often to wait for a bridge that is putting datagrams into the socket: its processor may be busy. */
+/* How many times to wait for a bridge that is putting datagrams into the socket, because it may be waiting for a
+ * processor. */
 #define PATIENCE 20000
 #define YIELDS 100
 #define PAUSE 100000 /* nanoseconds */
-/* How many of the oldest notes the bridge may be overwriting. */
+/* How many of the oldest notes the bridge may be overwriting now. */
 #define BEING_WRITTEN 64
 
-/* The number of bytes that were read from the socket until now, at least and at most. They differ while the bridge is
- * putting more there. */
+/* The minimum and maximum number of bytes that have been read from the socket so far. They differ while the bridge is
+ * putting datagrams into the socket. */
 struct span {
     int64_t least, most;
 };
@@ -31,7 +32,7 @@ static struct span read_until_now(const struct wire_notes *received, int fd) {
     return (struct span){put - left, meant - left};
 }
 
-/* Waits a little for the bridge; false if the patience is over. */
+/* Waits briefly for the bridge. Returns false after PATIENCE waits. */
 static bool wait_for_bridge(int turn) {
     if (turn < YIELDS) {
         sched_yield();
@@ -43,7 +44,7 @@ static bool wait_for_bridge(int turn) {
     return turn < PATIENCE;
 }
 
-/* The available notes: from `first` up to the one before `end`. */
+/* The notes that can be read: from `first` up to the one before `end`. */
 struct range {
     uint64_t first, end;
 };
@@ -53,15 +54,16 @@ static struct range range_of(const struct wire_notes *received) {
     return (struct range){end > most ? end - most : 0, end};
 }
 
-/* A note that was found: its number, from 1 on, or 0; and whether no other note matches. */
+/* The result of a search for a note: the number of the note, from 1, or 0 if there is none; and whether it is the only
+ * match. */
 struct match {
     uint64_t at;
     bool is_one;
 };
 
-/* Looks for the note, beginning with the last. The best note is one at the right place; of several, the first after
- * those found before. If several readers took the datagram, or a filter of the socket has cut it, its bytes identify
- * the note. */
+/* Searches for the note of a datagram, from the newest note to the oldest. A note at the right position in the socket
+ * is best; among several, the first one after the note that was found last. If several readers have taken the datagram,
+ * or a filter of the socket has cut it, its bytes identify the note. */
 static struct match look(const struct wire_notes *received, uint64_t found, struct span span, bool is_peeked,
                          const void *head, size_t length) {
     struct range range = range_of(received);
@@ -87,8 +89,9 @@ static struct match look(const struct wire_notes *received, uint64_t found, stru
     return best;
 }
 
-/* Finds the note, even if several notes match because the bridge is putting more into the socket. If all reads look for
- * their notes, the next note after those found before is the right one. Otherwise this waits for the bridge. */
+/* Finds the note of a datagram, even if several notes match because the bridge is putting datagrams into the socket. If
+ * every read so far has looked for its note, the note after the one found last is the right one. Otherwise this
+ * function waits for the bridge. */
 static uint64_t find(const struct wire_notes *received, uint64_t found, int fd, bool is_peeked, const void *head,
                      size_t length) {
     bool are_all_found = found && !__atomic_load_n(&received->is_mixed, __ATOMIC_RELAXED);
@@ -123,7 +126,7 @@ bool note_of(struct wire_memory *memory, int fd, bool is_peeked, const void *hea
     if (at && !is_peeked) {
         keep_found(received, found, at);
     }
-    /* A reader that is so late that its note is overwritten gets the last one. */
+    /* A reader that is so late that its note has been overwritten gets the newest note. */
     at = at ? at : range_of(received).end;
     if (at) {
         *note = received->notes[(at - 1) % WIRE_NOTES];

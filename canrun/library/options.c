@@ -53,8 +53,8 @@ EXPORT int connect(int fd, const struct sockaddr *address, socklen_t length) {
     return HAS(sock, connect) ? sock.protocol->connect(&sock, address, length) : real()->connect(fd, address, length);
 }
 
-/* Copies a value into the program's buffer and reports its length: the full length if `is_whole`, otherwise the copied
- * length. */
+/* Copies a value into the program's buffer and reports its length. The reported length is the full length if
+ * `is_whole`, otherwise the number of copied bytes. */
 static int copy_value(void *room, socklen_t *room_length, const void *value, socklen_t length, bool is_whole) {
     socklen_t has;
     if (!copy_from(&has, room_length, sizeof has)) {
@@ -90,7 +90,7 @@ EXPORT int getpeername(int fd, struct sockaddr *restrict address, socklen_t *res
                               : real()->getpeername(fd, address, length);
 }
 
-/* Refuses an option of another level than the protocol's; the broadcast manager has no options. */
+/* Refuses an option whose level is not the protocol's own. CAN_BCM has no options at all. */
 static int refuse_level(const struct socket *sock, const char *call) {
     return refuse(call, sock->protocol->level ? EINVAL : EOPNOTSUPP, "this protocol has no options of this level");
 }
@@ -99,7 +99,7 @@ static bool is_of_device(int option) {
     return option == SO_BINDTODEVICE || option == SO_BINDTOIFINDEX;
 }
 
-/* As in the kernel, a CAN socket stores its device and ignores it. */
+/* Stores the device of SO_BINDTODEVICE. As in the kernel, a CAN socket otherwise ignores it. */
 static int set_device(int fd, int option, const void *value, socklen_t length) {
     struct wire_request request = {.kind = WIRE_SET_DEVICE};
     char name[IFNAMSIZ] = "";
@@ -136,7 +136,7 @@ static int get_device(int fd, int option, void *value, socklen_t *length) {
     return copy_value(value, length, name, shown, false);
 }
 
-/* Sets an option of SOL_SOCKET in the kernel; the bridge needs to know some of these. */
+/* Sets a SOL_SOCKET option in the kernel, and reports some of these options to the bridge. */
 static int set_socket_option(const struct socket *sock, int option, const void *value, socklen_t length) {
     int result = real()->setsockopt(sock->fd, SOL_SOCKET, option, value, length);
     bool is_told = option == SO_RCVBUF || option == SO_RCVBUFFORCE || option == SO_RXQ_OVFL ||
@@ -171,7 +171,7 @@ int can_setsockopt(const struct socket *sock, int level, int option, const void 
     struct iovec data = {(void *)value, length};
     struct wire_request request = {.kind = WIRE_SET, .option = option, .length = length};
     int result = ask(sock->fd, "setsockopt", &request, &data, 1, NULL);
-    /* The kernel checks whether the option exists before it reads the value. */
+    /* Like the kernel, this checks whether the option exists before it reports an invalid address of the value. */
     request = (struct wire_request){.kind = WIRE_GET, .option = option};
     return result && errno == EFAULT && !ask(sock->fd, "setsockopt", &request, NULL, 0, NULL) ? fail(EFAULT) : result;
 }
@@ -182,15 +182,15 @@ EXPORT int setsockopt(int fd, int level, int option, const void *value, socklen_
                                  : real()->setsockopt(fd, level, option, value, length);
 }
 
-/* Takes the error and the empty message that reports it, so that nothing is left to read. */
+/* Takes the error of the socket, and the empty datagram that reports the error, so that no read finds it. */
 static int take_shown_error(int fd) {
     int error = take_error(fd);
     drop_error(fd);
     return error;
 }
 
-/* The values of SO_DOMAIN, SO_TYPE, SO_PROTOCOL and SO_ERROR for a CAN socket; -1 for other options. SO_PROTOCOL is 0
- * in the kernel, except for J1939. */
+/* Returns SO_DOMAIN, SO_TYPE, SO_PROTOCOL or SO_ERROR of a CAN socket, or -1 for other options. In the kernel
+ * SO_PROTOCOL is 0 for every CAN protocol except J1939. */
 static int socket_fact(const struct socket *sock, int option) {
     switch (option) {
     case SO_ERROR: return take_shown_error(sock->fd);
@@ -201,7 +201,7 @@ static int socket_fact(const struct socket *sock, int option) {
     }
 }
 
-/* The errno of an option of SOL_SOCKET that a CAN socket refuses; 0 for others. */
+/* Returns the errno with which a CAN socket refuses this SOL_SOCKET option, or 0 if it does not refuse the option. */
 static int socket_refusal(int option) {
     return option == SO_PEERNAME     ? ENOTCONN
            : option == SO_PEEK_OFF   ? EOPNOTSUPP
@@ -209,7 +209,8 @@ static int socket_refusal(int option) {
                                      : 0;
 }
 
-/* Returns as much of a value as the kernel would: it cuts a value for a short buffer, but never a list of filters. */
+/* Copies as much of a value as the kernel would. A value is cut off if the buffer is too short, except a list of
+ * filters. */
 static int get_protocol_option(const struct socket *sock, int option, void *value, socklen_t *length) {
     char whole[WIRE_REPLY];
     struct answer answer = {.data = whole, .room = sizeof whole};

@@ -1,6 +1,6 @@
-/* Reads and writes by other calls than those of sockets: with an offset that means "here", to and from pipes or files,
- * with streams of the C library, and by system call number. The kernel's own read would return the right data from a
- * CAN socket. These also return the socket's errors and the refusals of writes. */
+/* Reads and writes by calls that are not socket calls: with an offset that means the current position, to and from
+ * pipes or files, through streams of the C library, and by system call number. The kernel's own calls would read the
+ * right data from a CAN socket. These replacements also return the socket's errors and the refusals of writes. */
 #define _GNU_SOURCE
 #include "library.h"
 
@@ -15,7 +15,7 @@
 
 /* ---- with flags ---- */
 
-/* The flags that the kernel knows; with other flags it does nothing. */
+/* The flags that are known to the kernel. A call with any other flag goes to the kernel, which refuses it. */
 #define KNOWN_FLAGS (RWF_HIPRI | RWF_DSYNC | RWF_SYNC | RWF_NOWAIT | RWF_APPEND)
 #define HERE (-1)
 
@@ -39,7 +39,7 @@ EXPORT ssize_t pwritev64v2(int fd, const struct iovec *parts, int count, off64_t
 
 /* ---- pipes and files ---- */
 
-/* This function exists if the library of virtual time is loaded. That library does not see a wait in splice. */
+/* This function exists only if the virtual time library is loaded. That library does not see a wait in splice. */
 __attribute__((weak)) bool canbusd_virtual_turn(void);
 
 static ssize_t splice_from(int socket, off64_t *offset, int pipe, off64_t *pipe_offset, size_t length, unsigned flags) {
@@ -53,7 +53,7 @@ static ssize_t splice_from(int socket, off64_t *offset, int pipe, off64_t *pipe_
     return done == 0 && length ? -1 : done;
 }
 
-/* The message leaves the pipe only after it has been sent. */
+/* Sends one message from a pipe. The message is removed from the pipe only after it has been sent. */
 static ssize_t splice_to(int socket, int pipe, size_t length, unsigned flags) {
     char data[WIRE_LARGEST];
     int copy[2], before = errno;
@@ -85,7 +85,7 @@ EXPORT ssize_t splice(int from, off64_t *from_offset, int to, off64_t *to_offset
                    : real()->splice(from, from_offset, to, to_offset, length, flags);
 }
 
-/* Sends a part of a file as one message, as the kernel does. */
+/* Sends part of a file as one message, as the kernel does. */
 static ssize_t send_part(int socket, int file, off64_t *offset, size_t length) {
     char data[WIRE_LARGEST];
     off64_t from = offset ? *offset : lseek64(file, 0, SEEK_CUR);
@@ -115,7 +115,7 @@ static ssize_t read_stream(void *fd, char *data, size_t length) {
     return read((int)(intptr_t)fd, data, length);
 }
 
-/* For a stream 0 is an error. */
+/* Writes the data of a stream. A stream expects 0, not -1, as the result of a failed write. */
 static ssize_t write_stream(void *fd, const char *data, size_t length) {
     ssize_t done = write((int)(intptr_t)fd, data, length);
     return done < 0 ? 0 : done;
@@ -125,7 +125,7 @@ static int close_stream(void *fd) {
     return close((int)(intptr_t)fd);
 }
 
-/* Opens a stream that reads and writes with this library's functions. */
+/* Opens a stream on a CAN socket that reads and writes with this library's functions. */
 EXPORT FILE *fdopen(int fd, const char *mode) {
     static const cookie_io_functions_t calls = {read_stream, write_stream, NULL, close_stream};
     if (!is_can_socket(fd)) {
@@ -141,8 +141,8 @@ EXPORT FILE *fdopen(int fd, const char *mode) {
     return stream;
 }
 
-/* The C library ignores the descriptor of such a stream. In other streams that are not files the number is
- * arbitrary. */
+/* A flag of glibc for streams of files. The C library ignores the descriptor of a stream that fdopen has made here. In
+ * other streams without this flag the descriptor is arbitrary. */
 #define IS_OF_FILE 0x2000
 EXPORT int fileno(FILE *stream) {
     bool is_ours = !(stream->_flags & IS_OF_FILE) && stream->_fileno >= 0 && is_can_socket(stream->_fileno);
@@ -185,7 +185,7 @@ static long call_file(long number, const long of[6]) {
     case SYS_write: return write(FD, AT(1, void *), AT(2, size_t));
     case SYS_readv: return readv(FD, AT(1, struct iovec *), AT(2, int));
     case SYS_writev: return writev(FD, AT(1, struct iovec *), AT(2, int));
-    /* The offset takes two arguments. */
+    /* The 64-bit offset takes two arguments, so the flags are the sixth. */
     case SYS_preadv2: return preadv2(FD, AT(1, struct iovec *), AT(2, int), AT(3, off_t), AT(5, int));
     case SYS_pwritev2: return pwritev2(FD, AT(1, struct iovec *), AT(2, int), AT(3, off_t), AT(5, int));
     case SYS_splice: return splice(FD, AT(1, off64_t *), AT(2, int), AT(3, off64_t *), AT(4, size_t), AT(5, unsigned));

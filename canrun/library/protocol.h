@@ -1,5 +1,5 @@
-/* The calls that each protocol implements, like struct proto_ops of the kernel. A protocol is a file of this folder,
- * and a line of the table in sockets.c. */
+/* The calls that each protocol implements, like struct proto_ops of the kernel. Each protocol is a file in this
+ * directory and an entry of the table in sockets.c. */
 #ifndef PROTOCOL_H
 #define PROTOCOL_H
 
@@ -12,7 +12,7 @@
 #include <sys/types.h>
 #include <sys/uio.h>
 
-/* The descriptor of a call, with its protocol. */
+/* The file descriptor that a call was made on, and the protocol of its socket. */
 struct socket {
     int fd;
     const struct protocol *protocol; /* NULL: the descriptor is another socket, or no socket */
@@ -28,7 +28,8 @@ struct protocol {
     bool shows_error;       /* poll reports the socket's own error */
     bool has_ways;          /* the protocol is J1939: messages have ways, and sockets have error queues */
 
-    /* NULL: the kernel's own call. All memory is the program's, except a message and the list of its pieces. */
+    /* NULL means that the kernel's own call is used. All pointers point to the program's memory, except those to a
+     * message and its list of pieces. */
     int (*bind)(const struct socket *sock, const struct sockaddr *address, socklen_t length);
     int (*connect)(const struct socket *sock, const struct sockaddr *address, socklen_t length);
     int (*getname)(const struct socket *sock, struct sockaddr *address, socklen_t *length, bool is_peer);
@@ -39,14 +40,14 @@ struct protocol {
 };
 extern const struct protocol raw_protocol, bcm_protocol, isotp_protocol, j1939_protocol, netlink_protocol;
 
-/* Both leave errno unchanged. */
+/* Return the protocol of a file descriptor, and whether it is a CAN socket. Both leave errno unchanged. */
 struct socket socket_of(int fd);
 bool is_can_socket(int fd);
 
-/* Whether the protocol of a socket replaces this call. Otherwise the kernel's own call is used. */
+/* Whether the protocol of a socket replaces this call. If not, the kernel's own call is used. */
 #define HAS(sock, call) ((sock).protocol && (sock).protocol->call)
 
-/* The least length of an address that ends with this member, as in the kernel. */
+/* The minimum length of an address that contains everything up to this member, as in the kernel. */
 #define CAN_REQUIRED_SIZE(type, member) (offsetof(type, member) + sizeof(((type *)NULL)->member))
 
 /* ---- options.c: addresses and options of most CAN protocols ---- */
@@ -56,36 +57,35 @@ int can_getname(const struct socket *sock, struct sockaddr *address, socklen_t *
 int can_setsockopt(const struct socket *sock, int level, int option, const void *value, socklen_t length);
 int can_getsockopt(const struct socket *sock, int level, int option, void *value, socklen_t *length);
 
-/* Refuses connect for a protocol that only has bind. */
+/* Refuses connect for a protocol whose sockets use bind. */
 int no_connect(const struct socket *sock, const struct sockaddr *address, socklen_t length);
 
-/* Copies the address of a call, as the kernel does. Returns 0, or -1 and errno. */
+/* Copies the address argument of a call, as the kernel does. Returns 0, or -1 with errno set. */
 int copy_address(const struct socket *sock, const char *call, const struct sockaddr *address, socklen_t length,
                  struct sockaddr_can *can);
 
-/* Asks the bridge to bind or connect the socket. Returns 0, or -1 and errno. */
+/* Asks the bridge to bind or connect the socket. Returns 0, or -1 with errno set. */
 int ask_to_bind(const struct socket *sock, const char *call, enum wire_kind kind, const struct sockaddr_can *can);
 
 /* ---- send.c ---- */
 
-/* Writes the request of a write. Returns 0, or -1 and errno. */
+/* Prepares the request of a write. Returns 0, or -1 with errno set. */
 int begin_write(const struct msghdr *message, struct wire_request *request);
 
-/* While a socket has no room for writes, a request takes room in it so that poll does not report it as writable. In the
- * kernel a socket is writable while at most a quarter of SO_SNDBUF is used. Adds the missing pieces and returns their
- * number. */
+/* In the kernel a socket is writable while at most a quarter of SO_SNDBUF is used. While a socket has no room for
+ * writes, a request is padded to a quarter of the buffer, so that poll does not report the socket as writable. This
+ * function adds the padding and returns the number of its pieces. */
 #define FILLERS 64
 size_t add_fillers(int fd, size_t length, struct iovec fillers[FILLERS]);
 
-/* Writes the index of the interface in a message's address, if the message has an address. Returns 0, or -1 and
- * errno. */
+/* Reads the interface index from the destination address of a message, if any. Returns 0, or -1 with errno set. */
 int read_target(const struct msghdr *message, int32_t *index);
 
 /* ---- receive.c ---- */
 
 ssize_t can_recvmsg(const struct socket *sock, struct msghdr *message, int flags);
 
-/* Like can_recvmsg, but sets `length` to the message's full length, which may exceed the buffer. */
+/* Like can_recvmsg, but also sets `length` to the full length of the message, which may exceed the buffer. */
 ssize_t receive_message(const struct socket *sock, struct msghdr *message, int flags, ssize_t *length);
 
 #endif

@@ -1,5 +1,5 @@
-/* The length of a transmit queue, for SIOCGIFTXQLEN. No message of the server contains it. So it is taken from the
- * command line of the process that listens at the server's address, if that process is visible. */
+/* The length of a transmit queue, for SIOCGIFTXQLEN. No message of the server contains the length. It is therefore read
+ * from the command line of the process that listens at the server's address, if that process is visible. */
 #define _GNU_SOURCE
 #include "library.h"
 
@@ -11,10 +11,10 @@
 #include <string.h>
 #include <sys/syscall.h>
 
-/* The default of canbusd. */
+/* The default queue length of canbusd. */
 #define USUAL 10
 
-/* Reads a file of /proc and adds a 0 at the end. Returns its length, or -1. */
+/* Reads a file of /proc and adds a terminating 0. Returns its length, or -1. */
 static ssize_t read_proc(const char *process, const char *name, char *room, size_t size) {
     char path[64];
     snprintf(path, sizeof path, "/proc/%.16s/%.16s", process, name);
@@ -30,7 +30,7 @@ static ssize_t read_proc(const char *process, const char *name, char *room, size
     return have;
 }
 
-/* Returns the length of queues from the command line of a server; the default for other command lines. */
+/* Returns the queue length on a server's command line, or the default if this is another program's command line. */
 static int length_of(const char *words, size_t size) {
     static const char option[] = "--txqueue";
     const size_t length = sizeof option - 1;
@@ -53,7 +53,7 @@ static int length_of_process(const char *process) {
     return size > 0 ? length_of(words, (size_t)size) : USUAL;
 }
 
-/* The process that listens at a path; 0 if it is not visible. */
+/* Returns the process that listens at a Unix socket path, or 0 if it is not visible. */
 static int process_at_path(const struct address *address) {
     struct ucred peer = {0};
     socklen_t length = sizeof peer;
@@ -65,7 +65,7 @@ static int process_at_path(const struct address *address) {
     return peer.pid;
 }
 
-/* Reads the list of TCP sockets. Returns the inode of the socket that listens at this port, or 0. */
+/* Reads a list of TCP sockets in /proc. Returns the inode of the socket that listens on this port, or 0. */
 static unsigned long inode_of_port(const char *name, unsigned short port) {
     static const char listens[] = "0A";
     unsigned long found = 0;
@@ -102,7 +102,7 @@ static bool has_socket(const char *process, unsigned long inode) {
     return found;
 }
 
-/* The process that listens at a port, if its program is called canbusd; otherwise 0. */
+/* Returns the process that listens on a port, if its program is called canbusd; otherwise 0. */
 static int process_at_port(unsigned short port) {
     unsigned long inode = inode_of_port("/proc/net/tcp", port);
     inode = inode ? inode : inode_of_port("/proc/net/tcp6", port);

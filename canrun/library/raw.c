@@ -1,4 +1,4 @@
-/* CAN_RAW: writes a frame in the quickest possible way. */
+/* CAN_RAW: writes each frame in the fastest way that is possible. */
 #define _GNU_SOURCE
 #include "../shared/planted.h"
 #include "library.h"
@@ -10,13 +10,13 @@
 #include <sys/syscall.h>
 #include <time.h>
 
-/* The flags of SO_TIMESTAMPING that a control message may set for one frame. */
+/* The SO_TIMESTAMPING flags that a control message may set for one frame. */
 #define STAMPS_OF_SENT \
     (SOF_TIMESTAMPING_TX_HARDWARE | SOF_TIMESTAMPING_TX_SOFTWARE | SOF_TIMESTAMPING_TX_SCHED | SOF_TIMESTAMPING_TX_ACK)
-/* The most bytes of control messages that the kernel accepts. */
+/* The maximum number of bytes of control messages that the kernel accepts. */
 #define MOST_CONTROL 20480
 
-/* Reports once that an error message frame was accepted, and is not sent. */
+/* Prints once that an error message frame was accepted but will not be sent. */
 static void note_error_frame(void) {
     static const char text[] =
         "canbusd-run: note: error message frames that are written go nowhere: the server makes its "
@@ -27,7 +27,7 @@ static void note_error_frame(void) {
     }
 }
 
-/* Whether the kernel accepts this control message, which has no effect here. */
+/* Returns whether the kernel accepts this control message. The message has no effect here. */
 static bool is_proper(const struct cmsghdr *control) {
     uint32_t flags = 0;
     if (control->cmsg_level != SOL_SOCKET || control->cmsg_type == SCM_RIGHTS ||
@@ -41,7 +41,7 @@ static bool is_proper(const struct cmsghdr *control) {
     return control->cmsg_type == SO_MARK || (control->cmsg_type == SO_TIMESTAMPING && !(flags & ~STAMPS_OF_SENT));
 }
 
-/* Checks the control messages of a frame, like sock_cmsg_send of the kernel. Returns 0, or -1 and errno. */
+/* Checks the control messages of a frame, like sock_cmsg_send of the kernel. Returns 0, or -1 with errno set. */
 static int check_control(const struct msghdr *message) {
     if (message->msg_controllen > MOST_CONTROL) {
         return fail(ENOBUFS);
@@ -60,7 +60,7 @@ static int check_control(const struct msghdr *message) {
     return 0;
 }
 
-/* The interface of a write: the one in its address, or the socket's own. */
+/* Returns the interface of a write: the one in its destination address, or the one that the socket is bound to. */
 static int interface_of(const struct socket *sock, int index) {
     struct sockaddr_can can = {0};
     struct answer answer = {.data = &can, .room = sizeof can};
@@ -71,7 +71,7 @@ static int interface_of(const struct socket *sock, int index) {
     return index;
 }
 
-/* The kernel checks the interface before the control messages. */
+/* Refuses a write because of its control messages. Like the kernel, it reports an invalid interface first. */
 static ssize_t refuse_control(const struct socket *sock, int index) {
     int error = errno;
     char name[IFNAMSIZ];
@@ -79,14 +79,14 @@ static ssize_t refuse_control(const struct socket *sock, int index) {
     return fail(index && !name_of_index(index, name) ? error : ENXIO);
 }
 
-/* The fault that a sweep has planted. */
+/* The fault that a sweep injects. */
 static struct planted planted;
 
 __attribute__((constructor)) static void read_planted(void) {
     planted = planted_read();
 }
 
-/* Whether a sweep makes this write fail for lack of room. Later writes succeed. */
+/* Returns whether a sweep makes this write fail for lack of room. Later writes succeed. */
 static bool is_planted(const struct socket *sock, const struct wire_request *request, const struct msghdr *message) {
     canid_t identifier;
     struct timespec now;

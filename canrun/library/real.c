@@ -1,4 +1,4 @@
-/* The C library's functions that this library calls and replaces, and errors. */
+/* The functions of the C library that this library replaces and also calls, and the reporting of errors. */
 #define _GNU_SOURCE
 #include "library.h"
 
@@ -33,7 +33,8 @@ int fail(int error) {
     return -1;
 }
 
-/* Whether this is the first refusal that only a limit of the server explains. Then a line reports it in any case. */
+/* Returns whether this is the first refusal that is caused by a limit of the server. Such a refusal is printed even
+ * without CANBUSD_RUN_DEBUG. */
 static bool is_news(int error) {
     static bool is_said[2];
     return (error == EUSERS || error == ENOSPC) &&

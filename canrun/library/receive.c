@@ -1,4 +1,4 @@
-/* Receiving: each call that reads from a socket. A call that must wait does so in the kernel, in the real recvmsg. */
+/* Receiving: all calls that read from a socket. A call that has to wait does so in the kernel, in the real recvmsg. */
 #define _GNU_SOURCE
 #include "library.h"
 
@@ -12,11 +12,11 @@
 #include <time.h>
 
 #define SECOND 1000000000u
-/* A value of msg_flags before a message is received: the program asks for the bytes only. */
+/* A value for msg_flags before a message is received. It says that the program asks only for the bytes. */
 #define BYTES_ONLY MSG_NOSIGNAL
 
-/* The kernel also makes the control messages of SO_TIMESTAMP and SO_TIMESTAMPNS for Unix sockets. This puts the
- * server's timestamp there. */
+/* For Unix sockets the kernel also makes the control messages of SO_TIMESTAMP and SO_TIMESTAMPNS. This replaces the
+ * kernel's timestamp in them by the server's. Returns whether one of them is a message of SO_TIMESTAMPING. */
 static bool correct_stamps(struct msghdr *message, uint64_t nanoseconds) {
     bool has_three = false;
     for (struct cmsghdr *one = CMSG_FIRSTHDR(message); one; one = CMSG_NXTHDR(message, one)) {
@@ -35,7 +35,7 @@ static bool correct_stamps(struct msghdr *message, uint64_t nanoseconds) {
     return has_three;
 }
 
-/* Adds a control message after those of the kernel. */
+/* Adds a control message after those that the kernel made. */
 static void add_control(struct msghdr *message, size_t room, int type, const void *data, size_t length) {
     size_t used = CMSG_ALIGN(message->msg_controllen);
     if (used + CMSG_LEN(length) > room) {
@@ -60,7 +60,7 @@ static void make_control(struct msghdr *message, size_t room, const struct wire_
     }
 }
 
-/* Writes the address of the sender. For ISO-TP it has no identifiers, as in the kernel. */
+/* Writes the address of the sender. For ISO-TP the address has no identifiers, as in the kernel. */
 static bool make_name(const struct socket *sock, struct msghdr *message, int ifindex) {
     struct sockaddr_can can = {.can_family = AF_CAN, .can_ifindex = ifindex};
     socklen_t length = sock->protocol->address_size;
@@ -73,8 +73,8 @@ static ssize_t no_device(void) {
     return refuse("read", ENODEV, "the server is gone, and its interfaces with it");
 }
 
-/* The error of a socket whose next datagram reports one; 0 if another call has taken the error. The bridge of a socket
- * only ends together with the socket, or by a fault. */
+/* Returns the error of a socket whose next datagram reports an error, or 0 if another call has already taken the error.
+ * The bridge ends before its socket is closed only because of a fault. */
 static int error_of(int fd) {
     struct answer answer = {0};
     return ask(fd, "read", &(struct wire_request){.kind = WIRE_ERROR}, NULL, 0, &answer) ? ENODEV : answer.value;
@@ -92,15 +92,15 @@ int take_shown(int fd) {
     return error ? (int)refuse_read(error) : 0;
 }
 
-/* Takes the note of a message without data; false if there is no such message. */
+/* Takes the note of a J1939 message without data. Returns false if there is no such message. */
 static bool take_empty(int fd, struct wire_empty *empty) {
     struct answer answer = {.data = empty, .room = sizeof *empty};
     return !ask(fd, "read", &(struct wire_request){.kind = WIRE_EMPTY}, NULL, 0, &answer) && answer.value;
 }
 
-/* Receives the next message. Returns its length, or -1 and errno. An empty datagram reports an error of the socket. If
- * another call has taken the error, the next datagram follows. For J1939 an empty datagram may also be a message
- * without data. */
+/* Receives the next message. Returns its length, or -1 with errno set. An empty datagram reports an error of the
+ * socket; if another call has already taken the error, this continues with the next datagram. For J1939 an empty
+ * datagram may also be a message without data. */
 static ssize_t take(int fd, struct msghdr *message, int flags, struct wire_empty *empty) {
     size_t control = message->msg_controllen;
     for (;;) {
@@ -131,7 +131,7 @@ size_t room_of(const struct msghdr *message, size_t length) {
     return room;
 }
 
-/* Copies the first bytes that a program has received. Returns their number. */
+/* Copies the first bytes of a received message. Returns the number of copied bytes. */
 static size_t copy_head(const struct msghdr *message, size_t length, char *head, size_t room) {
     size_t done = 0;
     length = MIN(length, room);
@@ -143,7 +143,7 @@ static size_t copy_head(const struct msghdr *message, size_t length, char *head,
     return length;
 }
 
-/* Fills in the facts about a received message besides its bytes. */
+/* Fills in everything about a received message except its bytes. */
 static int describe(const struct socket *sock, struct msghdr *message, size_t control, const struct wire_empty *of) {
     const struct wire_note *note = &of->note;
     if (!sock->protocol->has_ways && message->msg_name && !make_name(sock, message, note->ifindex)) {
@@ -159,7 +159,7 @@ static int describe(const struct socket *sock, struct msghdr *message, size_t co
     return 0;
 }
 
-/* Receives a message, and finds its note in the memory of the socket. */
+/* Receives a message, and finds its note in the shared memory of the socket. */
 static ssize_t receive_noted(const struct socket *sock, struct msghdr *message, int flags, struct wire_memory *memory) {
     struct wire_empty of = {0};
     char head[sizeof of.note.head];
@@ -178,7 +178,7 @@ static ssize_t receive_noted(const struct socket *sock, struct msghdr *message, 
     return describe(sock, message, control, &of) ? -1 : length;
 }
 
-/* Notes that this read does not look for its note. */
+/* Records that this read does not look for a note. */
 static void note_plain(const struct socket *sock) {
     struct shared *one = share_enter(sock);
     if (one) {
@@ -208,13 +208,14 @@ ssize_t receive_message(const struct socket *sock, struct msghdr *message, int f
     return *length < 0 ? -1 : (ssize_t)room_of(message, (size_t)*length);
 }
 
-/* The kernel's CAN_RAW and CAN_BCM return the copied length, even with MSG_TRUNC. */
+/* The CAN_RAW and CAN_BCM of the kernel return the number of copied bytes, even with MSG_TRUNC. */
 ssize_t can_recvmsg(const struct socket *sock, struct msghdr *message, int flags) {
     ssize_t length;
     return receive_message(sock, message, flags, &length);
 }
 
-/* Copies as much of the address as fits. As in the kernel, errors are found only after the message was taken. */
+/* Copies as much of the sender's address as fits. As in the kernel, an error is found only after the message has been
+ * taken. */
 static int give_name(struct sockaddr *from, socklen_t *room, const struct msghdr *message) {
     socklen_t has;
     if (!room || !copy_from(&has, room, sizeof has)) {
@@ -279,7 +280,7 @@ EXPORT ssize_t recv(int fd, void *data, size_t length, int flags) {
     return HAS(sock, recvmsg) ? receive(&sock, data, length, flags, NULL, NULL) : real()->recv(fd, data, length, flags);
 }
 
-/* As for the kernel's sockets, a read of 0 bytes takes no frame. */
+/* As for the kernel's CAN sockets, a read of 0 bytes takes no frame. */
 EXPORT ssize_t read(int fd, void *data, size_t length) {
     struct socket sock = socket_of(fd);
     if (!HAS(sock, recvmsg)) {
@@ -301,7 +302,8 @@ EXPORT ssize_t readv(int fd, const struct iovec *parts, int count) {
     return room_of(&message, 1) ? sock.protocol->recvmsg(&sock, &message, 0) : 0;
 }
 
-/* Writes the remaining time to `timeout`. Like the kernel, it checks the time after each message. */
+/* Writes the remaining time to `timeout`, and returns whether the time is over. Like the kernel, recvmmsg checks this
+ * after each message. */
 static bool is_over(struct timespec *timeout, const struct timespec *end) {
     struct timespec now;
     clock_gettime(CLOCK_MONOTONIC, &now);
@@ -311,7 +313,7 @@ static bool is_over(struct timespec *timeout, const struct timespec *end) {
     return left == 0;
 }
 
-/* The end of a timeout that begins now; false and errno if the timeout is invalid. */
+/* Computes the end of a timeout that begins now. Returns false with errno set if the timeout is invalid. */
 static bool read_end(struct timespec *end, const struct timespec *timeout) {
     struct timespec now;
     if (!copy_from(end, timeout, sizeof *end)) {
@@ -353,7 +355,7 @@ EXPORT int recvmmsg(int fd, struct mmsghdr *messages, unsigned count, int flags,
     return (int)done;
 }
 
-/* Programs built with _FORTIFY_SOURCE call these. */
+/* Programs that were built with _FORTIFY_SOURCE call these functions. */
 EXPORT ssize_t __read_chk(int fd, void *data, size_t length, size_t room);
 EXPORT ssize_t __recv_chk(int fd, void *data, size_t length, size_t room, int flags);
 EXPORT ssize_t __recvfrom_chk(int fd, void *restrict data, size_t length, size_t room, int flags,

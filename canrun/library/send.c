@@ -1,4 +1,5 @@
-/* Sending: each call that writes to a socket. The call waits for the server's verdict, so that its error is exact. */
+/* Sending: all calls that write to a socket. Each call waits for the server's verdict on the frame, so that it returns
+ * the right error. */
 #define _GNU_SOURCE
 #include "library.h"
 
@@ -10,7 +11,7 @@
 #include <string.h>
 #include <sys/syscall.h>
 
-/* Whether writes wait for room (--wait). */
+/* Whether writes wait for room in the transmit queue (--wait). */
 static bool waits_for_room;
 
 __attribute__((constructor)) static void read_setting(void) {
@@ -23,7 +24,8 @@ static bool is_deaf(void) {
     return !pthread_sigmask(SIG_BLOCK, NULL, &mask) && sigismember(&mask, SIGTERM) == 1;
 }
 
-/* How long a write may wait for room. It reads the signal mask only if necessary, because that is a system call. */
+/* Returns how long a write may wait for room. It reads the signal mask only if necessary, because that is a system
+ * call. */
 static enum wire_wait wait_for_room(void) {
     return !waits_for_room ? WIRE_WAIT : waits_are_over() ? WIRE_NO_WAIT : is_deaf() ? WIRE_SHORT_WAIT : WIRE_WAIT;
 }
@@ -67,16 +69,16 @@ int read_target(const struct msghdr *message, int32_t *index) {
     if (can.can_family != AF_CAN) {
         return refuse("sendto", EINVAL, "the address is not of AF_CAN");
     }
-    /* No interface has a negative index, or this index. */
+    /* No interface has the index INT32_MAX. It replaces a negative index, which no interface has either. */
     *index = can.can_ifindex < 0 ? INT32_MAX : can.can_ifindex;
     return 0;
 }
 
-/* The most pieces that are sent with a request directly. */
+/* The maximum number of pieces of a message that are sent without joining them. */
 #define PIECES 64
 
-/* Sends a message by the protocol's function. If there are too many pieces for one call of the kernel, they are joined
- * first. */
+/* Calls the protocol's function to send a message. If the message has too many pieces for one system call, they are
+ * joined first. */
 static ssize_t send_message(const struct socket *sock, struct msghdr *message, int flags) {
     size_t length = message->msg_iovlen <= PIECES ? 0 : room_of(message, WIRE_LARGEST + 1);
     if (message->msg_iovlen <= PIECES || length > WIRE_LARGEST) {
@@ -94,7 +96,7 @@ static ssize_t send_message(const struct socket *sock, struct msghdr *message, i
     return sock->protocol->sendmsg(sock, message, flags);
 }
 
-/* The same for a struct msghdr of the program. */
+/* Sends a message from a struct msghdr of the program. */
 static ssize_t send_named(const struct socket *sock, const struct msghdr *named, int flags) {
     struct msghdr message;
     if (!copy_from(&message, named, sizeof message)) {

@@ -1,9 +1,9 @@
-/* The memory that a bridge shares with the programs of its socket. Quick writes get their replies there (quick.c), and
- * received datagrams have their notes there (notes.c).
+/* The memory that a bridge shares with the programs of its socket. It contains the replies to quick writes (quick.c)
+ * and the notes of received datagrams (notes.c).
  *
- * The memory belongs to the socket with this name, not to a descriptor. So the library need not follow close, dup, fork
- * and SCM_RIGHTS. The process that makes a socket also makes the memory; another process asks the bridge for it. Each
- * process keeps the memory of a number of sockets, as a cache does. */
+ * The memory belongs to the socket with a given name, not to a file descriptor, so the library need not track close,
+ * dup, fork and SCM_RIGHTS. The process that creates a socket also creates the memory; other processes ask the bridge
+ * for it. Each process keeps the memory of a limited number of sockets in a cache. */
 #define _GNU_SOURCE
 #include "library.h"
 
@@ -15,16 +15,16 @@
 #include <sys/resource.h>
 #include <sys/syscall.h>
 
-/* A socket has one of these entries: one of the few that follow the hash of its name. */
+/* The size of the cache. The memory of a socket is in one of the FEW entries that follow the hash of its name. */
 #define KNOWN_BITS 8
 #define KNOWN (1u << KNOWN_BITS)
 #define FEW 16
-/* The entry is changing to another socket, so no thread can use it. */
+/* A flag in `users`: the entry is being changed to another socket, so no thread may use it. */
 #define IS_CHANGING (1u << 31)
 
 static struct shared known[KNOWN];
 
-/* A child of fork has no other threads, so no entry is in use. */
+/* Marks all entries as unused after fork, because the child has no other threads. */
 static void forget_users(void) {
     for (size_t i = 0; i < KNOWN; i++) {
         if (known[i].users & IS_CHANGING) {
@@ -42,7 +42,7 @@ void share_leave(struct shared *one) {
     __atomic_fetch_sub(&one->users, 1, __ATOMIC_RELEASE);
 }
 
-/* Fibonacci hashing: each bit of a name changes the upper bits of the product. */
+/* Returns the Fibonacci hash of a name: each bit of the name changes the upper bits of the product. */
 static uint32_t hash_of(const char *name) {
     uint64_t hash = 0, word;
     for (size_t i = 0; i < WIRE_NAME_ROOM; i += sizeof word) {
@@ -52,7 +52,7 @@ static uint32_t hash_of(const char *name) {
     return (uint32_t)(hash >> (64 - KNOWN_BITS));
 }
 
-/* Gives the entry to this socket, if no thread uses it. */
+/* Assigns the entry to this socket. Fails if a thread is using the entry. */
 static bool change(struct shared *one, const char *name, struct wire_memory *memory) {
     uint32_t users = 0;
     if (!__atomic_compare_exchange_n(&one->users, &users, IS_CHANGING, false, __ATOMIC_ACQUIRE, __ATOMIC_RELAXED)) {
@@ -69,7 +69,7 @@ static bool change(struct shared *one, const char *name, struct wire_memory *mem
     return true;
 }
 
-/* Drops the memory of closed sockets. */
+/* Drops the memory of sockets that have been closed. */
 static void forget_closed(void) {
     static const char nobody[WIRE_NAME_ROOM];
     for (struct shared *one = known; one < known + KNOWN; one++) {
@@ -83,9 +83,9 @@ static void forget_closed(void) {
     }
 }
 
-/* Stores the memory in one of the socket's few entries, if possible in a free one. Another socket that loses its entry
- * asks for its memory again, which takes turns of virtual time. The names differ in each run, and so do their
- * places. */
+/* Stores the memory in one of the FEW entries of this socket, in a free one if possible. A socket that loses its entry
+ * has to ask for its memory again, which takes turns of virtual time. The names of sockets differ in each run, and so
+ * do their entries. */
 static bool keep(const char *name, struct wire_memory *memory) {
     static uint32_t turn;
     uint32_t hash = hash_of(name), first = __atomic_fetch_add(&turn, 1, __ATOMIC_RELAXED);
@@ -99,7 +99,7 @@ static bool keep(const char *name, struct wire_memory *memory) {
     return false;
 }
 
-/* Finds the memory of the socket with this name, and marks it as used; NULL if this process does not have it. */
+/* Finds the memory of the socket with this name and marks it as used. Returns NULL if this process does not have it. */
 static struct shared *find(const char *name) {
     uint32_t hash = hash_of(name);
     for (uint32_t i = 0; i < FEW; i++) {
@@ -115,8 +115,8 @@ static struct shared *find(const char *name) {
 
 /* ---- asking for the memory ---- */
 
-/* Receives the descriptors of the memory, and of a session that may be lent, from this end of a pair; -1 if there is
- * none. */
+/* Receives two file descriptors from this end of a pair: that of the memory, and that of a session that may be lent. A
+ * descriptor that does not come stays -1. */
 static void receive_descriptors(int from, int fds[2]) {
     union {
         char room[CMSG_SPACE(2 * sizeof(int))];
@@ -149,13 +149,14 @@ static void ask_for_descriptors(int fd, int fds[2]) {
 }
 
 static struct wire_memory *map(int memory_fd) {
-    /* Bypasses the thread sanitizer, which does not see that the descriptor is made or closed. */
+    /* This system call bypasses the thread sanitizer, which does not see that the descriptor is created and closed. */
     const long access = PROT_READ | PROT_WRITE, kind = MAP_SHARED;
     void *memory = (void *)syscall(SYS_mmap, NULL, sizeof(struct wire_memory), access, kind, memory_fd, 0L);
     return memory == MAP_FAILED ? NULL : memory;
 }
 
-/* The descriptor may belong to another socket by now. */
+/* Asks the bridge for the memory of a socket and stores it. It checks the name, because the file descriptor may belong
+ * to another socket by now. */
 static bool ask_for_memory(const struct socket *sock) {
     int before = errno, fds[2] = {-1, -1};
     ask_for_descriptors(sock->fd, fds);
@@ -191,8 +192,8 @@ void share_borrow(struct shared *one, int fd) {
 
 /* ---- making the memory ---- */
 
-/* Sets the size of the memory. It is not a file of the program, so the limit of file sizes (ulimit -f) does not
- * apply. */
+/* Sets the size of the memory. The limit on file sizes (ulimit -f) should not apply, because the memory is not a file
+ * of the program. So the limit is raised if necessary. */
 static bool set_size(int fd) {
     struct rlimit before;
     const rlim_t size = sizeof(struct wire_memory);

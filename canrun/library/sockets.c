@@ -1,4 +1,4 @@
-/* Makes CAN sockets, recognizes them, and replaces the calls that a CAN socket refuses. */
+/* Creates CAN sockets, recognizes them, and replaces calls that a CAN socket refuses. */
 #define _GNU_SOURCE
 #include "library.h"
 
@@ -56,7 +56,7 @@ bool is_can_socket(int fd) {
     return sock.protocol && sock.protocol->family == PF_CAN;
 }
 
-/* Whether there are such sockets; otherwise sets errno, like can_create of the kernel. */
+/* Returns whether sockets of this type and protocol exist. If not, it sets errno like can_create of the kernel. */
 static bool has_protocol(int type, int number) {
     if (type < 0 || type > SOCK_PACKET) {
         refuse("socket", EINVAL, "there is no such type of sockets");
@@ -84,8 +84,8 @@ static int give_name(int fd, int protocol, struct sockaddr_un *name) {
     return syscall(SYS_bind, fd, name, whole) ? errno : 0;
 }
 
-/* Reports the reason why there is no bridge. Limits of the process or the system give the same errno as for any
- * socket. */
+/* Reports why the bridge could not be started. For limits of the process or the system the errno is the same as for any
+ * other socket. */
 static int refuse_bridge(int error) {
     bool is_limit = error == EMFILE || error == ENFILE || error == ENOMEM || error == EAGAIN;
     return refuse("socket", is_limit ? error : EPROTONOSUPPORT, strerror(error));

@@ -1,5 +1,5 @@
-/* Starts the bridge of a socket without the program's notice: no wait returns it as a child, and its end sends no
- * SIGCHLD. */
+/* Starts the bridge of a socket in a way that the program does not notice: no wait call returns the bridge as a child,
+ * and its end sends no SIGCHLD. */
 #define _GNU_SOURCE
 #include "../shared/planted.h"
 #include "library.h"
@@ -29,9 +29,9 @@ static const char *const SETTINGS[] = {
 };
 #define SETTING_COUNT (sizeof SETTINGS / sizeof *SETTINGS)
 
-/* Runs a function in a copy of the process that shares its memory, on this stack, while the caller waits. Returns the
- * copy's process number, or a negative errno. It does not use the C library's clone, which the thread sanitizer would
- * treat as a fork. */
+/* Runs a function on the given stack, in a copy of the process that shares its memory, while the caller waits. Returns
+ * the process number of the copy, or a negative errno. It does not use the C library's clone, which the thread
+ * sanitizer would treat as a fork. */
 #ifdef __x86_64__
 static long copy_process(int (*function)(void *), void *stack, void *argument) {
     long result;
@@ -57,7 +57,8 @@ static long copy_process(int (*function)(void *), void *stack, void *argument) {
 }
 #endif
 
-/* The data of a start. They are not on the stack, because a thread of the program may have a small one. */
+/* The data that the start of a bridge needs. They are not on the stack, because the thread of the program may have a
+ * small stack. */
 struct start {
     int end, memory, failed;
     pid_t bridge;
@@ -67,11 +68,11 @@ struct start {
     char stacks[2][STACK] __attribute__((aligned(16)));
 };
 
-/* A function that does not return never frees its frame. So the address sanitizer would take that memory for a stack
- * for ever, even after the memory is used for other data. */
+/* For functions that do not return and so never free their stack frame. Without this attribute the address sanitizer
+ * would treat the frame's memory as a stack for ever, even when it is used for other data. */
 #define NO_RETURN __attribute__((no_sanitize("address")))
 
-/* Moves this descriptor to a number that survives execve. */
+/* Moves a file descriptor to this number, and keeps it open across execve. */
 static void put_at(long fd, long number) {
     if (fd == number) {
         syscall(SYS_fcntl, fd, F_SETFD, 0L);
@@ -80,16 +81,17 @@ static void put_at(long fd, long number) {
     }
 }
 
-/* These two run in copies of the process that share its memory: the caller waits for the first, and the first for the
- * second. The first copy executes no program, and `clone` asks for no signal, so its end sends none. The second is a
- * child of the first, and no longer of this process once the first has ended. A direct child would send SIGCHLD at its
- * end, since execve restores that signal. */
+/* become_bridge and leave_child run in copies of the process that share its memory. The caller waits for the copy that
+ * runs leave_child, and that copy waits for the one that runs become_bridge. leave_child executes no program, and
+ * `clone` asks for no signal, so its end sends no signal. The bridge is a child of that copy, and no longer belongs to
+ * this process after the copy has ended. A direct child would send SIGCHLD at its end, because execve restores that
+ * signal. */
 NO_RETURN static int become_bridge(void *argument) {
     struct start *start = argument;
     char *words[] = {"canbusd-bridge", NULL};
     long memory = start->memory;
     if (memory == WIRE_PROGRAM) {
-        memory = syscall(SYS_fcntl, memory, F_DUPFD, WIRE_MEMORY + 1L); /* `end` needs this number. */
+        memory = syscall(SYS_fcntl, memory, F_DUPFD, WIRE_MEMORY + 1L); /* WIRE_PROGRAM is needed for `end`. */
     }
     put_at(start->end, WIRE_PROGRAM);
     put_at(memory, WIRE_MEMORY);
@@ -112,7 +114,7 @@ NO_RETURN static int leave_child(void *argument) {
     return 0;
 }
 
-/* The bridge's file is in the same folder as this library. */
+/* Finds the program of the bridge, which is in the same directory as this library. */
 static int find_bridge(char path[PATH_MAX]) {
     Dl_info library;
     if (!dladdr((void *)(size_t)find_bridge, &library) || !library.dli_fname) {
@@ -124,7 +126,7 @@ static int find_bridge(char path[PATH_MAX]) {
     return length < PATH_MAX ? 0 : ENAMETOOLONG;
 }
 
-/* Returns NAME=VALUE from the environment; NULL if there is no such variable. */
+/* Returns the entry NAME=VALUE of the environment, or NULL if there is no such variable. */
 static char *setting(const char *name) {
     const size_t length = strlen(name);
     for (char **at = environ; at && *at; at++) {
@@ -135,7 +137,7 @@ static char *setting(const char *name) {
     return NULL;
 }
 
-/* A copy of the settings, made at the start because a program may clear its environment. */
+/* Copies of the settings at the start of the program, kept because a program may clear its environment. */
 static char *settings_before[SETTING_COUNT];
 
 __attribute__((constructor)) static void keep_settings(void) {
@@ -145,7 +147,7 @@ __attribute__((constructor)) static void keep_settings(void) {
     }
 }
 
-/* In virtual time (canrun/virtual) a bridge is a thread of the run; the run's library counts it. */
+/* In virtual time (canrun/virtual) a bridge counts as a thread of the run. The virtual time library registers it. */
 extern uint32_t canbusd_virtual_bear(void) __attribute__((weak));
 extern void canbusd_virtual_born(uint32_t slot, pid_t pid) __attribute__((weak));
 
@@ -170,7 +172,7 @@ static int start_by(struct start *start) {
     uint32_t slot = is_virtual ? canbusd_virtual_bear() : 0;
     snprintf(start->slot, sizeof start->slot, "CANBUSD_RUN_SLOT=%u", slot);
     gather(start->environment, is_virtual ? start->slot : NULL);
-    /* A handler of the program must not run in a copy. */
+    /* A signal handler of the program must not run in a copy of the process. */
     sigfillset(&all);
     pthread_sigmask(SIG_BLOCK, &all, &before);
     long child = copy_process(leave_child, start->stacks[1] + STACK, start);

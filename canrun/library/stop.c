@@ -1,7 +1,8 @@
-/* With --wait: SIGINT, SIGTERM and SIGHUP end each write that waits for room, whichever flags their handlers have.
- * After a handler with SA_RESTART the kernel would restart the call, and the wait would go on. So while a write waits,
- * a handler of this library is called first. It makes the bridge end the waits of this process, and then calls the
- * program's handler. If the program writes again after that, its writes do not wait until one has found room. */
+/* With --wait, SIGINT, SIGTERM and SIGHUP end each write that waits for room, whatever flags their handlers have. After
+ * a handler with SA_RESTART the kernel would restart the system call, and the wait would continue. Therefore, while a
+ * write waits, a handler of this library is called first. It makes the bridge end all waits of this process, and then
+ * calls the program's handler. If the program then writes again, its writes do not wait until one of them has found
+ * room. */
 #define _GNU_SOURCE
 #include "library.h"
 
@@ -11,7 +12,7 @@
 #include <signal.h>
 #include <stdlib.h>
 
-/* The maximum number of a process's waits that signals can end; no bridge keeps more waiting frames. */
+/* The maximum number of waits in a process that signals can end. No bridge keeps more waiting frames than this. */
 #define WAITS 64
 enum state { UNUSED, BEGUN, ASKED, ENDING, ENDED };
 
@@ -60,7 +61,7 @@ static bool is_ours(const struct sigaction *action) {
     return action->sa_flags & SA_SIGINFO && action->sa_sigaction == on_signal;
 }
 
-/* Installs the library's handler before the program's, if the program has one. */
+/* Installs the library's handler in place of the program's, if the program has one. */
 static void replace(size_t at) {
     struct sigaction action;
     bool has_handler = !sigaction(numbers[at], NULL, &action) &&
@@ -73,7 +74,7 @@ static void replace(size_t at) {
     }
 }
 
-/* Restores the program's handler, unless it has set another in the meantime. */
+/* Restores the program's handler, unless the program has installed another one in the meantime. */
 static void put_back(size_t at) {
     struct sigaction action;
     if (!sigaction(numbers[at], NULL, &action) && is_ours(&action)) {
@@ -81,8 +82,8 @@ static void put_back(size_t at) {
     }
 }
 
-/* The first wait installs the handlers, and the last one restores the program's. Signals are blocked meanwhile, because
- * a handler of this thread may write too. */
+/* Counts the waits: the first one installs the library's handlers, and the last one restores the program's. Signals are
+ * blocked during this, because a handler in this thread may itself write. */
 static void count_users(uint32_t change) {
     sigset_t all, before;
     sigfillset(&all);
@@ -103,7 +104,7 @@ static void count_users(uint32_t change) {
     pthread_sigmask(SIG_SETMASK, &before, NULL);
 }
 
-/* A child of fork has no other threads, so nothing waits. */
+/* Resets the state after fork, because the child has no other threads and so no waits. */
 static void forget_waits(void) {
     for (size_t at = 0; users && at < NUMBERS; at++) {
         put_back(at);

@@ -1,6 +1,6 @@
-/* Waiting: poll and epoll of a socket that has its own error, such as an ISO-TP socket. Its bridge reports the error by
- * an empty message, for which the kernel reports POLLIN; a CAN socket must report POLLERR. For select both are the
- * same. Programs without such sockets, and all other sockets, need nothing here. */
+/* Waiting: poll and epoll for sockets that can have an error of their own, such as ISO-TP sockets. The bridge reports
+ * such an error by an empty datagram. For that the kernel reports POLLIN, but a CAN socket must report POLLERR. For
+ * select there is no difference. Programs without such sockets, and all other sockets, are not affected. */
 #define _GNU_SOURCE
 #include "library.h"
 
@@ -17,13 +17,13 @@
 
 #define KNOWN_MOST 4096
 #define WORD 64
-/* A set of descriptors. */
+/* A set of file descriptors. */
 struct noted {
     uint64_t words[KNOWN_MOST / WORD];
     bool has_any;
 };
-/* `known`: descriptors that were such sockets when last used. This is only a hint, since the number may belong to
- * another file now. `queues`: those with an error queue. */
+/* `known`: descriptors that were sockets with an error of their own when they were last used. This is only a hint,
+ * because the number may belong to another file now. `queues`: descriptors of sockets with an error queue. */
 static struct noted known, queues;
 
 static void note(struct noted *noted, int fd) {
@@ -75,7 +75,7 @@ void drop_error(int fd) {
     errno = before;
 }
 
-/* poll and epoll use the same bits. */
+/* poll and epoll use the same bits for these events. */
 uint32_t error_events(int fd, uint32_t events) {
     int waiting = 0, before = errno;
     syscall(SYS_ioctl, fd, FIONREAD, &waiting);
@@ -84,7 +84,7 @@ uint32_t error_events(int fd, uint32_t events) {
     return waiting > 0 ? events : events & ~(uint32_t)(POLLIN | POLLRDNORM);
 }
 
-/* Whether a socket that is reported as ready has an error. */
+/* Returns whether a socket that is reported as ready has an error. */
 static bool shows_error(int fd, uint32_t events) {
     return is_noted(&known, fd) && events & (POLLIN | POLLRDNORM | POLLOUT) && has_error(fd);
 }
@@ -123,7 +123,8 @@ static void mark(struct epoll_event *events, int count, int fd, uint64_t data) {
     }
 }
 
-/* Reads a line of that file, such as `tfd: 5 events: 19 data: 7fff0005 pos:0 ..`; false if it is another line. */
+/* Reads a line of the epoll's file in /proc, such as `tfd: 5 events: 19 data: 7fff0005 pos:0 ..`. Returns false if the
+ * line is of another kind. */
 static bool read_line(const char *line, int *fd, uint64_t *data) {
     unsigned long long number;
     bool is_one = sscanf(line, "tfd: %d events: %*x data: %llx", fd, &number) == 2;
@@ -131,7 +132,7 @@ static bool read_line(const char *line, int *fd, uint64_t *data) {
     return is_one;
 }
 
-/* Corrects the events of this epoll's descriptors that have an error. */
+/* Corrects the events of those sockets in this epoll that have an error. */
 static void mark_all(int epoll, struct epoll_event *events, int count) {
     char text[4096], *line = text, *end;
     size_t have = 0;
@@ -189,7 +190,7 @@ EXPORT int epoll_pwait2(int epoll, struct epoll_event *events, int most, const s
     return epolled(epoll, events, real()->epoll_pwait2(epoll, events, most, timeout, mask));
 }
 
-/* Programs built with _FORTIFY_SOURCE call these. */
+/* Programs that were built with _FORTIFY_SOURCE call these functions. */
 EXPORT int __poll_chk(struct pollfd *fds, nfds_t count, int timeout, size_t room);
 EXPORT int __ppoll_chk(struct pollfd *fds, nfds_t count, const struct timespec *timeout, const sigset_t *mask,
                        size_t room);

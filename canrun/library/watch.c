@@ -1,6 +1,6 @@
-/* poll of a socket that has an error queue, such as a J1939 socket: it reports POLLERR once there is an entry,
- * whichever events are asked for. The bridge writes to a pipe then, and this waits for the pipe as well as for the
- * socket. */
+/* poll for sockets that have an error queue, such as J1939 sockets. Such a socket reports POLLERR as soon as its queue
+ * has an entry, whichever events were asked for. The bridge writes to a pipe when there is an entry, and poll waits for
+ * the pipe as well as for the socket. */
 #define _GNU_SOURCE
 #include "library.h"
 
@@ -9,17 +9,17 @@
 #include <string.h>
 #include <sys/syscall.h>
 
-/* The maximum number of sockets in one poll for which this is done. */
+/* The maximum number of descriptors in one poll for which error queues are watched. */
 #define MOST 256
 
-/* The polled descriptors: the program's, and after them a pipe for each socket with an error queue. */
+/* The polled descriptors: those of the program, followed by one pipe for each socket with an error queue. */
 struct watch {
     struct pollfd all[2 * MOST];
     nfds_t count, with_pipes;
     int of[MOST]; /* the index of the socket that each pipe belongs to */
 };
 
-/* Whether the socket has an error, or an entry in its error queue. */
+/* Returns whether the socket has an error, or an entry in its error queue. */
 static bool is_shown(int fd) {
     struct answer answer = {0};
     int before = errno;
@@ -60,7 +60,7 @@ static short shown_events(const struct pollfd *one) {
     return (short)(events | (is_select ? one->events & POLLPRI : 0));
 }
 
-/* Copies the events back. Returns how many descriptors have events. */
+/* Copies the events back to the program. Returns how many descriptors have events. */
 static int give_events(const struct watch *watch, struct pollfd *fds, const bool *has_error) {
     int ready = 0;
     for (nfds_t i = 0; i < watch->count; i++) {

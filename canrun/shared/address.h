@@ -1,4 +1,4 @@
-/* The address of a server: HOST:PORT, [V6]:PORT, or a Unix path that begins with / or a point. */
+/* The address of a server: HOST:PORT, [V6]:PORT, or the path of a Unix socket, which begins with a slash or a dot. */
 #ifndef ADDRESS_H
 #define ADDRESS_H
 
@@ -8,7 +8,7 @@
 #include <sys/un.h>
 
 #define ADDRESS_DEFAULT "127.0.0.1:29536"
-/* The longest host name that is read, with its terminating 0. */
+/* The size of the longest host name, including its terminating 0. */
 #define ADDRESS_HOST 256
 
 struct address {
@@ -17,11 +17,11 @@ struct address {
     unsigned short port;
 };
 
-/* Reads an address; false if the text is not an address. */
+/* Parses an address. Returns false if the text is not an address. */
 bool address_read(const char *text, struct address *address);
 
-/* Connects to a path, or to a host that is a number or localhost. It looks up no names, so the bridge needs no
- * resolver. Returns a descriptor, or -1 and errno: ENOENT if the host is not a number. */
+/* Connects to a path, or to a host that is a number or localhost. It does not resolve names, so the bridge needs no
+ * resolver. Returns a file descriptor, or -1 with errno set: ENOENT if the host is neither a number nor localhost. */
 int address_connect(const struct address *address);
 
 #endif

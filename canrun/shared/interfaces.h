@@ -6,20 +6,21 @@
 #include <net/if.h>
 #include <stdbool.h>
 
-/* The largest number of interfaces of a server (16 buses of 16), and the size of their names, joined by commas. */
+/* The largest number of interfaces of a server (16 buses with 16 interfaces each), and the size of the comma-separated
+ * list of their names. */
 #define INTERFACE_MOST 256
 #define INTERFACE_NAMES (INTERFACE_MOST * IFNAMSIZ)
-/* The index of the first interface; the others follow in the server's order. The kernel numbers its own interfaces from
- * 1, and canplayer uses 65536 for standard output. */
+/* The index of the first interface; the other interfaces follow in the server's order. The kernel numbers its own
+ * interfaces from 1, and canplayer uses index 65536 for standard output. */
 #define INTERFACE_FIRST 0x100000
 
-/* The names of the interfaces, joined by commas. */
+/* Returns the names of the interfaces, separated by commas. */
 const char *interface_names(void);
 
-/* The index of the interface with this name; 0 if the server has no such interface. */
+/* Returns the index of the interface with this name, or 0 if the server has no such interface. */
 int interface_index(const char *name);
 
-/* Writes the name of the interface with this index. Without such an interface the name is empty, and the result
+/* Writes the name of the interface with this index. If there is no such interface, the name is empty and the result is
  * false. */
 bool interface_name(int index, char name[IFNAMSIZ]);
 

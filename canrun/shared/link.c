@@ -6,14 +6,14 @@
 #include <linux/if_arp.h>
 #include <string.h>
 
-/* Flags that net/if.h lacks, and states of RFC 2863, as in linux/if.h. */
+/* Flags of linux/if.h that net/if.h lacks, and operational states of RFC 2863. */
 #define FLAG_LOWER_UP 0x10000
 #define FLAG_ECHO 0x40000
 #define OPERATES_DOWN 2
 #define OPERATES_UP 6
-/* Each bus carries FD frames. It is not known here whether the bus reports each error (--report). */
+/* Each bus carries FD frames. This file does not know whether the bus reports each bus error (--report). */
 #define MODES CAN_CTRLMODE_FD
-/* The kernel's default for a device with a queue: frames are sent in the order of the writes. */
+/* The kernel's default queueing discipline for a device with a queue: frames are sent in the order of the writes. */
 #define QUEUEING "pfifo_fast"
 
 bool link_has_carrier(const struct link_facts *facts) {
@@ -60,7 +60,7 @@ static void put_rate(struct link_message *message, uint16_t type, uint32_t rate)
     }
 }
 
-/* Lists one bit rate as the only possible rate. */
+/* Adds a list that contains this bit rate as the only possible one. */
 static void put_only_rate(struct link_message *message, uint16_t type, uint32_t rate) {
     if (rate) {
         put_number(message, type, rate);
@@ -79,7 +79,7 @@ static void put_counts(struct link_message *message, const struct link_facts *fa
     }
 }
 
-/* Writes the attributes in the order of the kernel's can_fill_info. The clock's frequency is 0, as for a device with
+/* Writes the attributes in the order of the kernel's can_fill_info. The clock frequency is 0, as for a device with
  * fixed bit rates and no bit timing. */
 static void put_device(struct link_message *message, const struct link_facts *facts) {
     const struct can_ctrlmode modes = {.flags = MODES};
@@ -102,8 +102,7 @@ static void put_device(struct link_message *message, const struct link_facts *fa
     end(message, data);
 }
 
-/* Writes the counts of sent and lost frames. The server counts neither bytes nor the frames that an interface has
- * received. */
+/* Writes the counts of sent and lost frames. The server counts neither bytes nor received frames. */
 static void put_stats(struct link_message *message, const struct link_facts *facts) {
     const struct rtnl_link_stats64 counts = {
         .tx_packets = facts->done, .tx_dropped = facts->lost + facts->refused, .tx_errors = facts->lost};

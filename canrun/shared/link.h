@@ -1,8 +1,9 @@
-/* An interface of the server as a netlink link (NETLINK_ROUTE), and the messages between programs and its keeper.
+/* An interface of the server as a netlink link (NETLINK_ROUTE), and the messages between programs and the server's
+ * keeper.
  *
- * A keeper is a process. The library starts it when a program first asks for an interface by name or index, and it ends
+ * The keeper is a process that the library starts when a program first asks for an interface by name or index. It ends
  * with the server. It has one session for each such interface, so a question needs no new session. It counts the events
- * that the server does not count, and restarts an interface after restart-ms. It listens at a socket whose abstract
+ * that the server does not count, and restarts an interface after restart-ms. It listens on a socket whose abstract
  * name contains the user and the server. It serves only this user, and replies to one request on each connection. */
 #ifndef LINK_H
 #define LINK_H
@@ -14,15 +15,15 @@
 #include <stddef.h>
 #include <stdint.h>
 
-/* Message types above RTM_MAX, which the kernel does not know: it refuses such a message and sends all of it back. So
- * the socket itself carries the data after the message's head: an answer to the program, an event, or the request of a
- * dump with the dump's position. */
+/* Message types above RTM_MAX, which the kernel does not know. The kernel refuses such a message and sends the whole
+ * message back, so the socket itself carries the data that follow the header: an answer to the program, an event, or a
+ * dump request with the position of the dump. */
 enum link_mail { LINK_ANSWER = 0x7CA0, LINK_EVENT, LINK_DUMP };
 
-/* The beginning of the abstract name of a keeper's socket. */
+/* The first part of the abstract name of a keeper's socket. */
 #define LINK_KEEPER "canbusd-links/"
 
-/* The facts of an interface. Without a keeper nothing is known. */
+/* The facts of an interface. Without a keeper no fact is known. */
 struct link_facts {
     bool is_known;
     bool has_counts; /* the keeper has counted all errors until now */
@@ -34,7 +35,7 @@ struct link_facts {
     uint32_t bus_errors, lost_arbitrations, warnings, passives, offs, restarts;
 };
 
-/* The largest number of interfaces in one question. */
+/* The largest number of interfaces in one request. */
 #define LINK_SEVERAL 16
 
 struct link_request {
@@ -63,10 +64,10 @@ struct link_reply {
     struct link_facts facts[LINK_SEVERAL];
 };
 
-/* Whether the interface can be used: it is neither bus off nor down. */
+/* Returns whether the interface can be used: it is neither bus off nor down. */
 bool link_has_carrier(const struct link_facts *facts);
 
-/* The flags of ifi_flags. */
+/* Returns the interface flags for the field ifi_flags. */
 uint32_t link_flags(const struct link_facts *facts);
 
 struct link_message {
@@ -75,7 +76,8 @@ struct link_message {
     char attributes[992];
 };
 
-/* Writes the message of an interface. It leaves out the length of the transmit queue if that is 0. */
+/* Writes the netlink message that describes an interface. If the length of the transmit queue is 0, the message leaves
+ * it out. */
 void link_write(struct link_message *message, int index, const struct link_facts *facts, uint32_t queue);
 
 #endif

@@ -1,4 +1,5 @@
-/* Frames as texts of the server's raw mode. The bridge and the library write them; the bridge also reads them. */
+/* Frames as text messages of the server's raw mode. The bridge and the library write such messages; the bridge also
+ * reads them. */
 #ifndef MESSAGES_H
 #define MESSAGES_H
 
@@ -19,16 +20,16 @@ struct item {
     uint32_t message_flags; /* the flags that recvmsg returns: MSG_DONTROUTE, MSG_CONFIRM */
 };
 
-/* The longest command for a frame. */
+/* The size of the longest command that sends a frame. */
 #define COMMAND 320
 
-/* Writes the command that sends a frame. */
+/* Writes the text of the command that sends a frame. */
 void message_of_frame(char text[COMMAND], const struct canfd_frame *frame, bool is_fd);
 
-/* Reads a message that contains a frame, without < and >; false if the message contains no frame. */
+/* Parses a message of the server, without its < and >, into an item. Returns false if the message contains no frame. */
 bool message_to_item(const char *text, struct item *item);
 
-/* Reads decimal digits and moves past them; false if there are no digits. */
+/* Reads a decimal number and moves `at` past its digits. Returns false if there are no digits. */
 bool message_number(const char **at, uint64_t *number);
 
 #endif

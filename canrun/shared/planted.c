@@ -1,4 +1,4 @@
-/* A fault that a sweep plants at the sockets of an interface: see planted.h. */
+/* A fault that a sweep injects at the sockets of an interface: see planted.h. */
 #define _GNU_SOURCE
 #include "planted.h"
 #include "interfaces.h"

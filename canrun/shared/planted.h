@@ -1,9 +1,9 @@
-/* A fault that a sweep plants at the sockets of an interface:
+/* A fault that a sweep injects at the sockets of an interface:
  *
  *     CANBUSD_RUN_FAULT="KIND NAME IDENTIFIER MOMENT"
  *
- * NAME is the interface, IDENTIFIER 3 or 8 hexadecimal digits, MOMENT seconds with six digits after the point. KIND
- * selects the fault. The bridge loses or delays received frames; the library refuses written frames. */
+ * NAME is the interface, IDENTIFIER has 3 or 8 hexadecimal digits, and MOMENT is a timestamp in seconds with six digits
+ * after the point. KIND selects the fault. The bridge loses or delays received frames; the library refuses writes. */
 #ifndef CANBUSD_PLANTED_H
 #define CANBUSD_PLANTED_H
 
@@ -17,10 +17,10 @@ enum planted_kind {
     PLANTED_NONE,
     PLANTED_MISSED, /* the frame with this timestamp is lost, as in an overrun */
     PLANTED_LATE,   /* the frame arrives PLANTED_DELAY later */
-    PLANTED_FULL    /* the first write of such a frame at or after this timestamp finds no room */
+    PLANTED_FULL    /* the first write of such a frame at or after this timestamp fails, because there is no room */
 };
 
-/* The delay in milliseconds. */
+/* The delay of a PLANTED_LATE frame in milliseconds. */
 #define PLANTED_DELAY 10
 
 struct planted {
@@ -30,10 +30,10 @@ struct planted {
     uint64_t moment; /* nanoseconds since 1970 */
 };
 
-/* Reads the setting; without it the kind is PLANTED_NONE. */
+/* Reads the fault from the environment. If there is none, its kind is PLANTED_NONE. */
 struct planted planted_read(void);
 
-/* Whether the fault is for a frame with this identifier at this interface. */
+/* Returns whether the fault applies to frames with this identifier at this interface. */
 bool planted_is_of(const struct planted *planted, int index, canid_t identifier);
 
 #endif

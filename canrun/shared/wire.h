@@ -1,16 +1,17 @@
-/* The messages between the preloaded library and a bridge, over the SOCK_SEQPACKET pair that is a CAN socket.
+/* The messages between the preloaded library and a bridge. They use the SOCK_SEQPACKET pair that stands in for a CAN
+ * socket.
  *
- * The program's end of the pair has an abstract name: WIRE_NAME and a digit, the protocol's number in linux/can.h. The
- * library recognizes a CAN socket by this name.
+ * The program's end of the pair has an abstract name: WIRE_NAME and a digit, the number of the protocol in linux/can.h.
+ * The library recognizes a CAN socket by this name.
  *
- * Library to bridge: a request and its data, with the write end of a pipe (SCM_RIGHTS) that takes the one reply. A
- * message without a pipe is a quick write, whose reply comes in memory that library and bridge share. Otherwise it is a
- * frame that the program wrote without the library, and gets no reply.
+ * Library to bridge: a request and its data, with the write end of a pipe (SCM_RIGHTS) for the one reply. There are two
+ * kinds of messages without a pipe. A quick write gets its reply in memory that the library and the bridge share. Any
+ * other message is a frame that the program wrote without the library, and gets no reply.
  *
- * Bridge to library: each datagram is a frame of CAN_RAW, or a message of another protocol, and nothing else. So any
- * read gets the bytes of the kernel's own CAN socket, even a read that does not go through the library. All other facts
- * about the datagram are in a note, in the memory that library and bridge share. An empty datagram reports that the
- * socket has an error, which WIRE_ERROR takes. */
+ * Bridge to library: each datagram is exactly one CAN_RAW frame, or one message of another protocol. So every read
+ * returns the same bytes as the kernel's own CAN socket, even a read that bypasses the library. All other facts about
+ * the datagram are in a note in the shared memory. An empty datagram reports an error of the socket, which WIRE_ERROR
+ * then takes. */
 #ifndef WIRE_H
 #define WIRE_H
 
@@ -18,48 +19,48 @@
 #include <stdint.h>
 
 #define WIRE_NAME "canbusd-can/"
-/* The size of a name, with its terminating 0. */
+/* The size of a socket's name, including its terminating 0. */
 #define WIRE_NAME_ROOM 64
 
-/* The longest message in either direction: an ISO-TP message. */
+/* The size of the longest message in either direction, an ISO-TP message. */
 #define WIRE_LARGEST 66000
-/* The maximum size of a reply's data: 512 filters. */
+/* The maximum size of the data in a reply: 512 filters. */
 #define WIRE_REPLY 4096
 
 enum wire_kind {
     WIRE_SEND,    /* sends the frame or message that follows; `ifindex` is the interface of sendto, or WIRE_BOUND; the
                      reply's value is the result of the write */
     WIRE_BIND,    /* binds to the address that follows, a struct sockaddr_can */
-    WIRE_CONNECT, /* connects to such an address */
+    WIRE_CONNECT, /* connects to the address that follows, a struct sockaddr_can */
     WIRE_SET,     /* sets an `option` of the protocol's level; the value follows */
-    WIRE_GET,     /* gets such an option; the value is the reply's data */
+    WIRE_GET,     /* gets such an option; the reply's data are its value */
     WIRE_SOCKET_SET, /* reports an `option` of SOL_SOCKET that the kernel has set */
     WIRE_SOCKET_GET, /* gets an `option` of SOL_SOCKET that only the bridge knows; the reply's value is the option's
                         value */
     WIRE_SET_DEVICE, /* SO_BINDTODEVICE, which the kernel does not store; `ifindex` is the index */
-    WIRE_GET_DEVICE, /* gets this index; it is the reply's value */
+    WIRE_GET_DEVICE, /* gets the index of the SO_BINDTODEVICE interface, which is the reply's value */
     WIRE_ADDRESS,    /* the reply's data are the socket's address; with an `option`, its peer's address */
     WIRE_ERROR,      /* takes the socket's error, which is the reply's value; 0 if another call has taken the error */
-    WIRE_CLOSE,  /* comes with an end of a pair in place of the pipe: a byte there says that the program has closed the
-                    socket. The bridge then waits until its message has been sent, another byte comes or the other end is
-                    closed */
+    WIRE_CLOSE,  /* comes with one end of a socket pair in place of the pipe. A byte on the pair says that the program
+                    has closed the socket. The bridge then waits until the socket's message has been sent, another byte
+                    comes or the other end is closed */
     WIRE_NOTICE, /* takes the first entry of the error queue, which is the reply's data; the value is an enum
                     wire_noticed */
     WIRE_WATCH,  /* the value is whether the socket has an error, or an entry in its error queue; with a `number` the
                     reply comes only when there is such an error or entry */
     WIRE_EMPTY, /* takes the first message without data, which is the reply's data; the value is whether there is such a
                    message */
-    WIRE_FILL,  /* does nothing; its bytes fill the socket while it has no room for writes */
+    WIRE_FILL,  /* does nothing; its bytes only fill the socket while there is no room for writes */
     WIRE_HOST, /* connects to the host of the interface `ifindex`; if the host must be started, the reply's data are its
                   abstract name */
     WIRE_CANCEL, /* a signal ends the wait of a request: this message comes with the read end of that request's pipe.
                     The waiting request gets the reply */
-    WIRE_SHARE,  /* comes with an end of a pair in place of the pipe; the bridge sends the memory of quick writes there
+    WIRE_SHARE,  /* comes with one end of a socket pair in place of the pipe; the bridge sends the shared memory there
                     (SCM_RIGHTS) */
 };
 #define WIRE_BOUND (-1)
 
-/* How long a write may wait. WIRE_SHORT_WAIT is for a thread in which no signal ends a wait. */
+/* How long a write may wait. WIRE_SHORT_WAIT is for a thread that blocks the signals that would end a longer wait. */
 enum wire_wait { WIRE_WAIT, WIRE_NO_WAIT, WIRE_SHORT_WAIT };
 
 struct wire_request {
@@ -76,14 +77,14 @@ struct wire_reply {
     uint32_t length; /* the length of the data that follow, at most WIRE_REPLY */
 };
 
-/* A quick write; the frame follows it. No other message begins with the key. */
+/* The header of a quick write; the frame follows it. No other message begins with the key. */
 struct wire_quick {
     uint64_t key;
     int32_t ifindex;
     uint32_t place; /* the index of the place for the reply */
 };
 
-/* The place for the reply of one quick write; `state`, an enum wire_state, is a futex. */
+/* The place in shared memory for the reply to one quick write. `state` is an enum wire_state and a futex. */
 struct wire_place {
     uint32_t state;
     struct wire_reply reply; /* without data; the error may be WIRE_NO_ROOM */
@@ -95,25 +96,26 @@ enum wire_state {
     PLACE_TAKEN, /* the bridge has taken the lent session back, and reads the reply */
     PLACE_REPLIED
 };
-/* There is no room, and the write is to wait: the library asks again with a pipe. */
+/* The error of a quick write that found no room but may wait: the library then sends the write again with a pipe. */
 #define WIRE_NO_ROOM (-1)
 
-/* In virtual time: a loan of a session in which the server sends only replies. While the bridge waits it lends the
- * session to the socket's programs, which have a copy of the session's descriptor. One program at a time sends a frame
- * there and reads the reply. Only the thread that has the turn may change this struct. */
+/* The loan of a session in virtual time. In a lent session the server sends only replies. While the bridge waits, it
+ * lends the session to the programs of the socket, which have a copy of the session's file descriptor. One program at a
+ * time sends a frame in the session and reads the reply. Only the thread that has the turn may change this struct. */
 #define WIRE_NUMBERS 1024
 struct wire_loan {
     uint32_t session; /* the number of the lent session; 0: the bridge lends no session */
     uint32_t shared;  /* the number of the session whose descriptor was sent with the memory; 0: no session */
     uint32_t asked;   /* 1 + the place of the write that waits for its reply; 0: no write */
     uint32_t left;    /* 1 + the place of a write that leaves its reply's text there for the bridge; 0: no write */
-    uint32_t count;   /* how many of the numbers the bridge has not noted yet */
+    uint32_t count;   /* how many of the `numbers` the bridge has not noted yet */
     uint64_t numbers[WIRE_NUMBERS]; /* numbers that the server gave to frames */
 };
-/* Takes the place of an index: this is not a write, but asks the bridge to look at `left`. */
+/* A value for `ifindex` in a struct wire_quick. It marks a message that is not a write but asks the bridge to look at
+ * `left`. */
 #define WIRE_LEFT INT32_MIN
 
-/* A note: all facts about a datagram besides its bytes. */
+/* A note: everything about a received datagram except its bytes. */
 struct wire_note {
     uint64_t from;        /* the total length of all earlier datagrams of this socket */
     uint64_t nanoseconds; /* the server's timestamp, since 1970 */
@@ -125,8 +127,8 @@ struct wire_note {
     uint32_t length;
     uint8_t head[20]; /* the first bytes of the datagram */
 };
-/* Source and destination of a J1939 message. An entry of the error queue also says what happened, and to which
- * message. */
+/* The source and destination of a J1939 message. For an entry of the error queue, struct wire_notice adds the event and
+ * the message that it concerns. */
 struct wire_way {
     uint64_t name, to_name;
     uint32_t pgn;
@@ -141,27 +143,27 @@ struct wire_notice {
 };
 enum wire_noticed { NOTICE_IS_THERE = 1, NOTICE_KEEPS = 2 /* an empty datagram stays: it is a message without data */ };
 enum wire_event { EVENT_SENT, EVENT_BEGUN, EVENT_FAILED, EVENT_OFFERED, EVENT_BLOCK, EVENT_BROKEN };
-/* The longest J1939 message that a socket receives; a datagram has room for it. */
+/* The longest J1939 message that a socket receives. A datagram has room for it. */
 #define WIRE_LARGEST_J1939 200000
 
-/* A J1939 write begins with this: the length of the whole message and its destination. All or the first of the
- * message's bytes follow. */
+/* The header of a J1939 write: the length of the whole message and its destination. All bytes of the message follow, or
+ * the first part of them. */
 struct wire_j1939 {
     uint32_t size, has_address, address_length;
     struct sockaddr_can address;
 };
-/* A flag in the reply's value of a J1939 write: the socket has no more room. */
+/* A flag in the `value` of the reply to a J1939 write: the socket has no more room. */
 #define WIRE_FULL (1 << 30)
-/* The least length of a J1939 address. */
+/* The minimum length of a J1939 address. */
 #define J1939_ADDRESS 24
 
-/* More notes than a socket has room for datagrams: the bridge fills a socket with at most WIRE_ROOM bytes, and the
- * kernel counts more than 512 bytes for each datagram. */
+/* The number of notes. It exceeds the number of datagrams that fit into a socket: the bridge fills a socket with at
+ * most WIRE_ROOM bytes, and the kernel counts more than 512 bytes for each datagram. */
 #define WIRE_NOTES 8192
 #define WIRE_ROOM (WIRE_NOTES / 4 * 512)
 
-/* The notes of the last datagrams. The number of bytes left in the socket shows which note belongs to a datagram. So
- * other readers of the socket cause no confusion. */
+/* The notes of the most recent datagrams. The number of unread bytes in the socket shows which note belongs to a
+ * datagram, so other readers of the socket cause no confusion. */
 struct wire_notes {
     uint64_t put;      /* total length of all datagrams that the bridge has put into the socket */
     uint64_t meant;    /* total length of these datagrams and of those that the bridge is putting there now */
@@ -178,8 +180,8 @@ struct wire_empty {
     struct wire_way way;
 };
 
-/* The memory that library and bridge share; each socket has its own. The library makes it, and the bridge has it at
- * descriptor WIRE_MEMORY. */
+/* The memory that the library and the bridge share; each socket has its own. The library creates the memory, and the
+ * bridge has it open at file descriptor WIRE_MEMORY. */
 #define WIRE_PROGRAM 3
 #define WIRE_MEMORY 4
 #define WIRE_PLACES 15
