@@ -344,7 +344,7 @@ class Items:
         #: For an error message frame its place among the texts; 0 if the item is the frame of the step.
         self.errors = array("I")
         self._all_sockets = sockets
-        # The begin and the end of each range of dropped items. Ranges are stored because a million items may be
+        # The start and the end of each range of dropped items. Ranges are stored because a million items may be
         # dropped.
         self._dropped = array("I")
 
