@@ -266,7 +266,7 @@ def decoded_of(texts: Iterable[str], database: Optional[Database]) -> Json:
 
 
 def meanings_of(run: Replay) -> dict[int, str]:
-    """Returns the meanings of error message frames, and of items that no line names, by their places among the
+    """Returns the meanings of error message frames, and of items whose frame is unknown, by their places among the
     texts."""
     unknown, texts = {UNKNOWN: "a frame or an error message frame"}, run.texts.all
     return {place: unknown.get(texts[place]) or meaning(texts[place]) for place in sorted({0, *run.items.errors})[1:]}

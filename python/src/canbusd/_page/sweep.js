@@ -91,7 +91,7 @@ function drawGroups(tests) {
     }
 }
 
-// ---- the matrix ----
+// ---- the matrix of attempts and faults ----
 
 function filters() {
     return {

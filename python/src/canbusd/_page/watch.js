@@ -1,4 +1,4 @@
-// The live page. It shows the ticks and frames that `canbusd watch` sends on the same time line as the page of a run.
+// The live page. On the same time line as the page of a run, it shows the ticks and frames that `canbusd watch` sends.
 
 const { names, source, isDecoded, isTimed, messages = [] } = JSON.parse(at("run").textContent);
 const MOST = 4000, MOST_TICKS = 2400, FOLLOWED = 60;

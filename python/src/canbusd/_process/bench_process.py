@@ -39,7 +39,7 @@ class BenchProcess(HasProgram):
         return self._child.stdin is None
 
     def write(self, data: bytes) -> None:
-        """Gives it lines."""
+        """Sends lines to the bench."""
         assert self._child.stdin is not None
         try:
             self._child.stdin.write(data)

@@ -39,7 +39,7 @@ class Lines(Protocol):
         """The messages of the bench about the error with which it ended."""
 
     def write(self, data: bytes) -> None:
-        """Gives it lines."""
+        """Sends lines to the bench."""
 
     def read_line(self) -> str:
         """Returns the next line that the bench writes, without its LF."""

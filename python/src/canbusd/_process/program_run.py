@@ -141,8 +141,8 @@ def remove(folder: Path, process: int) -> None:
         try:
             shutil.rmtree(folder, ignore_errors=True)
         except (KeyboardInterrupt, OSError):
-            # A Ctrl-C may cause a file descriptor to be closed twice, and then an OSError hides it. Other errors are
-            # ignored by rmtree.
+            # A Ctrl-C in rmtree may appear as an OSError, because a file descriptor is then closed twice. rmtree
+            # ignores all other errors.
             try:
                 shutil.rmtree(folder, ignore_errors=True)
             finally:

@@ -40,7 +40,7 @@ class Node(NamesWhatThereIs):
 
     A node is off the bus after `power_off` or `sleep`, and in an `unplugged` block. Then it sends, accepts and
     acknowledges nothing. The messages that a rest bus sends from its interface stop. When the node returns, they start
-    as at the beginning.
+    again from the beginning.
     """
 
     _INSTEAD = {

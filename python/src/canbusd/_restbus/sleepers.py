@@ -86,8 +86,8 @@ class LiveSleepers(Sleepers):
     that wake it. All interfaces are needed, because any of them may be down."""
 
     def __init__(self, address: str, buses: Sequence[Sequence[str]]) -> None:
-        # These sessions are separate from the server's own sessions, because another thread may be waiting for frames
-        # of those.
+        # These sessions are separate from the server's own sessions, because another thread may be waiting for the
+        # frames of the server's own sessions.
         super().__init__(threading.RLock(), lambda name: self._watches[name].up())
         self._address, self._buses = address, buses
         self._watches: dict[str, Watch] = {}

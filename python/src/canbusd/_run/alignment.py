@@ -58,7 +58,7 @@ def rows_of(attempts: Sequence[Attempt]) -> dict[tuple[str, str], list[Sent]]:
 
 
 def aligned(one: Sequence[str], other: Sequence[str]) -> list[tuple[Place, Place]]:
-    """Returns pairs of places in the two rows. None in a pair means that this row lacks the frame."""
+    """Returns pairs of places in the two rows. None means that a row lacks the frame."""
     most = min(len(one), len(other))
     begin = next((k for k in range(most) if one[k] != other[k]), most)
     end = next((k for k in range(most - begin) if one[-1 - k] != other[-1 - k]), most - begin)

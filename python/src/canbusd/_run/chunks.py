@@ -111,8 +111,8 @@ class Reader:
         # The interface of each socket that was opened so far.
         self._sockets: list[int] = []
         self._outcomes = Outcomes(self._sockets)
-        # One number holds the counts of waiting frames of all interfaces. This is the increment for one frame at each
-        # interface.
+        # One number combines the counts of waiting frames at all interfaces. This list has the increment for one frame
+        # at each interface.
         self._units = [1 << WAITING_BITS * iface for iface in range(bus.ifaces)]
         self._waiting = Waiting(bus.ifaces)
 

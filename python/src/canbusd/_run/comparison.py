@@ -187,7 +187,8 @@ class Comparison:
         return f"No difference in {times(len(self.one), 'attempt')}"
 
     def lines(self) -> list[str]:
-        """Returns the heading and the differences as lines: `-` only the first run, `+` only the second, `!` both."""
+        """Returns the heading and the differences as lines. A line starts with `-` if only the first run has the frame,
+        `+` if only the second run has it, and `!` if both have it."""
         more = len(self.differences) - MOST_LISTED
         lines = [one.line() for one in self.differences[:MOST_LISTED]]
         return [self.heading(), *lines, *([f"and {times(more, 'difference')} more"] if more > 0 else [])]

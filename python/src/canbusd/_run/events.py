@@ -1,5 +1,5 @@
-"""Yields the lines that `canbusd audit --events` prints for a record (docs/RECORD.md), or raises the reason why the
-program refuses the record."""
+"""Reads the lines that `canbusd audit --events` prints for a record (docs/RECORD.md). If the program refuses the
+record, raises BadRecord with the reason."""
 
 import contextlib
 import fcntl

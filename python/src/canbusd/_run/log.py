@@ -56,8 +56,8 @@ def message_of(line: str, path: Path, number: int) -> "Message":
 
 
 def log_beside(path: Path) -> Optional[str]:
-    """Returns the log that `canbusd serve` writes next to this record, or None: can0.log for can0.rec and
-    can0.rec.new."""
+    """Returns the path of the log that `canbusd serve` writes next to this record, or None if there is no log. For
+    can0.rec and can0.rec.new this is can0.log."""
     record = os.fspath(path).removesuffix(".new").removesuffix(".cut")
     folder, name = os.path.split(record)
     # For the bus `...` the record is `....rec`, in which os.path.splitext finds no ending.

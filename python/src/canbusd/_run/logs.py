@@ -118,7 +118,8 @@ def python_can_messages(path: Path) -> "Iterator[Any]":
 
 
 def name_of(channel: object, names: Sequence[str]) -> str:
-    """Returns the name of an interface if the log has a channel number or no channel."""
+    """Returns a channel's name. If the channel is a number or missing, returns the name of the interface that it stands
+    for."""
     text = str(channel)
     if channel is not None and not NUMBER.fullmatch(text):
         return text

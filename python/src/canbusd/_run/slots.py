@@ -22,7 +22,7 @@ class Slot(NamedTuple):
 
     #: The number of the attempt's step in the replay.
     step: int
-    #: The time of the start of frame.
+    #: The time at which the frame starts.
     begin: int
     #: The time when the next attempt may begin.
     over: int

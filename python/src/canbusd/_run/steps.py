@@ -21,8 +21,8 @@ if TYPE_CHECKING:
 #: `idle` occurs only on pages.
 KINDS = (*OUTCOMES, "restart", "down", "idle")
 DONE, LASTBIT, DESTROYED, NOACK, RESTART, DOWN, IDLE = range(7)
-#: The outcomes of items, in the order of their numbers. `waiting` applies to the end of the run, `unread` to the close
-#: of the socket.
+#: The outcomes of items, in the order of their numbers. A `waiting` item was still in its queue at the end of the run,
+#: and an `unread` item was in the queue when its socket was closed.
 FATES = ("taken", "waiting", "unread", "dropped")
 TAKEN, WAITING, UNREAD, DROPPED = range(4)
 
@@ -154,9 +154,9 @@ class Steps(Sequence[Step]):
         self.lost: dict[int, list[tuple[int, str]]] = {}
         #: The set of interfaces that are down after each step.
         self.down = array("H")
-        #: Times in nanoseconds: how long the frame takes on the wire, and how long until the next attempt may begin.
-        #: The next line has the bits of the frame at the nominal bit rate and at the data bit rate. All are 0 if the
-        #: line of the event lacks them.
+        #: `frame_nanos` is how long the frame takes on the wire, and `busy_nanos` is the time until the next attempt
+        #: may begin, both in nanoseconds. `nominal_bits` and `fast_bits` are the numbers of the frame's bits at the
+        #: nominal bit rate and the data bit rate. All are 0 if the line of the event lacks them.
         self.frame_nanos, self.busy_nanos = array("I"), array("I")
         self.nominal_bits, self.fast_bits = array("H"), array("H")
         #: The number of attempts.
@@ -336,7 +336,7 @@ class Steps(Sequence[Step]):
 
 
 class Items:
-    """The items that interfaces handed to sockets, in order, in columns."""
+    """The items that sockets received from their interfaces, in order, as columns."""
 
     def __init__(self, sockets: Sequence[Socket]) -> None:
         #: The number of the socket of each item, and the step in which the socket got the item.

@@ -177,7 +177,7 @@ def second_copies(run: Replay, names: Sequence[str]) -> Iterator[Event]:
     """Yields the attempts in which a receiver accepted a frame a second time, after a fault in the last bit."""
     steps = run.steps
     kinds, number = steps.kinds.tobytes(), -1
-    # For each interface, the last frame that has to be sent again, and the number of copies that each receiver has.
+    # For each interface, the last frame that has to be sent again, and how many copies of the frame each receiver has.
     had: dict[int, tuple[int, Counter[int]]] = {}
     # As long as no frame has to be sent again, the loop skips to the next fault, because there may be a million
     # attempts.

@@ -34,7 +34,7 @@ def interfaces(record: Record) -> list[Row]:
 
 
 def story(record: Record, most: int = MOST_EVENTS) -> list[str]:
-    """Returns a line about the whole run, and its last events."""
+    """Returns a line that summarises the run, and the last events of the run."""
     replay, names = record.replay, record.names
     events = events_of(replay, names)
     lines = [heading_of(replay, names, events)[0]]

@@ -33,8 +33,8 @@ CLOSE_TIMEOUT = 1.0
 # The shortest and the longest pause in seconds between two checks of a state that the server does not announce, such as
 # a full transmit queue.
 POLL, LONGEST_POLL = 0.0002, 0.01
-# A waiting thread checks at least this often, in seconds, for input that another thread has read, because that thread
-# may have been interrupted.
+# The maximum time in seconds for which a waiting thread sleeps. Then it checks for input that another thread has read,
+# because that thread may have been interrupted.
 LONGEST_NAP = 1.0
 # How many seconds another thread gets for its turn to read.
 A_TURN = 0.001

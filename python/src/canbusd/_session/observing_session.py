@@ -20,7 +20,7 @@ from canbusd.virtual import is_virtual
 NAP = 0.1 if is_virtual() else 0.02
 # If a read returns at least this many frames, there may be more.
 MANY = 256
-# A waiting thread checks at least this often, in seconds, for input that another thread has read.
+# The maximum time in seconds for which a waiting thread sleeps before it checks for input that another thread has read.
 LONGEST_NAP = 0.05
 
 

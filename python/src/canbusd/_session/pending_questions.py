@@ -8,8 +8,8 @@ from canbusd.frames import HANDED_OVER, MESSAGE
 
 # How an answer ends: with an echo, or with the verdict on a frame, which is a single message.
 ECHO, VERDICT = "e", "v"
-# The beginning of the verdict that accepts a frame, and the maximum length of this verdict. It contains the frame's
-# number, which has at most ten digits because a bus has fewer than 2**32 entries.
+# The beginning of the verdict that accepts a frame, and the maximum length of such a verdict. The frame's number in the
+# verdict has at most ten digits, because a bus has fewer than 2**32 entries.
 ACK, LONGEST_ACK = "ack ", len("ack ") + 10
 # How many numbers a page has, and how many pages are kept. A frame that is older than all pages would arrive 16 million
 # numbers late.

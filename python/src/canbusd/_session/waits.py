@@ -6,9 +6,9 @@ import time
 from collections.abc import Sequence
 from typing import Optional
 
-# The system's calls accept timeouts of at least this many seconds.
+# The maximum timeout in seconds for a system call. All of these calls have higher limits.
 LONGEST_WAIT = 3600.0
-# File descriptors must be below this number for select, like FD_SETSIZE.
+# select accepts only file descriptors below this number (FD_SETSIZE).
 MOST_SELECTED = 1024
 
 

@@ -28,7 +28,7 @@ class ItemTask:
 
     @property
     def name(self) -> str:
-        """Its node ID."""
+        """The node ID of the test."""
         return self.item.nodeid
 
     @property

@@ -57,7 +57,7 @@ class Telling:
         self._reports: list[Report] = []
 
     def begin(self, count: int) -> None:
-        """Says that the sweep begins."""
+        """Writes that the sweep begins."""
         self._terminal.ensure_newline()
         self._terminal.write_line(f"canbusd sweep: {count} test{'' if count == 1 else 's'} without a fault first")
 

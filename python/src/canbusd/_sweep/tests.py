@@ -30,5 +30,5 @@ class Test:
 
     @property
     def name(self) -> str:
-        """Its name."""
+        """The name of the test or command."""
         return self.task.name

@@ -92,7 +92,7 @@ class Task(Protocol):
 
     @property
     def name(self) -> str:
-        """Its name."""
+        """The name of the task."""
 
     @property
     def is_virtual(self) -> bool:
