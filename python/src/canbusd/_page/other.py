@@ -55,8 +55,8 @@ def spans_of(run: Replay, rates: Optional[Rates]) -> list[tuple[int, int]]:
 
 
 def away_of(run: Replay, spans: list[tuple[int, int]], start: int) -> list[list[float]]:
-    """Returns the outages. Each has the interface, its state, and the attempt and the time in seconds of its begin and
-    its end."""
+    """Returns the outages. Each has the interface, its state, and the attempt and the time in seconds at its start and
+    at its end."""
     steps, attempt = run.steps, 0
     found: list[list[float]] = []
     since: dict[int, tuple[int, int, float]] = {}

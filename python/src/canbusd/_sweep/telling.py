@@ -48,7 +48,7 @@ class Telling:
     """Writes the progress of a sweep and its results."""
 
     def __init__(self, terminal: Terminal, page: str, report: Callable[[Report], None]) -> None:
-        """Stores where to write. `page` is the path of the page, or the empty text if there is none. `report` is called
+        """Prepares the output. `page` is the path of the page, or the empty text if there is none. `report` is called
         with each failure and each success."""
         self._terminal, self._page, self._report = terminal, page, report
         self._began = self._last = time.monotonic()
