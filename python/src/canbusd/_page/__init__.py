@@ -1,1 +1,1 @@
-"""The page of a run and what the live page shares with it: what goes into them, and their scripts and styles."""
+"""The page of a run and the live page: their data, scripts and styles."""

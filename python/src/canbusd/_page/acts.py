@@ -1,6 +1,7 @@
-"""The acts of the live page: it sends frames, gives and ends rules of faults, and takes interfaces down and up.
+"""The actions of the live page: it sends frames, adds and ends fault rules, and takes interfaces down and up.
 
-Each act returns the line of Python that does the same. A cyclic frame is sent only while the page that asked for it is open.
+Each action returns the line of Python that does the same. A cyclic frame is sent only while the page that requested it
+is open.
 """
 
 import contextlib
@@ -22,27 +23,27 @@ from canbusd.frames import Frame, command_of
 from canbusd.rules import parse_rule
 from canbusd.signals import Database
 
-#: The most cyclic frames at once, and the shortest and the longest period, in seconds.
+#: The maximum number of cyclic frames at a time, and the shortest and the longest period in seconds.
 MOST_CYCLES, LEAST_PERIOD, MOST_PERIOD = 64, 0.001, 3600.0
-# A number of a signal that is also a number in Python.
+# Matches the value of a signal that is also a valid number in Python.
 NUMBER = re.compile(r"-?(?:0|[1-9][0-9]*)(?:\.[0-9]+)?")
 
 Json = dict[str, Any]
 
 
 class Cycle:
-    """A frame that is sent again and again until it is stopped."""
+    """A frame that is sent periodically until it is stopped."""
 
     def __init__(self, bus: CanbusdBus, frame: Frame, period: float, text: str) -> None:
         self.bus, self.period, self.text = bus, period, text
-        #: Why the last one was refused; the empty text if it was not.
+        #: The reason why the last send was refused, or the empty text if it succeeded.
         self.fault = ""
         self._frame, self._has_ended = frame, threading.Event()
         self._thread = threading.Thread(target=self._run, name="canbusd cycle", daemon=True)
         self._thread.start()
 
     def stop(self) -> None:
-        """Ends it. After this returns, nothing more is sent."""
+        """Stops sending. After this call returns, the frame is not sent again."""
         self._has_ended.set()
         self._thread.join()
 
@@ -54,22 +55,22 @@ class Cycle:
                 self.fault = ""
             except CanError as fault:
                 self.fault = words_of(fault)
-            # Frames that are late are skipped.
+            # After a delay the missed frames are skipped.
             due = max(due + self.period, time.monotonic())
 
 
 class Acts:
-    """The acts that pages may ask for, on these interfaces of the server at this address."""
+    """The actions that pages may request, for these interfaces of the server at this address."""
 
     def __init__(self, names: Sequence[str], address: Optional[str], database: Optional[Database] = None) -> None:
         self._names, self._address, self._database = names, address, database
         self._lock = threading.Lock()
-        # A session for each interface that was asked for something.
+        # A session for each interface that some action has used.
         self._buses: dict[str, CanbusdBus] = {}
-        # The cyclic frames of each page that is open, by their numbers.
+        # The cyclic frames of each open page, by their numbers.
         self._cycles: dict[str, dict[int, Cycle]] = {}
         self._number = 0
-        #: The acts, by the names by which pages ask for them.
+        #: The actions, by the names that pages use to request them.
         self.by_name: dict[str, Callable[[Json], str]] = {
             "send": self._send,
             "cycle": self._cycle,
@@ -82,7 +83,8 @@ class Acts:
         }
 
     def do(self, name: str, asked: Json) -> Json:
-        """Does this act, and returns the line of Python that does the same, or why it was refused."""
+        """Carries out this action. Returns the line of Python that does the same, or the reason why the action was
+        refused."""
         try:
             return {"python": self.by_name[name](asked)}
         except (CanError, ValueError) as fault:
@@ -90,7 +92,8 @@ class Acts:
 
     @contextlib.contextmanager
     def page(self) -> Iterator[Callable[[], Json]]:
-        """An open page. It yields a call that returns the page's news; the cyclic frames of the page end with it."""
+        """Registers an open page, and yields a function that returns the page's news. On exit the cyclic frames of the
+        page are stopped."""
         page = secrets.token_urlsafe(8)
         with self._lock:
             self._cycles[page] = {}
@@ -103,13 +106,15 @@ class Acts:
                 cycle.stop()
 
     def _shown(self, page: str) -> list[list[Any]]:
-        """The cyclic frames of a page: number, interface, frame, period in seconds and refusal of each."""
+        """Returns the number, interface, frame, period in seconds and reason of refusal of each cyclic frame of a
+        page."""
         with self._lock:
             cycles = list(self._cycles[page].items())
         return [[number, one.bus.channel, one.text, one.period, one.fault] for number, one in cycles]
 
     def messages(self) -> list[list[Any]]:
-        """The messages of the files: name, cycle time in seconds, and of each signal name, unit, start and names of values."""
+        """Returns the messages of the files: the name, the cycle time in seconds, and the signals. Each signal has a
+        name, a unit, a start value and the names of its values."""
         found = self._database.messages if self._database is not None else []
         return [
             [one.name, one.cycle_time, [[of.name, of.unit, of.start, [*of.choices.values()]] for of in one.signals]]
@@ -146,7 +151,7 @@ class Acts:
 
     def _rule(self, asked: Json) -> str:
         rule, bus = parse_rule(text_of(asked, "rule").strip()), self._bus(asked)
-        # With a line feed it is a text, and no path.
+        # The line feed marks this argument as the text of a script and not as a path.
         bus.inject(f"{rule}\n")
         return f"server.inject({quoted(str(rule))}, {quoted(bus.channel)})"
 
@@ -171,7 +176,7 @@ class Acts:
         return on_bus("bus.restart()", bus)
 
     def _bus(self, asked: Json) -> CanbusdBus:
-        """The session on the interface that is asked for."""
+        """Returns the session on the requested interface."""
         name = text_of(asked, "node")
         if name not in self._names:
             raise ValueError(f"node is one of {', '.join(self._names)}, not {name!r}")
@@ -181,10 +186,11 @@ class Acts:
             return self._buses[name]
 
     def _frame(self, asked: Json) -> tuple[Frame, str]:
-        """The frame that is asked for, by its text or by the values of signals, and the words of Python for it."""
+        """Returns the requested frame, which is given as text or by the values of signals, and the Python expression
+        for it."""
         if "message" not in asked:
             frame = Frame.parse(text_of(asked, "frame"))
-            # It says so where nobody can send it.
+            # This call raises an error if no interface can send the frame.
             command_of(frame)
             return frame, message_words(frame)
         name, values = text_of(asked, "message"), asked.get("signals")
@@ -197,7 +203,7 @@ class Acts:
 
 
 def text_of(asked: Json, name: str) -> str:
-    """Returns the text of this name that was asked for."""
+    """Returns the text with this name in a request."""
     found = asked.get(name)
     if not isinstance(found, str):
         raise ValueError(f"{name} is a text, not {found!r}")
@@ -205,7 +211,7 @@ def text_of(asked: Json, name: str) -> str:
 
 
 def period_of(asked: Json) -> float:
-    """Returns the seconds between two frames that were asked for."""
+    """Returns the requested period in seconds."""
     found = asked.get("period")
     if not isinstance(found, (int, float)) or not LEAST_PERIOD <= found <= MOST_PERIOD:
         raise ValueError(f"a period is from {1000 * LEAST_PERIOD:g} to {1000 * MOST_PERIOD:g} ms")
@@ -213,27 +219,27 @@ def period_of(asked: Json) -> float:
 
 
 def words_of(fault: Exception) -> str:
-    """Returns what a fault says, without the number that python-can adds."""
+    """Returns the message of an exception, without the number that python-can adds."""
     return str(fault).partition(" [Error Code ")[0]
 
 
 def quoted(text: str) -> str:
-    """Returns a text as Python spells it."""
+    """Returns a text as a Python string literal."""
     return json.dumps(text, ensure_ascii=False)
 
 
 def value_words(text: str) -> str:
-    """Returns the value of a signal as Python spells it: a number, or a name."""
+    """Returns the value of a signal as a Python literal: a number, or the name of a value."""
     return text if NUMBER.fullmatch(text) else quoted(text)
 
 
 def on_bus(line: str, bus: CanbusdBus, is_fd: bool = False) -> str:
-    """Returns a line of Python, with which bus it is about."""
+    """Returns a line of Python with a comment that defines `bus`."""
     return f"{line}  # bus = server.bus({quoted(bus.channel)}{', fd=True' if is_fd else ''})"
 
 
 def message_words(frame: Frame) -> str:
-    """Returns the message of python-can that a frame is, in words of Python."""
+    """Returns the Python expression that creates this frame as a python-can message."""
     words = [f"arbitration_id=0x{frame.arbitration_id:X}"]
     words += [f'data=bytes.fromhex("{frame.data.hex(" ").upper()}")'] if frame.data else []
     words += [f"dlc={frame.dlc}"] if frame.is_remote_frame else []

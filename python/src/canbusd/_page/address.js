@@ -1,4 +1,4 @@
-// The address of the page follows what is chosen, so that a link shows it.
+// The address of the page follows the reader's choices, so a link to the page shows them.
 
 const FILTERS = ["of-node", "of-frame", "of-outcome", "of-socket", "of-fate", "of-signal"];
 const hashWords = (hash = location.hash) => new URLSearchParams(hash.slice(1));
@@ -23,7 +23,7 @@ function sayHash() {
   if (lanesWords() !== firstLanes) words.set("lanes", lanesWords());
   history.replaceState(null, "", `#${words}`);
 }
-// The choices that an address names; the others are as they are at first.
+// Restores the choices in an address. All other choices get their initial values.
 function readHash(words) {
   const isByTime = words.has("by") ? words.get("by") === "time" : !!byTime.lengthOf;
   for (const id of FILTERS) at(id).value = words.get(id.slice(3)) ?? "";

@@ -1,9 +1,11 @@
-// The bits of a frame on the wire, as `canbusd bits` prints them: a page is one file, and runs no program.
+// The bits of a frame on the wire, as `canbusd bits` prints them. They are computed here because the page can't run a
+// program.
 
 const lowBits = (count, number) => Array.from({ length: count }, (_, k) => Math.floor(number / 2 ** (count - 1 - k)) % 2);
 const FD_LENGTHS = [0, 1, 2, 3, 4, 5, 6, 7, 8, 12, 16, 20, 24, 32, 48, 64];
 const GENERATORS = { 15: 0x4599, 17: 0x1685B, 21: 0x102899 };
-// The shift register begins with zeros in a classic frame, and with a one in an FD frame.
+// Returns the CRC. The shift register starts with all zeros for a classic frame, and with a leading one for an FD
+// frame.
 function crcOf(bits, width, isFd) {
   let register = isFd ? 1 << width - 1 : 0;
   for (const bit of bits) {
@@ -14,14 +16,15 @@ function crcOf(bits, width, isFd) {
   return lowBits(width, register);
 }
 
-// Bits as they are sent. A stuff bit belongs to the field of the bit before it, a fixed one to that of the bit after it.
+// Collects bits in the order in which they are sent. A stuff bit belongs to the field of the bit before it, and a fixed
+// stuff bit belongs to the field of the bit after it.
 class Sender {
   constructor() { Object.assign(this, { bits: [], run: 0, stuffBits: 0 }); }
   put(field, bit, isStuff = false) {
     this.run = bit === this.bits.at(-1)?.bit ? this.run + 1 : 1;
     this.bits.push({ field, bit, isStuff });
   }
-  // The stuff bit that is due after five equal bits.
+  // Adds a stuff bit after five equal bits.
   flush() {
     if (this.run < 5) return;
     const { field, bit } = this.bits.at(-1);
@@ -36,7 +39,7 @@ class Sender {
       }
     }
   }
-  // With a fixed stuff bit before each four bits.
+  // Adds bits with a fixed stuff bit before each group of four bits.
   sendFixed(fields) {
     fields.flatMap(([field, ...bits]) => bits.map(bit => [field, bit])).forEach(([field, bit], place) => {
       if (place % 4 === 0) this.put(field, 1 - this.bits.at(-1).bit, true);
@@ -45,7 +48,7 @@ class Sender {
   }
 }
 
-// The fields of a frame with their bits, to the last data bit.
+// Returns the fields of a frame with their bits, up to the last data bit.
 function fieldBits(text) {
   const [identifier, payload] = [text.slice(0, text.indexOf("#")), text.slice(text.indexOf("#") + 1)];
   const isFd = payload.startsWith("#"), isRemote = payload.startsWith("R"), isLong = identifier.length === 8;
@@ -78,16 +81,16 @@ function wireBits(text) {
   return sender.bits;
 }
 
-// The bit at which a sender of other bits falls silent, or -1: after arbitration nobody does.
+// Returns the bit at which a sender with other bits stops sending, or -1. After arbitration no sender stops.
 const COMPETES = new Set(["SOF", "identifier", "SRR", "IDE", "extension", "RTR", "RRS"]);
 function silentAt(bits, others) {
   const place = bits.findIndex((one, k) => one.bit !== others[k]?.bit);
   return place >= 0 && COMPETES.has(bits[place].field) && others[place]?.bit ? place : -1;
 }
 
-// The table of the chosen attempt: a row for each field.
+// The table of the bits of the chosen attempt has a row for each field.
 
-// In which field a fault is seen, where it is in no bit of its own, and in which bit where it is in one (GUIDE, Faults).
+// Returns the bit in which a fault is seen, or the field if the fault is not seen in a particular bit (GUIDE, Faults).
 function faultPlace(bits, kind, fault) {
   const last = field => bits.findLastIndex(one => one.field === field);
   if (kind === "noack") return { place: last("ACK slot"), words: "not acknowledged" };
@@ -95,7 +98,7 @@ function faultPlace(bits, kind, fault) {
   if (/^global bit|^local stuff/.test(fault)) return { field: last("data") < 0 ? "DLC" : "data", words: `${fault}: seen by the end of this field` };
   return /^global form|^local (crc|form)/.test(fault) ? { field: "ACK delimiter", words: `${fault}: seen by here` } : null;
 }
-// The senders that fall silent, by the places of the bits.
+// Maps bits to notes about the senders that stop sending there.
 function silences(step, bits) {
   const found = new Map();
   for (const { iface, text } of takingPart(step)) {
@@ -128,7 +131,7 @@ function bitTable(step) {
   return [element("h3", title), table];
 }
 
-// Keys in the table: the row that has the focus keeps it when another attempt is chosen.
+// Keyboard input in the table. The focused row keeps the focus when another attempt is chosen.
 const bitKeys = { row: 0, before: null };
 function markBits(rows, place) {
   bitKeys.row = Math.min(Math.max(0, place), rows.length - 1);
@@ -150,7 +153,7 @@ function listenToBits(table) {
     if (to === undefined) leaveBits(); else markBits(rows, to).focus();
   });
 }
-// Back to what had the focus before.
+// Returns the focus to the element that had it before.
 function leaveBits() {
   (bitKeys.before?.isConnected ? bitKeys.before : at("area")).focus();
 }

@@ -1,13 +1,13 @@
 "use strict";
-// Both pages share this: elements, words, colours, columns of numbers and places along the time line.
+// Code for both pages: elements, words, colours, columns of numbers and places on the time line.
 
 const KINDS = ["done", "lastbit", "destroyed", "noack", "restart", "down", "idle"];
 const KIND_WORDS = ["done", "last bit", "destroyed", "no acknowledgement", "restart", "down", "idle"];
-// The kinds before RESTART are attempts.
+// All kinds before RESTART are attempts.
 const RESTART = 4, DOWN = 5, IDLE = 6;
 const STATES = ["active", "warning", "passive", "off", "down"];
 const IS_OFF = 3, IS_DOWN = 4;
-// Spelled as in CAN documents; not parted at the end of a line.
+// The names of states in CAN documents. They contain a space that does not break at the end of a line.
 const stateWords = state => ({ off: "bus\u00a0off", down: "down" })[state] || `error\u00a0${state}`;
 const LIMITS = [[96, "warning"], [128, "passive"], [256, "bus off"]];
 const WARNING = 96, PASSIVE = 128, OFF = 256;
@@ -15,7 +15,7 @@ const WARNING = 96, PASSIVE = 128, OFF = 256;
 const at = id => document.getElementById(id);
 const grouped = number => number.toLocaleString("en");
 const severity = count => (count >= WARNING) + (count >= PASSIVE) + (count >= OFF);
-// The time of day, here.
+// Returns the local time of day.
 const clock = seconds => new Date(seconds * 1000).toTimeString().slice(0, 8);
 const times = (number, one, many = one + "s") => `${grouped(number)} ${number === 1 ? one : many}`;
 
@@ -30,7 +30,8 @@ function cell(tag, content) {
   return element(tag, typeof content === "number" ? grouped(content) : content, isNumber ? { className: "number" } : {});
 }
 const tableRow = (tag, cells) => element("tr", cells.map(one => cell(tag, one)));
-// The rows of a table: a heading is at the right where its numbers are, and where the page is narrow each cell has it.
+// Returns the rows of a table. The heading of a column with numbers is aligned right. On a narrow page each cell shows
+// its heading.
 function rowsOf(heads, rows) {
   const made = rows.map(cells => tableRow("td", cells)), head = tableRow("th", heads);
   for (const row of made) {
@@ -41,17 +42,17 @@ function rowsOf(heads, rows) {
   }
   return [head, ...made];
 }
-// A number that is bad unless it is 0.
+// A cell with a count that is marked as bad unless it is 0.
 const loss = number => element("td", grouped(number), { className: number ? "number bad" : "number" });
-// The symbol of a kind of attempt, or of another thing that the legend has.
+// The symbol of a kind of attempt, or of another entry of the legend.
 const mark = name => element("i", [], { className: "mark " + name });
 
-// Functions of one script that are called when another has done its work.
+// Functions that a script registers, and that run when another script has finished its work.
 const added = {};
 function on(what, each) { (added[what] ||= []).push(each); }
 function happened(what, ...given) { for (const each of added[what] || []) each(...given); }
 
-// Periods between moments in seconds: how many moments, and of the periods the least, the mean and the largest.
+// The periods between timestamps in seconds: the number of timestamps, and the minimum, mean and maximum period.
 class Periods {
   constructor() { Object.assign(this, { number: 0, least: Infinity, most: 0, first: 0, last: 0 }); }
   add(moment) {
@@ -62,9 +63,9 @@ class Periods {
     this.last = moment;
   }
   get mean() { return (this.last - this.first) / (this.number - 1); }
-  // The largest difference of a period from the mean.
+  // The largest deviation of a period from the mean.
   get jitter() { return Math.max(this.mean - this.least, this.most - this.mean); }
-  // In milliseconds, the mean first; nothing of a single moment.
+  // Returns the periods in milliseconds, with the mean first. The texts are empty if there is only one timestamp.
   get words() {
     if (this.number < 2) return ["", "", "", ""];
     return [this.mean, this.least, this.most, this.jitter].map(seconds => grouped3(seconds * 1000));
@@ -73,7 +74,7 @@ class Periods {
 const grouped3 = number => number.toLocaleString("en", { minimumFractionDigits: 3, maximumFractionDigits: 3 });
 const PERIOD_COLUMNS = ["period, ms", "least", "largest", "jitter"].map(head => [head, "minmax(0, 8.5ch)", "n h"]);
 
-// Colours, and lines of hatching over a tile of 6 pixels, so that no kind is shown by its colour only.
+// Colours and hatching. The hatching lines repeat every 6 pixels, so that each kind differs by more than its colour.
 
 const HATCH = {
   lastbit: by => [by + 3, 0, by + 3, 6],
@@ -82,7 +83,7 @@ const HATCH = {
   off: by => [by, 0, by + 6, 6],
   down: by => [0, by + 3, 6, by + 3],
 };
-// Hatching over the page, as of a node that takes no part.
+// Whether the hatching has the background of the page, as for a node that is off the bus.
 const isHollow = name => name === "off" || name === "down";
 const COLOURS = ["text", "soft", "line", "on", "stripe", "tec", "rec", "queue", "accepted", "hit", "off", "warning",
   "passive", "page", "panel", ...KINDS];
@@ -110,17 +111,17 @@ function hatched(pen, name) {
 const fillsOf = pen => Object.fromEntries([...KINDS, "off"].map(name =>
   [name, HATCH[name] ? hatched(pen, name) : theme[name]]));
 
-// Steps along the time line: step k begins at start[k], and no step begins before the one before it.
+// Steps on the time line. Step k begins at start[k], and the starts never decrease.
 
 class Axis {
-  // `least` is how much of it is shown at least.
+  // `least` is the minimum length of the visible part.
   constructor(start, least) {
     this.start = start;
     this.count = start.length - 1;
     this.length = Math.max(start[this.count], least);
     this.least = least;
   }
-  // The first step that begins there or later.
+  // Returns the first step that begins at or after this place.
   from(place) {
     let low = 0, high = this.count;
     while (low < high) {
@@ -129,7 +130,7 @@ class Axis {
     }
     return low;
   }
-  // The last step that begins there or before.
+  // Returns the last step that begins at or before this place.
   stepAt(place) {
     let low = 0, high = this.count - 1;
     while (low < high) {
@@ -140,7 +141,7 @@ class Axis {
   }
 }
 
-// A column of numbers, with the extremes of each block of it.
+// A column of numbers, with the minimum and maximum of each block.
 
 const BLOCK = 64;
 class Numbers {
@@ -162,7 +163,7 @@ class Numbers {
     }
     for (let step = blocks * BLOCK; step < all.length; step++) this.most = Math.max(this.most, all[step]);
   }
-  // The extremes from `first` to before `last`, as low and high.
+  // Finds the minimum and maximum of the numbers from `first` up to, but not including, `last`.
   range(first, last, found) {
     let low = Infinity, high = 0;
     const { all } = this;
@@ -184,7 +185,8 @@ class Numbers {
   }
 }
 
-// Counts each of `codes` codes in ranges of a column: sums up to each block, and the rest one by one.
+// Counts how often each of `codes` codes occurs in a range of a column. It uses stored sums for whole blocks, and
+// counts the rest one by one.
 class Tallies {
   constructor(column, codes) {
     Object.assign(this, { column, codes });
@@ -209,7 +211,7 @@ class Tallies {
   }
 }
 
-// The keys, and the buttons that name them.
+// Handles the keys, and the buttons that do the same as a key.
 function listenToKeys(keys) {
   for (const button of document.querySelectorAll("[data-key]")) button.onclick = () => keys[button.dataset.key]();
   document.addEventListener("keydown", event => {

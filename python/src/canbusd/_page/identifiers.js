@@ -1,4 +1,5 @@
-// Statistics of each identifier, of the attempts that the filters leave: how many were done, their periods, the last data.
+// Statistics of each identifier over the attempts that pass the filters: the number of successful attempts, their
+// periods, and the last data.
 
 function identifierList() {
   const columns = [["identifier", "10ch", "n"], ["sender", "minmax(0, 1fr)", "w"], ["done", "minmax(0, 7ch)", "n h"],
@@ -10,12 +11,12 @@ function identifierList() {
   return made;
 }
 const identifierOf = text => text.slice(0, text.indexOf("#"));
-// The number of identifiers, once the run is known.
+// The number of different identifiers, set when the run has been read.
 let allIdentifiers = 0;
 on("taken", () => {
   const isTried = new Uint8Array(run.texts.length), found = new Set();
   for (let step = 0; step < axis.count; step++) if (isAttempt(step)) isTried[steps.frame[step]] = 1;
-  // Numbers are quicker than texts; those of extended frames are of their own.
+  // Numbers are faster than texts here. Extended identifiers are mapped to a separate range of numbers.
   const numberOf = text => parseInt(text, 16) + (text[3] === "#" ? 0 : 2 ** 29);
   isTried.forEach((is, place) => { if (is) found.add(numberOf(run.texts[place])); });
   allIdentifiers = found.size;

@@ -1,11 +1,12 @@
-// Lists of any length, tabs of lists, and buttons that choose kinds.
+// Lists of any length, tabs, and buttons that choose kinds.
 
-// The most pixels that browsers can scroll through; longer lists scroll faster.
+// The maximum height in pixels that browsers can scroll through. In longer lists each pixel scrolls over several rows.
 const MOST_ROOM = 8e6;
 
-// A list of which only the rows in view are made. A column is a heading, a width, and whether it has numbers ("n"), is
-// said with its heading where the page is narrow ("h"), may be wrapped there ("w"), or is cut there, with a sign, so that
-// there is room for what follows it ("f"), or is left out there ("x"). The arrow keys move in a list, Enter chooses.
+// A list that creates only the rows in view. A column has a heading, a width, and letters for its options. A column
+// with "n" has numbers. The other letters apply to narrow pages. There "h" repeats the heading in each cell, "w" allows
+// line breaks, "f" cuts the text with an ellipsis so that the following text has room, and "x" hides the column. The
+// arrow keys move in a list, and Enter chooses a row.
 class Rolling {
   constructor(id, columns, cellsOf, choose = null) {
     Object.assign(this, { columns, cellsOf, choose, list: [], active: 0, rows: new Map() });
@@ -32,7 +33,7 @@ class Rolling {
   get line() { return window.innerWidth < 420 ? 64 : isNarrow() ? 44 : 22; }
   get inView() { return Math.max(Math.floor((this.box.clientHeight - this.head.offsetHeight) / this.line), 1); }
   get whole() { return Math.min(this.list.length * this.line, MOST_ROOM); }
-  // The pixels that one row scrolls.
+  // How many pixels one row takes in the scroll range.
   get step() { return this.list.length ? this.whole / this.list.length : 1; }
   get isVisible() { return this.box.offsetParent !== null; }
   set(list) {
@@ -47,7 +48,7 @@ class Rolling {
     this.rows.clear();
     this.body.replaceChildren();
   }
-  // Makes the rows in view that are not there yet.
+  // Creates the missing rows in view.
   show() {
     if (!this.isVisible) return;
     const isPacked = this.step < this.line, { rows, body } = this, hasFocus = body.contains(document.activeElement);
@@ -78,7 +79,7 @@ class Rolling {
   }
   row(place) {
     const one = this.list[place], cells = this.cellsOf(one, this.list[place - 1]);
-    // A long row is wrapped at the blanks.
+    // The blanks between cells allow a long row to wrap.
     const made = cells.flatMap((content, k) => [this.cell("gridcell", this.columns[k], content), " "]);
     const row = element("div", made, { className: "row" });
     row.setAttribute("role", "row");
@@ -89,7 +90,7 @@ class Rolling {
     row.onclick = () => { this.active = place; this.choose(one); };
     return row;
   }
-  // Scrolls so that this row is in view.
+  // Scrolls until this row is in view.
   follow(place) {
     if (!this.isVisible || !this.list.length) return;
     this.active = Math.min(Math.max(place, 0), this.list.length - 1);
@@ -112,7 +113,7 @@ class Rolling {
     if (by) this.follow(Number(place) + by);
     this.focus();
   }
-  // On paper the first rows, and how many more there are.
+  // On paper the list shows its first rows, and a note with the number of all rows.
   print(isOn) {
     const most = 60;
     this.note.hidden = !isOn || this.list.length <= most;
@@ -123,7 +124,7 @@ class Rolling {
   }
 }
 
-// Tabs: `shown` is called with the name of the one that is shown.
+// Makes tabs. The page calls `shown` with the name of the tab that becomes visible.
 function makeTabs(id, shown) {
   const tabs = [...at(id).querySelectorAll("[role=tab]")];
   const choose = tab => {
@@ -149,7 +150,7 @@ function makeTabs(id, shown) {
   return name => choose(tabs.find(tab => tab.getAttribute("aria-controls") === name));
 }
 
-// Buttons that choose kinds: none chosen is all of them. `numbers` is how many there are of each.
+// Buttons that choose kinds. If no kind is chosen, all are shown. `numbers` has the count of each kind.
 class Chips {
   constructor(id, changed) {
     Object.assign(this, { box: at(id), changed, chosen: new Set(), made: new Map() });
@@ -183,7 +184,8 @@ class Chips {
   }
 }
 
-// A list as a file for a spreadsheet: comma separated values (RFC 4180), with numbers as they are without their groups.
+// Saves a list as a file for a spreadsheet: comma-separated values (RFC 4180), with numbers without separators between
+// groups of digits.
 
 function csvOf(list, panel) {
   const rows = list ? [list.columns.map(([head]) => head), ...Array.from(list.list, (one, k) => list.cellsOf(one, list.list[k - 1]))]

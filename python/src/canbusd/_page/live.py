@@ -1,12 +1,12 @@
-"""The live page of `canbusd watch`: its news, and the browsers that get it.
+"""The live page of `canbusd watch`: its news, and the web server that sends them to browsers.
 
-All local users and all web sites that are open in a browser can connect to 127.0.0.1. So the path of each request has to
-begin with a token that only the URL of the page has, and the request has to name this machine as its host: a site whose name
-leads here is another one. If the server is at a Unix path, which file permissions protect, the browser has to be of the user
-who runs the command.
+All local users, and all web sites that are open in a browser, can connect to 127.0.0.1. So the path of each request has
+to begin with a token that only the URL of the page contains. The request also has to name this machine as its host,
+which excludes sites whose name resolves to this machine. If the server is at a Unix path, which file permissions
+protect, the browser has to belong to the user who runs the command.
 
-The page asks for each of its acts, such as sending a frame, by POST: with its own origin, and with the token in a header too,
-which no other site can have a browser send. A GET changes nothing.
+The page requests each of its actions, such as sending a frame, by POST. The request has to have the page's own origin,
+and the token in a header, which no other site can make a browser send. A GET changes nothing.
 """
 
 import base64
@@ -42,20 +42,21 @@ SCRIPTS = (
     "watch_signals.js",
     "watch_loads.js",
 )
-# The controls of a page that may act, with their script and style.
+# The controls of a page with actions, and their script and style.
 ACTS, ACT_SCRIPTS, ACT_STYLES = "watch_acts.html", ("watch_acts.js",), ("watch_acts.css",)
-# The most ticks and frames that a page gets which is opened later.
+# The maximum number of earlier ticks and frames that a newly opened page receives.
 MOST_TICKS, MOST_FRAMES = 2400, 4000
-# Seconds in which pages are sent that the server has ended, after which a silent connection is closed, and between two looks
-# for a file descriptor if there are no more.
+# Times in seconds: how long pages have to receive the news that the server has ended, how long a connection may be
+# silent, and the pause before the next attempt if there is no free file descriptor.
 CLOSE_TIMEOUT, REQUEST_TIMEOUT, PAUSE = 2.0, 10.0, 0.2
-# Seconds after which a page gets an empty list, if there is no news: the write fails if the page is closed.
+# If there is no news for this many seconds, a page gets an empty list. This write fails if the page was closed.
 BEAT = 1.0
-# The most connections that have asked nothing yet, and the most bytes of a request and of its body.
+# The maximum number of connections without a request, and the maximum size in bytes of a request and of its body.
 MOST_WAITING, MOST_BYTES, MOST_BODY = 64, 65536, 16384
-# The header with the token.
+# The name of the header with the token.
 TOKEN = "X-Canbusd-Token"
-# The headers of each answer, by which nothing is kept, taken for something else, shown to other sites, or sent to them.
+# The headers of each answer. Browsers must not cache the answer, guess its type, show it to other sites, or send its
+# URL to them.
 HEADERS = {
     "Cache-Control": "no-store",
     "Cross-Origin-Resource-Policy": "same-origin",
@@ -76,12 +77,13 @@ Row = list[Any]
 
 
 class Board:
-    """The news of the pages: of each tick the counts of the interfaces, and the frames that came since the one before."""
+    """The news of the pages: for each tick the counts of the interfaces, and the frames that arrived since the previous
+    tick."""
 
     def __init__(self) -> None:
         self._changed = threading.Condition()
         self._ticks: deque[Json] = deque(maxlen=MOST_TICKS)
-        # Frames, faults and changes of state are kept apart, so that none pushes out another.
+        # Frames, faults and changes of state are kept separately, so that a flood of one does not displace the others.
         self._kept = [deque[Row](maxlen=MOST_FRAMES) for _ in range(3)]
         self._last: tuple[int, Json] = (0, {})
         self._end: Optional[str] = None
@@ -97,14 +99,15 @@ class Board:
             self._changed.notify_all()
 
     def end(self, reason: str) -> None:
-        """Ends the news; returns once the pages have got that."""
+        """Ends the news, and waits until the pages have received this."""
         with self._changed:
             self._end = reason
             self._changed.notify_all()
             self._changed.wait_for(lambda: not self._readers, CLOSE_TIMEOUT)
 
     def news(self) -> Iterator[Json]:
-        """Yields what a page gets: first all that is kept, then each tick, or nothing new; at the end why there are no more."""
+        """Yields the news for a page: first all that was kept, then each tick, or empty news if nothing happened. The
+        last item is the reason for the end."""
         with self._changed:
             self._readers += 1
         try:
@@ -118,7 +121,7 @@ class Board:
                     if not has_news:
                         news = {"ticks": [], "frames": []}
                     elif seen < 0 or number != seen + 1:
-                        # A page that is new, or reads slowly, begins with all that is kept.
+                        # A new page, or one that reads too slowly, starts again with all that was kept.
                         rows = sorted(itertools.chain(*self._kept), key=operator.itemgetter(0))
                         news = {"start": True, "ticks": list(self._ticks), "frames": rows}
                     seen = number
@@ -131,14 +134,15 @@ class Board:
 
 
 class Pages(ThreadingHTTPServer):
-    """Serves the page, and its news as server-sent events, to those who have its URL."""
+    """Serves the page, and its news as server-sent events, to browsers that have its URL."""
 
-    # A connection that asks nothing holds up no end.
+    # A connection without a request must not delay the end of the process.
     daemon_threads = True
     request_queue_size = 128
 
     def __init__(self, port: int, board: Board, known: Json, is_own: bool, acts: Optional[Acts]) -> None:
-        """`is_own` says that the page is only for the user who serves it; without `acts` it only reads."""
+        """Opens the port. If `is_own` is true, only the user who runs the server gets the page. Without `acts` the page
+        has no actions."""
         self._waiting: dict[socket.socket, None] = {}
         self._lock = threading.Lock()
         super().__init__(("127.0.0.1", port), Request)
@@ -156,19 +160,22 @@ class Pages(ThreadingHTTPServer):
         return f"http://127.0.0.1:{self.server_address[1]}/{self._token}/"
 
     def admits(self, hosts: list[str], token: str, client: tuple[str, int]) -> bool:
-        """Whether a request gets an answer: by the hosts that it names, the token in its path, and whose it is."""
+        """Returns whether a request is accepted. This depends on its `Host` headers, on the token in its path and on
+        its user."""
         port = self.server_address[1]
         is_here = hosts in ([f"127.0.0.1:{port}"], [f"localhost:{port}"])
         has_token = secrets.compare_digest(token.encode(), self._token.encode())
         return is_here and has_token and not (self._is_own and user_of(client, ("127.0.0.1", port)) != os.geteuid())
 
     def trusts(self, host: str, origins: list[str], tokens: list[str]) -> bool:
-        """Whether an act is asked for by the page at this host: by its origin, and the token in a header."""
+        """Returns whether the page at this host requests an action. This depends on the origin, and on the token in a
+        header."""
         has_token = len(tokens) == 1 and secrets.compare_digest(tokens[0].encode(), self._token.encode())
         return has_token and origins == [f"http://{host}"]
 
     def get_request(self) -> tuple[Any, Any]:
-        """Takes a connection. If there is no file descriptor for it, it waits for one, and burns no processor."""
+        """Accepts a connection. If there is no free file descriptor, waits a little so that the caller's loop does not
+        use up a processor."""
         try:
             return super().get_request()
         except OSError:
@@ -176,7 +183,8 @@ class Pages(ThreadingHTTPServer):
             raise
 
     def process_request(self, request: Any, client_address: Any) -> None:
-        """Serves a connection. Of many that ask nothing the oldest is closed, so that they keep nobody out."""
+        """Serves a connection. If too many connections have not sent a request, closes the oldest of them, so that
+        others can connect."""
         with self._lock:
             self._waiting[request] = None
             oldest = next(iter(self._waiting)) if len(self._waiting) > MOST_WAITING else None
@@ -186,7 +194,7 @@ class Pages(ThreadingHTTPServer):
         super().process_request(request, client_address)
 
     def asks(self, request: socket.socket) -> None:
-        """Notes that a connection no longer waits: it has asked for something that it gets, or is closed."""
+        """Notes that a connection no longer waits, because its request was accepted or it is being closed."""
         with self._lock:
             self._waiting.pop(request, None)
 
@@ -196,13 +204,13 @@ class Pages(ThreadingHTTPServer):
         super().shutdown_request(request)
 
     def handle_error(self, request: Any, client_address: Any) -> None:
-        """A browser that goes away is no fault."""
+        """Ignores errors that occur because a browser has closed its connection."""
         if not isinstance(sys.exc_info()[1], OSError):
             super().handle_error(request, client_address)
 
 
 def shut_down(connection: socket.socket) -> None:
-    """Ends a connection, whose thread then closes it."""
+    """Shuts a connection down. Its thread closes it afterwards."""
     try:
         connection.shutdown(socket.SHUT_RDWR)
     except OSError:
@@ -210,7 +218,7 @@ def shut_down(connection: socket.socket) -> None:
 
 
 def opened(port: int, board: Board, known: Json, is_own: bool, acts: Optional[Acts] = None) -> Pages:
-    """Returns the pages on this port; the fault of a port that can't be had names it."""
+    """Opens the port and returns the server. If the port can't be opened, the error names it."""
     try:
         return Pages(port, board, known, is_own, acts)
     except OSError as fault:
@@ -219,18 +227,20 @@ def opened(port: int, board: Board, known: Json, is_own: bool, acts: Optional[Ac
 
 
 def policy_of(page: str) -> str:
-    """Returns the content security policy of a page: its one script, its one style, and nothing of anybody else."""
+    """Returns the content security policy of a page. It allows only the page's one script and one style."""
     parts = (page.partition(f"<{name}>")[2].partition(f"</{name}>")[0] for name in ("script", "style"))
     return POLICY.format(*(base64.b64encode(hashlib.sha256(part.encode()).digest()).decode() for part in parts))
 
 
 def user_of(client: tuple[str, int], server: tuple[str, int]) -> Optional[int]:
-    """Returns the user whose socket is the client's end of a TCP connection on this machine; None if it is closed."""
+    """Returns the user who owns the client's socket of a TCP connection on this machine, or None if the socket is
+    closed."""
     for table, prefix in (("tcp", ""), ("tcp6", "::ffff:")):
         ends = " ".join(f"{words_of(prefix + host)}:{port:04X}" for host, port in (client, server))
         try:
             with open(f"/proc/net/{table}", encoding="ascii") as file:
-                # After both ends: state 1, which is a whole connection, queues, timer, retransmissions and the user.
+                # The fields after the two addresses are state 01 (established), the queues, the timer, the
+                # retransmissions and the user.
                 found = re.search(rf"^ *\d+: {ends} 01 \S+ \S+ \S+ +(\d+) ", file.read(), re.M)
         except FileNotFoundError:
             continue
@@ -240,26 +250,26 @@ def user_of(client: tuple[str, int], server: tuple[str, int]) -> Optional[int]:
 
 
 def words_of(host: str) -> str:
-    """Returns an IP address as /proc/net has it: 0100007F for 127.0.0.1 on most machines."""
+    """Returns an IP address in the format of /proc/net: 0100007F for 127.0.0.1 on most machines."""
     packed = socket.inet_pton(socket.AF_INET6 if ":" in host else socket.AF_INET, host)
     return "".join(f"{word:08X}" for word in struct.unpack(f"={len(packed) // 4}I", packed))
 
 
 class Bounded:
-    """A request, as if it ended after its most bytes."""
+    """A request of which at most MOST_BYTES bytes can be read."""
 
     def __init__(self, file: BinaryIO) -> None:
         self._file, self._left = file, MOST_BYTES
         self.close = file.close
 
     def readline(self, most: int) -> bytes:
-        """Reads a line, or these bytes of it."""
+        """Reads a line, or at most `most` bytes of it."""
         line = self._file.readline(min(most, self._left))
         self._left -= len(line)
         return line
 
     def read(self, size: int) -> bytes:
-        """Reads these bytes, or those that are left."""
+        """Reads `size` bytes, or all that remain if these are fewer."""
         found = self._file.read(min(size, self._left))
         self._left -= len(found)
         return found
@@ -270,7 +280,7 @@ class Request(BaseHTTPRequestHandler):
 
     server: Pages
     rfile: Any
-    # Of a connection that asks nothing, and of a page that takes nothing.
+    # Applies to connections that send no request, and to pages that do not read their news.
     timeout = REQUEST_TIMEOUT
 
     def setup(self) -> None:
@@ -279,7 +289,7 @@ class Request(BaseHTTPRequestHandler):
         self.rfile = Bounded(self.rfile)
 
     def parse_request(self) -> bool:
-        """Reads a request, and refuses one that is not admitted, whatever it asks for."""
+        """Reads the header of a request, and refuses the request if it is not admitted."""
         if not super().parse_request():
             return False
         _, _, path = self.path.partition("?")[0].partition("/")
@@ -291,7 +301,7 @@ class Request(BaseHTTPRequestHandler):
         return True
 
     def do_GET(self) -> None:
-        """Sends the page or the news."""
+        """Sends the page, or the news."""
         if self.path == "":
             self.start("text/html; charset=utf-8")
             self.wfile.write(self.server.page)
@@ -302,7 +312,8 @@ class Request(BaseHTTPRequestHandler):
             self.send_error(HTTPStatus.NOT_FOUND)
 
     def do_POST(self) -> None:
-        """Does what the page asks for. If nothing can be asked for, there is no such method."""
+        """Carries out an action that the page requests. If there are no actions, the answer is that POST is not
+        supported."""
         acts = self.server.acts
         if acts is None or self.path not in acts.by_name:
             self.send_error(HTTPStatus.NOT_IMPLEMENTED, f"Unsupported method ({self.command!r})")
@@ -320,7 +331,7 @@ class Request(BaseHTTPRequestHandler):
             self.act(acts, self.rfile.read(int(size)))
 
     def act(self, acts: Acts, text: bytes) -> None:
-        """Does what this text asks for, an object of JSON, and sends what became of it."""
+        """Carries out the action in this text, which is a JSON object, and sends the result."""
         try:
             asked = json.loads(text)
         except (ValueError, RecursionError):
@@ -333,19 +344,19 @@ class Request(BaseHTTPRequestHandler):
         self.wfile.write(answer)
 
     def start(self, kind: str) -> None:
-        """Sends the header of an answer."""
+        """Sends the header of a successful answer."""
         self.send_response(HTTPStatus.OK)
         self.send_header("Content-Type", kind)
         self.end_headers()
 
     def end_headers(self) -> None:
-        """Ends the header, with what each answer has."""
+        """Adds the headers that all answers have, and ends the header."""
         for name, value in {**HEADERS, "Content-Security-Policy": self.server.policy}.items():
             self.send_header(name, value)
         super().end_headers()
 
     def send_news(self) -> None:
-        """Sends the news until there are no more, or the browser goes away."""
+        """Sends the news until they end or the browser closes the connection."""
         acts = self.server.acts
         with acts.page() if acts else contextlib.nullcontext(Json) as of_page:
             for news in self.server.board.news():
@@ -357,9 +368,9 @@ class Request(BaseHTTPRequestHandler):
         return "canbusd"
 
     def log_message(self, format: str, *args: Any) -> None:
-        """Requests are not logged: their paths have the token."""
+        """Logs nothing, because the paths of requests contain the token."""
 
 
 def is_frame(row: Row) -> bool:
-    """Whether a row is not an error message frame, whose first digit has bit 29."""
+    """Returns whether a row is a frame and not an error message frame, which has bit 29 set in its first digit."""
     return not (row[1][8:9] == "#" and row[1][0] in "23")

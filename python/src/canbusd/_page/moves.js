@@ -1,4 +1,4 @@
-// The acts of a reader: moves, zooms, chooses, asks.
+// The actions of the reader: moving, zooming and choosing.
 
 function look(from, to) {
   const span = Math.min(Math.max(to - from, axis.least), axis.length);
@@ -78,7 +78,7 @@ function showTip(tip, event, text) {
   tip.style.top = Math.max(4, isLow ? event.clientY - tip.offsetHeight - 10 : below) + "px";
 }
 
-// Draws again whenever colours or the width change, and in the colours of paper for the printer.
+// Redraws when the colours or the width change, and uses the colours for paper while the page is printed.
 function keepDrawn(draw, print) {
   drawing = draw;
   const again = () => { readTheme(); layer = ""; drawing(); };

@@ -1,5 +1,6 @@
-// Another run on the axis of this one: a lane for each of its nodes. By attempts each of its attempts is at the place of the
-// same one here, and what only it has at the place between those; by time all are where they were since its first.
+// Shows another run on the axis of this run, with a lane for each of its nodes. On the axis by attempts, each of its
+// attempts is at the place of the matching attempt here. An attempt that only the other run has is between its
+// neighbours. On the axis by time, all attempts are at their times since the first attempt of the other run.
 
 const other = {};
 on("taken", column => {
@@ -9,7 +10,8 @@ on("taken", column => {
   other.partner.forEach((number, k) => { if (number) other.partnerOf[number - 1] = k; });
   other.spans = [spansByAttempt(), [other.since, other.since.map((since, k) => since + other.took[k])]];
 });
-// The begin and the end of each attempt. Attempts between two attempts of this run share a place over the border.
+// The start and the end of each attempt. Attempts between two attempts of this run share the space around the border
+// between them.
 const HALF = 0.3;
 function spansByAttempt() {
   const starts = new Float64Array(other.count), ends = new Float64Array(other.count), { start } = axes[0], between = new Map();
@@ -36,7 +38,7 @@ class OtherLane {
   }
   draw(plot, top, fills) {
     const [starts, ends] = other.spans[Number(byTime.isOn)], kinds = new Uint8Array(plot.width);
-    // An attempt that only the other run has is drawn over its neighbours.
+    // Attempts that only the other run has are drawn over their neighbours.
     for (const isPaired of byTime.isOn ? [null] : [true, false]) {
       for (let k = 0; k < other.count; k++) {
         if (other.iface[k] !== this.number || starts[k] > view.to || isPaired !== null && isPaired !== other.partner[k] > 0) continue;
@@ -47,7 +49,7 @@ class OtherLane {
         else this.bar(plot, k, left, Math.max(room - (room > 5 ? 1 : 0), 1), top, fills);
       }
     }
-    // A pixel with several attempts shows the worst of them.
+    // If several attempts fall into a pixel, it shows the worst one.
     kinds.forEach((kind, x) => { if (kind) block(plot.pen, fills[KINDS[kind - 1]], x, top + 2, byTime.lengthOf ? 2 : 1, STRIP - 4); });
     this.outages(plot, top + STRIP + 2, fills);
     across(plot, top + this.height - 4, theme.line);
@@ -70,7 +72,7 @@ class OtherLane {
   values() { return []; }
 }
 
-// The list of differences, and the way to the next one, or to the other run.
+// The list of differences, and the buttons that go to the next difference or to the other run.
 
 function nextDifference(by) {
   const places = run.other.differences.map(([, attempt]) => stepOfAttempt(attempt));

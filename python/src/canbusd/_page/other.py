@@ -1,4 +1,5 @@
-"""The part of another run on the page of a run: its attempts at the places of those of this one, and the differences."""
+"""The data of another run on the page of a run: its attempts, their places among the attempts of this run, and the
+differences."""
 
 from collections.abc import Callable, Iterable
 from typing import Any, Optional
@@ -17,7 +18,8 @@ Column = list[Any]
 def other_of(
     comparison: Comparison, rates: Optional[Rates], column: Callable[[str, Iterable[float]], Column]
 ) -> dict[str, Any]:
-    """Returns the names and the texts of the other run, columns by its attempts, which `column` makes, and the differences."""
+    """Returns the names, the texts and the attempts of the other run, and the differences. `column` makes the
+    columns."""
     _, names = comparison.names
     attempts, partners = comparison.other, comparison.partners
     texts: dict[str, int] = {}
@@ -31,10 +33,12 @@ def other_of(
         "kind": column("B", (KINDS.index(one.outcome) for one in attempts)),
         "iface": column("B", (names.index(one.winner) for one in attempts)),
         "line": column("I", lines),
-        # 1 more than the number of the same attempt here, else 0; and the attempt here that follows those before it.
+        # `partner` is 1 plus the number of the matching attempt in this run, or 0 if there is none. `place` is the
+        # attempt in this run that follows the partners of all earlier attempts.
         "partner": column("I", (partners.get(number, -1) + 1 for number in range(len(attempts)))),
         "place": column("I", places(partners, len(attempts))),
-        # In seconds since its first attempt began, or was made where it has no bit rate: its start, and how long it took.
+        # Times in seconds. `since` is the start relative to the first attempt of the other run, and `took` is the
+        # duration. Without bit rates the start is the timestamp.
         "since": column("d", ((begin - start) / 1e9 for begin, _ in spans)),
         "took": column("d", ((over - begin) / 1e9 for begin, over in spans)),
         "away": away_of(comparison.records[1].replay, spans, start),
@@ -43,7 +47,7 @@ def other_of(
 
 
 def spans_of(run: Replay, rates: Optional[Rates]) -> list[tuple[int, int]]:
-    """Returns when each attempt begins and is over, in nanoseconds; without bit rates both are its moment."""
+    """Returns when each attempt begins and ends, in nanoseconds. Without bit rates both are its timestamp."""
     if rates is not None:
         return [(slot.begin, slot.over) for slot in slots_of(timed(run, rates))]
     steps = run.steps
@@ -51,7 +55,8 @@ def spans_of(run: Replay, rates: Optional[Rates]) -> list[tuple[int, int]]:
 
 
 def away_of(run: Replay, spans: list[tuple[int, int]], start: int) -> list[list[float]]:
-    """Returns the outages: the interface, its state, and the attempts and the seconds between which it was bus off or down."""
+    """Returns the outages. Each has the interface, its state, and the attempt and the time in seconds at its start and
+    at its end."""
     steps, attempt = run.steps, 0
     found: list[list[float]] = []
     since: dict[int, tuple[int, int, float]] = {}

@@ -1,4 +1,4 @@
-// The reader's keys, clicks and drags.
+// Keys, clicks and drags of the reader.
 
 function choose(step) {
   if (!axis.count) return;
@@ -16,7 +16,7 @@ function sayStep() {
   if (tab === "tab-signals") happened("cursor moved");
   follow();
 }
-// Of many steps the one that matters most.
+// Chooses the most important of several steps.
 function chooseIn(first, last, isMark) {
   let best = first;
   for (let step = first; step < last; step++) {
@@ -43,7 +43,7 @@ function stepOfAttempt(number) {
   }
   return Math.min(low, Math.max(axis.count - 1, 0));
 }
-// The other axis, with the same steps in view.
+// Switches to the other axis, with the same steps in view.
 function turnAxis() {
   const first = axis.stepAt(view.from), last = Math.min(axis.from(view.to), axis.count);
   showAxis(!byTime.isOn);
@@ -77,7 +77,7 @@ function listen() {
   listenToTime();
   listenToKeys(KEYS);
   window.addEventListener("hashchange", event => {
-    // Not that of the page, which may be another one meanwhile: `sayHash` waits.
+    // Uses the address of this event, because the page may have another one by now: `sayHash` runs with a delay.
     const words = hashWords(new URL(event.newURL).hash);
     if (run.other && (words.get("run") === "2") !== wasOtherRun) { location.reload(); return; }
     readHash(words);
@@ -130,7 +130,7 @@ function print(isOn) {
   happened("printed", isOn);
 }
 
-// The list that has something to be seen.
+// Returns the first list that is worth showing.
 function firstTab() {
   if (run.other) return "tab-differences";
   return run.events.length ? "tab-events" : signals.all().length ? "tab-signals" : "tab-attempts";

@@ -1,13 +1,13 @@
-"""Makes a page that shows a run: what its replay gives as columns of numbers, in one file with its style and script.
+"""Makes a page that shows a run. The page is one file with its style, its script and the columns of the replay.
 
-With a file of messages, as `--dbc` names one, the header of the data has two objects more, by the places of frames in
-`texts` as `meanings` is: `messages`, the name of the message of each frame that the file knows, and `signals`, for each
-of these a list of [signal, value, unit]. A value is a number, or a text if the file has names for numbers; a unit is
-a text, empty if there is none. A frame that is shorter than its message has the empty list. Without a file both
+If a file of messages is given (`--dbc`), the header of the data has two more objects, whose keys are places in `texts`
+as in `meanings`. `messages` has the name of the message of each frame that the file knows. `signals` has a list of
+[signal, value, unit] for each of these frames. A value is a number, or a text if the file has names for numbers. A unit
+is a text, which may be empty. The list is empty for a frame that is shorter than its message. Without a file both
 objects are empty.
 
-With bit rates the header has an object `wire` more, with a run to compare it with an object `other`, and the page a script
-for each; without them neither.
+If bit rates are given, the header also has an object `wire`, and if the run is compared with another run, an object
+`other`. The page then has a script for each of them.
 """
 
 import base64
@@ -36,7 +36,7 @@ from canbusd.frames import Frame, meaning
 from canbusd.replay import UNKNOWN, Replay
 from canbusd.signals import Database
 
-# The scripts of a page, in their order, before the last one, which begins.
+# The scripts of a page in their order. The last script, which starts the page, is added later.
 SCRIPTS = (
     *("core", "lanes", "moves", "lists", "run", "strips", "signals"),
     *("chosen", "bits", "cursors", "run_signals", "identifiers"),
@@ -48,21 +48,22 @@ Column = list[Any]
 
 
 class Block:
-    """The data of a page, compressed as it comes: columns, then the header in JSON, then the bytes that it has, lowest first.
+    """Compresses the data of a page in this order: the columns, the header as JSON, and the size of the header in bytes
+    as a little-endian number.
 
-    A column has the lowest bytes of all its numbers first, then the next ones: bytes that are alike are together, which is
-    small and quick to make.
+    A column has the lowest bytes of all its numbers first, then the next bytes, and so on. So similar bytes are
+    together, which makes the compressed data small and the compression fast.
     """
 
     def __init__(self) -> None:
         self._packer = zlib.compressobj(1)
-        # zlib lets the next column be made meanwhile.
+        # zlib releases the lock of the interpreter, so the next column can be made at the same time.
         self._pool = concurrent.futures.ThreadPoolExecutor(1)
         self._parts: list[concurrent.futures.Future[bytes]] = []
         self._size = 0
 
     def column(self, code: str, numbers: Iterable[float]) -> Column:
-        """Adds a column, and returns its type, its place and its length."""
+        """Adds a column, and returns its type, its offset and its length."""
         if isinstance(numbers, array) and numbers.typecode == code:
             column: array[Any] = numbers
         else:
@@ -76,7 +77,7 @@ class Block:
         return ["B", self._add(text), len(text)]
 
     def packed(self, header: Json) -> str:
-        """Returns the columns and the header: compressed, in base64."""
+        """Returns the compressed columns and header in base64."""
         text = json.dumps(header, separators=(",", ":")).encode()
         self._add(text + struct.pack("<I", len(text)))
         with self._pool:
@@ -84,8 +85,8 @@ class Block:
         return base64.b64encode(b"".join([*parts, self._packer.flush()])).decode()
 
     def _add(self, text: bytes) -> int:
-        """Adds bytes, and returns their place."""
-        # No more than two wait: they may be large.
+        """Adds bytes, and returns their offset."""
+        # At most two parts wait for compression, because parts may be large.
         concurrent.futures.wait(self._parts[-2:-1])
         self._parts.append(self._pool.submit(self._packer.compress, text))
         self._size += len(text)
@@ -93,21 +94,24 @@ class Block:
 
 
 class Timeline:
-    """The steps of a run with its idle attempts between them, in columns: a row for each step, and for those in a row."""
+    """The steps and the idle attempts of a run as columns. Each step has a row, and each sequence of idle attempts has
+    a row."""
 
     def __init__(self, run: Replay) -> None:
         self.steps, self.ifaces = run.steps, len(run.ifaces)
         #: The row of each step.
         self.places: Sequence[int] = range(len(self.steps))
-        #: The rows of idle attempts, and how many they are.
+        #: The rows of idle attempts, each with the number of these attempts.
         self.idle: list[tuple[int, int]] = []
-        # The steps whose rows follow each other; idle attempts are in the row of the last step of a piece but the last.
+        # The ranges of steps whose rows follow each other. Except in the last range, the last step gives the row of
+        # idle attempts.
         self._pieces: list[slice] = []
         if run.idle:
             self._place_idle([*self.steps.idle, run.idle_since])
 
     def _place_idle(self, idle: Sequence[int]) -> None:
-        """Puts a row before each step that has idle attempts before it, and after the last one for those of the end."""
+        """Adds a row before each step that follows idle attempts, and a row after the last step for idle attempts at
+        the end."""
         ends = [*itertools.compress(itertools.count(), idle), len(self.steps)]
         firsts = [0, *ends[:-1]]
         self.idle = [(step + before, idle[step]) for before, step in enumerate(firsts[1:])]
@@ -116,9 +120,10 @@ class Timeline:
         self.places = array("I", itertools.chain.from_iterable(rows))
 
     def shown(self, column: "array[int]", end: Optional[int] = None) -> "array[int]":
-        """Returns a column of the steps by rows. Idle attempts have the number of the step after them.
+        """Converts a column with a number for each step to a number for each row. Idle attempts get the number of the
+        step after them.
 
-        After the last step they have this `end`, else the number of that step.
+        Idle attempts after the last step get `end`, or the number of the last step if `end` is None.
         """
         if not self.idle:
             return column
@@ -128,32 +133,33 @@ class Timeline:
         return array(column.typecode, b"".join(map(padded.__getitem__, self._pieces)))
 
     def rows(self, column: "array[int]", idle: int = 0) -> "array[int]":
-        """Returns a column of the steps by rows, if idle attempts have this number."""
+        """Converts a column from steps to rows. Rows of idle attempts get the number `idle`."""
         found = self.shown(column)
         for row, _ in self.idle:
             found[row] = idle
         return found
 
     def numbers(self) -> "array[int]":
-        """The number of each row's frame; how many idle attempts there were."""
+        """Returns the number of the frame in each row, or how many idle attempts the row stands for."""
         found = self.shown(self.steps.numbers)
         for row, many in self.idle:
             found[row] = many
         return found
 
     def counts(self, place: int) -> "array[int]":
-        """A column of the counts after each row."""
+        """Returns a column of error counts after each row."""
         return self.lasting(self.steps.counts[place :: 2 * self.ifaces])
 
     def lasting(self, column: "array[int]") -> "array[int]":
-        """Returns a column of the steps by rows, if idle attempts leave it as it was."""
+        """Converts a column from steps to rows. Rows of idle attempts repeat the number of the row before them."""
         found = self.shown(column)
         for row, _ in self.idle:
             found[row] = found[row - 1] if row else 0
         return found
 
     def faults(self, rules: Sequence[str]) -> tuple["array[int]", list[str]]:
-        """The verdict of each row, and the texts of those; after a line feed with the rule that gave it where it is known."""
+        """Returns the verdict of each row, and the texts of all verdicts. If the rule behind a verdict is known, it
+        follows the text after a line feed."""
         steps = self.steps
         if not rules:
             return self.rows(steps.verdicts), steps.verdict_texts.all
@@ -166,7 +172,7 @@ class Timeline:
         return self.rows(ruled), texts.all
 
     def columns(self, block: Block, faults: "array[int]") -> Json:
-        """The columns of the rows; those of an idle one say only how many attempts it was."""
+        """Returns the columns of the rows. A row of idle attempts has only the number of these attempts."""
         steps, moments = self.steps, self.shown(self.steps.moments)
         return {
             "kind": block.column("B", self.rows(steps.kinds, IDLE)),
@@ -184,7 +190,7 @@ class Timeline:
         }
 
     def lines(self, block: Block) -> Json:
-        """The counts and the waiting frames of each interface, by rows."""
+        """Returns the error counts and the number of waiting frames of each interface, for each row."""
         waiting, ifaces = self.steps.waiting, range(self.ifaces)
         return {
             "tec": [block.column("H", self.counts(2 * i)) for i in ifaces],
@@ -194,7 +200,8 @@ class Timeline:
 
 
 def items_of(items: Items, most: int, timeline: Timeline, block: Block) -> Json:
-    """The first items: their sender and number are those of their step, unless they are error message frames."""
+    """Returns the columns of the first items. An item that is no error message frame has the sender and the frame
+    number of its step."""
     steps, ends = items.steps[:most], items.ends(most)
     if timeline.idle:
         steps = array("I", map(timeline.places.__getitem__, steps))
@@ -202,16 +209,17 @@ def items_of(items: Items, most: int, timeline: Timeline, block: Block) -> Json:
     return {
         "socket": block.column("I", items.sockets[:most]),
         "step": block.column("I", steps),
-        # 0 for the frame of the step, else the place of an error message frame.
+        # 0 for the frame of the step, or the place of an error message frame among the texts.
         "error": block.column("I", items.errors[:most]),
         "fate": block.column("B", items.fates()[:most]),
-        # The first row in which it was no longer in its queue; 0 if it stayed there, or never was.
+        # The first row in which the item is no longer in its queue. 0 if it stays in the queue, or never entered it.
         "end": block.column("I", ends),
     }
 
 
 def ifaces_of(run: Replay) -> list[Json]:
-    """The interfaces at the end of the run, with the sends that were refused: since the queue was full, or it off or down."""
+    """Returns the interfaces at the end of the run, with the numbers of sends that were refused because the queue was
+    full, or because the interface was bus off or down."""
     return [
         {
             "sent": one.sent,
@@ -230,7 +238,7 @@ def ifaces_of(run: Replay) -> list[Json]:
 
 
 def socket_of(socket: Socket) -> Json:
-    """A socket at the end of the run."""
+    """Returns the facts of a socket at the end of the run."""
     return {
         "number": socket.number,
         "iface": socket.iface,
@@ -245,10 +253,10 @@ def socket_of(socket: Socket) -> Json:
 
 
 def decoded_of(texts: Iterable[str], database: Optional[Database]) -> Json:
-    """The messages and the signals of the frames that the file knows, by the places of the frames."""
+    """Returns the messages and signals of the frames that the file knows, by the places of the frames."""
     messages: Json = {}
     signals: Json = {}
-    # Without a file no text is looked at: there may be a million.
+    # Without a file the texts are skipped, because there may be a million of them.
     for place, text in enumerate(texts) if database is not None else ():
         is_frame = text not in ("", UNKNOWN)
         decoded = database.decode(Frame.parse(text)) if database is not None and is_frame else None
@@ -258,29 +266,32 @@ def decoded_of(texts: Iterable[str], database: Optional[Database]) -> Json:
 
 
 def meanings_of(run: Replay) -> dict[int, str]:
-    """The texts of error message frames, and of items that no line names, by their places."""
+    """Returns the meanings of error message frames, and of items whose frame is unknown, by their places among the
+    texts."""
     unknown, texts = {UNKNOWN: "a frame or an error message frame"}, run.texts.all
     return {place: unknown.get(texts[place]) or meaning(texts[place]) for place in sorted({0, *run.items.errors})[1:]}
 
 
 def event_of(event: Event, places: Sequence[int]) -> Column:
-    """An event: its place, its kind, its interface and its words."""
+    """Returns an event as a list: its row, its kind, its interface and its words."""
     return [places[event.step] if event.step >= 0 and places else 0, event.kind, event.iface, event.words]
 
 
 def lost_frames(run: Replay, places: Sequence[int]) -> Json:
-    """The number and text of each frame that was taken out of a transmit queue, at bus off or down, by the place of the step."""
+    """Returns the lost frames by the row of their step: the number and text of each frame that was removed from a
+    transmit queue because its interface went bus off or down."""
     return {str(places[step]): [[number, run.texts[text]] for number, text in lost] for step, lost in run.lost.items()}
 
 
 def fault_of(fault: str, names: Sequence[str]) -> str:
-    """A verdict in words, and the rule that gave it: ``global bit, by `next 32 from ecu global bit` ``."""
+    """Describes a verdict in words, with the rule that caused it: ``global bit, by `next 32 from ecu global bit` ``."""
     verdict, _, rule = fault.partition("\n")
     return verdict_words(verdict, names) + (f", by `{rule}`" if rule else "")
 
 
 def fullest_socket(run: Replay) -> int:
-    """The number of the socket that lost most, or got most where none lost anything."""
+    """Returns the number of the socket that dropped the most items. If none dropped any, returns the socket with the
+    most items."""
     worst = max(run.sockets, key=lambda socket: (socket.dropped, socket.queued), default=None)
     return worst.number if worst else 0
 
@@ -295,12 +306,12 @@ def data_of(
     rates: Optional[Rates] = None,
     comparison: Optional[Comparison] = None,
 ) -> str:
-    """The data of a page, as its script reads it."""
+    """Returns the data of a page in the form that its script reads."""
     block, timeline, events = Block(), Timeline(run), events_of(run, names)
     places, texts = timeline.places, run.texts
     heading, first = heading_of(run, names, events)
     faults, verdicts = timeline.faults(rules)
-    # Before the texts, which get those of the frames that were never tried.
+    # This comes before the texts are used, because it adds the texts of frames that were never tried.
     lost = lost_frames(run, places)
     header = {
         "title": title,
@@ -308,7 +319,8 @@ def data_of(
         "first": places[first] if places else 0,
         "facts": facts_of(run),
         "names": list(names),
-        # A frame a line: there may be a million. zlib has them while what became of the items is found.
+        # One frame per line, and there may be a million. zlib compresses them while the outcomes of the items are
+        # computed.
         "texts": block.text("\n".join(texts).encode()),
         "items": items_of(run.items, most_items, timeline, block),
         "steps": timeline.columns(block, faults),
@@ -333,12 +345,13 @@ def data_of(
 
 
 def ends_of(run: Replay) -> Json:
-    """Returns the header's facts of interfaces and sockets, as they are at the end."""
+    """Returns the part of the header about interfaces and sockets at the end of the run."""
     return {
         "ifaces": ifaces_of(run),
         "sockets": [socket_of(socket) for socket in run.sockets],
         "socket": fullest_socket(run),
-        # The frames that are first in the queues: who takes part with one has it tried in a step, or here.
+        # The first frame in each queue. If an interface takes part with a frame that it never tries later, it is this
+        # frame.
         "heads": ["".join(one.waiting[:1]) for one in run.ifaces],
     }
 
@@ -353,10 +366,10 @@ def page(
     rates: Optional[Rates] = None,
     comparison: Optional[Comparison] = None,
 ) -> str:
-    """Returns the page of a run, with its first items, and with the rule of each attempt, if they are given.
+    """Returns the page of a run with its first items, and with the rule of each attempt if `rules` is given.
 
-    With the bit rates of its bus it has the bus load, and with a comparison the other run, which it shows as well, and how
-    they differ.
+    If the bit rates of the bus are given, the page shows the bus load. If a comparison is given, it also shows the
+    other run and the differences.
     """
     data = data_of(run, names, title, most_items, database, rules, rates, comparison)
     second = ""
@@ -381,6 +394,6 @@ def filled(name: str, scripts: Sequence[str], styles: Sequence[str] = ("page.css
 
 @functools.lru_cache(maxsize=None)
 def part(name: str) -> str:
-    """Returns a file of the page."""
+    """Returns the content of a file of the page."""
     with open(os.path.join(os.path.dirname(os.path.abspath(__file__)), name), encoding="utf-8") as file:
         return file.read()

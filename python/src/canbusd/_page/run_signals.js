@@ -1,4 +1,4 @@
-// The signals of a run: those of the frames that it tried, and the steps in which each message was sent.
+// The signals in all frames that the run tried, and the steps in which each message was sent.
 
 const sentIn = new Map(), MOST_CURVES = 4;
 on("taken", () => {
@@ -17,12 +17,13 @@ on("taken", () => {
   }
   const all = [...known].map(([key, one]) => ({ ...one, key })).sort((one, other) => one.key < other.key ? -1 : 1);
   signals.all = () => all;
-  // At first the page shows those that change; counters and checksums, which have no unit, only where there is room.
+  // The page first shows signals that change. Counters and checksums, which have no unit, are shown only if there is
+  // room.
   const changing = all.filter(({ changes }) => changes), meant = changing.filter(({ isMeant }) => isMeant);
   signals.changing = () => [...meant, ...changing.filter(({ isMeant }) => !isMeant)].slice(0, MOST_CURVES);
 });
 const valueOf = (step, name) => signalsOf(steps.frame[step]).find(([signal]) => signal === name)?.[1];
-// The last step of a message that has the signal, up to the cursor; a multiplexed one is not in each.
+// Returns the value in the last message with this signal up to the cursor. A multiplexed signal is not in each message.
 signals.at = ({ message, name }) => {
   const sent = sentIn.get(message) || [];
   let low = 0, high = sent.length;
@@ -47,7 +48,7 @@ signals.column = ({ message, name }) => {
   });
   return { of: of.fill(now, from), texts };
 };
-// A number without a name gets one.
+// Returns the code of a value. A number without a name gets a new code.
 function codeOf(texts, value) {
   const found = texts.indexOf(String(value));
   return found >= 0 ? found : texts.push(String(value)) - 1;

@@ -1,13 +1,15 @@
-// Signals, where the page knows them by a file: a list of all with their values at the cursor, and a lane for each that is
-// chosen: a curve, or bands where the file has names for numbers. A page says where the values are:
-//   `all` lists the signals, each with its message, name, unit and `key`; `at` returns the value of one at the cursor, and
-//   `column` its values after each step, NaN before the first, with the names of an enumeration.
+// Signals, if a file of messages is given: a list of all signals with their values at the cursor, and a lane for each
+// chosen signal. The lane has a curve, or bands if the file has names for the values.
+//
+// Each page sets the functions that read the values. `all` lists the signals, each with its message, name, unit and
+// `key`. `at` returns the value of a signal at the cursor. `column` returns the values after each step, which are NaN
+// before the first value, and the names of an enumeration.
 
 const signals = { all: () => [], changing: () => [], at: () => undefined, column: () => ({ of: new Float64Array(0), texts: [] }), shown: [] };
 const signalKey = (message, name) => `${message}.${name}`;
 const signalWords = (value, unit) => value === undefined ? "" : `${typeof value === "number" ? +value.toFixed(6) : value} ${unit}`.trim();
 
-// A column of names: a band for as long as each stays.
+// A lane for a signal with named values. Each value has a band for as long as it lasts.
 class BandLane {
   constructor(name, numbers, texts, more) { Object.assign(this, { name, numbers, texts, height: 34 }, more); }
   draw(plot, top) {
@@ -65,7 +67,7 @@ function findSignals() {
   const words = at("of-signal").value.trim().toLowerCase().split(/\s+/), all = signals.all();
   return [all.filter(({ key }) => words.every(word => key.toLowerCase().includes(word))), all.length];
 }
-// A button that shows or hides a signal's lane.
+// A button that shows or hides the lane of a signal.
 function laneButton(one) {
   const button = element("button", "lane", { type: "button", title: `${one.name} as a lane, or no longer` });
   button.setAttribute("aria-pressed", isShown(one));

@@ -1,4 +1,4 @@
-// The attempts of a node: bars where there is room for each, else shares of those that are there.
+// The attempts of a node: a bar for each attempt if there is room, otherwise the share of each kind.
 
 function strip(plot, i, top, fills) {
   const first = plot.edges[0], last = plot.edges[Math.floor(plot.width)], wide = 3;
@@ -21,7 +21,8 @@ function strip(plot, i, top, fills) {
     stack(plot, i, sum, top, x, wider, fills, time.isInstant ? sums.most : count);
   }
 }
-// Of each three pixels that have steps: their sums, for all lanes. `most` is the most steps of any.
+// Returns sums for each group of three pixels that has steps, used by all lanes. `most` is the largest number of steps
+// in a group.
 function bucketsOf(plot, wide) {
   if (plot.buckets) return plot.buckets;
   const all = [];
@@ -39,14 +40,14 @@ function stack(plot, i, sums, top, x, wide, fills, whole) {
   for (let kind = 0; kind < RESTART; kind++) {
     const number = won(sums, i, kind);
     if (!number) continue;
-    // Failed attempts are visible, however small their share is.
+    // Failed attempts stay visible even if their share is very small.
     const high = Math.max(number / whole * (STRIP - 4), kind ? 1.5 : 0.5);
     block(plot.pen, fills[KINDS[kind]], x, y -= high, wide, high);
   }
   if (won(sums, i, RESTART)) block(plot.pen, theme.restart, x, top, wide, 4);
   if (won(sums, i, DOWN)) block(plot.pen, theme.down, x, top, wide, 4);
 }
-// The room for words after an instant.
+// Returns the width that is free for words after an instant.
 function labelRoom(plot, step, x) {
   if (!time.isInstant) return 0;
   const next = step + 1 < axis.count ? placeOf(plot, axis.start[step + 1]) : plot.width;
@@ -71,7 +72,7 @@ function bar(plot, i, step, top, left, wide, fills, room = 0) {
   }
 }
 
-// The ruler, by attempts with their moments or by time with the attempts.
+// The ruler. By attempts it shows attempts with their timestamps, by time it shows times with the attempts.
 
 function ticksOf(plot) {
   if (!axis.count) return [];
@@ -93,7 +94,7 @@ function secondTicks(most) {
   }));
 }
 
-// The whole run in a strip: the share of failed attempts, and the times when a node was bus off or down.
+// The overview of the whole run: the share of failed attempts, and the times when a node was bus off or down.
 
 function drawOverview() {
   const canvas = at("overview"), width = canvas.parentElement.clientWidth, key = [width, byTime.isOn].join();
@@ -121,12 +122,13 @@ function makeLanes() {
   if (worst && worst.dropped) lanes.push(socketLane(worst));
   happened("lanes made");
 }
-// The frames of a node that wait after each step.
+// Returns the number of frames of a node that still wait after each step.
 function leftOf(i) {
   return new Numbers(queues[i].all.map((waiting, step) => (steps.off[step] | steps.down[step]) >> i & 1 ? 0
     : waiting - (steps.kind[step] === 0 && steps.iface[step] === i)));
 }
-// The items in a socket's receive queue after each step, and the steps in which it lost items.
+// Returns a lane with the number of items in a socket's receive queue after each step, and marks at steps with dropped
+// items.
 function socketLane(socket) {
   const count = steps.kind.length, fill = new Int32Array(count + 1), marks = new Uint8Array(count);
   for (let item = 0; item < items.step.length; item++) {

@@ -1,4 +1,4 @@
-// The page of a sweep: failures by groups, and a matrix of attempts and faults.
+// The page of a sweep: the failures in groups, and a matrix of attempts and faults.
 "use strict";
 
 const sweep = JSON.parse(document.getElementById("run").textContent);
@@ -91,7 +91,7 @@ function drawGroups(tests) {
     }
 }
 
-// ---- the matrix ----
+// ---- the matrix of attempts and faults ----
 
 function filters() {
     return {

@@ -3,7 +3,8 @@
 const attemptCell = step => isAttempt(step) ? grouped(attemptOf[step]) : KINDS[steps.kind[step]];
 function makeLists() {
   const moment = ["moment", `${Math.max(8, axis.count ? momentOf(axis.count - 1).length : 0)}ch`, "n"];
-  // A bench's moments begin with the run; of those of the clock long lists have the time since the start instead.
+  // Timestamps of a bench start at 0 with the run. If timestamps are from the clock, long lists show the time since the
+  // start instead.
   const isClock = hasClock(), since = isClock ? [["since the start", "15ch", "n h"]] : [], last = ["since last", "minmax(0, 11ch)", "n x"];
   const timeColumns = [isClock ? ["since start", "13ch", "n"] : moment, last];
   const timeCells = (step, before) => [isClock ? sinceStart(step) : momentOf(step), sinceStep(step, before)];
@@ -71,7 +72,7 @@ function chooseSocket(socket) {
   redraw();
 }
 
-// Filters: each list is filtered again when it is shown, and when a filter or what is seen has changed.
+// Filters. A list is filtered again when it is shown, and when a filter or the visible part has changed.
 
 function finders() {
   const node = at("of-node").value, text = at("of-frame").value.trim().toUpperCase().replace(/^0X/, "");
@@ -143,7 +144,7 @@ function sayFound(name, list) {
   const cut = name === "tab-items" && isCut() ? `, of which the page has the first ${grouped(items.step.length)}` : "";
   at("found").textContent = `${grouped(list.list.length)} of ${grouped(list.all)}${cut}`;
 }
-// The list that is shown scrolls to the chosen step.
+// Scrolls the visible list to the chosen step.
 function follow() {
   const list = lists[tab];
   if (!list?.stepOf) { list?.show(); return; }

@@ -1,5 +1,5 @@
-// The controls of a page that may act: they send frames, give rules of faults, and take nodes down and up. `canbusd watch` carries
-// out each act, and returns the line of Python that does the same, or the reason why it was refused.
+// The controls of a page with actions: they send frames, add fault rules, and take nodes down and up. `canbusd watch`
+// carries out each action, and returns the line of Python that does the same, or the reason why the action was refused.
 
 const cycles = new Map(), actNode = () => at("act-name").value;
 let page = "";
@@ -20,7 +20,7 @@ function copyButton(text) {
     () => { button.textContent = "not copied"; });
   return button;
 }
-// The frame in the fields: its text, or a message and the signals that have a value.
+// Returns the frame in the input fields: its text, or a message and the signals that have a value.
 function askedFrame() {
   const message = at("act-message").value;
   if (!message) return { frame: at("act-id").value.trim() + at("act-kind").value + at("act-data").value.replace(/\s/g, "") };
@@ -32,7 +32,7 @@ const ASKED = {
   cycle: () => ({ ...askedFrame(), period: Number(at("act-period").value) / 1000 }),
   rule: () => ({ rule: at("act-text").value }),
 };
-// Shows a field for each signal, with its start value and the names of its values.
+// Shows an input field for each signal, with its start value and the names of its values.
 function showSignals() {
   const [name, period, signalsOf] = messages.find(([one]) => one === at("act-message").value) || ["", 0, []];
   at("by-hand").hidden = name !== "";
@@ -51,7 +51,7 @@ const READY = [["one of these", () => at("act-text").value],
   ["it sees a CRC error in the next frame", node => `next 1 local crc ${node}`],
   ["it goes bus off", node => `next 32 from ${node} global bit`],
   ["none of its frames comes through", node => `always from ${node} global bit`]];
-// The cyclic frames that `canbusd watch` lists. A frame keeps its row, with its button, until it leaves the list.
+// Shows the cyclic frames that `canbusd watch` lists. A frame keeps its row and its button until it leaves the list.
 function showCycles(all) {
   for (const [number, row] of cycles) {
     if (all.some(([one]) => one === number)) continue;

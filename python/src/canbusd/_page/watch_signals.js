@@ -1,4 +1,4 @@
-// The signals of the frames that come, each with its moments and values, and their lanes.
+// The signals of the frames that arrive, each with its timestamps and values, and the lanes of signals.
 
 const MOST_VALUES = 4000, bySignal = new Map();
 let signalLanes = new Map();
@@ -12,7 +12,7 @@ function takeSignals(moment, message, values) {
     if (one.moments.length > 2 * MOST_VALUES) [one.moments, one.values] = [one.moments.slice(-MOST_VALUES), one.values.slice(-MOST_VALUES)];
   }
 }
-// The signals that are known, as signals.js has them.
+// The functions that signals.js needs, for the signals that are known so far.
 signals.all = () => [...bySignal.values()].sort((one, other) => one.key < other.key ? -1 : 1);
 signals.at = ({ key }) => {
   const { moments, values } = bySignal.get(key) || { moments: [], values: [] };
@@ -28,7 +28,7 @@ signals.column = ({ key }) => {
   }
   return { of, texts };
 };
-// Lanes stay, with the names beside them; what they show is new.
+// Lanes are kept, together with their names at the left. Only their contents are replaced.
 function measureSignals() {
   signalLanes = new Map(signals.shown.map(one => {
     const made = signalLane(one), old = signalLanes.get(one.key);

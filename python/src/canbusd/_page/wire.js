@@ -1,10 +1,10 @@
-// Time on the wire, in the pages of runs whose bus has bit rates: bus load, and how long frames took and waited. The other
-// pages have nothing of this: it adds to what their scripts do.
+// Time on the wire: bus load, and how long frames took and waited. Only pages of runs whose bus has bit rates include
+// this script. It adds to what the other scripts do.
 
-// Times are in nanoseconds since the first attempt began.
+// Times are in nanoseconds since the start of the first attempt.
 const wire = {};
 
-// Columns, and sums of the time in which the wire was busy.
+// Reads the columns, and sums up the time during which the wire was busy.
 
 on("taken", column => {
   for (const name of ["begin", "nominal", "fast", "frame", "busy", "since"]) wire[name] = column(run.wire[name]);
@@ -23,7 +23,7 @@ on("taken", column => {
   view.to = axis.length;
   placeIdentifiers();
 });
-// Of each text the number of its identifier.
+// Finds the number of the identifier of each text.
 function placeIdentifiers() {
   const numbers = new Map();
   wire.identifierOf = Uint32Array.from(run.texts, text => {
@@ -33,25 +33,26 @@ function placeIdentifiers() {
   });
   wire.identifiers = [...numbers.keys()];
 }
-// For how long the wire was busy up to a time. An attempt that overlaps the next counts for the time before that.
+// Returns how long the wire was busy up to a time. If an attempt overlaps the next one, all its time counts before the
+// next one begins.
 function busyUntil(nanos) {
   if (!axes[1].count) return 0;
   const step = axes[1].stepAt(nanos / 1e9), begin = wire.begin[step];
   const room = Math.min(wire.busy[step], (wire.begin[step + 1] ?? Infinity) - begin);
   return wire.sums[step] + wire.busy[step] * (room ? Math.min(Math.max((nanos - begin) / room, 0), 1) : 0);
 }
-// The time at a place of the axis that is shown.
+// Returns the time at a place of the current axis.
 function nanosAt(place) {
   if (byTime.isOn || !axis.count) return place * 1e9;
   const step = axis.stepAt(place), from = axis.start[step], next = wire.begin[step + 1] ?? run.wire.end;
   return wire.begin[step] + (next - wire.begin[step]) * Math.min((place - from) / (axis.start[step + 1] - from), 1);
 }
-// The share of busy time; nothing where no time passed.
+// Returns the bus load between two times, or NaN if no time passed.
 const loadIn = (from, to) => to > from ? (busyUntil(to) - busyUntil(from)) / (to - from) : NaN;
 const loadOfAll = () => run.wire.end ? loadIn(0, run.wire.end) : 0;
 const loadSeen = () => loadIn(nanosAt(view.from), nanosAt(view.to));
 const fixed = (number, digits) => number.toLocaleString("en", { minimumFractionDigits: digits, maximumFractionDigits: digits });
-// Of attempts that took no time it may be any number.
+// If attempts took no time, the load may be any number.
 const percent = share => Number.isNaN(share) ? "none" : share > 9.99 ? "> 999 %" : `${fixed(100 * share, 1)} %`;
 function duration(nanos) {
   const [unit, by] = nanos < 1e6 ? ["\u00b5s", 1e3] : nanos < 1e9 ? ["ms", 1e6] : ["s", 1e9];
@@ -75,7 +76,7 @@ class LoadLane {
       if (!Number.isNaN(load)) last = load;
       const y = foot - Math.min(last, 1) * high;
       block(pen, theme.queue, x, y, wide, foot - y);
-      // More than the wire can carry.
+      // The load exceeds what the wire can carry.
       if (last > 1.001) block(pen, theme.destroyed, x, top, wide, 6);
       if (x) line.lineTo(x, y); else line.moveTo(x, y);
       line.lineTo(x + wide, y);
@@ -106,7 +107,7 @@ function rateWords() {
   const words = rate => rate % 1e6 ? `${grouped(rate / 1e3)} kbit/s` : `${grouped(rate / 1e6)} Mbit/s`;
   return words(run.wire.bitrate) + (run.wire.dbitrate ? `, data at ${words(run.wire.dbitrate)}` : "");
 }
-// Counts the attempts that begin before those before them are over.
+// Counts the attempts that begin before all earlier attempts have ended.
 function overlaps() {
   let found = 0;
   for (let k = 0, over = 0; k < axis.count; k++) {
@@ -141,13 +142,13 @@ on("fields", (pairs, step) => {
     [`${wire.identifiers[identifier]} in view`, shareWords(of.busy[identifier], of)],
   );
 });
-// Whether the frame was sent whole: in other attempts it was destroyed before.
+// Whether the frame was sent completely. In other attempts it was destroyed before its end.
 const isWhole = step => ["done", "lastbit"].includes(KINDS[steps.kind[step]]);
 function bitWords(step) {
   const nominal = times(wire.nominal[step], "bit"), fast = wire.fast[step];
   return `${nominal}${fast ? `, and ${grouped(fast)} at the data bit rate` : ""}${isWhole(step) ? "" : ", not all of which were sent"}`;
 }
-// As far as the record has it: a send has no moment.
+// Returns the response time as far as the record has it, because the record has no timestamp for a send.
 function delayWords(step) {
   const first = step - wire.since[step], nanos = wire.begin[step] + wire.frame[step] - wire.begin[first];
   if (!isWhole(step)) {
@@ -160,7 +161,7 @@ function delayWords(step) {
 }
 const shareWords = (busy, { all, nanos }) => `load ${percent(busy / nanos)}, ${percent(all ? busy / all : 0)} of the busy time`;
 
-// The load of each identifier, of the attempts that begin in the visible part.
+// The load of each identifier, over the attempts that begin in the visible part.
 
 function sumsSeen() {
   const first = axis.from(view.from), last = axis.from(view.to), key = [first, last, view.from, view.to].join();

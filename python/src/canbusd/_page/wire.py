@@ -1,4 +1,4 @@
-"""The time on the wire in the page of a run: columns next to those of its steps, if its bus has bit rates."""
+"""The time on the wire for the page of a run: more columns for its steps, if the bus has bit rates."""
 
 import itertools
 import operator
@@ -21,7 +21,7 @@ Column = list[Any]
 def wire_of(
     run: Replay, timeline: "Timeline", rates: Rates, column: Callable[[str, Iterable[float]], Column]
 ) -> dict[str, Any]:
-    """Returns the bit rates, and columns by the rows of the time line, which `column` makes."""
+    """Returns the bit rates, and columns with a number for each row of the time line. `column` makes the columns."""
     run = timed(run, rates)
     slots, steps = slots_of(run), run.steps
     over = max((slot.over for slot in slots), default=0)
@@ -30,10 +30,11 @@ def wire_of(
     return {
         "bitrate": rates.bitrate,
         "dbitrate": rates.dbitrate,
-        # In nanoseconds: how long after the one before, which is shorter than since the first.
+        # The time in nanoseconds since the start of the previous row. These numbers are shorter than times since the
+        # first row.
         "begin": [*column("d", map(operator.sub, begins, itertools.chain([start], begins))), "rising"],
         "end": end - start,
-        # The number of bits that the frame has at each bit rate, and how long it and the attempt take, in nanoseconds.
+        # The number of bits of the frame at each bit rate, and how long the frame and the attempt take, in nanoseconds.
         "nominal": column("H", timeline.rows(steps.nominal_bits)),
         "fast": column("H", timeline.rows(steps.fast_bits)),
         "frame": column("I", timeline.rows(steps.frame_nanos)),
@@ -43,9 +44,10 @@ def wire_of(
 
 
 def begins_of(run: Replay, timeline: "Timeline", slots: Sequence[Slot], over: int) -> list[int]:
-    """When each row begins, and none before the one before it: idle attempts where the step after them does.
+    """Returns when each row begins. These times never decrease, and idle attempts begin together with the step after
+    them.
 
-    Those after the last step begin when all attempts are over.
+    Idle attempts after the last step begin when all attempts have ended.
     """
     by_step = array("q", (1000 * micros for micros in run.steps.moments))
     for slot in slots:
@@ -54,7 +56,7 @@ def begins_of(run: Replay, timeline: "Timeline", slots: Sequence[Slot], over: in
 
 
 def since_of(run: Replay, places: Sequence[int]) -> "array[int]":
-    """The number of rows that before each attempt its frame first took part in arbitration."""
+    """Returns, for each attempt, how many rows earlier its frame first took part in arbitration."""
     steps, since = run.steps, array("I")
     firsts: dict[int, int] = {}
     for step, (place, kind, iface, off) in enumerate(zip(places, steps.kinds, steps.ifaces, steps.off)):

@@ -1,1 +1,2 @@
-"""Processes: the program `canbusd` and its options, its servers and benches, and how it is talked with over pipes."""
+"""Processes: the program `canbusd` and its options, its servers and benches, and the communication with them over
+pipes."""

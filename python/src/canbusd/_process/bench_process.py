@@ -1,4 +1,4 @@
-"""A bench as a process: lines go to it through one pipe, and its own come through another."""
+"""A bench in its own process. Pipes carry lines to it and lines from it."""
 
 import os
 import select
@@ -10,13 +10,13 @@ from typing import Optional
 from canbusd._process.program import BenchError, ProgramNotFound, find_program
 from canbusd._process.program_run import HasProgram
 
-#: Seconds after which a bench that says nothing is given up.
+#: How many seconds a bench may be silent before it is killed.
 TIMEOUT = 30.0
 
 
 def fault_of(words: Sequence[str], given: bytes) -> str:
-    """Returns the text of the fault with which a bench of these words ends that is given this input; empty if it has none, or
-    if there is no program."""
+    """Runs a bench with these arguments and this input, and returns its error message. Returns the empty text if the
+    bench succeeds or there is no program."""
     try:
         program = find_program()
     except ProgramNotFound:
@@ -26,20 +26,20 @@ def fault_of(words: Sequence[str], given: bytes) -> str:
 
 
 class BenchProcess(HasProgram):
-    """The bench of `canbusd bench`."""
+    """A process that runs `canbusd bench`."""
 
     def __init__(self, words: Sequence[str], errors: Path) -> None:
-        """Starts it with these words; its standard error goes into a file."""
+        """Starts the bench with these arguments. Its standard error goes to a file."""
         self._start(errors, "bench", *words)
         self._rest = b""
 
     @property
     def is_over(self) -> bool:
-        """Whether it has ended."""
+        """Whether the bench has ended."""
         return self._child.stdin is None
 
     def write(self, data: bytes) -> None:
-        """Gives it lines."""
+        """Sends lines to the bench."""
         assert self._child.stdin is not None
         try:
             self._child.stdin.write(data)
@@ -47,7 +47,7 @@ class BenchProcess(HasProgram):
             self._finish()
 
     def read_line(self) -> str:
-        """Returns the next line that it writes, without its end."""
+        """Returns the next line that the bench writes, without its LF."""
         while b"\n" not in self._rest:
             if not self._more():
                 self._finish()
@@ -56,22 +56,22 @@ class BenchProcess(HasProgram):
         return line.decode()
 
     def end(self) -> None:
-        """Ends its input, and waits for its end."""
+        """Closes the input of the bench, and waits until the bench ends."""
         self.forget()
         while self._more():
             pass
         self._finish()
 
     def forget(self) -> None:
-        """Holds its input no longer."""
+        """Closes the input of the bench in this process."""
         self._close_input()
 
     def left(self, ending: str) -> Optional[bytes]:
-        """Returns None: it has written its record and its log itself."""
+        """Returns None, because the bench has written its record and its log itself."""
         return None
 
     def _more(self) -> bool:
-        """Reads what it wrote; False at its end."""
+        """Reads some output of the bench. Returns false at the end of the output."""
         assert self._child.stdout is not None
         output = self._child.stdout.fileno()
         if not select.select([output], [], [], TIMEOUT)[0]:
@@ -82,7 +82,8 @@ class BenchProcess(HasProgram):
         return bool(piece)
 
     def _finish(self, fault: str = "") -> None:
-        """Waits for the end of the program, and raises this fault, or what the program said if it ended with one."""
+        """Waits for the end of the program. If the program failed, raises BenchError with `fault` and the program's
+        messages."""
         self._close_input()
         status = self._child.wait(TIMEOUT)
         assert self._child.stdout is not None

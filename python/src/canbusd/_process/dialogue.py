@@ -1,4 +1,4 @@
-"""A bench in a dialogue: lines that are given to it, and lines that it writes."""
+"""A dialogue with a bench: lines that are sent to it, and lines that it writes."""
 
 import os
 import re
@@ -16,7 +16,7 @@ AT = re.compile(r"[0-9]{1,10}\.[0-9]{6}")
 
 
 def moment_text(at: Union[str, float], what: str = "at") -> str:
-    """Returns a moment as the bench reads it: seconds with six digits after the point."""
+    """Returns a time in the form that the bench reads: seconds with six decimal places."""
     try:
         text = at if isinstance(at, str) else f"{at:.6f}"
     except (TypeError, ValueError):
@@ -27,48 +27,50 @@ def moment_text(at: Union[str, float], what: str = "at") -> str:
 
 
 class Lines(Protocol):
-    """The bench itself, a process or a part of this one: it takes lines, and writes what they bring about. BenchError if it
-    ends with a fault."""
+    """The bench of a dialogue, which is another process or a part of this process. It receives lines and answers with
+    lines. If it ends with an error, its methods raise BenchError."""
 
     @property
     def is_over(self) -> bool:
-        """Whether it has ended."""
+        """Whether the bench has ended."""
 
     @property
     def said(self) -> str:
-        """What it said of the fault with which it has ended."""
+        """The messages of the bench about the error with which it ended."""
 
     def write(self, data: bytes) -> None:
-        """Gives it lines."""
+        """Sends lines to the bench."""
 
     def read_line(self) -> str:
-        """Returns the next line that it writes, without its end."""
+        """Returns the next line that the bench writes, without its LF."""
 
     def end(self) -> None:
-        """Ends it; its record and its log are whole then."""
+        """Ends the bench. After this call its record and its log are complete."""
 
     def forget(self) -> None:
-        """Lets go of it in a process that was forked."""
+        """Closes the connection to the bench in a forked process."""
 
     def left(self, ending: str) -> Optional[bytes]:
-        """Returns the record or the log of a run that came to its end, by the ending of its file; None if it has written it."""
+        """Returns the record or the log of a complete run. `ending` is the ending of its file name. Returns None if the
+        bench wrote the file itself."""
 
 
 class Dialogue(Run):
-    """A bench to which lines are written, one call at a time, each of which reads what that makes it write."""
+    """A bench that gets lines in one call at a time. Each call reads what the bench writes in reply."""
 
     _lines: Lines
 
     def __init__(self, out: Union[str, "os.PathLike[str]", None]) -> None:
         super().__init__(out)
         self._moment = "0.000000"
-        # One call at a time. If one was interrupted, its answer is still to come, and would be taken for that of the next.
+        # This lock allows one call at a time. If a call is interrupted, its answer is still to come, and the next call
+        # would mistake it for its own answer. `_in_step` is false then.
         self._turn = threading.RLock()
         self._in_step = True
         self._written = 0
 
     def _begin(self, lines: Lines) -> None:
-        """Begins the dialogue with this bench."""
+        """Begins a dialogue with this bench."""
         self._lines = lines
         RUNNING.add(self)
 
@@ -81,7 +83,7 @@ class Dialogue(Run):
         self._lines.forget()
 
     def stop(self) -> None:
-        """Ends the run; its record and its log are written. The sessions can't be used any more."""
+        """Ends the run, after which its record and its log are written. The sessions can't be used any more."""
         self._check_process()
         with self._turn:
             if self._lines.is_over:
@@ -91,14 +93,15 @@ class Dialogue(Run):
             self._ended()
 
     def _ended(self) -> None:
-        """Is called once after a run that came to its end."""
+        """Called once after the run has ended without an error."""
         raise NotImplementedError
 
     def _ask(self, lines: str, at: Union[str, float, None] = None) -> list[str]:
-        """Carries out lines whose last one ends with `< echo >`, and returns what the session writes before that echo; a
-        refusal is raised.
+        """Sends lines whose last one ends with `< echo >`, and returns what the session writes before that echo. Raises
+        Refused if a line is refused.
 
-        A line of messages is answered in one line, so an echo that was asked for is not taken for the last.
+        The answer to a line of messages is one line. So an echo that a caller requested is not mistaken for the last
+        one.
         """
         with self._turn:
             self._write(lines, at)
@@ -119,7 +122,7 @@ class Dialogue(Run):
         return written
 
     def _write(self, lines: str, at: Union[str, float, None] = None) -> None:
-        """Writes lines, before which the moment is set if one is given."""
+        """Writes lines. If `at` is given, sets the time of the bench first."""
         if os.getpid() != self._process:
             self._check_process()
         if self._lines.is_over:

@@ -1,12 +1,13 @@
-"""Guards of programs: each ends one once this process has ended, however it did."""
+"""Guards of programs. A guard ends a program after this process has ended in any way."""
 
 import contextlib
 import os
 import subprocess
 import weakref
 
-# The first line of its input is the program; the second says that this has ended. Once the input ends without that: SIGTERM,
-# and after 5 seconds, or its end, SIGKILL for what is left of its group.
+# The first line of the guard's input is the process ID of the program. A second line says that the program has ended.
+# If the input ends without a second line, the guard sends SIGTERM to the program. After 5 seconds, or when the program
+# has ended, the guard sends SIGKILL to the remaining processes of the program's group.
 GUARD = """
 read -r program && [ -n "$program" ] || exit
 read -r _ && exit
@@ -20,11 +21,12 @@ kill -s KILL -- "-$program" "$program"
 
 
 class Guard:
-    """The guard of a program that leads a group of processes; it is there first, so that no program is without."""
+    """The guard of a program that leads a process group. It starts before the program, so that the program is never
+    without a guard."""
 
     def __init__(self) -> None:
         null = subprocess.DEVNULL
-        # It outlives what ends this process, such as Ctrl-C.
+        # The guard has its own session, so that it survives signals that end this process, such as Ctrl-C.
         self._child = subprocess.Popen(
             ["/bin/sh", "-c", GUARD],
             bufsize=0,
@@ -37,23 +39,24 @@ class Guard:
         assert self._child.stdin is not None
         self._input = self._child.stdin
         GUARDS.add(self)
-        # The end of its input has it end the program.
+        # When its input is closed, the guard ends the program.
         weakref.finalize(self, self._input.close)
 
     def watch(self, program: int) -> None:
-        """Has it end this process."""
+        """Tells the guard the process ID of its program."""
         self._input.write(f"{program}\n".encode())
 
     def release(self) -> None:
-        """Ends the guard of a program that has ended, whose number may soon be that of another one, or did not start."""
-        # Another thread may do so, too.
+        """Ends the guard of a program that has ended or did not start. This must be done because another program may
+        soon get the same process ID."""
+        # Another thread may have done this already.
         with contextlib.suppress(BrokenPipeError, ValueError):
             self._input.write(b"\n")
         self._input.close()
         self._child.wait()
 
     def forget(self) -> None:
-        """Lets go of the guard in a process that was forked."""
+        """Closes the guard's input in a forked process."""
         self._input.close()
 
 
@@ -61,7 +64,8 @@ GUARDS: "weakref.WeakSet[Guard]" = weakref.WeakSet()
 
 
 def forget_guards() -> None:
-    """A process that was forked keeps no program from its end."""
+    """Closes the inputs of all guards in a forked process, because an open input would keep the guards from ending
+    their programs."""
     for guard in list(GUARDS):
         guard.forget()
     GUARDS.clear()

@@ -1,8 +1,8 @@
-"""The process of canbusd.isotp.SocketIsoTp, a program for canbusd-run: it needs nothing but Python.
+"""Runs as the process of canbusd.isotp.SocketIsoTp under canbusd-run. This program needs only Python.
 
     isotp_socket.py DESCRIPTOR INTERFACE OPTIONS
 
-The options are those of canbusd._isotp.options, as JSON.
+OPTIONS are the options of canbusd._isotp.options as JSON.
 """
 
 import errno
@@ -13,16 +13,16 @@ import sys
 from typing import Any
 
 MOST_BYTES = 4095
-# Options of linux/can/isotp.h, and flags of the first: extended addresses, padding, another address of what is received, and
-# that a send ends with its last frame.
+# Options of linux/can/isotp.h, and flags of the first option: extended addresses, padding, a different address for
+# received frames, and a send that returns after its last frame.
 OPTIONS, FLOW_CONTROL, LINK_LAYER = 1, 2, 5
 EXTENDED, PADDING, OTHER_RX, WAIT_DONE = 0x2, 0x4, 0x200, 0x400
-# The size of an FD frame of Linux.
+# The size of Linux's structure for an FD frame, in bytes.
 CANFD_MTU = 72
 
 
 def relay(own: socket.socket, end: socket.socket) -> None:
-    """Carries messages between a pair of sockets and a CAN_ISOTP socket, until the other side of the pair is closed."""
+    """Passes messages between a socket pair and a CAN_ISOTP socket, until the other side of the pair is closed."""
     while True:
         ready = select.select([own, end], [], [])[0]
         if end in ready:
@@ -31,7 +31,7 @@ def relay(own: socket.socket, end: socket.socket) -> None:
             except OSError as fault:
                 own.send(f"e{fault.errno}".encode())
                 if fault.errno == errno.ENODEV:
-                    # The server has ended.
+                    # This error means that the server has ended.
                     return
         if own in ready:
             data = own.recv(MOST_BYTES)
@@ -41,7 +41,7 @@ def relay(own: socket.socket, end: socket.socket) -> None:
 
 
 def error_of(end: socket.socket, data: bytes) -> int:
-    """Sends a message; the number of the error, 0 if it went out."""
+    """Sends a message, and returns the errno, or 0 if the message was sent."""
     try:
         end.send(data)
         return end.getsockopt(socket.SOL_SOCKET, socket.SO_ERROR)
@@ -63,7 +63,7 @@ def set_options(end: socket.socket, given: "dict[str, Any]") -> None:
 
 
 def main() -> None:
-    """Opens the socket, says so, and carries messages."""
+    """Opens the socket, reports that it is open, and passes messages."""
     descriptor, channel, options = sys.argv[1:]
     given = json.loads(options)
     own = socket.socket(fileno=int(descriptor))

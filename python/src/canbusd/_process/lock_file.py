@@ -1,4 +1,4 @@
-"""The file by which a server locks its folder; one that is killed leaves it there."""
+"""The file with which a server locks its folder. A server that is killed leaves the file there."""
 
 import contextlib
 import fcntl
@@ -6,16 +6,17 @@ import os
 import time
 from pathlib import Path
 
-#: Its name in the folder of `--out`.
+#: The name of the file in the folder of `--out`.
 NAME = ".canbusd.lock"
-#: Seconds in which a server that was killed closes its files, which its launcher does not wait for.
+#: How many seconds a killed server may take to close its files. Its launcher does not wait for this.
 CLOSING = 0.2
 
 
 def remove_left(folder: Path) -> None:
-    """Removes the file that a server of this folder left, by the server's rule: it is empty, and no other server has it."""
+    """Removes the lock file that a server left in this folder. By the server's rule, the file must be empty, and no
+    other server may hold the lock."""
     path = folder / NAME
-    # If it can't be removed it stays, which does no harm.
+    # A file that can't be removed stays and does no harm.
     with contextlib.suppress(OSError):
         lock = os.open(path, os.O_RDWR | os.O_NOFOLLOW)
         try:
@@ -27,7 +28,7 @@ def remove_left(folder: Path) -> None:
 
 
 def take(lock: int) -> None:
-    """Locks this file; BlockingIOError if a server keeps it."""
+    """Locks this file. Raises BlockingIOError if a server holds the lock."""
     deadline = time.monotonic() + CLOSING
     while True:
         try:

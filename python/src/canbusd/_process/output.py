@@ -1,4 +1,4 @@
-"""The output of a program so far, in a file: it may be more than there is memory and time for."""
+"""The output of a program so far, in a file. The output may be too large to read all of it."""
 
 import codecs
 import os
@@ -6,9 +6,9 @@ import time
 from pathlib import Path
 from typing import BinaryIO, Optional
 
-#: Of how many bytes a text is made, and how many are read at once to look for one.
+#: The maximum size of a returned text, and the size of a block when searching for a text, both in bytes.
 MOST, BLOCK = 1 << 20, 1 << 17
-#: How long a line of it may be that a failure shows.
+#: The maximum length of a line of output in a failure message.
 LONGEST = 1000
 
 
@@ -22,7 +22,8 @@ class Output:
         return os.stat(self._path).st_size
 
     def text(self, end: Optional[int] = None) -> str:
-        """Returns it, or what is before this place; of more than MOST bytes the last ones, and how many there are before."""
+        """Returns the output, or the part before `end`. If this is more than MOST bytes, returns the last of them,
+        after a line with the number of bytes that were left out."""
         size = len(self) if end is None else end
         first = max(0, size - MOST)
         with open(self._path, "rb") as file:
@@ -31,7 +32,8 @@ class Output:
         return f".. {first:,} bytes before\n{text}" if first else text
 
     def last_lines(self, most: int) -> list[str]:
-        """Returns its last lines, after one that says how many there are; nothing if there are none."""
+        """Returns the last lines of the output, after a line that says how many lines there are. Returns an empty list
+        if there is no output."""
         lines = self.text().splitlines()
         if not lines:
             return []
@@ -43,15 +45,15 @@ class Output:
 
 
 class Search:
-    """A search for a text in an output, which goes on where it was as more is written."""
+    """A search for a text in an output. It continues from the place that it reached when the program writes more."""
 
     def __init__(self, path: Path, text: str) -> None:
         self._file: BinaryIO = open(path, "rb")
         self._text = text
         self._decoder = codecs.getincrementaldecoder("utf-8")("replace")
-        # The end of what was read, in which the text may begin; each of its lines may end in two characters.
+        # The end of the output read so far, in which the text may begin. Each line may end with two characters.
         self._rest = ""
-        #: The number of bytes that were read.
+        #: The number of bytes read so far.
         self.place = 0
         self.is_found = not text
 
@@ -62,7 +64,8 @@ class Search:
         self._file.close()
 
     def goes_on(self, deadline: float) -> bool:
-        """Reads what there is until the text is found, or until the deadline, but MOST bytes in any case; whether all is read."""
+        """Reads the available output until the text is found or the deadline passes, but at least MOST bytes. Returns
+        whether everything was read or the text was found."""
         while not self.is_found:
             if self.place >= MOST and time.monotonic() >= deadline:
                 return False
@@ -77,5 +80,5 @@ class Search:
 
 
 def unix_lines(text: str) -> str:
-    """Returns a text whose lines end in LF, as text files of Python have it."""
+    """Returns a text with LF as line ends, like text files in Python."""
     return text.replace("\r\n", "\n").replace("\r", "\n") if "\r" in text else text

@@ -1,4 +1,4 @@
-"""The program `canbusd`: where it is, and what it says of a record."""
+"""The program `canbusd`: finding it, running it, and its verdict on a record."""
 
 import os
 import shutil
@@ -7,27 +7,29 @@ from collections.abc import Sequence
 from pathlib import Path
 from typing import NoReturn, Optional, Union
 
-#: The source of a variable that its user did not set, by its name: an option of pytest's ini file.
+#: If a variable was not set by the user but by an option of pytest's ini file, maps the variable to that option.
 SET_BY: dict[str, str] = {}
 
 
 class ServerError(RuntimeError):
-    """The server could not be started, or ended with a fault; the text is that of canbusd."""
+    """The server could not be started, or it ended with an error. The text is canbusd's message."""
 
 
 class BenchError(RuntimeError):
-    """The bench ended with a fault; the text is what canbusd said of it."""
+    """The bench ended with an error. The text is canbusd's message."""
 
 
 class ProgramNotFound(FileNotFoundError):
-    """There is no program canbusd where it is looked for."""
+    """The program canbusd was not found."""
 
 
 def find_program(name: str = "canbusd") -> str:
-    """Returns the path of a program: `$CANBUSD`, else that of the package, of its clone, or on the PATH.
+    """Returns the path of a program: the path in `$CANBUSD`, or the program in the package, in its clone, or on the
+    PATH.
 
-    A wheel has the programs in the package. If the package is in a clone, it is `./canbusd` of that. For another
-    name the variable is that: `$CANBUSD_RUN` for canbusd-run. A command that pip made of this package is none of them.
+    A wheel contains the programs in its package. If the package is in a clone, the program is `./canbusd` in the clone.
+    The variable depends on the name: for canbusd-run it is `$CANBUSD_RUN`. Commands that pip made for this package are
+    ignored.
     """
     variable = name.upper().replace("-", "_")
     given = os.environ.get(variable)
@@ -54,17 +56,18 @@ def find_program(name: str = "canbusd") -> str:
 
 
 def is_own_command(path: str) -> bool:
-    """Whether this is a command that pip made of the package, which would look for the program again."""
+    """Returns whether this is a command that pip made for the package. It would only look for the program again."""
     try:
         with open(path, "rb") as file:
             return b"from canbusd." in file.read(1024)
     except OSError:
-        # A program that may be run and not read.
+        # The file may be executable but not readable, so it is a program.
         return False
 
 
 def run_program(name: str, words: Sequence[str]) -> NoReturn:
-    """Becomes the program with these words; a server by the launcher beside it, which ends it at Ctrl-C."""
+    """Replaces this process by the program with these arguments. If there is a launcher next to the program, it starts
+    the server and ends it at Ctrl-C."""
     program = find_program(name)
     launcher = os.path.join(os.path.dirname(program), "serve")
     has_launcher = name == "canbusd" and words[0] == "serve" and os.path.isfile(launcher)
@@ -73,9 +76,9 @@ def run_program(name: str, words: Sequence[str]) -> NoReturn:
 
 
 def audited(path: Union[str, "os.PathLike[str]"], cut: bool = False) -> str:
-    """Returns what `canbusd audit` says of the record in this file: `ok 7 entries`, or the fault and where it is.
+    """Returns the verdict of `canbusd audit` on the record in this file: `ok 7 entries`, or the error and its place.
 
-    With `cut` the record may end before its last line, and then it is `ok 7 entries, then cut off`.
+    With `cut` the record may lack its last line. Then the verdict is `ok 7 entries, then cut off`.
     """
     words = [find_program(), "audit", *(["--cut"] if cut else []), "--", os.fspath(path)]
     done = subprocess.run(words, stdin=subprocess.DEVNULL, capture_output=True, text=True, check=False)

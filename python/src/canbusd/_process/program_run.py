@@ -1,4 +1,5 @@
-"""The common part of Server and Bench: the options of the program, a folder of its own, an end, and the program as a child."""
+"""The common parts of Server and Bench: the options of the program, the run's folder, its end, and the program as a
+child process."""
 
 import _thread
 import functools
@@ -25,21 +26,21 @@ from canbusd.faults import Script
 
 Self = TypeVar("Self", bound="Run")
 
-#: The folder of all runs' folders; None is the system's place for temporary files.
+#: The folder in which runs make their folders. None stands for the system's folder for temporary files.
 FOLDERS: "ContextVar[Optional[Path]]" = ContextVar("FOLDERS", default=None)
 
 Ack = Literal["always", "peers"]
 
 
 def option_words(ack: str, report: bool, **numbers: int) -> list[str]:
-    """Returns the words of the command line that give these options; ValueError names one that is wrong."""
+    """Returns the command-line arguments for these options. If an option is wrong, raises ValueError with its name."""
     if ack not in ("always", "peers"):
         raise ValueError(f"ack is 'always' or 'peers', not {ack!r}")
     return ["--ack", ack, *(["--report"] if truth("report", report) else []), *number_words(**numbers)]
 
 
 def number_words(**numbers: int) -> list[str]:
-    """Returns the words of the command line that give these options; ValueError names one that is wrong."""
+    """Returns the command-line arguments for these options. If an option is wrong, raises ValueError with its name."""
     words: list[str] = []
     for name, number in numbers.items():
         option, least, most, unit = NUMBERS[name]
@@ -55,14 +56,16 @@ def rates_by_bus(
     data_bitrate: Optional[BitRate],
     dbitrate: Optional[BitRate] = None,
 ) -> dict[str, Optional[Rates]]:
-    """Returns the bit rates of each bus by the first of its names; ValueError if they are none of a bus."""
+    """Maps the first interface of each bus to the bit rates of the bus. Raises ValueError if a bus can't have these
+    rates."""
     fast = rate_by_bus("data_bitrate", one_data_rate(data_bitrate, dbitrate), buses)
     nominal = rate_by_bus("bitrate", bitrate, buses)
     return {first: rates_of(nominal[first], fast[first]) for first in buses}
 
 
 def rate_by_bus(argument: str, rate: Optional[BitRate], buses: Mapping[str, Sequence[str]]) -> dict[str, Optional[int]]:
-    """Returns what an argument gives each bus by the first of its names; ValueError names what is wrong in it."""
+    """Maps the first interface of each bus to the bus's value of an argument. Raises ValueError with the reason if the
+    argument is wrong."""
     if not isinstance(rate, Mapping):
         return dict.fromkeys(buses, rate)
     firsts = {name: first for first, names in buses.items() for name in names}
@@ -81,7 +84,7 @@ def rate_by_bus(argument: str, rate: Optional[BitRate], buses: Mapping[str, Sequ
 
 
 def rates_of(bitrate: Optional[int], fast: Optional[int]) -> Optional[Rates]:
-    """Returns these bit rates of a bus, if there are any; ValueError if they are none of a bus."""
+    """Returns the bit rates of a bus, or None if it has none. Raises ValueError if a bus can't have these rates."""
     rates = {"bitrate": bitrate, "data_bitrate": fast}
     number_words(**{name: rate for name, rate in rates.items() if rate is not None})
     if fast is not None and bitrate is None:
@@ -92,7 +95,8 @@ def rates_of(bitrate: Optional[int], fast: Optional[int]) -> Optional[Rates]:
 
 
 def check_names(names: Sequence[str]) -> Sequence[str]:
-    """Returns the names of a bus's interfaces; ValueError if they are not joined by commas only, or one is wrong."""
+    """Returns the names of a bus's interfaces unchanged. Raises ValueError if they are not joined by commas only, or if
+    a name is invalid."""
     joined = ",".join(names)
     parted = [name for name in re.split(r"[\s,;]+", joined) if name]
     if re.search(r"[\s;]", joined) and parted:
@@ -113,7 +117,8 @@ def check_names(names: Sequence[str]) -> Sequence[str]:
 
 
 def bus_of(names: Union[str, Sequence[str]], faults: Optional[Script]) -> tuple[tuple[str, ...], Optional[Script]]:
-    """Returns the names of a bus and its faults, which may be a file after the names, as for the program: can0,can1@FILE."""
+    """Returns the names of a bus and its faults. As on the command line, a file with faults may follow the names:
+    can0,can1@FILE."""
     if isinstance(names, str):
         names, given, script_path = names.partition("@")
         if given and faults is not None:
@@ -127,16 +132,17 @@ def bus_of(names: Union[str, Sequence[str]], faults: Optional[Script]) -> tuple[
 
 
 def remove(folder: Path, process: int) -> None:
-    """Removes the folder of a run, in the process that started it; one that was forked leaves it there.
+    """Removes the folder of a run. A forked process does not remove it.
 
-    Python prints an exception of a finalizer and forgets it. So a Ctrl-C that comes meanwhile is sent again by another
-    thread, which gets its turn once the finalizer is over.
+    Python prints exceptions of finalizers and ignores them. So if a Ctrl-C arrives here, another thread sends it again.
+    That thread runs after the finalizer has finished.
     """
     if os.getpid() == process:
         try:
             shutil.rmtree(folder, ignore_errors=True)
         except (KeyboardInterrupt, OSError):
-            # An OSError hides one, by which a descriptor was closed twice: others are ignored.
+            # A Ctrl-C in rmtree may appear as an OSError, because a file descriptor is then closed twice. rmtree
+            # ignores all other errors.
             try:
                 shutil.rmtree(folder, ignore_errors=True)
             finally:
@@ -144,39 +150,40 @@ def remove(folder: Path, process: int) -> None:
 
 
 class Run:
-    """A run of buses. Its logs and records are in `out`, else in a folder that is kept as long as it is."""
+    """A run of one or several buses. Its logs and records are in `out`, or in a temporary folder that exists as long as
+    the run."""
 
     def __init__(self, out: Union[str, "os.PathLike[str]", None]) -> None:
         if out is not None and not os.path.isdir(out):
             raise ValueError(f"out is a folder that exists, not {os.fspath(out)!r}")
         self._process = os.getpid()
-        #: Which server or bench of a test it is, for a sweep.
+        #: The number of this server or bench in its test, which a sweep needs.
         self._number = placement.next_run()
         self._given_out = None if out is None else Path(out)
         self._folders = FOLDERS.get()
 
     @functools.cached_property
     def _folder(self) -> Path:
-        """A folder of its own, which is made as it is first asked for."""
+        """The run's own folder, which is created when it is first used."""
         folder = Path(tempfile.mkdtemp(prefix="canbusd-", dir=self._folders))
         self._remove = weakref.finalize(self, remove, folder, self._process)
         return folder
 
     @property
     def _out(self) -> Path:
-        """The folder of its logs and records."""
+        """The folder for the run's logs and records."""
         return self._folder if self._given_out is None else self._given_out
 
     def stop(self) -> object:
-        """Ends the run; logs and records are written."""
+        """Ends the run, after which its logs and records are written."""
         raise NotImplementedError
 
     def _forget(self) -> None:
-        """Lets go of it in a process that was forked."""
+        """Closes the connection to the program in a forked process."""
         raise NotImplementedError
 
     def _check_process(self) -> None:
-        """Raises RuntimeError in a process that was forked: only the one that started the run may end it."""
+        """Raises RuntimeError in a forked process, because only the process that started the run may end it."""
         if os.getpid() != self._process:
             raise RuntimeError(f"this {type(self).__name__} belongs to process {self._process}, which was forked")
 
@@ -191,27 +198,28 @@ class Run:
         try:
             self.stop()
         except RuntimeError:
-            # The first fault is raised.
+            # An exception from the `with` block takes precedence.
             if kind is None:
                 raise
 
 
 class HasProgram:
-    """The program as a child of this process: its input and its output are pipes."""
+    """A program as a child of this process. Its input and output are pipes."""
 
     _child: "subprocess.Popen[bytes]"
     _errors: Path
 
     @property
     def said(self) -> str:
-        """The standard error of the program so far, such as `note: bus can0: record full`."""
+        """The program's standard error so far, such as `note: bus can0: record full`."""
         return self._errors.read_text(errors="replace").strip()
 
     def _start(self, errors: Path, *words: str) -> None:
-        """Starts the program with these words; its standard error goes into a file."""
+        """Starts the program with these arguments. Its standard error goes to a file."""
         self._errors = errors
         with open(errors, "wb") as file:
-            # Not in the terminal's foreground: Ctrl-C is this process's, which then ends the program as it should be.
+            # The program gets its own session, so that Ctrl-C reaches only this process. This process then ends the
+            # program properly.
             self._child = subprocess.Popen(
                 [find_program(), *words],
                 stdin=subprocess.PIPE,
@@ -222,13 +230,13 @@ class HasProgram:
             )
 
     def _close_input(self) -> None:
-        """The end of its input ends the program."""
+        """Closes the program's input, which ends the program."""
         if self._child.stdin is not None:
             self._child.stdin.close()
             self._child.stdin = None
 
     def _signal(self) -> None:
-        """Kills the program, and its launcher if it has one; both are in a session of their own."""
+        """Kills the program, and its launcher if it has one. Both are in one process group."""
         try:
             os.killpg(self._child.pid, signal.SIGKILL)
         except ProcessLookupError:
@@ -239,7 +247,8 @@ RUNNING: "weakref.WeakSet[Run]" = weakref.WeakSet()
 
 
 def forget_runs() -> None:
-    """A process that was forked holds no input of a program open, which would keep it from its end."""
+    """Closes the inputs of all programs in a forked process, because an open input would keep the programs from
+    ending."""
     for run in list(RUNNING):
         run._forget()
     RUNNING.clear()

@@ -1,4 +1,4 @@
-"""The bit rates of buses, and the words that give them to the program."""
+"""The bit rates of buses, and the command-line arguments that set them."""
 
 from collections.abc import Mapping
 from dataclasses import dataclass
@@ -8,16 +8,18 @@ from canbusd._words import NUMBERS
 
 LEAST_BITRATE, MOST_BITRATE = NUMBERS["bitrate"][1:3]
 MOST_DBITRATE = NUMBERS["data_bitrate"][2]
-#: A bit rate of all buses, or one for each by the name of one of its interfaces: that by None is of all others.
+#: A bit rate for all buses, or a bit rate for each bus, by the name of one of its interfaces. The rate for None applies
+#: to all other buses.
 BitRate = Union[int, Mapping[Optional[str], int]]
 
 
 @dataclass(frozen=True)
 class Rates:
-    """The bit rates of a bus, in bits a second: the nominal one, and the one to which FD frames with BRS switch."""
+    """The bit rates of a bus in bits per second: the nominal bit rate, and the bit rate for the data of FD frames with
+    bit rate switch."""
 
     bitrate: int
-    #: None if all bits go at the nominal one.
+    #: The data bit rate. None if all bits have the nominal bit rate.
     dbitrate: Optional[int] = None
 
     def __post_init__(self) -> None:
@@ -28,18 +30,20 @@ class Rates:
 
     @property
     def words(self) -> list[str]:
-        """The words of a command line that give them to all buses."""
+        """The command-line arguments that set these bit rates for all buses."""
         return self.words_for()
 
     def words_for(self, name: str = "") -> list[str]:
-        """Returns the words of a command line that give them to the bus that has the interface of this name, or to all buses."""
+        """Returns the command-line arguments that set these bit rates for the bus with this interface, or for all buses
+        if there is no name."""
         front = f"{name}=" if name else ""
         fast = [] if self.dbitrate is None else ["--dbitrate", f"{front}{self.dbitrate}"]
         return ["--bitrate", f"{front}{self.bitrate}", *fast]
 
 
 def words_of(rates: Mapping[str, Optional[Rates]]) -> list[str]:
-    """Returns the words of a command line that give buses these bit rates, by an interface of each."""
+    """Returns the command-line arguments that set these bit rates. The keys are the name of one interface of each
+    bus."""
     if len(set(rates.values())) == 1:
         return next((one.words for one in rates.values() if one), [])
     return [word for name, one in rates.items() if one for word in one.words_for(name)]

@@ -1,4 +1,4 @@
-"""The words of the command line by which a server is started."""
+"""The command-line arguments that start a server."""
 
 from collections.abc import Mapping
 from pathlib import Path
@@ -15,9 +15,10 @@ Recorded = Literal["end", "live", "none"]
 def bus_words(
     buses: tuple[str, ...], faults: Union[Script, Mapping[str, Script], None], folder: Path, run: int = 0
 ) -> dict[str, list[str]]:
-    """Returns the interfaces of each bus by the first of them, after the fault scripts were written into this folder.
+    """Writes the fault scripts to this folder, and maps the first interface of each bus to the list of its interfaces.
 
-    The last word of each list is what the program is given: `can0,can1@FILE`. `run` is the number of the server.
+    The last element of each list is the program's argument for the bus, such as `can0,can1@FILE`. `run` is the number
+    of the server.
     """
     by_bus: dict[str, list[str]] = {}
     known: set[str] = set()
@@ -42,7 +43,7 @@ def bus_words(
 
 
 def scripts_of(by_bus: Mapping[str, list[str]], faults: Union[Script, Mapping[str, Script], None]) -> dict[str, Script]:
-    """Returns the script of each bus that has one by these faults, by its first interface; ValueError if one has two."""
+    """Maps the first interface of each bus with faults to its script. Raises ValueError if a bus has two scripts."""
     if faults is None:
         return {}
     if not isinstance(faults, Mapping):
@@ -64,7 +65,8 @@ def scripts_of(by_bus: Mapping[str, list[str]], faults: Union[Script, Mapping[st
 def record_options(
     record: str, limit: Optional[int], flush: Optional[int], sync: bool
 ) -> tuple[list[str], dict[str, int]]:
-    """Returns the words that say when the record is written, and the options that are numbers; ValueError as they are."""
+    """Returns the arguments that say when the record is written, and the numeric options. Raises ValueError if options
+    contradict each other."""
     if record not in ("end", "live", "none"):
         raise ValueError(f"record is 'end', 'live' or 'none', not {record!r}")
     if record == "end":

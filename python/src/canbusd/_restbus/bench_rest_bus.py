@@ -1,4 +1,4 @@
-"""The rest bus of a bench: frames are due at exact times, and `run` goes from one due time to the next."""
+"""The rest bus of a bench. Frames are due at exact times, and `run` advances from one due time to the next."""
 
 from collections.abc import Mapping
 from typing import TYPE_CHECKING, Optional
@@ -19,7 +19,7 @@ if TYPE_CHECKING:
 
 
 class BenchRestBus(RestBus):
-    """A rest bus whose frames go to the sessions of a bench."""
+    """A rest bus that sends its frames through sessions of a bench."""
 
     def __init__(self, database: Database, interfaces: Mapping[str, str], bench: "Bench") -> None:
         super().__init__(database, interfaces)
@@ -32,10 +32,10 @@ class BenchRestBus(RestBus):
 
     @explained()
     def run(self, until: float) -> list[Attempt]:
-        """Sends the frames that are due before this time, each at its due time, and returns the attempts made
-        meanwhile.
+        """Sends the frames that are due before `until`, each at its due time, and returns the attempts made in this
+        time.
 
-        On a bench with a bit rate these are the attempts that begin before this time. On a bench without a bit rate all
+        On a bench with a bit rate these are the attempts that begin before `until`. On a bench without a bit rate all
         waiting frames are tried at each due time.
         """
         check_within(until, "until")
@@ -48,7 +48,7 @@ class BenchRestBus(RestBus):
                 goal = max(due, self._bench._now) if due is not None and is_due else end
                 attempts += self._go_to(goal)
                 if self._now < goal:
-                    # A node woke up, and its messages may be due earlier.
+                    # A node woke up, so its messages may be due earlier.
                     continue
                 if not is_due:
                     return attempts
@@ -56,11 +56,11 @@ class BenchRestBus(RestBus):
                 attempts += self._tried()
 
     def first_due(self) -> Optional[int]:
-        """Returns the time when the next frame is due, for a bench whose time passes while a test waits."""
+        """Returns the time when the next frame is due. The bench needs this while a test waits and time passes."""
         return None if self._is_closed else self._schedule.first()
 
     def put_due(self, moment: int) -> None:
-        """Sends the frames that are due at this time, for such a bench."""
+        """Sends the frames that are due at this time. The bench calls this while a test waits and time passes."""
         with self.changing():
             self._now = moment
             self._put()
@@ -89,7 +89,7 @@ class BenchRestBus(RestBus):
             raise Refused(answer)
 
     def _answer(self, message: RestMessage, frame: Frame) -> str:
-        """Sends a frame; returns the text of a refusal, else the empty text."""
+        """Sends a frame, and returns the reason if it is refused, otherwise the empty text."""
         try:
             self._sessions[message.interface].send(frame)
             return ""
@@ -97,8 +97,8 @@ class BenchRestBus(RestBus):
             return str(fault)
 
     def _go_to(self, moment: int) -> list[Attempt]:
-        """Goes to a time; on a bench with a bit rate, makes the attempts that begin before it. Stops earlier if a node
-        wakes up."""
+        """Advances to a time. On a bench with a bit rate this makes the attempts that begin before this time. Stops
+        earlier if a node wakes up."""
         attempts: list[Attempt] = []
         if self._bench._rates:
             asleep = len(self._bench._sleepers)
@@ -109,7 +109,7 @@ class BenchRestBus(RestBus):
         return attempts
 
     def _tried(self) -> list[Attempt]:
-        """Makes attempts at this time, on a bench without a bit rate, until no frame waits."""
+        """Makes attempts at the current time until no frame waits, on a bench without a bit rate."""
         if self._bench._rates:
             return []
         first = self._bench.attempt(at=self._now / MICROS)

@@ -1,4 +1,4 @@
-"""The rest bus of a server: one thread sends the frames that are due."""
+"""The rest bus of a server. One thread sends all frames that are due."""
 
 import logging
 import threading
@@ -19,14 +19,14 @@ from canbusd.signals import Database
 from canbusd.virtual import is_virtual
 
 LOG = logging.getLogger("can.canbusd")
-#: At the end, functions of on_send must return within these seconds.
+#: The time in seconds within which callbacks of on_send must return when the rest bus is closed.
 END = 10.0
 
 
 class LiveRestBus(RestBus):
-    """A rest bus whose frames go to a server. `opened` opens a bus of python-can on an interface.
+    """A rest bus that sends its frames to a server. `opened` opens a python-can bus on an interface.
 
-    `is_over` reports whether the test has ended the server: a lost connection is then no fault.
+    `is_over` returns whether the test has ended the server. If it has, a lost connection is not an error.
     """
 
     def __init__(
@@ -41,7 +41,7 @@ class LiveRestBus(RestBus):
         self._is_over = is_over
         self._fault: Optional[BaseException] = None
         self._silent: set[str] = set()
-        # In virtual time no frame is late.
+        # Frames are never late in virtual time.
         self._needs_punctuality = not is_virtual()
         self._is_punctual = False
         has_fd = any(message.format.is_fd for message in self.messages)
@@ -55,7 +55,7 @@ class LiveRestBus(RestBus):
         self._thread = threading.Thread(target=self._work, name="canbusd rest bus", daemon=True)
 
     def start(self, name: Optional[str] = None) -> None:
-        """Starts a node or a message; without a name, starts all."""
+        """Starts a node or a message. Without a name, starts all nodes."""
         with self._lock:
             super().start(name)
             if not self._thread.ident:
@@ -65,7 +65,7 @@ class LiveRestBus(RestBus):
                 self._thread.start()
 
     def close(self) -> None:
-        """Ends the thread and its sessions; raises the fault that ended the thread, if there was one."""
+        """Ends the thread and its sessions. If an exception ended the thread, raises it."""
         with self._news:
             self._is_closed = True
             self._news.notify()
@@ -108,7 +108,7 @@ class LiveRestBus(RestBus):
             self._fault = fault
 
     def _put(self, frames: list[tuple[RestMessage, Frame]]) -> None:
-        """Sends frames; the frames of an interface go out in one write."""
+        """Sends frames. All frames of an interface are sent in one write."""
         for name, bus in self._buses.items():
             its = [(message, frame) for message, frame in frames if message.interface == name]
             if its:
@@ -116,7 +116,7 @@ class LiveRestBus(RestBus):
                     self._note(message, answer)
 
     def _note(self, message: RestMessage, answer: str) -> None:
-        """Counts a frame; logs the first of several refused frames."""
+        """Counts a frame. If several frames of a message in a row are refused, only the first one is logged."""
         if answer and answer not in PASSING:
             raise refusal(answer)
         message.count(answer)

@@ -1,4 +1,4 @@
-"""A node of a test that leaves the bus and returns: its interface, its programs, and its messages from rest buses."""
+"""A node of a test that can leave the bus and return: its interface, its programs, and its messages in rest buses."""
 
 import contextlib
 import weakref
@@ -16,13 +16,13 @@ if TYPE_CHECKING:
 
 
 class Run(Protocol):
-    """The part of a server or a bench that a node uses."""
+    """The methods of a server or a bench that a node uses."""
 
     database: "Optional[Database]"
 
     @property
     def _sleepers(self) -> Sleepers:
-        """Returns the nodes that sleep until a frame wakes them."""
+        """The nodes that sleep until a frame wakes them."""
 
     def down(self, name: str) -> None:
         """Takes an interface off the bus."""
@@ -35,10 +35,12 @@ class Run(Protocol):
 
 
 class Node(NamesWhatThereIs):
-    """A node with an interface of its own, which `node` of a server or a bench returns: ``server.node("ecu", program)``.
+    """A node with its own interface. The method `node` of a server or a bench returns it: ``server.node("ecu",
+    program)``.
 
-    While it is off the bus, after `power_off` or `sleep` or in `unplugged`, it sends, accepts and acknowledges nothing. The
-    messages that a rest bus sends by its interface stop, and later begin again as at the start.
+    A node is off the bus after `power_off` or `sleep`, and in an `unplugged` block. Then it sends, accepts and
+    acknowledges nothing. The messages that a rest bus sends from its interface stop. When the node returns, they start
+    again from the beginning.
     """
 
     _INSTEAD = {
@@ -53,10 +55,10 @@ class Node(NamesWhatThereIs):
         # The run owns its nodes, so this reference must not keep the run in memory.
         self._run: Run = weakref.proxy(run)
         self._programs = tuple(programs)
-        # Whether one of the node's calls took it off the bus, and the frames that wake it.
+        # Whether a call such as `sleep` took the node off the bus, and the frames that wake it.
         self._is_off = False
         self._wake_up: Optional[WakeUp] = None
-        # The messages that rest buses sent by this interface when the node left the bus.
+        # The messages that rest buses were sending from this interface when the node left the bus.
         self._ceased: "list[tuple[RestBus, list[RestMessage]]]" = []
 
     def power_off(self) -> None:
@@ -66,19 +68,19 @@ class Node(NamesWhatThereIs):
         self._leave(None)
 
     def power_on(self) -> None:
-        """Restores the power: both error counts are 0, and the programs that `power_off` killed start anew."""
+        """Restores the power. Both error counts are 0, and the programs that `power_off` killed start again."""
         self.wake()
         for program in self._programs:
             program._power_on()
 
     @explained()
     def sleep(self, wake_on: Optional[WakeOn] = None) -> None:
-        """Takes the node off the bus, as if it slept. Its programs continue, and their sends are refused.
+        """Takes the node off the bus as if it slept. Its programs continue, but their sends are refused.
 
-        A frame of another node wakes this node if `wake_on` has its identifier. `wake_on` is an identifier, the name of
-        a message, a range such as ``range(0x500, 0x540)``, or a list of these. The programs don't receive the frame.
-        Only a classical data frame wakes the node, as with transceivers for selective wake-up. An identifier above 7FF
-        has 29 bits. Without `wake_on` only `wake` and `power_on` wake it.
+        A frame from another node wakes this node if its identifier is in `wake_on`: an identifier, the name of a
+        message, a range such as ``range(0x500, 0x540)``, or a list of these. The programs don't receive this frame.
+        Only classical data frames wake a node, as with transceivers for selective wake-up. Identifiers above 7FF have
+        29 bits. Without `wake_on` only the calls `wake` and `power_on` wake the node.
         """
         self._leave(None if wake_on is None else WakeUp(wake_on, self._run.database))
 
@@ -88,9 +90,9 @@ class Node(NamesWhatThereIs):
 
     @contextlib.contextmanager
     def unplugged(self) -> Iterator[None]:
-        """Unplugs the node's cable in the `with` block; its programs continue. A node that slept before sleeps again
-        afterwards."""
-        # A frame may wake the node at this moment: its interface is up before the rest is done.
+        """Unplugs the node's cable during the `with` block, while its programs continue. If the node slept before, it
+        sleeps again afterwards."""
+        # A frame may wake the node at the same time. The lock ensures that the node is awake completely or not at all.
         with self._run._sleepers.lock:
             was_off, wake_up = self._is_off, self._wake_up
             self._leave(None)
@@ -114,7 +116,7 @@ class Node(NamesWhatThereIs):
                 rest._resume(messages)
 
     def _leave(self, wake_up: Optional[WakeUp]) -> None:
-        """Takes the node off the bus until it is woken, by such a frame if there is one."""
+        """Takes the node off the bus until it is woken by a call, or by a frame in `wake_up`."""
         with self._run._sleepers.lock:
             self._run._sleepers.remove(self.name)
             self._ceased += [(rest, rest._silence(self.name)) for rest in self._run._open_rest_buses()]

@@ -1,20 +1,20 @@
 """Makes the threads of this process punctual.
 
-By default a computing thread blocks the others for 5 milliseconds at a time. A full garbage collection blocks all
-threads while it visits each object. With the objects of pytest and a database library this takes 30 milliseconds.
+By default a thread that computes blocks other threads for 5 milliseconds at a time. A full garbage collection blocks
+all threads while it visits every object. With the objects of pytest and a database library this takes 30 milliseconds.
 """
 
 import gc
 import sys
 import threading
 
-#: A computing thread may block another thread for this many seconds.
+#: The maximum time in seconds for which a thread that computes blocks other threads.
 INTERVAL = 0.0001
 
 
 class Punctuality:
-    """While anybody asks for punctuality, threads switch more often, and the garbage collector skips the objects that
-    existed before."""
+    """While some user needs punctuality, threads switch more often, and the garbage collector skips all objects that
+    already existed."""
 
     def __init__(self) -> None:
         self._lock = threading.Lock()
@@ -23,19 +23,19 @@ class Punctuality:
         self._has_frozen = False
 
     def begin(self) -> None:
-        """Asks for punctuality, until a matching call of `end`."""
+        """Registers a user who needs punctuality until the matching call of `end`."""
         with self._lock:
             self._users += 1
             if self._users == 1:
                 self._interval = sys.getswitchinterval()
                 sys.setswitchinterval(min(self._interval, INTERVAL))
-                # Only objects that this class froze may be unfrozen here.
+                # `end` may unfreeze objects only if this class froze them.
                 self._has_frozen = not gc.get_freeze_count()
                 if self._has_frozen:
                     gc.freeze()
 
     def end(self) -> None:
-        """Ends one request for punctuality."""
+        """Removes a user."""
         with self._lock:
             self._users -= 1
             if not self._users:

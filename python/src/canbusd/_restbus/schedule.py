@@ -1,4 +1,4 @@
-"""The due times of calls, in microseconds, and phases that keep cyclic calls apart."""
+"""A schedule of calls with due times in microseconds, and phases that keep cyclic calls apart."""
 
 import heapq
 import math
@@ -6,47 +6,50 @@ from collections.abc import Callable, Iterator, Sequence
 from typing import Optional
 
 MICROS = 1_000_000
-#: Microseconds in which about two frames fit at 500 kbit/s, and the time over which phases are compared.
+#: Times in microseconds: a slot in which about two frames fit at 500 kbit/s, and the length of time for which phases
+#: are compared.
 SLOT, LONGEST = 500, 2 * MICROS
-#: The fractional parts of multiples of this number spread evenly over 0 to 1, for any count.
+#: The golden ratio. The fractional parts of its multiples are evenly spread between 0 and 1, for any count.
 GOLDEN = (math.sqrt(5) - 1) / 2
-#: The number of phases that are compared for a message.
+#: The maximum number of phases that are compared for a message.
 TRIES = 128
 
 
 class Schedule:
-    """Calls sorted by due time; calls with the same due time by their order, then in the order of their addition."""
+    """Calls sorted by due time. Calls that are due at the same time are sorted by `order`, and then by when they were
+    added."""
 
     def __init__(self) -> None:
         self._heap: list[tuple[int, int, int, Callable[[int], None]]] = []
         self._added = 0
 
     def add(self, due: int, order: int, call: Callable[[int], None]) -> None:
-        """Adds a call, which gets its due time as an argument."""
+        """Adds a call. Its argument will be its due time."""
         heapq.heappush(self._heap, (due, order, self._added, call))
         self._added += 1
 
     def first(self) -> Optional[int]:
-        """Returns the due time of the next call; None if there is none."""
+        """Returns the due time of the next call, or None if there is no call."""
         return self._heap[0][0] if self._heap else None
 
     def take(self, now: int) -> Iterator[tuple[int, Callable[[int], None]]]:
-        """Yields the calls that are due at this time or before, with their due times; these calls may add others."""
+        """Yields the calls that are due at or before this time, with their due times. These calls may add further
+        calls."""
         while self._heap and self._heap[0][0] <= now:
             due, _, _, call = heapq.heappop(self._heap)
             yield due, call
 
 
 def micros(seconds: float) -> int:
-    """Returns a time in microseconds."""
+    """Converts seconds to microseconds."""
     return round(seconds * MICROS)
 
 
 def phases(cycles: Sequence[int]) -> list[int]:
-    """Returns the due time of the first frame for each cycle time, so that few frames are due together.
+    """Returns the first due time for each cycle time. The times are chosen so that few frames are due together.
 
-    The shortest cycle times are placed first. For each, this function tries several times spread over the first cycle,
-    and takes the time with the fewest frames of other messages near it.
+    The shortest cycle times are placed first. For each cycle time, this function tries several times within the first
+    cycle, and takes the one with the fewest frames of other messages near it.
     """
     if not cycles:
         return []

@@ -1,4 +1,4 @@
-"""The mixins that let a bench or a server simulate nodes."""
+"""Mixins that enable a bench or a server to simulate nodes."""
 
 from collections.abc import Mapping, Sequence
 from typing import TYPE_CHECKING, Any, Generic, Literal, Optional, TypeVar, Union
@@ -18,7 +18,7 @@ Library = Literal["can-isotp", "canbusd-run", "canbusd"]
 
 
 class HasRestBus(Generic[R]):
-    """The rest bus part that a bench and a server share."""
+    """The methods for rest buses that a bench and a server share."""
 
     database: "Optional[Database]"
     # The rest buses made so far.
@@ -38,7 +38,7 @@ class HasRestBus(Generic[R]):
         raise NotImplementedError
 
     def _make_rest_bus(self, database: "Database", interfaces: Mapping[str, str]) -> R:
-        """Returns a rest bus for a database, whose nodes send by these interfaces."""
+        """Returns a rest bus for a database. `interfaces` has the interface of each node."""
         raise NotImplementedError
 
     @explained()
@@ -49,16 +49,17 @@ class HasRestBus(Generic[R]):
         nodes: Optional[Mapping[str, str]] = None,
         interface: Optional[str] = None,
     ) -> R:
-        """Returns the rest bus of a database, or of its file: all nodes except those in `without`.
+        """Returns a rest bus that simulates all nodes of a database, or of a database file, except for the nodes in
+        `without`.
 
-        On a server the nodes send in the `with` block, on a bench in `rest.run(until=..)`. A node sends by its
-        interface in `nodes`, else by `interface`, else by the interface with the node's name.
+        On a server the nodes send during the `with` block, on a bench during `rest.run(until=..)`. A node sends from
+        its interface in `nodes`, or from `interface`, or from the interface with the node's name.
         """
         from canbusd._restbus.nodes import database_of, interfaces_of
 
         known = database_of(database)
         found = interfaces_of(known, without, nodes or {}, interface, self.interfaces)
-        # Expectations then also know the names in the database.
+        # Expectations of the test then know the names in the database too.
         self.database = known if self.database is None else self.database.with_more(known)
         rest = self._make_rest_bus(known, found)
         self._rest_buses = [*self._open_rest_buses(), rest]
@@ -70,13 +71,13 @@ class HasRestBus(Generic[R]):
 
 
 class SimulatesNodes(HasRestBus["RestBus"]):
-    """The part of a server that simulates nodes."""
+    """The methods of a server for simulated nodes."""
 
     address: str
     _result: Any
 
     def bus(self, channel: str, can_filters: "Optional[Filters]" = None, **kwargs: Any) -> "CanbusdBus":
-        """Returns a bus of python-can."""
+        """Opens a python-can bus on an interface."""
         raise NotImplementedError
 
     def _make_rest_bus(self, database: "Database", interfaces: Mapping[str, str]) -> "RestBus":
@@ -100,14 +101,15 @@ class SimulatesNodes(HasRestBus["RestBus"]):
         functional: Optional[int] = None,
         library: Optional[Library] = None,
     ) -> "IsoTp":
-        """Returns an end of ISO-TP on an interface: it sends with the identifier `tx`, and receives frames with `rx`.
+        """Returns an ISO-TP endpoint on an interface. It sends frames with the identifier `tx`, and receives frames
+        with `rx`.
 
-        Identifiers above 7FF have 29 bits. `padding` is the byte that fills frames up to 8 bytes, and `tx_dl` the most
-        bytes of a sent frame, up to 64 with `fd`. The end's flow controls carry `stmin`, as a byte, and `block_size`.
-        `extended` is the address in the first byte of each frame, or a pair of addresses for sent and received frames.
-        Requests to all nodes have the identifier `functional`: the end receives them too, and sends them by
-        ``send(data, functional=True)``. The implementation is can-isotp if it is installed, else a socket of
-        canbusd-run, else Python.
+        Identifiers above 7FF have 29 bits. `padding` is the byte that fills frames up to 8 bytes. `tx_dl` is the
+        maximum number of bytes in a sent frame, up to 64 with `fd`. `stmin`, as a byte, and `block_size` are the values
+        in the endpoint's flow control frames. `extended` is the address in the first byte of each frame, or a pair of
+        addresses for sent and received frames. `functional` is the identifier of requests to all nodes: the endpoint
+        receives these too, and sends them with ``send(data, functional=True)``. The implementation is can-isotp if it
+        is installed, or a socket of canbusd-run, or Python code.
         """
         from canbusd._isotp.options import options_of
         from canbusd.isotp import open_isotp

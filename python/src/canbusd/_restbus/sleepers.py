@@ -15,51 +15,53 @@ from canbusd.frames import Frame, frame_of
 from canbusd.record import Attempt
 
 LOG = logging.getLogger("can.canbusd")
-#: Wakes a node; the argument is a function that brings up the interface with a given name.
+#: Wakes a node. The argument is a function that brings up the interface with a given name.
 Wake = Callable[[Callable[[str], None]], None]
 
 
 class Sleeper(NamedTuple):
-    """A sleeping node, which `wake` wakes."""
+    """A sleeping node. The function `wake` wakes it."""
 
     wake_up: WakeUp
     wake: Wake
-    #: By the name of an interface: the number of frames that its session had received when the node fell asleep.
+    #: For each interface, the number of frames that its session had received when the node fell asleep.
     before: dict[str, int]
 
 
 class Sleepers:
-    """The sleeping nodes of a bench, which hands on its attempts. A thread holds `lock` while a node falls asleep or
-    wakes up."""
+    """The sleeping nodes of a bench. The bench passes each attempt to `note`. A thread holds `lock` while a node falls
+    asleep or wakes up."""
 
     def __init__(self, lock: "threading.RLock", up: Callable[[str], None]) -> None:
         self.lock, self._up = lock, up
-        # The sleepers, by the names of their interfaces.
+        # The sleeping nodes, by the names of their interfaces.
         self._asleep: dict[str, Sleeper] = {}
 
     def __len__(self) -> int:
         return len(self._asleep)
 
     def add(self, name: str, wake_up: WakeUp, wake: Wake) -> None:
-        """Adds the node of an interface that is down."""
+        """Adds a sleeping node, whose interface is down."""
         self._asleep[name] = Sleeper(wake_up, wake, {})
 
     def remove(self, name: str) -> None:
-        """Removes the node of an interface, if it sleeps."""
+        """Removes the node with this interface if it sleeps."""
         self._asleep.pop(name, None)
 
     def are_woken_by(self, attempt: Attempt) -> bool:
-        """Returns whether this attempt has put a frame on the bus that wakes a node."""
+        """Returns whether the frame of this attempt wakes a node. Only a frame that some node received completely
+        counts."""
         is_whole = attempt.outcome == "done" or bool(attempt.accepted)
         return is_whole and any(one.wake_up.matches(Frame.parse(attempt.frame)) for one in self._asleep.values())
 
     def note(self, attempt: Attempt) -> None:
-        """Wakes the nodes that this attempt wakes."""
+        """Wakes the nodes that the frame of this attempt wakes."""
         if self.are_woken_by(attempt):
             self._wake_by(Frame.parse(attempt.frame))
 
     def _wake_by(self, frame: Frame, channel: str = "", number: int = 0) -> None:
-        """Wakes the nodes that this frame wakes; `number` frames had come to the session on the interface before."""
+        """Wakes the nodes that this frame wakes. Before this frame, the session on the interface `channel` received
+        `number` frames."""
         for name, sleeper in list(self._asleep.items()):
             if number >= sleeper.before.get(channel, 0) and sleeper.wake_up.matches(frame):
                 self.remove(name)
@@ -67,7 +69,7 @@ class Sleepers:
 
 
 class Watch(RawSession):
-    """A session on an interface that receives the frames that wake a node."""
+    """A session on an interface that receives the frames that wake nodes."""
 
     def __init__(self, address: str, name: str) -> None:
         #: The number of frames taken from this session.
@@ -80,11 +82,12 @@ class Watch(RawSession):
 
 
 class LiveSleepers(Sleepers):
-    """The sleeping nodes of a server. While one sleeps, a session on each interface of its bus receives the waking
-    frames, because any other interface may be down."""
+    """The sleeping nodes of a server. While a node sleeps, a session on each interface of its bus receives the frames
+    that wake it. All interfaces are needed, because any of them may be down."""
 
     def __init__(self, address: str, buses: Sequence[Sequence[str]]) -> None:
-        # These sessions are separate, because another thread may wait for the frames of the server's own sessions.
+        # These sessions are separate from the server's own sessions, because another thread may be waiting for the
+        # frames of the server's own sessions.
         super().__init__(threading.RLock(), lambda name: self._watches[name].up())
         self._address, self._buses = address, buses
         self._watches: dict[str, Watch] = {}
@@ -115,27 +118,27 @@ class LiveSleepers(Sleepers):
             watch.close()
 
     def _filter(self) -> None:
-        """Makes the sessions receive the frames that wake a node. If the filters do not fit into a message, only this
-        process filters."""
+        """Sets filters so that the sessions receive the frames that wake a node. If the filters do not fit into a
+        message, the sessions receive all frames, and only this process filters."""
         filters = [one for sleeper in self._asleep.values() for one in sleeper.wake_up.filters] or NO_FRAMES
         message = filter_message(filters) or filter_message(None)
         for watch in self._watches.values():
             watch.answer(str(message))
 
     def _read(self, watch: Watch) -> None:
-        """Hands on the frames that a session receives, until it ends."""
+        """Handles the frames that a session receives, until the session ends."""
         while (frame := next_frame(watch)) is not None:
             with self.lock:
                 number, watch.taken = watch.taken, watch.taken + 1
                 try:
                     self._wake_by(frame, watch.channel, number)
                 except Exception as reason:
-                    # Causes are a server that was killed, or a record that is full.
+                    # This happens if the server was killed, or if the record is full.
                     LOG.warning("a node was not woken by %s: %s", frame, reason)
 
 
 def next_frame(watch: Watch) -> Optional[Frame]:
-    """Waits for the next frame that a session receives, and returns it; None at its end."""
+    """Waits for the next frame of a session and returns it, or None if the session ends."""
     try:
         text = watch.frame(None)
     except Exception:

@@ -1,4 +1,4 @@
-"""The frames that wake a sleeping node, as a transceiver with selective wake-up selects them."""
+"""The frames that wake a sleeping node. They are selected as a transceiver with selective wake-up selects them."""
 
 from collections.abc import Iterable, Iterator, Sequence
 from typing import Any, Optional, Union
@@ -13,7 +13,7 @@ KNOWN = "wake_on is an identifier, the name of a message, a range, such as range
 
 
 class WakeUp:
-    """The frames that wake a node: classical data frames with one of these identifiers; identifiers above 7FF have 29
+    """The frames that wake a node: classical data frames with one of these identifiers. Identifiers above 7FF have 29
     bits."""
 
     def __init__(self, wake_on: WakeOn, database: Optional[Database]) -> None:
@@ -25,7 +25,7 @@ class WakeUp:
             raise ValueError(f"{KNOWN}; {wake_on!r} has none")
 
     def matches(self, frame: Frame) -> bool:
-        """Returns whether a frame wakes the node. Selective wake-up only works with classical frames."""
+        """Returns whether a frame wakes the node. Selective wake-up works only with classical data frames."""
         is_classical = not (frame.is_fd or frame.is_remote_frame or frame.is_error_frame)
         return is_classical and any(
             frame.is_extended_id == is_extended and frame.arbitration_id in span for span, is_extended in self._spans
@@ -33,7 +33,7 @@ class WakeUp:
 
     @property
     def filters(self) -> list[dict[str, Any]]:
-        """Filters that accept these frames."""
+        """Filters that let these frames pass."""
         return [
             {"can_id": first | EXTENDED * is_extended, "can_mask": mask | EXTENDED | REMOTE}
             for span, is_extended in self._spans
@@ -42,8 +42,8 @@ class WakeUp:
 
 
 def spans_of(one: Union[int, str, range], database: Optional[Database]) -> Iterator[tuple[range, bool]]:
-    """Yields the identifiers for this argument, and whether they have 29 bits; raises ValueError for wrong
-    arguments."""
+    """Yields the identifiers that an argument stands for, and whether they have 29 bits. Raises ValueError for a wrong
+    argument."""
     if not isinstance(one, range):
         number, is_extended = identifier(one, database)
         check_identifier(number, is_extended, is_extended, is_error=False)
@@ -57,10 +57,10 @@ def spans_of(one: Union[int, str, range], database: Optional[Database]) -> Itera
 
 
 def masks_of(span: range) -> Iterator[tuple[int, int]]:
-    """Yields the fewest identifiers and masks that match exactly the numbers of a range."""
+    """Yields the smallest number of identifiers and masks that match exactly the numbers in a range."""
     first = span.start
     while first < span.stop:
-        # The largest block of numbers with the same upper bits.
+        # The size of the largest block of numbers that begins here and shares its upper bits.
         size = first & -first or MOST_IDENTIFIER + 1
         while first + size > span.stop:
             size //= 2

@@ -1,1 +1,1 @@
-"""Runs: the output of `canbusd audit --events` in columns, its story, its logs, and the comparison of two runs."""
+"""Runs: their events in columns, their description in words, their logs, and the comparison of two runs."""

@@ -1,6 +1,6 @@
-"""Finds the frames that two runs share: frames of the same sender with the same identifier are aligned in order.
+"""Finds the frames that two runs share. Frames of the same sender with the same identifier form a row in each run.
 
-In each such row the algorithm of Myers (An O(ND) Difference Algorithm, 1986) finds the frames with the same data. The
+In both rows the algorithm of Myers (An O(ND) Difference Algorithm, 1986) finds the frames with the same data. The
 frames between these are paired in order.
 """
 
@@ -9,13 +9,13 @@ from typing import NamedTuple, Optional
 
 from canbusd.record import Attempt
 
-#: The search in a row allows this many frames that only one run has; rows with more differences are paired in order.
+#: The most edits between two rows that the search allows; rows that differ more are paired in order.
 MOST_EDITS = 400
 Place = Optional[int]
 
 
 class Sent(NamedTuple):
-    """A frame of a run: its attempts, as numbers of the run's attempts."""
+    """A frame of a run: the numbers of its attempts in the run."""
 
     attempts: list[int]
 
@@ -26,7 +26,7 @@ class Sent(NamedTuple):
 
 
 class Pair(NamedTuple):
-    """A frame of the first run, and the same frame of the second run; one of them is missing if only one run has the
+    """A frame of the first run and the same frame of the second run. One of the two is None if only one run has the
     frame."""
 
     one: Optional[Sent]
@@ -43,7 +43,7 @@ def pairs_of(one: Sequence[Attempt], other: Sequence[Attempt]) -> Iterator[list[
 
 
 def rows_of(attempts: Sequence[Attempt]) -> dict[tuple[str, str], list[Sent]]:
-    """Returns the frames of a run by their senders and identifiers."""
+    """Groups the frames of a run by sender and identifier."""
     rows: dict[tuple[str, str], list[Sent]] = {}
     last: dict[str, tuple[int, Sent]] = {}
     for place, attempt in enumerate(attempts):
@@ -58,7 +58,7 @@ def rows_of(attempts: Sequence[Attempt]) -> dict[tuple[str, str], list[Sent]]:
 
 
 def aligned(one: Sequence[str], other: Sequence[str]) -> list[tuple[Place, Place]]:
-    """Returns the places of both rows in pairs; in a pair, None means that this row has no such frame."""
+    """Returns pairs of places in the two rows. None means that a row lacks the frame."""
     most = min(len(one), len(other))
     begin = next((k for k in range(most) if one[k] != other[k]), most)
     end = next((k for k in range(most - begin) if one[-1 - k] != other[-1 - k]), most - begin)
@@ -75,7 +75,7 @@ def aligned(one: Sequence[str], other: Sequence[str]) -> list[tuple[Place, Place
 
 
 def between(first: tuple[int, int], end: tuple[int, int]) -> Iterator[tuple[Place, Place]]:
-    """Yields pairs of the frames between the frames that are the same, in order."""
+    """Yields pairs for the frames between two equal frames, in order."""
     left, right = range(first[0], end[0]), range(first[1], end[1])
     paired = min(len(left), len(right))
     yield from zip(left, right)
@@ -84,9 +84,10 @@ def between(first: tuple[int, int], end: tuple[int, int]) -> Iterator[tuple[Plac
 
 
 def common(one: Sequence[str], other: Sequence[str]) -> list[tuple[int, int]]:
-    """Returns the places of a longest common part; an empty list if the rows differ by more than MOST_EDITS."""
-    # For each diagonal, the place in the first row that the edits have reached; and these places before each number of
-    # edits.
+    """Returns the places of a longest common subsequence, or an empty list if the rows differ by more than
+    MOST_EDITS."""
+    # `ends` has, for each diagonal, the place in the first row that the edits have reached. `before` has a copy of
+    # `ends` for each number of edits.
     ends, before = {1: 0}, []
     for edits in range(min(len(one) + len(other), MOST_EDITS) + 1):
         before.append(dict(ends))
@@ -102,7 +103,7 @@ def common(one: Sequence[str], other: Sequence[str]) -> list[tuple[int, int]]:
 
 
 def walked_back(before: Sequence[dict[int, int]], x: int, y: int) -> list[tuple[int, int]]:
-    """Returns the pairs, traced back from the end of both rows."""
+    """Traces the pairs back from the end of both rows, and returns them."""
     pairs = []
     for edits in range(len(before) - 1, -1, -1):
         ends, diagonal = before[edits], x - y

@@ -1,7 +1,7 @@
-"""Some lines of the events of a run, as columns. They are read without the lines before them, so any process can do it.
+"""Converts some lines of a run's events to columns. The earlier lines are not needed, so any process can do this.
 
-Entries, steps and items are counted from the first of these lines on. Everything else that depends on lines before is left
-to Replay, which takes the columns of all lines.
+Entries, steps and items are counted from the first of these lines. `Replay` takes the columns of all lines and adds
+everything that depends on earlier lines.
 """
 
 import itertools
@@ -18,103 +18,107 @@ from canbusd._run.event_parts import Outcomes, Parts
 from canbusd._run.run_parts import WAITING_BITS, Bus
 from canbusd._run.steps import DONE, DOWN, RESTART, Places
 
-#: The interfaces, as lines have them.
+#: The numbers of the interfaces, by their text in the lines.
 IFACES = {str(number): number for number in range(16)}
 
 
 class Loss(NamedTuple):
-    """Frames that bus off or down took out of a transmit queue."""
+    """Frames that were removed from a transmit queue because the interface went bus off or down."""
 
     step: int
     frames: int
-    #: How many frames left that queue in steps before, in these lines; None at bus off, where the first is that of the step.
+    #: How many frames left the queue in earlier steps of these lines. None at bus off, where the first lost frame is
+    #: the frame of the step.
     gone: Optional[int]
 
 
 class Drop(NamedTuple):
-    """Items that found no room at a socket."""
+    """Items that were dropped because the queue of a socket was full."""
 
     step: int
-    #: The place of the first of them among the items.
+    #: The place of the first dropped item among all items.
     item: int
     socket: int
     items: int
-    #: Whether they can't be error message frames.
+    #: Whether the dropped items are certainly no error message frames.
     is_frame: bool
 
 
 def column(code: str) -> "array[int]":
-    """Returns a field that is a column of numbers, empty unless given."""
+    """Returns a dataclass field for a column of numbers. The column is empty by default."""
     made: "array[int]" = field(default_factory=lambda: array(code))
     return made
 
 
 @dataclass
 class Chunk:
-    """What the lines say. Most columns have a number for each step."""
+    """The contents of some lines as columns. Most columns have one number for each step."""
 
     #: The number of entries.
     entry_count: int
-    #: The lines of which there are few, each with the number of steps before it and that of its entry.
+    #: The lines of rare kinds, each with the number of steps before the line and the number of its entry.
     others: list[tuple[str, int, int]]
-    #: The lines of sends that were accepted, without the LF of the last, and the interfaces at which they are.
+    #: The lines of accepted sends, without the final LF, and the interface of each send.
     sends: str
     senders: bytes
-    #: By the socket, the number of steps before each of its items was taken.
+    #: Maps each socket to the number of steps before each of its items was taken.
     taken: "dict[int, array[int]]"
     kinds: "array[int]" = column("B")
     ifaces: "array[int]" = column("B")
     entries: "array[int]" = column("I")
     moments: "array[int]" = column("Q")
     numbers: "array[int]" = column("I")
-    #: Places among the texts: of frames and error message frames, and of verdicts.
+    #: Places in the lists of texts: `frames` for frames and error message frames, `verdicts` for verdicts.
     frames: "array[int]" = column("I")
     verdicts: "array[int]" = column("I")
     texts: list[str] = field(default_factory=list)
     verdict_texts: list[str] = field(default_factory=list)
     accepted: "array[int]" = column("H")
     off: "array[int]" = column("H")
-    #: How many more frames wait at each interface than before the first line, as `Waiting` packs them.
+    #: The increase in the number of waiting frames at each interface since the first line, as packed by `Waiting`.
     waiting: bytes = b""
-    #: The same after the last line, as one number.
+    #: The same increase after the last line, as one number.
     waiting_more: int = 0
-    #: Four columns of the time on the wire; none if no line has it.
+    #: Four columns with times on the wire. The list is empty if no line has such a time.
     wires: "list[array[int]]" = field(default_factory=list)
-    #: The error counts, two of each interface, and 0 before the first step that has them; empty if no step has any.
+    #: The two error counts of each interface, and 0 before the first step that reports them. Empty if no step reports
+    #: any.
     counts: "array[int]" = column("H")
-    #: By the place of two counts, the first step that has them.
+    #: Maps the place of an interface's two counts to the first step that reports these counts.
     counted_from: dict[int, int] = field(default_factory=dict)
-    #: The steps that changed counts.
+    #: The steps that changed error counts.
     changed: "array[int]" = column("I")
-    #: The restarts and downs.
+    #: The steps that are restarts, or in which an interface went down.
     breaks: list[int] = field(default_factory=list)
-    #: The steps with faults that only some see, and the set of these interfaces.
+    #: The steps with a local fault, and the set of interfaces that see the fault.
     local: list[tuple[int, int]] = field(default_factory=list)
     lost: list[Loss] = field(default_factory=list)
-    #: The socket and the step of each item that was handed out; by the socket, how many.
+    #: The socket and the step of each item that was handed to a socket, and the number of items for each socket.
     item_sockets: bytes = b""
     item_steps: "array[int]" = column("I")
     handed: dict[int, int] = field(default_factory=dict)
-    #: The items that are error message frames, and the places of their texts.
+    #: The items that are error message frames, and the places of these frames in the list of texts.
     errors: "array[int]" = column("I")
     error_texts: "array[int]" = column("I")
     dropped: list[Drop] = field(default_factory=list)
 
 
 class Reader:
-    """Reads lines of the events of a run of this bus."""
+    """Reads lines of a run's events for a bus."""
 
     def __init__(self, bus: Bus) -> None:
         self._count, self._may_restart = bus.ifaces, bus.auto_restart > 0
-        # The interface of each socket that was opened.
+        # The interface of each socket that was opened so far.
         self._sockets: list[int] = []
         self._outcomes = Outcomes(self._sockets)
-        # What a frame that waits at an interface adds to the number that says how many wait at each.
+        # One number combines the counts of waiting frames at all interfaces. This list has the increment for one frame
+        # at each interface.
         self._units = [1 << WAITING_BITS * iface for iface in range(bus.ifaces)]
         self._waiting = Waiting(bus.ifaces)
 
     def read(self, text: str, sockets: Sequence[int]) -> Chunk:
-        """Returns what whole lines say, without the LF of the last one; sockets of these interfaces were opened before."""
+        """Returns the contents of complete lines, without the final LF. `sockets` has the interfaces of the sockets
+        that were opened before."""
         lines = Lines(text, self._may_restart)
         others = [*zip(lines.of(OTHER), lines.steps_before(OTHER), lines.entries_of(OTHER))] if lines.has_others else []
         self._sockets[:] = [*sockets, *opened_in(line for line, _, _ in others)]
@@ -126,7 +130,7 @@ class Reader:
         return found
 
     def _read_steps(self, lines: Lines, found: Chunk) -> None:
-        """Attempts try frames, interfaces are restarted or go down."""
+        """Reads the steps: attempts, restarts, and interfaces that go down."""
         units = [*map(self._units.__getitem__, found.senders)]
         words = lines.words
         if not words:
@@ -151,7 +155,7 @@ class Reader:
 
     @staticmethod
     def _read_items(found: Chunk, sockets: Sequence[bytes], handed: Sequence[int]) -> None:
-        """Items are handed to sockets."""
+        """Reads the items that were handed to sockets."""
         found.item_sockets = b"".join(sockets)
         steps: Iterator[Iterable[int]] = map(itertools.repeat, itertools.count(), handed)
         found.item_steps.fromlist([*itertools.chain.from_iterable(steps)])
@@ -178,7 +182,8 @@ class Reader:
         left: Sequence[int],
         handed: Sequence[int],
     ) -> None:
-        """Reads the frames, and what few steps bring about: error message frames have their places after that of the step."""
+        """Reads the frames and the rare effects of steps. The text of an error message frame comes after the text of
+        its step."""
         places, first = Places[str](), 0
         counts, seen = array("H", [0]) * (2 * self._count), [array("H", [0]) * (2 * self._count)]
         items = [*itertools.accumulate(handed, initial=0)] if any(parts) else []
@@ -198,7 +203,7 @@ class Reader:
                 found.errors.extend(items[step] + place for place, _ in part.errors)
                 found.error_texts.extend(places.places_of(text for _, text in part.errors))
             if part.dropped:
-                # Nor is there an error message frame where no count changed.
+                # A step that changed no count has no error message frame either.
                 is_frame = found.kinds[step] == DONE and not part.counts and is_good(found, step)
                 found.dropped += drops_of(part, step, items[step + 1], is_frame)
         found.frames.fromlist(places.places_of(frames[first:]))
@@ -209,12 +214,12 @@ class Reader:
 
 
 def is_good(found: Chunk, step: int) -> bool:
-    """Whether a step had no fault."""
+    """Returns whether a step had no fault."""
     return found.verdict_texts[found.verdicts[step]] == "good"
 
 
 def drops_of(part: Parts, step: int, end: int, is_frame: bool) -> Iterable[Drop]:
-    """Yields the items of a step that found no room: the last ones before this place."""
+    """Yields the dropped items of a step. They are the last items before the place `end`."""
     place = end - sum(count for _, count in part.dropped)
     for socket, count in part.dropped:
         yield Drop(step, place, socket, count, is_frame)
@@ -222,14 +227,15 @@ def drops_of(part: Parts, step: int, end: int, is_frame: bool) -> Iterable[Drop]
 
 
 def gone_before(found: Chunk, left: Sequence[int], step: int) -> Optional[int]:
-    """Of an interface that goes down in a step, the number of frames that left its queue in steps before; None of another."""
+    """Returns how many frames left the queue of an interface in earlier steps if the interface goes down in this step.
+    Returns None for other steps."""
     if found.kinds[step] != DOWN:
         return None
     return sum(count for iface, count in zip(found.ifaces[:step], left) if iface == found.ifaces[step])
 
 
 def opened_in(lines: Iterable[str]) -> Iterable[int]:
-    """Yields the interfaces of the sockets that lines open."""
+    """Yields the interface of each socket that the lines open."""
     for line in lines:
         if line.startswith("open "):
             iface, _, _, reply = line.split(" ")[1:5]
@@ -238,10 +244,11 @@ def opened_in(lines: Iterable[str]) -> Iterable[int]:
 
 
 def taken_in(lines: Lines, sockets: int) -> "dict[int, array[int]]":
-    """By the socket, the number of steps before each of its items was taken; there are so many sockets."""
-    # Items that no socket got go into the last one, which is not kept.
+    """Maps each socket to the number of steps before each of its items was taken. `sockets` is the number of
+    sockets."""
+    # The last column receives the items that no socket got. It is not returned.
     columns = [array("I") for _ in range(sockets + 1)]
     takers = map(columns.__getitem__, receivers_of(lines.of(RECEIVE), sockets))
-    # For each line in turn; a queue without room is the quickest that keeps nothing.
+    # This appends a number for each line. A deque with a maximum length of 0 is the fastest way to consume an iterator.
     deque(map(array.append, takers, lines.steps_before(RECEIVE)), maxlen=0)
     return {socket: column for socket, column in enumerate(columns[:-1]) if column}

@@ -1,4 +1,5 @@
-"""Sums over columns of numbers: a column is one large number, so one sum is that of all, which is quick."""
+"""Adds a number to each number of a column. The column is treated as one large number, so one fast addition is
+enough."""
 
 import operator
 import sys
@@ -8,12 +9,12 @@ from typing import Literal
 
 from canbusd._run.run_parts import WAITING_BITS
 
-#: The bytes of a number of frames that wait.
+#: The number of bytes for a count of waiting frames.
 WAITING_BYTES = WAITING_BITS // 8
 
 
 def raised(numbers: bytes, size: int, by: int, order: Literal["little", "big"] = sys.byteorder) -> bytes:
-    """Returns numbers of this size, each of which is larger by so much."""
+    """Adds `by` to each of these numbers, which have `size` bytes each."""
     if not by or not numbers:
         return numbers
     ones = int.from_bytes((1).to_bytes(size, order) * (len(numbers) // size), order)
@@ -21,27 +22,30 @@ def raised(numbers: bytes, size: int, by: int, order: Literal["little", "big"] =
 
 
 def later(column: "array[int]", by: int) -> "array[int]":
-    """Returns a column whose numbers are larger by so much."""
+    """Returns a copy of a column with `by` added to each number."""
     return array(column.typecode, raised(column.tobytes(), column.itemsize, by))
 
 
 class Waiting:
-    """How many more frames wait at each interface before steps than before the first line: two bytes for each interface.
+    """Packs, for each step, the increase in the number of waiting frames since the first line: two bytes for each
+    interface.
 
-    Two more bytes are 1. They take the borrow if fewer frames wait than before, so that no step takes it from the next one.
+    Each step has two spare bytes with the value 1. If the increase is negative, the subtraction borrows from these
+    bytes and not from the next step.
     """
 
     def __init__(self, ifaces: int) -> None:
         self._ifaces, self._size = ifaces, WAITING_BYTES * (ifaces + 1)
 
     def packed(self, waiting: Iterable[int]) -> bytes:
-        """Returns them by numbers for all interfaces, which may be negative."""
+        """Packs one number for each step, which combines all interfaces and may be negative."""
         spare = 1 << WAITING_BITS * self._ifaces
         each = operator.methodcaller("to_bytes", self._size, "little")
         return b"".join(map(each, map(spare.__add__, waiting)))
 
     def column(self, packed: bytes, before: int) -> "array[int]":
-        """Returns the column, if this number waited before the first line."""
+        """Returns the column of waiting frames. `before` is the combined number of waiting frames before the first
+        line."""
         column = array("H", raised(packed, self._size, before, "little"))
         if sys.byteorder == "big":
             column.byteswap()

@@ -1,7 +1,7 @@
-"""Compares two runs: the differences between their frames.
+"""Compares two runs and finds the differences between their frames.
 
-Frames of both runs are matched by sender, identifier and order, so that a frame that is sent again is one difference.
-Interfaces are compared by name if both runs name all their interfaces, else by number.
+Frames of both runs are matched by sender, identifier and order, so all attempts of a frame count as one frame.
+Interfaces are compared by name if both runs name all their interfaces, otherwise by number.
 """
 
 import collections
@@ -16,35 +16,35 @@ from canbusd._text import times
 from canbusd.record import Attempt, Record, attempts_of, is_named, number_named
 
 Kind = Literal["only here", "only there", "other data", "other outcome", "later", "earlier", "restarts", "downs"]
-#: The tolerance for the times of a frame in seconds; both runs count time from their first frame.
+#: The tolerance for the times of a frame, in seconds. Times are relative to the first frame of each run.
 TOLERANCE = 0.01
-# The most differences that are listed as text.
+# The maximum number of differences that are listed as text.
 MOST_LISTED = 1000
 SIGNS = {"only here": "-", "only there": "+"}
 
 
 class Difference(NamedTuple):
-    """A difference between the runs in a frame."""
+    """A difference between the two runs."""
 
     kind: Kind
-    #: The attempt of the first run; for a frame that only the second run has, the attempt after the frame's place.
+    #: The attempt in the first run. If only the second run has the frame, the attempt that follows the frame's place.
     attempt: int
-    #: The same for the second run.
+    #: The attempt in the second run, found in the same way.
     other: int
     words: str
 
     def line(self) -> str:
-        """Returns the difference on one line: the attempts of both runs, the kind and a description."""
+        """Returns the difference as one line: the attempts of both runs, the kind and a description."""
         here = "" if self.kind == "only there" else f"{self.attempt:,}"
         there = "" if self.kind == "only here" else f"{self.other:,}"
         return f"{SIGNS.get(self.kind, '!')} {here:>9} {there:>9}  {self.kind}: {self.words}"
 
 
 def names_of_both(one: Record, other: Record) -> tuple[Sequence[str], Sequence[str]]:
-    """Returns the names for comparing and showing the interfaces of two runs.
+    """Returns the names that are used to compare and to show the interfaces of two runs.
 
-    If all interfaces have names, each run uses its own names. Else both runs use the same name for an interface: the
-    name that either run has. If these names contradict each other, both runs use numbers.
+    If all interfaces have names, each run uses its own names. Otherwise both runs use the same name for an interface,
+    taken from the run that has one. If the runs have different names for an interface, both use numbers.
     """
     if all(map(is_named, [*one.names, *other.names])):
         return one.names, other.names
@@ -57,20 +57,21 @@ def names_of_both(one: Record, other: Record) -> tuple[Sequence[str], Sequence[s
 
 
 class Comparison:
-    """Two runs, with names for comparing them; `title` is the name of the second run on a page."""
+    """Two runs, with names for comparing them. `title` is the title of the second run on a page."""
 
     def __init__(self, one: Record, other: Record, title: str = "", tolerance: float = TOLERANCE) -> None:
         self.records, self.title, self.tolerance = (one, other), title, tolerance
         self.names = names_of_both(one, other)
         made = [attempts_of(record.replay, names) for record, names in zip(self.records, self.names)]
-        #: The attempts of both runs that had a frame, numbered from 0.
+        #: The attempts of both runs that had a frame, counted from 0.
         self.one, self.other = ([attempt for attempt in run if attempt.outcome != "idle"] for run in made)
         self._restarted = [collections.Counter(name for attempt in run for name in attempt.restarted) for run in made]
         self._downed = [downs_of(record, names) for record, names in zip(self.records, self.names)]
         self._rows = list(pairs_of(self.one, self.other))
 
     def reversed(self, title: str) -> "Comparison":
-        """Returns the comparison of the second run with the first, under this title: the same pairs, reversed."""
+        """Returns the comparison with the two runs swapped. The pairs of frames are the same. `title` is the new
+        title."""
         turned = object.__new__(Comparison)
         turned.records, turned.names = self.records[::-1], self.names[::-1]
         turned.title, turned.tolerance = title, self.tolerance
@@ -81,8 +82,8 @@ class Comparison:
 
     @functools.cached_property
     def partners(self) -> dict[int, int]:
-        """Maps attempts of the second run to the same attempts of the first; a frame's attempts are matched from the
-        last one back."""
+        """Maps attempts of the second run to the matching attempts of the first run. The attempts of a frame are
+        matched backwards from the last one."""
         found: dict[int, int] = {}
         for pair in itertools.chain(*self._rows):
             if pair.one is not None and pair.other is not None:
@@ -91,8 +92,8 @@ class Comparison:
 
     @functools.cached_property
     def differences(self) -> list[Difference]:
-        """All differences, in order."""
-        # The place that a frame of only the other run would have.
+        """All differences between the runs, in order."""
+        # For a frame that only one run has, its place in the other run.
         here, there = places(self.partners, len(self.other)), places(reversed_pairs(self.partners), len(self.one))
         found = [one for row in self._rows for one in self._in_row(row, here, there)]
         more = [
@@ -127,7 +128,7 @@ class Comparison:
         if ends[0] != ends[1]:
             kinds.append(("other outcome", f"{ends[0]} against {ends[1]}"))
         else:
-            # A frame that a node missed during its outage is no separate difference.
+            # A frame that a node missed during its outage is not a separate difference.
             gone = self._away[0][one.first] | self._away[1][other.first]
             takers = accepted(self.one, one, gone), accepted(self.other, other, gone)
             if takers[0] != takers[1]:
@@ -140,7 +141,7 @@ class Comparison:
             yield Difference(kinds[0][0], one.first, other.first, about + "; ".join(words for _, words in kinds))
 
     def _counted(self, kind: Kind, did: str, counts: "Sequence[collections.Counter[str]]") -> Iterator[Difference]:
-        """Yields the events of an interface whose counts differ between the runs."""
+        """Yields a difference for each interface whose count of these events differs between the runs."""
         for name in sorted(set(counts[0]) | set(counts[1])):
             if counts[0][name] != counts[1][name]:
                 words = f"{name} {did} {times(counts[0][name], 'time')} against {counts[1][name]}"
@@ -152,7 +153,7 @@ class Comparison:
 
     @functools.cached_property
     def _shift(self) -> float:
-        """The delay of the whole second run: at the first frame of the first run that both runs have."""
+        """The delay of the whole second run: the time difference at the first frame that both runs have."""
         pairs = (pair for row in self._rows for pair in row)
         both = [(one, other) for one, other in pairs if one is not None and other is not None]
         if not both:
@@ -166,8 +167,8 @@ class Comparison:
 
     @property
     def reordered(self) -> Optional[int]:
-        """The first attempt that comes later in the second run than an attempt that follows it in the first run; None
-        if the orders agree."""
+        """The first attempt that comes later in the second run than some attempt that follows it in the first run. None
+        if both runs have the same order."""
         last = -1
         for other in sorted(self.partners):
             if self.partners[other] < last:
@@ -176,7 +177,7 @@ class Comparison:
         return None
 
     def heading(self) -> str:
-        """Returns the difference between the runs on one line."""
+        """Returns a summary of the differences on one line."""
         if self.differences:
             first = self.differences[0]
             many = times(len(self.differences), "difference")
@@ -186,14 +187,15 @@ class Comparison:
         return f"No difference in {times(len(self.one), 'attempt')}"
 
     def lines(self) -> list[str]:
-        """Returns the heading and the differences as lines: `-` only the first run, `+` only the second, `!` both."""
+        """Returns the heading and the differences as lines. A line starts with `-` if only the first run has the frame,
+        `+` if only the second run has it, and `!` if both have it."""
         more = len(self.differences) - MOST_LISTED
         lines = [one.line() for one in self.differences[:MOST_LISTED]]
         return [self.heading(), *lines, *([f"and {times(more, 'difference')} more"] if more > 0 else [])]
 
 
 def places(partners: dict[int, int], count: int) -> list[int]:
-    """Returns for each attempt of a run the place in the other run that follows the partners of the earlier
+    """Returns, for each attempt of a run, the place in the other run just after the partners of all earlier
     attempts."""
     last, found = -1, []
     for attempt in range(count):
@@ -203,24 +205,24 @@ def places(partners: dict[int, int], count: int) -> list[int]:
 
 
 def reversed_pairs(partners: dict[int, int]) -> dict[int, int]:
-    """Returns the map from attempts of the first run to those of the second."""
+    """Returns the inverse map, from attempts of the first run to attempts of the second."""
     return {one: other for other, one in partners.items()}
 
 
 def key_of(attempt: Attempt) -> tuple[object, ...]:
-    """Returns the compared facts of an attempt; sets of interfaces are in bus order, so equal sets may have different
-    keys."""
+    """Returns the facts of an attempt that are compared. Sets of interfaces are in bus order, so equal sets may have
+    different keys."""
     return attempt.frame, attempt.outcome, attempt.fault, attempt.accepted, attempt.off
 
 
 def told(run: Sequence[Attempt], sent: Sent) -> str:
-    """Returns a frame with its sender: `can0 123#11`."""
+    """Returns a frame with its sender, such as `can0 123#11`."""
     attempt = run[sent.first]
     return f"{attempt.winner} {attempt.frame}"
 
 
 def outcomes(run: Sequence[Attempt], sent: Sent) -> str:
-    """Returns the outcome of each attempt of a frame: `destroyed (global bit), then done`."""
+    """Returns the outcome of each attempt of a frame, such as `destroyed (global bit), then done`."""
     found = []
     for outcome, same in itertools.groupby(outcome_of(run[place]) for place in sent.attempts):
         many = len(list(same))
@@ -229,24 +231,24 @@ def outcomes(run: Sequence[Attempt], sent: Sent) -> str:
 
 
 def outcome_of(attempt: Attempt) -> str:
-    """Returns the outcome of an attempt, with its fault and the interfaces that went bus off."""
+    """Returns the outcome of an attempt, its fault, and the interfaces that went bus off."""
     fault = "" if attempt.fault in ("good", attempt.outcome) else f" ({attempt.fault})"
     return attempt.outcome + fault + (f", {' and '.join(sorted(attempt.off))} bus off" if attempt.off else "")
 
 
 def accepted(run: Sequence[Attempt], sent: Sent, gone: "frozenset[str]") -> list[set[str]]:
-    """Returns the receivers of a frame in each of its attempts, except for the interfaces in `gone`."""
+    """Returns the receivers of a frame in each attempt, except for the interfaces in `gone`."""
     return [set(run[place].accepted) - gone for place in sent.attempts]
 
 
 def downs_of(record: Record, names: Sequence[str]) -> "collections.Counter[str]":
-    """Returns the number of times that each interface of a run went down."""
+    """Counts how often each interface of a run went down."""
     steps = record.replay.steps
     return collections.Counter(names[steps.ifaces[place]] for place in steps.places_of(DOWN))
 
 
 def away(record: Record, names: Sequence[str]) -> "list[frozenset[str]]":
-    """Returns for each attempt of a run the interfaces that were bus off or down at that time."""
+    """Returns, for each attempt of a run, the interfaces that were bus off or down during the attempt."""
     steps, gone = record.replay.steps, frozenset[str]()
     found = []
     for kind, iface, off in zip(steps.kinds, steps.ifaces, steps.off):

@@ -1,4 +1,5 @@
-"""Draws the events of a record as plain text with at most 120 columns: error counters, and arbitration bit by bit."""
+"""Draws the events of a record as plain text with at most 120 columns: the error counters, and arbitration bit by
+bit."""
 
 import bisect
 from collections.abc import Iterator, Sequence
@@ -7,14 +8,14 @@ from canbusd._run.run_parts import OFF, PASSIVE, WARNING
 from canbusd._run.steps import Step, WireFrame
 from canbusd.record import Record
 
-# The width of the drawing; with the texts to its left and right a line has 120 columns.
+# The width of a drawing in columns. With the texts on both sides a line has 120 columns.
 MOST_COLUMNS = 96
 HEIGHT = 16
 LIMITS = [(OFF, "bus off"), (PASSIVE, "error passive"), (WARNING, "error warning")]
 
 
 def counters(record: Record, first: int, last: int) -> Iterator[str]:
-    """Yields the lines that draw both error counters of each interface, over the attempts from `first` to `last`."""
+    """Draws both error counters of each interface over the attempts `first` to `last`, and yields the lines."""
     run, steps = record.replay, record.replay.steps
     begin, end = bisect.bisect_left(steps.attempts, first), bisect.bisect_right(steps.attempts, last)
     rows = [steps.counts_after(begin - 1) if 0 < begin < end else ((0, 0),) * len(run.ifaces)]
@@ -35,7 +36,7 @@ def counters(record: Record, first: int, last: int) -> Iterator[str]:
 
 
 def row_of(columns: list[tuple[int, int]], floor: int, scale: int) -> str:
-    """Returns a row of a drawing: the counts from `floor` on, and the limit in this row."""
+    """Returns a row of a drawing, with the counts above `floor` and the limit in this row."""
     least = max(floor, 1)
     cells = "".join("#" if transmit >= least else "o" if receive >= least else " " for transmit, receive in columns)
     limit = next((f"  {text}" for limit, text in LIMITS if floor <= limit < floor + scale), "")
@@ -43,7 +44,7 @@ def row_of(columns: list[tuple[int, int]], floor: int, scale: int) -> str:
 
 
 def arbitration(record: Record, first: int, last: int) -> Iterator[str]:
-    """Yields the lines that draw the bits of each attempt for which several interfaces competed."""
+    """Draws the bits of each attempt in which several interfaces competed, and yields the lines."""
     names, steps = record.names, record.replay.steps
     for place, attempt in enumerate(steps.attempts):
         if first <= attempt <= last and len(steps.met(place)) > 1:
@@ -53,7 +54,7 @@ def arbitration(record: Record, first: int, last: int) -> Iterator[str]:
 
 
 def contenders_of(step: Step, names: Sequence[str]) -> Iterator[str]:
-    """Returns the bits of each competing interface, up to the bit at which it lost arbitration."""
+    """Yields the bits of each competing interface, up to the bit at which it lost arbitration."""
     width = max(map(len, names))
     best: WireFrame = dict(step.contenders)[step.iface]
     for number, frame in step.contenders:

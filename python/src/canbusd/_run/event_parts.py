@@ -1,4 +1,4 @@
-"""The effects of a step as the lines spell them; many steps share the same effects."""
+"""Parses the effects of steps in lines of events. Many steps share the same effects."""
 
 import functools
 from array import array
@@ -7,46 +7,49 @@ from typing import Any, NamedTuple, Optional
 
 from canbusd._run.steps import DONE, KIND_NUMBERS, RESTART
 
-#: The maximum number of kept effects, of some hundred bytes each: failing attempts make many.
+#: The maximum number of cached effects, which take some hundred bytes each. Runs with many failures have many different
+#: effects.
 MOST_KEPT = 4096
 
 
 class Parts(NamedTuple):
-    """Effects that few steps have."""
+    """Effects that only a few steps have."""
 
-    #: The changed error counts: their place among the counts, two for each interface, and the two new counts.
+    #: The changed error counts: the place of an interface's two counts in the column, and the two new counts.
     counts: list[tuple[slice, "array[int]"]]
-    #: The number of frames that left a transmit queue because its sender went bus off, or its interface went down.
+    #: The number of frames that were removed from a transmit queue because the interface went bus off or down.
     lost: int
-    #: Error message frames, by their places among the items of the step.
+    #: The error message frames, each with its place among the items of the step.
     errors: Sequence[tuple[int, str]]
-    #: The sockets that had no room for items, and the number of these items; they are the last items of the step.
+    #: The sockets whose queues were full, each with the number of its dropped items. These are the last items of the
+    #: step.
     dropped: list[tuple[int, int]]
 
 
 class Outcome(NamedTuple):
-    """The part of a step's line after its frame."""
+    """The outcome of a step, from the part of its line after the frame."""
 
     #: The kind of the step.
     kind: int
-    #: The interfaces that accepted the frame, and those that went bus off, as in the columns: bit i for interface i.
+    #: The interfaces that accepted the frame, and the interfaces that went bus off, as bytes for the columns. Bit i
+    #: stands for interface i.
     accepted: bytes
     off: bytes
-    #: The number of frames that leave the transmit queue of the sender.
+    #: The number of frames that leave the sender's transmit queue.
     left: int
-    #: The number of items that were handed out, and their sockets in order, as in a column.
+    #: The number of items that were handed to sockets, and the sockets in order, as bytes for a column.
     handed: int
     sockets: bytes
-    #: The time on the wire, if the line has it.
+    #: The time on the wire, if the line reports it.
     wire: Optional[tuple[int, ...]]
     parts: Optional[Parts]
 
 
 class Outcomes(dict[str, Outcome]):
-    """Outcomes by their texts, such as `done 0002 0000; put 1`."""
+    """Maps texts, such as `done 0002 0000; put 1`, to outcomes."""
 
     def __init__(self, sockets: Sequence[int]) -> None:
-        """`sockets` are their interfaces."""
+        """Starts with no outcomes. `sockets` has the interface of each socket."""
         super().__init__()
         self._sockets = sockets
 
@@ -84,8 +87,8 @@ class Outcomes(dict[str, Outcome]):
         return Outcome(kind, accepted, off, (kind == DONE) + lost, handed, sockets, wire, rare)
 
     def _parts_of(self, parts: Iterable[str], members: int, is_restart: bool) -> Iterator[str]:
-        """Yields the parts for a set of interfaces, bit i for interface i; the time on the wire belongs to no
-        restart."""
+        """Yields the parts that apply to a set of interfaces, in which bit i stands for interface i. A restart has no
+        time on the wire."""
         for part in parts:
             name, *words = part.split(" ")
             if name in ("put", "dropped"):
@@ -108,7 +111,8 @@ def result_of(text: str) -> tuple[int, bytes, bytes]:
 
 @functools.lru_cache(maxsize=65536)
 def part_of(part: str) -> tuple[str, Any]:
-    """Returns the name and the content of a part of an outcome, cached because many parts are the same."""
+    """Returns the name and the content of a part of an outcome. The result is cached because many parts are the
+    same."""
     name, *words = part.split(" ")
     if name == "put":
         return name, put_of(words)
@@ -122,18 +126,18 @@ def part_of(part: str) -> tuple[str, Any]:
 
 
 def put_of(words: Iterable[str]) -> tuple[bytes, Sequence[tuple[int, str]]]:
-    """Returns the sockets that got items, as an outcome has them, and the error message frames by their places among
-    these."""
+    """Returns the sockets that got items, as bytes of a column, and the error message frames with their places among
+    these items."""
     found = [*map(halves, words)]
     errors = [(place, error) for place, (_, _, error) in enumerate(found) if error]
     return column_of(int(socket) for socket, _, _ in found), errors
 
 
 def column_of(sockets: Iterable[int]) -> bytes:
-    """Returns sockets as bytes of their column."""
+    """Returns socket numbers as the bytes of a column."""
     return array("I", sockets).tobytes()
 
 
 def halves(word: str) -> tuple[str, str, str]:
-    """Returns the parts of a word before and after its colon."""
+    """Splits a word at its colon."""
     return word.partition(":")

@@ -1,5 +1,5 @@
-"""The lines of `canbusd audit --events` on a record, docs/RECORD.md, or the reason why the program refuses the
-record."""
+"""Reads the lines that `canbusd audit --events` prints for a record (docs/RECORD.md). If the program refuses the
+record, raises BadRecord with the reason."""
 
 import contextlib
 import fcntl
@@ -14,20 +14,21 @@ from typing import IO, BinaryIO, Optional
 from canbusd._process.program import ProgramNotFound, find_program
 from canbusd._process.rates import Rates
 
-# The number of bytes in a read; larger reads are no faster.
+# The number of bytes for each read. Larger reads are no faster.
 BLOCK = 1 << 17
-# The most lines that the program may be ahead.
+# The size of the program's output pipe in bytes.
 AHEAD = 1 << 20
-# F_SETPIPE_SZ of fcntl.h; Python has a name for it since 3.10.
+# The value of F_SETPIPE_SZ in fcntl.h. Python has had a name for it since version 3.10.
 SET_PIPE_SIZE = 1031
-# After this many milliseconds without a line, `doubt` is called.
+# The time without a line, in milliseconds, after which `doubt` is called.
 SILENCE = 1000
 
 
 class BadRecord(ValueError):
-    """The reason why a file is not the record of a run.
+    """Raised if a file is not the record of a run. The message has the reason.
 
-    `verdict` is the verdict of `canbusd audit` on the file, such as `line 5: bad line`; None if the audit was not run.
+    `verdict` is the verdict of `canbusd audit` on the file, such as `line 5: bad line`, or None if the audit was not
+    run.
     """
 
     def __init__(self, message: str, verdict: Optional[str] = None) -> None:
@@ -36,10 +37,11 @@ class BadRecord(ValueError):
 
 
 class Events:
-    """An audit of a record. The caller hands the record in, complete or piece by piece, or the program reads it.
+    """An audit of a record. The caller passes the record, at once or in pieces, or the program reads it from a file.
 
-    With `cut` the record may end before its line `end`. With bit rates the lines have the time of attempts on the wire.
-    With `faults`, as in `can0,can1@FILE`, they have the rule of that script that gave an attempt its verdict.
+    With `cut` the record may lack its last line, `end`. With bit rates the lines include the times of attempts on the
+    wire. With `faults`, such as `can0,can1@FILE`, the lines include the rule of that script that gave an attempt its
+    verdict.
     """
 
     def __init__(
@@ -59,9 +61,10 @@ class Events:
         self._input, self._output = self._process.stdin, self._process.stdout
         widen(self._process.stdout)
         if self._input is not None:
-            # A write takes only as much as fits: the program may wait until its own output is read.
+            # A write must not block when the pipe is full: the program may be waiting for its own output to be read.
             os.set_blocking(self._input.fileno(), False)
-        # The number of lines handed in, the number of lines received, and the beginning of an incomplete line.
+        # The number of lines passed to the program, the number of lines received, and the beginning of an incomplete
+        # line.
         self._handed = self._came = 0
         self._rest = ""
         self.close = weakref.finalize(self, end, self._process)
@@ -78,11 +81,11 @@ class Events:
         self.close()
 
     def texts(self, text: bytes, is_last: bool = True, doubt: Callable[[], object] = lambda: None) -> Iterator[str]:
-        """Yields the event lines for these lines of the record: several at once, without the last LF.
+        """Yields the event lines for these lines of the record: several at once, without the final LF.
 
-        Each line of the record has an event line: the first two share one, and `end` has one when this text `is_last`.
-        BadRecord at the first wrong line. The program reports a wrong line only after it has read everything. So
-        `doubt` is called after a second without a line.
+        Each line of the record has an event line, except that the first two lines share one. `end` has one only if
+        `is_last` is true. Raises BadRecord at the first wrong line. The program reports a wrong line only after it has
+        read everything. So `doubt` is called after each second without a line.
         """
         assert self._input is not None
         unwritten = memoryview(text)
@@ -111,13 +114,13 @@ class Events:
                     yield lines
 
     def texts_of_file(self) -> Iterator[str]:
-        """Yields the event lines of the file, several at once, without the last LF."""
+        """Yields the event lines of the file: several at once, without the final LF."""
         while block := read_block(self._output):
             yield from self._whole_lines(block)
         self._check_status()
 
     def _whole_lines(self, block: bytes) -> Iterator[str]:
-        """Yields the complete lines of the text that was read, if there are any, at once."""
+        """Yields all complete lines that have been read, as one text, if there are any."""
         lines, has_ended, self._rest = f"{self._rest}{block.decode()}".rpartition("\n")
         if has_ended:
             yield lines
@@ -135,13 +138,13 @@ class Events:
 
 
 def widen(pipe: IO[bytes]) -> None:
-    """Enlarges a pipe, if the system allows it, so that the writer need not wait while a reader handles a block."""
+    """Enlarges a pipe if the system allows it, so that the writer need not wait while the reader processes a block."""
     with contextlib.suppress(OSError):
         fcntl.fcntl(pipe, SET_PIPE_SIZE, AHEAD)
 
 
 def read_block(pipe: IO[bytes]) -> bytes:
-    """Reads until a block is full or the file ends."""
+    """Reads until the block is full or the file ends."""
     parts, size = [], 0
     while size < BLOCK and (part := os.read(pipe.fileno(), BLOCK - size)):
         parts.append(part)
@@ -150,8 +153,8 @@ def read_block(pipe: IO[bytes]) -> bytes:
 
 
 def write_some(descriptor: int, text: memoryview) -> int:
-    """Hands text to the program; returns the number of bytes taken, or all of them if the program ended with a
-    fault."""
+    """Writes text to the program and returns the number of bytes written, or all bytes if the program has already ended
+    with an error."""
     try:
         return os.write(descriptor, text)
     except BrokenPipeError:
@@ -159,7 +162,7 @@ def write_some(descriptor: int, text: memoryview) -> int:
 
 
 def end(process: "subprocess.Popen[bytes]") -> None:
-    """Ends a program if it still runs, and frees its resources."""
+    """Kills a program if it still runs, and frees its resources."""
     process.kill()
     for stream in (process.stdin, process.stdout, process.stderr):
         if stream is not None:
@@ -169,8 +172,8 @@ def end(process: "subprocess.Popen[bytes]") -> None:
 
 
 def fault_of(said: str) -> BadRecord:
-    """Returns the fault that an audit reports: its verdict, then ` /dev/stdin:5: LINE`, and further lines with the
-    reason."""
+    """Returns the error that an audit reported. The text has the verdict, then ` /dev/stdin:5: LINE`, and further lines
+    with the reason."""
     verdict, *notes = said.removeprefix("canbusd: ").splitlines() or [""]
     words = [note.strip() for note in notes]
     if words:

@@ -1,29 +1,30 @@
-"""The time of frames on the wire of a bus with bit rates: the program computes it for a run that sends the frames."""
+"""Computes the time that frames take on a bus with bit rates. The program computes it for a run that sends these
+frames."""
 
 from collections.abc import Iterable
 
 from canbusd._process.rates import Rates
 from canbusd.record import parse_record
 
-# The number of frames whose times are kept.
+# The maximum number of frames whose times are cached.
 MOST_KEPT = 1 << 16
-# The first lines of a run that sends every frame successfully: version 4 has all kinds of frames, and the bus has room
-# for all.
+# The first lines of a record in which every frame is sent successfully. Version 4 has all kinds of frames, and the bus
+# has room for all of them.
 FRONT = ["canbus record 4", "bus 1 always 0000 1 4294967294 0", "open 0 1 = socket 0", "option 0 fd 1 = ok"]
 
 
 class FrameTimes:
-    """The number of nanoseconds that frames take on the wire, with the bits that follow them. The times of frames are
-    cached."""
+    """The time in nanoseconds that a frame and the bits after it take on the wire. The times are cached."""
 
     def __init__(self, rates: Rates) -> None:
         self.rates = rates
         self._kept: dict[str, int] = {}
-        # A missing program is reported at once.
+        # This call reports a missing program at once.
         self.of(["000#"])
 
     def of(self, texts: Iterable[str]) -> list[int]:
-        """Returns the times of these frames, in order; one run of the program computes all new ones."""
+        """Returns the times of these frames, in order. One run of the program computes all times that are not
+        cached."""
         wanted = list(texts)
         new = [text for text in dict.fromkeys(wanted) if text not in self._kept]
         if len(self._kept) + len(new) > MOST_KEPT:

@@ -1,4 +1,4 @@
-"""Logs and records that a server writes while it runs; each line is read once."""
+"""Reads logs and records while a server writes them. Each line is read only once."""
 
 import contextlib
 import threading
@@ -17,36 +17,36 @@ if TYPE_CHECKING:
 
 
 def left_by(record: Path, when: str) -> Path:
-    """Returns the present path of a record that will have this path when it is complete: can0.rec.new while a `live`
-    run continues, or after it was killed."""
+    """Returns the current path of a record that will have the given path when it is complete. While a `live` run
+    continues, or after it was killed, can0.rec is still called can0.rec.new."""
     growing = record.with_name(f"{record.name}.new")
     return growing if when == "live" and growing.exists() else record
 
 
 class GrowingFile:
-    """A file to which another process appends lines: the first of these paths that exists."""
+    """A file to which another process appends lines. Of the given paths, it is the first one that exists."""
 
     def __init__(self, *paths: Path) -> None:
         self._paths = paths
-        # The place of the first line that was not taken.
+        # The offset of the first line that was not taken.
         self._place = 0
 
     def text(self, first: int = 0) -> bytes:
-        """Returns the complete lines from this place on."""
+        """Returns the complete lines from this offset on."""
         with self._opened() as file:
             file.seek(first)
             whole, lf, _ = file.read().rpartition(b"\n")
         return whole + lf
 
     def take(self) -> bytes:
-        """Takes the complete lines that were not taken yet."""
+        """Takes the complete lines that were not taken before."""
         text = self.text(self._place)
         self._place += len(text)
         return text
 
     def lines(self) -> Iterator[str]:
-        """Yields the complete lines that were not taken yet, without LF; a line counts as taken when the next is asked
-        for."""
+        """Yields the complete lines that were not taken before, without LF. A line counts as taken when the caller asks
+        for the next one."""
         for line in self.text(self._place).splitlines(True):
             yield line[:-1].decode(errors="replace")
             self._place += len(line)
@@ -75,11 +75,11 @@ class LiveLog:
 
 
 class LiveRecord:
-    """A record that a running server writes, for a bus with interfaces of these names."""
+    """A record that a running server writes, for a bus whose interfaces have these names."""
 
     def __init__(self, path: Path, names: Sequence[str]) -> None:
         self._file, self._names = GrowingFile(path.with_name(f"{path.name}.new"), path), tuple(names)
-        # The audit of the lines taken so far, and the run as the audit describes it.
+        # The audit of the lines taken so far, and the run that the audit describes.
         self._events: Optional[Events] = None
         self._run = Replay()
         self._attempts: list[Attempt] = []
@@ -87,7 +87,7 @@ class LiveRecord:
         self._lock = threading.Lock()
 
     def record(self, rates: Optional[Rates] = None) -> Record:
-        """Returns the record so far, with the times on the wire at these bit rates, if there are any."""
+        """Returns the record so far; if bit rates are given, with the times on the wire."""
         return parse_record(self._file.text(), names=self._names, cut=True, rates=rates)
 
     def attempts(self) -> list[Attempt]:
@@ -101,12 +101,12 @@ class LiveRecord:
                 self._fault = fault
                 raise
             if self._run.bus is None:
-                # This explains why there is no record yet.
+                # This call raises an error that explains why there is no record yet.
                 parse_record(self._file.text(), cut=True)
             return list(self._attempts)
 
     def _read(self) -> None:
-        """Reads the added lines and their effects; a wrong line or entry raises the same error each time."""
+        """Reads the new lines and their effects. After a wrong line or entry each call raises the same error."""
         text = self._file.take()
         if not text or self._run.is_whole:
             return

@@ -1,4 +1,4 @@
-"""Logs in candump's format, as a server and a bench write them next to their records."""
+"""Reads logs in candump's format, as a server and a bench write them next to their records."""
 
 import itertools
 import os
@@ -16,16 +16,16 @@ if TYPE_CHECKING:
 Path = Union[str, "os.PathLike[str]"]
 
 LOG_LINE = re.compile(r"\(([0-9]+\.[0-9]{6})\) (\S+) (\S+)")
-#: All lines of logs, of any format, are shorter than this.
+#: Longer than any line of a log, in any format.
 MOST_LINE = 16_384
 
 
 class LongLine(ValueError):
-    """A line does not belong to a log; the text has the place of the line."""
+    """Raised if a line is too long for a log. The message has the place of the line."""
 
 
 def lines_of(file: "IO[AnyStr]", path: Path) -> "Iterator[AnyStr]":
-    """Yields the lines of a log. A line that is too long raises LongLine and ends the reading."""
+    """Yields the lines of a log. Raises LongLine at a line that is too long."""
     for number in itertools.count(1):
         line = file.readline(MOST_LINE)
         if not line:
@@ -37,16 +37,16 @@ def lines_of(file: "IO[AnyStr]", path: Path) -> "Iterator[AnyStr]":
 
 
 def read_log(path: Path) -> "list[Message]":
-    """Returns the messages of a log in candump's format; the channel of each is the interface that sent it.
+    """Returns the messages of a log in candump's format. The channel of a message is the interface that sent it.
 
-    Unlike python-can's reader it keeps the classes of error message frames.
+    Unlike python-can's reader, this function keeps the error classes of error message frames.
     """
     with open(path, encoding="ascii") as file:
         return [message_of(line.rstrip("\n"), path, number) for number, line in enumerate(lines_of(file, path), 1)]
 
 
 def message_of(line: str, path: Path, number: int) -> "Message":
-    """Returns the message in a log's line without its LF; a fault names the log and the line."""
+    """Returns the message in a line of a log, without its LF. Errors name the log and the line."""
     import canbusd._python_can  # noqa: F401  it says what is missing
 
     words = LOG_LINE.fullmatch(line)
@@ -56,25 +56,26 @@ def message_of(line: str, path: Path, number: int) -> "Message":
 
 
 def log_beside(path: Path) -> Optional[str]:
-    """Returns the log that `canbusd serve` writes next to this record, or None: can0.log for can0.rec and
-    can0.rec.new."""
+    """Returns the path of the log that `canbusd serve` writes next to this record, or None if there is no log. For
+    can0.rec and can0.rec.new this is can0.log."""
     record = os.fspath(path).removesuffix(".new").removesuffix(".cut")
     folder, name = os.path.split(record)
-    # os.path.splitext finds no ending in the record `....rec` of the bus `...`.
+    # For the bus `...` the record is `....rec`, in which os.path.splitext finds no ending.
     log = os.path.join(folder, f"{name.rpartition('.')[0] or name}.log")
     return log if log != os.fspath(path) and os.path.isfile(log) else None
 
 
 def names_in_log(steps: Steps, log: Path) -> dict[int, str]:
-    """Returns the names of the interfaces that won an attempt; none if the log belongs to another run.
+    """Maps the interfaces that won an attempt to their names in the log. The map is empty if the log belongs to another
+    run.
 
-    A log has a line for each tried attempt: `(MOMENT) NAME FRAME`, with the winner's name.
+    A log has a line for each attempt with a frame: `(MOMENT) NAME FRAME`, with the name of the winner.
     """
     columns = zip(steps.kinds, steps.moments, steps.ifaces)
     tried = ((moment_of(moment), winner) for kind, moment, winner in columns if kind < RESTART)
     names: dict[int, str] = {}
     with open(log, encoding="ascii", errors="replace") as file:
-        # The last line of a run that was killed may be partial.
+        # If the run was killed, its last line may be partial.
         whole = (line for line in iter(lambda: file.readline(MOST_LINE), "") if line.endswith("\n"))
         for line, (moment, winner) in zip(whole, tried):
             words = line.split()

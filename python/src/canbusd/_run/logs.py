@@ -1,5 +1,5 @@
-"""Logs of other tools: candump logs, formats that python-can recognises by the file's ending, such as ASC and BLF, and
-pcapng."""
+"""Reads and writes logs of other tools: candump logs, pcapng, and formats that python-can recognises by the ending of
+the file, such as ASC and BLF."""
 
 import collections
 import dataclasses
@@ -19,43 +19,43 @@ from canbusd._text import shown
 from canbusd._whole_file import Path, replaced
 from canbusd.frames import BadFrame, Frame, frame_like, log_line
 
-#: The endings of files that python-can reads, also with `.gz`; any other file is a candump log.
+#: The endings of files that python-can reads, with or without `.gz`. Any other file is a candump log.
 ENDINGS = (".asc", ".blf", ".csv", ".db", ".mf4", ".trc")
 #: The endings of text files.
 TEXTS = (".asc", ".csv", ".trc")
 # The ending of captures for Wireshark.
 PCAPNG = ".pcapng"
-#: The endings of files that this module writes; the other formats of python-can lose frames, flags or channels.
+#: The endings of files that this module can write. The other formats of python-can lose frames, flags or channels.
 WRITTEN = (".log", ".asc", ".blf", PCAPNG)
-# The formats that have channel numbers instead of names.
+# The formats that have channel numbers instead of interface names.
 NUMBERED = (".asc", ".blf")
 # python-can and later versions of candump write the direction after the frame.
 LINE = re.compile(r"\(([0-9]{1,10}\.[0-9]{6})\) +(\S+) +(\S+)(?: +([RT]))?")
-# python-can counts channels from 0, its ASC and BLF files from 1.
+# Channel numbers. python-can counts channels from 0, but its ASC and BLF files count from 1.
 NUMBER = re.compile("[0-9]+")
 # The first bytes of a record.
 RECORD = "canbus record "
 
 
 class Entry(NamedTuple):
-    """A frame of a log, its time, and its interface or channel."""
+    """A frame of a log with its time, and with its interface or channel."""
 
     channel: str
     frame: Frame
 
 
 def read_entries(path: Path, names: Sequence[str] = ()) -> Iterator[Entry]:
-    """Yields the entries of a log; the file's ending determines the format.
+    """Yields the entries of a log. The ending of the file determines the format.
 
-    A log with channel numbers has the interfaces can0, can1 and so on, or these names. ValueError names the file, and
-    for candump logs the line.
+    In a log with channel numbers, the channels get the names in `names`, or can0, can1 and so on. Raises ValueError,
+    which names the file, and for candump logs also the line.
     """
     if os.fspath(path).lower().endswith(PCAPNG):
         raise ValueError(f"{os.fspath(path)}: a capture for Wireshark is only written, not read")
     if is_candump(path):
         yield from candump_entries(path)
         return
-    # python-can raises many kinds of errors for a malformed file.
+    # python-can raises many kinds of exceptions for a malformed file.
     try:
         check_lines(path)
         for message in python_can_messages(path):
@@ -83,7 +83,7 @@ def candump_entries(path: Path) -> Iterator[Entry]:
 
 
 def entry_of(text: str, place: str) -> Entry:
-    """Returns the entry of the line at this place."""
+    """Returns the entry in this line. `place` describes the line in errors."""
     words = LINE.fullmatch(text)
     if not words:
         raise ValueError(f"{place}: not `(SECONDS.MICROS) INTERFACE FRAME`: {shown(text)}")
@@ -95,8 +95,8 @@ def entry_of(text: str, place: str) -> Entry:
 
 
 def check_lines(path: Path) -> None:
-    """Checks the length of the lines of a text file, because python-can would keep each line; a fifo is read only
-    once."""
+    """Checks the length of the lines of a text file, because python-can would keep a long line in memory. A fifo is not
+    checked, because it can be read only once."""
     name = os.fspath(path).lower()
     is_text = os.path.splitext(name.removesuffix(".gz"))[1] in TEXTS
     if is_text and not stat.S_ISFIFO(os.stat(path).st_mode):
@@ -106,19 +106,20 @@ def check_lines(path: Path) -> None:
 
 
 def python_can_messages(path: Path) -> "Iterator[Any]":
-    """Yields the messages of a log, as python-can reads it."""
+    """Yields the messages of a log that python-can reads."""
     import canbusd._python_can  # noqa: F401  it says what is missing
 
     can_io: Any = importlib.import_module("can.io")
 
-    # ASC files count time from their date.
+    # The times in ASC files are relative to the date in the file.
     more: dict[str, Any] = {"relative_timestamp": False} if ".asc" in os.path.basename(path).lower() else {}
     with can_io.LogReader(os.fspath(path), **more) as reader:
         yield from reader
 
 
 def name_of(channel: object, names: Sequence[str]) -> str:
-    """Returns the name of an interface if the log has a channel number, or no channel."""
+    """Returns a channel's name. If the channel is a number or missing, returns the name of the interface that it stands
+    for."""
     text = str(channel)
     if channel is not None and not NUMBER.fullmatch(text):
         return text
@@ -127,11 +128,12 @@ def name_of(channel: object, names: Sequence[str]) -> str:
 
 
 def write_entries(path: Path, entries: Iterable[Entry], names: Sequence[str] = ()) -> tuple[int, list[str]]:
-    """Writes a log; the file's ending determines the format. Returns the number of frames, and the interfaces.
+    """Writes a log, and returns the number of its frames and its interfaces. The ending of the file determines the
+    format.
 
-    In a format with channel numbers the channels are the interfaces of these names, then the others in the order of
-    their first frames. The new file replaces the old one after all frames are written. ValueError for an unknown
-    ending.
+    In a format with channel numbers, the interfaces in `names` have the first numbers. Other interfaces follow in the
+    order of their first frames. The new file replaces the old one after all frames are written. Raises ValueError for
+    an unknown ending.
     """
     ending = os.path.splitext(os.fspath(path))[1].lower()
     if ending not in WRITTEN:
@@ -146,12 +148,12 @@ def write_entries(path: Path, entries: Iterable[Entry], names: Sequence[str] = (
 
 
 def is_numbered(path: Path) -> bool:
-    """Returns whether a log to be written has channel numbers, by its ending."""
+    """Returns whether a log with this path will have channel numbers, which depends on its ending."""
     return os.fspath(path).lower().endswith(NUMBERED)
 
 
 def write_candump(file: BinaryIO, entries: Iterable[Entry]) -> int:
-    """Writes a candump log; returns the number of its frames."""
+    """Writes a candump log, and returns the number of its frames."""
     count = 0
     for name, frame in entries:
         file.write(f"{log_line(name, frame)}\n".encode("ascii"))
@@ -160,19 +162,19 @@ def write_candump(file: BinaryIO, entries: Iterable[Entry]) -> int:
 
 
 def write_pcapng(file: BinaryIO, entries: Iterable[Entry], known: Sequence[str]) -> int:
-    """Writes a capture for Wireshark, with these interfaces first; returns the number of its frames."""
+    """Writes a capture for Wireshark that begins with the known interfaces. Returns the number of its frames."""
     capture = Capture(file, [(name, 0) for name in known])
     count = 0
     for name, frame in entries:
-        # A log shows sent frames only, if it shows a direction at all.
+        # If a log has directions, it shows sent frames only.
         capture.write([(name, frame, 0 if frame.is_rx else OUTBOUND)])
         count += 1
     return count
 
 
 def write_by_python_can(file: BinaryIO, ending: str, entries: Iterable[Entry], known: list[str]) -> int:
-    """Writes a log with channel numbers for the interfaces in this list, which grows; returns the number of its
-    frames."""
+    """Writes a log with channel numbers, and returns the number of its frames. The numbers are places in this list of
+    interfaces, to which new interfaces are added."""
     import canbusd._python_can  # noqa: F401  it says what is missing
 
     can_io: Any = importlib.import_module("can.io")
@@ -183,7 +185,7 @@ def write_by_python_can(file: BinaryIO, ending: str, entries: Iterable[Entry], k
         io.TextIOWrapper(file, encoding="utf-8")
     ) as logger:
         if first is not None and hasattr(logger, "start_timestamp"):
-            # The date has milliseconds, and times count from the date.
+            # The date has a precision of milliseconds, and the times in the log are relative to it.
             logger.start_timestamp = int(first.frame.timestamp * 1000) / 1000
         for name, frame in itertools.chain([] if first is None else [first], rest):
             if name not in known:

@@ -1,4 +1,4 @@
-"""Captures for Wireshark: pcapng files with frames in the link type of SocketCAN.
+"""Writes captures for Wireshark: pcapng files with frames in SocketCAN's link type.
 
 Blocks and options follow the pcapng specification (draft-ietf-opsawg-pcapng), and frames follow LINKTYPE_CAN_SOCKETCAN.
 """
@@ -11,9 +11,9 @@ from canbusd.frames import ERROR, EXTENDED, REMOTE, Frame, flag_number
 
 #: The link type of the interfaces.
 LINKTYPE_CAN_SOCKETCAN = 227
-# The types of blocks.
+# The types of the blocks.
 SECTION, INTERFACE, PACKET = 0x0A0D0D0A, 1, 6
-# The options of a section, of an interface and of a packet, each with its number in the block.
+# The codes of the options of a section, an interface and a packet.
 APPLICATION = 4
 NAME, SPEED, RESOLUTION = 2, 8, 9
 FLAGS = 2
@@ -22,7 +22,7 @@ FD = 0x4
 #: The direction of a packet, in its flags.
 INBOUND, OUTBOUND = 1, 2
 
-#: A frame, its interface, and its direction; 0 if this is not known.
+#: The name of an interface, a frame, and the frame's direction, which is 0 if it is not known.
 Packet = tuple[str, Frame, int]
 
 
@@ -30,14 +30,16 @@ class Capture:
     """A capture that is written packet by packet; each write contains complete blocks."""
 
     def __init__(self, file: BinaryIO, interfaces: Iterable[tuple[str, int]] = ()) -> None:
-        """Starts with these interfaces, each with its bit rate; 0 if it has none."""
+        """Writes the beginning of a capture with these interfaces. Each comes with its bit rate, or 0 if it has
+        none."""
         self._file = file
         self._numbers: dict[str, int] = {}
         begin = block(SECTION, struct.pack("<IHHq", 0x1A2B3C4D, 1, 0, -1), option(APPLICATION, b"canbusd"))
         file.write(begin + b"".join(self._interface(name, bitrate) for name, bitrate in interfaces))
 
     def write(self, packets: Iterable[Packet]) -> None:
-        """Writes frames, each with its interface and its direction; an unknown interface is added."""
+        """Writes frames, each with its interface and its direction. An interface that is not in the capture yet is
+        added."""
         blocks = []
         for name, frame, way in packets:
             if name not in self._numbers:
@@ -49,7 +51,7 @@ class Capture:
         self._numbers[name] = len(self._numbers)
         speed = [option(SPEED, struct.pack("<Q", bitrate))] if bitrate else []
         head = struct.pack("<HHI", LINKTYPE_CAN_SOCKETCAN, 0, 0)
-        # Timestamps are in microseconds.
+        # The resolution of the timestamps is one microsecond.
         return block(INTERFACE, head, option(NAME, name.encode()), option(RESOLUTION, b"\x06"), *speed)
 
 
@@ -64,14 +66,14 @@ def option(code: int, value: bytes) -> bytes:
 
 
 def block(kind: int, body: bytes, *options: bytes) -> bytes:
-    """Returns a block; its length comes at both ends, and an empty option ends the options."""
+    """Returns a block. Its length is stored at both ends, and an empty option marks the end of the options."""
     whole = padded(body) + (b"".join(options) + bytes(4) if options else b"")
     length = struct.pack("<I", len(whole) + 12)
     return struct.pack("<I", kind) + length + whole + length
 
 
 def socketcan(frame: Frame) -> bytes:
-    """Returns a frame in the link type's form: the identifier in network byte order, the length, the flags and the
+    """Returns a frame in the form of the link type: the identifier in network byte order, the length, the flags and the
     data."""
     identifier = frame.arbitration_id
     identifier |= ERROR if frame.is_error_frame else EXTENDED if frame.is_extended_id else 0
@@ -81,7 +83,7 @@ def socketcan(frame: Frame) -> bytes:
 
 
 def packet(number: int, frame: Frame, way: int) -> bytes:
-    """Returns the block of a frame at the interface with this number."""
+    """Returns the block for a frame at the interface with this number."""
     data, moment = socketcan(frame), round(frame.timestamp * 1e6)
     head = struct.pack("<IIIII", number, moment >> 32, moment & 0xFFFFFFFF, len(data), len(data))
     return block(PACKET, head + padded(data), *([option(FLAGS, struct.pack("<I", way))] if way else []))

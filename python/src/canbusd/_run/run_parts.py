@@ -1,14 +1,14 @@
-"""The parts of a bus after the events of its run: its configuration, its interfaces and its sockets."""
+"""The parts of a bus after all events of its run: its configuration, its interfaces and its sockets."""
 
 from array import array
 from dataclasses import dataclass
 from typing import Optional
 
-#: One number holds the counts of waiting frames at all interfaces, interface 0 in the lowest bits. Each count has this
-#: many bits, as a number of the column does.
+#: The number of bits for one count of waiting frames. One number holds the counts of all interfaces, with interface 0
+#: in the lowest bits. Columns use the same size for a count.
 WAITING_BITS = 16
 MOST_WAITING = (1 << WAITING_BITS) - 1
-#: The lowest counts of an interface that is bus off, error passive, and error warning.
+#: The lowest error counts at which an interface is bus off, error passive, and in the error warning state.
 OFF, PASSIVE, WARNING = 256, 128, 96
 
 
@@ -25,18 +25,18 @@ class Bus:
     ifaces: int
     #: Whether a silent node acknowledges each frame.
     always: bool
-    #: The set of interfaces that report faults, bit i for interface i.
+    #: The set of interfaces that report faults: bit i stands for interface i.
     reporting: int
     tx_capacity: int
     limit: int
-    #: The number of the attempt after bus off that restarts an interface; 0 for no restart.
+    #: The number of attempts after which an interface is restarted from bus off; 0 for no automatic restart.
     auto_restart: int
 
 
 def bus_of(line: str) -> Bus:
-    """Returns the bus from the second line of a record."""
+    """Parses the second line of a record."""
     _, ifaces, acknowledged, reporting, tx_capacity, limit, *restart = line.split(" ")
-    # Version 1 lacks the last number.
+    # In version 1 the line lacks the last number.
     auto_restart = int(restart[0]) if restart else 0
     return Bus(int(ifaces), acknowledged == "always", int(reporting, 16), int(tx_capacity), int(limit), auto_restart)
 
@@ -46,27 +46,27 @@ class Socket:
 
     def __init__(self, number: int, iface: int, capacity: int) -> None:
         self.number, self.iface, self.capacity = number, iface, capacity
-        #: The last step before the socket was closed, -1 if there was none; None for an open socket.
+        #: The last step before the socket was closed, or -1 if there was no earlier step. None if the socket is open.
         self.closed_after: Optional[int] = None
-        # Whether the socket receives error message frames: the numbers of steps after which this changed, and the new
-        # settings.
+        # Records when the socket began or stopped receiving error message frames: the number of steps before each
+        # change, and the new setting.
         self._takes_errors = [(0, False)]
-        #: The number of items for the socket, and the number of those without room.
+        #: The number of items for the socket, and how many of these were dropped because its queue was full.
         self.handed = self.dropped = 0
         #: For each taken item, the number of steps before it was taken.
         self.taken_after = array("I")
 
     def set_errors(self, steps: int, is_taken: bool) -> None:
-        """Notes that the socket receives error message frames, or does not, after this many steps."""
+        """Records that the socket begins or stops receiving error message frames after this many steps."""
         self._takes_errors.append((steps, is_taken))
 
     def takes_errors(self, step: int) -> bool:
-        """Returns whether the socket received error message frames in a step."""
+        """Returns whether the socket received error message frames during a step."""
         return next(is_taken for steps, is_taken in reversed(self._takes_errors) if steps <= step)
 
     @property
     def queued(self) -> int:
-        """The number of items that found room."""
+        """The number of items that entered the receive queue."""
         return self.handed - self.dropped
 
     @property
@@ -76,7 +76,7 @@ class Socket:
 
     @property
     def waiting(self) -> int:
-        """The number of items in its receive queue."""
+        """The number of items in the socket's receive queue."""
         return self.queued - self.taken if self.closed_after is None else 0
 
 
@@ -85,15 +85,17 @@ class Interface:
 
     def __init__(self, number: int) -> None:
         self.number = number
-        #: A waiting frame at this interface adds this to the number that holds all counts of waiting frames.
+        #: The increment for one frame that waits at this interface, in the number that combines the counts of all
+        #: interfaces.
         self.unit = 1 << WAITING_BITS * number
         self.tec = self.rec = 0
         self.is_down = False
-        #: The lines of the sends of the waiting frames.
+        #: For each waiting frame, the line of its send.
         self.queue: list[str] = []
-        #: The number of frames that left the queue, and the number removed because the interface went bus off or down.
+        #: The number of frames that left the queue, and how many of these were removed because the interface went bus
+        #: off or down.
         self.gone = self.lost = 0
-        #: The number of sends that a full queue refused.
+        #: The number of sends that were refused because the queue was full.
         self.refused = 0
 
     @property
@@ -112,7 +114,8 @@ class Interface:
         return self.gone + len(self.queue)
 
     def leave(self, waiting: int) -> None:
-        """Removes frames from the queue; the number for all interfaces has the count that still waits."""
+        """Removes frames from the front of the queue. `waiting` combines the new counts of waiting frames of all
+        interfaces."""
         left = len(self.queue) - (waiting >> WAITING_BITS * self.number & MOST_WAITING)
         del self.queue[:left]
         self.gone += left

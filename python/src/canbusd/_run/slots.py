@@ -1,6 +1,6 @@
-"""The times when attempts of a run occupy the wire, on a bus with bit rates, and the resulting bus load.
+"""Computes when the attempts of a run occupy the wire, on a bus with bit rates, and the resulting bus load.
 
-The timestamp of an attempt is the end of its frame, rounded down to microseconds, so the frame ends up to 999
+The timestamp of an attempt is the end of its frame, rounded down to microseconds, so the true end is up to 999
 nanoseconds later. For each attempt in turn, this module takes the earliest possible end. So rounding errors do not add
 up, and attempts overlap only if they overlap for all possible ends.
 """
@@ -13,37 +13,37 @@ from canbusd.replay import Replay
 
 # A frame ends at most this many nanoseconds after its timestamp.
 MOST_LATER = 999
-# The last possible time, at which the clock of a bus stops, in microseconds.
+# The largest possible timestamp in microseconds. The clock of a bus stops at this time.
 LAST_MOMENT = 9999999999999999
 
 
 class Slot(NamedTuple):
-    """The time when an attempt occupies the wire, in nanoseconds."""
+    """The time during which an attempt occupies the wire, in nanoseconds."""
 
-    #: The place of the attempt's step in the replay.
+    #: The number of the attempt's step in the replay.
     step: int
-    #: The time of the start of frame.
+    #: The time at which the frame starts.
     begin: int
     #: The time when the next attempt may begin.
     over: int
-    #: The minimum overlap with the attempt before.
+    #: The minimum overlap with the previous attempt.
     overlap: int
 
 
 class Load(NamedTuple):
-    """The busy time of the wire, between the start of the first attempt and the end of the last, in nanoseconds."""
+    """How long the wire is busy between the start of the first attempt and the end of the last one, in nanoseconds."""
 
     busy: int
     whole: int
 
     @property
     def share(self) -> float:
-        """The busy share of the time; above 1 if attempts overlap."""
+        """The fraction of the time in which the wire is busy. It exceeds 1 if attempts overlap."""
         return self.busy / self.whole if self.whole else 0.0
 
 
 def slots_of(run: Replay) -> list[Slot]:
-    """Returns the slots of the attempts with a frame, for a run that was read with its bit rates."""
+    """Returns the slots of the attempts with a frame. The run must have been read with its bit rates."""
     slots: list[Slot] = []
     over, steps = 0, run.steps
     for place, (kind, moment, frame, busy) in enumerate(
@@ -61,7 +61,7 @@ def slots_of(run: Replay) -> list[Slot]:
 
 
 def load_of(slots: Sequence[Slot]) -> Load:
-    """Returns the load of the wire from these attempts."""
+    """Returns the bus load from these attempts."""
     if not slots:
         return Load(0, 0)
     whole = max(slot.over for slot in slots) - min(slot.begin for slot in slots)
@@ -69,7 +69,7 @@ def load_of(slots: Sequence[Slot]) -> Load:
 
 
 def overlaps_of(run: Replay, slots: Iterable[Slot]) -> list[str]:
-    """Returns a line for each attempt that begins before the end of the attempt before."""
+    """Returns a line for each attempt that begins before the end of the previous attempt."""
     lines = []
     for slot in slots:
         if slot.overlap:

@@ -17,10 +17,12 @@ from canbusd.frames import EXTENDED, REMOTE, is_fd
 if TYPE_CHECKING:
     from canbusd._run.chunks import Chunk
 
-#: The kinds of steps, by their numbers in the column and on a page. Kinds before `restart` are attempts, `idle` is only on pages.
+#: The kinds of steps, in the order of their numbers in columns and on pages. Kinds before `restart` are attempts, and
+#: `idle` occurs only on pages.
 KINDS = (*OUTCOMES, "restart", "down", "idle")
 DONE, LASTBIT, DESTROYED, NOACK, RESTART, DOWN, IDLE = range(7)
-#: The outcome of an item, by its number; `waiting` means at the end of the run, `unread` at the close of its socket.
+#: The outcomes of items, in the order of their numbers. A `waiting` item was still in its queue at the end of the run,
+#: and an `unread` item was in the queue when its socket was closed.
 FATES = ("taken", "waiting", "unread", "dropped")
 TAKEN, WAITING, UNREAD, DROPPED = range(4)
 
@@ -32,7 +34,7 @@ Counts = tuple[int, int]
 
 
 class Places(defaultdict[T, int]):
-    """Values and their places; a new value gets the next place."""
+    """Maps values to their places. A new value gets the next place."""
 
     def __init__(self, *values: T) -> None:
         super().__init__(itertools.count(len(values)).__next__, zip(values, range(len(values))))
@@ -66,9 +68,10 @@ class WireFrame:
 
 @functools.lru_cache(maxsize=4096)
 def arbitration_bits(identifier: str, rtr: str) -> str:
-    """The bits that arbitration compares (Bosch CAN 2.0), with blanks between fields at the same places in all frames.
+    """Returns the bits that arbitration compares (Bosch CAN 2.0), with blanks between fields at the same places in all
+    frames.
 
-    An FD frame has the bits of a data frame.
+    An FD frame has the same bits as a data frame.
     """
     number = int(identifier, 16)
     if len(identifier) == 3:
@@ -79,9 +82,9 @@ def arbitration_bits(identifier: str, rtr: str) -> str:
 
 @dataclass
 class Step:
-    """An attempt with a frame, a restart, or the event that an interface went down. Interfaces are numbers here.
+    """An attempt with a frame, a restart, or an interface that goes down. Interfaces are given by number.
 
-    After an attempt that restarts interfaces comes a step for each of them, with the same entry.
+    An attempt that restarts interfaces is followed by a step for each of them, with the same entry.
     """
 
     __slots__ = (
@@ -101,13 +104,13 @@ class Step:
         "waiting",
         "idle",
     )
-    #: One of done, lastbit, destroyed, noack, restart and down.
+    #: The kind of the step: done, lastbit, destroyed, noack, restart or down.
     kind: str
     entry: int
     moment: str
     #: The winner, or the interface that was restarted or went down.
     iface: int
-    #: The number of the attempt; for a restart or a down the number of the next attempt.
+    #: The number of the attempt. For a restart or a down it is the number of the next attempt.
     attempt: int
     number: int
     text: str
@@ -115,49 +118,51 @@ class Step:
     accepted: Sequence[int]
     off: Sequence[int]
     hit: Sequence[int]
-    #: The frame of each interface that takes part.
+    #: The interfaces that take part in arbitration, each with its frame.
     contenders: list[tuple[int, WireFrame]]
-    #: The transmit and receive count of each interface after the step.
+    #: The transmit and receive error counts of each interface after the step.
     counts: Sequence[Counts]
     #: The number of waiting frames at each interface before the step.
     waiting: Sequence[int]
-    #: The number of idle attempts since the step before. An attempt that restarts interfaces counts for the first of
-    #: them.
+    #: The number of idle attempts since the previous step. An attempt that restarts interfaces counts for its first
+    #: restart.
     idle: int
 
 
 class Steps(Sequence[Step]):
-    """The steps of a run. A column has a number for each step; Step objects are created when needed."""
+    """The steps of a run. A column has one number for each step, and Step objects are created on demand."""
 
     def __init__(self, texts: Places[str], ifaces: Sequence[Interface]) -> None:
-        # Frames and verdicts, by their places in the columns.
+        # The texts of frames and verdicts. The columns refer to them by place.
         self.texts = texts
         self.verdict_texts: Places[str] = Places()
         self._all_ifaces = ifaces
         self.kinds, self.ifaces, self.entries = array("B"), array("B"), array("I")
-        #: Times in microseconds.
+        #: The timestamps in microseconds.
         self.moments = array("Q")
         self.attempts, self.numbers, self.idle = array("I"), array("I"), array("I")
         self.frames, self.verdicts = array("I"), array("I")
-        #: For each step, one interface after the other: the number of waiting frames before the step, and both counts
-        #: after it.
+        #: For each step, the values of all interfaces in turn: the number of waiting frames before the step, and both
+        #: error counts after it.
         self.waiting, self.counts = array("H"), array("H")
-        #: The steps that changed counts.
+        #: The steps that changed error counts.
         self.changed = array("I")
-        #: Sets of interfaces, bit i for interface i.
+        #: Sets of interfaces: bit i stands for interface i.
         self.accepted, self.off, self.hit = array("H"), array("H"), array("H")
-        #: By the step, the frames that bus off or a down removed from a transmit queue: the number and the frame of
-        #: each.
+        #: Maps a step to the frames that were removed from a transmit queue because the interface went bus off or down.
+        #: Each frame comes with its number.
         self.lost: dict[int, list[tuple[int, str]]] = {}
-        #: The set of interfaces that are down after the step.
+        #: The set of interfaces that are down after each step.
         self.down = array("H")
-        #: The nanoseconds that the frame takes on the wire, and those until the next attempt may begin; the bits of the
-        #: frame at the nominal bit rate, and at the data bit rate. All are 0 if the line does not have them.
+        #: `frame_nanos` is how long the frame takes on the wire, and `busy_nanos` is the time until the next attempt
+        #: may begin, both in nanoseconds. `nominal_bits` and `fast_bits` are the numbers of the frame's bits at the
+        #: nominal bit rate and the data bit rate. All are 0 if the line of the event lacks them.
         self.frame_nanos, self.busy_nanos = array("I"), array("I")
         self.nominal_bits, self.fast_bits = array("H"), array("H")
         #: The number of attempts.
         self.tried = 0
-        # For each interface the steps in which it tried a frame, and the number of steps that were sorted so far.
+        # For each interface the steps in which it tried or lost a frame, and the number of steps that were sorted so
+        # far.
         self._tries: "list[array[int]]" = []
         self._sorted = 0
 
@@ -165,7 +170,8 @@ class Steps(Sequence[Step]):
         return len(self.kinds)
 
     def extend(self, chunk: "Chunk", first_entry: int, waiting: "array[int]") -> None:
-        """Adds the steps of a chunk whose first entry is this one, with how many frames wait before each of them."""
+        """Adds the steps of a chunk. `first_entry` is the number of its first entry, and `waiting` has the waiting
+        frames before each step."""
         first = len(self)
         self.kinds += chunk.kinds
         self.ifaces += chunk.ifaces
@@ -187,12 +193,13 @@ class Steps(Sequence[Step]):
             self.note(column)
 
     def set_down(self, place: int, members: int) -> None:
-        """Notes the interfaces that are down from a step on: of a step that is not added yet, in their order."""
+        """Sets the interfaces that are down from a step on. The step is not added yet, and calls are in the order of
+        steps."""
         self._go_on(self.down, place)
         self.down.append(members)
 
     def _numbered(self, kinds: "array[int]") -> Iterable[int]:
-        """Returns the numbers of these attempts; a restart or a down has the number of the next attempt."""
+        """Returns the attempt number of each of these steps. A restart or a down has the number of the next attempt."""
         first = self.tried
         self.tried += len(kinds) - kinds.count(RESTART) - kinds.count(DOWN)
         if self.tried - first == len(kinds):
@@ -200,18 +207,18 @@ class Steps(Sequence[Step]):
         return itertools.accumulate(map(RESTART.__gt__, kinds[:-1]), initial=first)
 
     def note(self, column: "array[int]", numbers: Iterable[tuple[int, int]] = ()) -> None:
-        """Makes a column as long as the others, with 0; and with these numbers, by the steps."""
+        """Extends a column with zeros to the number of steps, and then stores these numbers at their steps."""
         column.frombytes(bytes(column.itemsize * (len(self) - len(column))))
         for step, number in numbers:
             column[step] = number
 
     @staticmethod
     def _go_on(column: "array[int]", length: int) -> None:
-        """Makes a column so long, with its last number."""
+        """Extends a column to this length by repeating its last number."""
         column.extend((column[-1:] or array(column.typecode, [0])) * (length - len(column)))
 
     def _count(self, chunk: "Chunk", first: int) -> None:
-        """Makes the column of the counts as long as the others."""
+        """Adds the error counts of a chunk to the column of counts."""
         wide, many = 2 * len(self._all_ifaces), len(self) - first
         before = self.counts[-wide:] or array("H", [0]) * wide
         counts = chunk.counts or before * many
@@ -253,15 +260,15 @@ class Steps(Sequence[Step]):
         )
 
     def place_of(self, attempt: Optional[int]) -> Optional[int]:
-        """Returns the place of this attempt among the steps; None if no step is this attempt."""
+        """Returns the place of this attempt among the steps, or None if no step is this attempt."""
         if attempt is None:
             return None
-        # A restart or a down has the number of the attempt after it.
+        # A restart or a down has the number of the attempt that follows it.
         place = bisect.bisect_right(self.attempts, attempt) - 1
         return place if place >= 0 and self.attempts[place] == attempt and self.kinds[place] < RESTART else None
 
     def places_of(self, kind: int, first: int = 0) -> list[int]:
-        """Returns the steps of this kind, from the first one on."""
+        """Returns the places of the steps of this kind, from `first` on."""
         if not self.count_of(kind):
             return []
         return [place for place in range(first, len(self)) if self.kinds[place] == kind]
@@ -271,24 +278,24 @@ class Steps(Sequence[Step]):
         return self.kinds.tobytes().count(kind)
 
     def text(self, place: int) -> str:
-        """Returns the frame of a step; the empty text if the step is no attempt."""
+        """Returns the frame of a step, or the empty text if the step is not an attempt."""
         return self.texts.all[self.frames[place]]
 
     def verdict(self, place: int) -> str:
-        """Returns the verdict of a step; the empty text if the step is no attempt."""
+        """Returns the verdict of a step, or the empty text if the step is not an attempt."""
         return self.verdict_texts.all[self.verdicts[place]]
 
     def counts_row(self, place: int) -> "array[int]":
-        """Returns the counts after a step, two for each interface."""
+        """Returns the error counts after a step, two for each interface."""
         wide = 2 * len(self._all_ifaces)
         return self.counts[wide * place : wide * (place + 1)]
 
     def counts_before(self, place: int) -> "array[int]":
-        """Returns the counts before a step, two for each interface."""
+        """Returns the error counts before a step, two for each interface."""
         return self.counts_row(place - 1) if place else array("H", [0, 0]) * len(self._all_ifaces)
 
     def counts_after(self, place: int) -> tuple[Counts, ...]:
-        """Returns the counts of each interface after a step."""
+        """Returns the error counts of each interface after a step."""
         row = self.counts_row(place)
         return tuple(zip(row[::2], row[1::2]))
 
@@ -298,18 +305,18 @@ class Steps(Sequence[Step]):
         return tuple(self.waiting[wide * place : wide * (place + 1)])
 
     def met(self, place: int) -> list[int]:
-        """Returns the participants of a step: each interface with a waiting frame."""
+        """Returns the interfaces that take part in a step: each one with a waiting frame."""
         if self.kinds[place] >= RESTART:
             return []
         return [iface for iface, count in enumerate(self.waiting_before(place)) if count]
 
     def contenders(self, place: int) -> list[tuple[int, WireFrame]]:
-        """Returns the participants of a step with their frames."""
+        """Returns the interfaces that take part in a step, each with its frame."""
         return [(iface, WireFrame(self._next(iface, place))) for iface in self.met(place)]
 
     def _next(self, iface: int, place: int) -> str:
-        """Returns the next frame that an interface tries or loses, from a step on; else its first frame that waits at
-        the end."""
+        """Returns the first frame that an interface tries or loses in this step or later. If there is none, returns the
+        first frame that waits at the end of the run."""
         if self.ifaces[place] == iface:
             return self.text(place)
         self._sort_tries()
@@ -329,22 +336,23 @@ class Steps(Sequence[Step]):
 
 
 class Items:
-    """The items that interfaces handed to sockets, in order, in columns."""
+    """The items that sockets received from their interfaces, in order, as columns."""
 
     def __init__(self, sockets: Sequence[Socket]) -> None:
-        #: The number of the socket, and the step in which it got the item.
+        #: The number of the socket of each item, and the step in which the socket got the item.
         self.sockets, self.steps = array("I"), array("I")
-        #: The place of an error message frame among the texts; 0 if the item is the step's frame.
+        #: For an error message frame its place among the texts; 0 if the item is the frame of the step.
         self.errors = array("I")
         self._all_sockets = sockets
-        # The first and last places of dropped items, in pairs, because there may be a million items.
+        # The start and the end of each range of dropped items. Ranges are stored because a million items may be
+        # dropped.
         self._dropped = array("I")
 
     def __len__(self) -> int:
         return len(self.sockets)
 
     def extend(self, chunk: "Chunk", first_step: int) -> None:
-        """Adds the items of a chunk whose first step is this one."""
+        """Adds the items of a chunk. `first_step` is the number of its first step."""
         for number, count in chunk.handed.items():
             self._all_sockets[number].handed += count
         self.sockets.frombytes(chunk.item_sockets)
@@ -352,11 +360,11 @@ class Items:
         self.errors.frombytes(bytes(self.errors.itemsize * (len(self.sockets) - len(self.errors))))
 
     def drop(self, first: int, count: int) -> None:
-        """Marks this many items, from this one on, as without room."""
+        """Marks `count` items, from the item `first` on, as dropped."""
         self._dropped.extend((first, first + count))
 
     def drops(self) -> Iterator[range]:
-        """Yields the places of the items that found no room, in groups of consecutive places."""
+        """Yields the ranges of places of dropped items."""
         return map(range, self._dropped[::2], self._dropped[1::2])
 
     def fates(self) -> "array[int]":
@@ -377,15 +385,16 @@ class Items:
         return fates
 
     def ends(self, most: Optional[int] = None) -> "array[int]":
-        """Returns the number of steps before each, or each of the first so many, was taken or its socket closed; 0 if neither."""
-        # A socket gives first the item that it got first.
+        """Returns, for each item or the first `most` items, the number of steps before it was taken or its socket was
+        closed; 0 if neither happened."""
+        # A socket returns its items in the order in which it got them.
         ends = [*map(ends_at, self._all_sockets), itertools.repeat(0)]
         found: Iterator[int] = map(next, map(ends.__getitem__, self._queues()[:most]), itertools.repeat(0))
         return array("I", found)
 
     def _queues(self) -> "array[int]":
-        """Returns the number of the socket whose queue held each item; the number of sockets for an item without
-        room."""
+        """Returns the number of the socket whose queue held each item. For a dropped item it is the number of all
+        sockets."""
         queues, none = array("I", self.sockets), array("I", [len(self._all_sockets)])
         for places in self.drops():
             queues[places.start : places.stop] = none * len(places)
@@ -393,17 +402,17 @@ class Items:
 
 
 def ends_at(socket: Socket) -> Iterator[int]:
-    """Yields the number of steps after which each item leaves the socket's queue; the iterator has no end."""
+    """Yields the number of steps after which each item leaves the socket's queue. The iterator never ends."""
     last = 0 if socket.closed_after is None else socket.closed_after + 1
     return itertools.chain(socket.taken_after, itertools.repeat(last))
 
 
 def moment_of(micros: int) -> str:
-    """Returns the time in the record's spelling."""
+    """Formats a time in the spelling of the record."""
     return f"{micros // 1000000}.{micros % 1000000:06}"
 
 
 @functools.lru_cache(maxsize=1024)
 def numbers_in(members: int) -> tuple[int, ...]:
-    """Returns the interfaces of a set."""
+    """Returns the numbers of the interfaces in a set."""
     return tuple(number for number in range(16) if members >> number & 1)

@@ -1,4 +1,4 @@
-"""A run in words: its heading, its facts, and its noteworthy events."""
+"""Describes a run in words: its heading, its facts, and its noteworthy events."""
 
 import bisect
 import itertools
@@ -16,9 +16,9 @@ from canbusd._words import OUTCOMES
 from canbusd.record import members_of
 from canbusd.replay import Replay
 
-# Refusals or drops at one place are one event if at most this many steps are between them.
+# Refused sends or dropped items at one place form one event if at most this many steps are between them.
 GAP = 8
-# Matches successive steps in which a count has the same severity.
+# Matches consecutive steps in which a count has the same severity.
 SAME_LEVEL = re.compile(rb"\x00+|\x01+|\x02+|\x03+")
 REASONS = {
     "no-buffers": "its transmit queue was full",
@@ -28,7 +28,7 @@ REASONS = {
 
 
 class Event(NamedTuple):
-    """A noteworthy event at a step of the run; the step is -1 before the first one."""
+    """A noteworthy event at a step of the run. Step -1 stands for the time before the first step."""
 
     step: int
     kind: str
@@ -37,7 +37,7 @@ class Event(NamedTuple):
 
 
 def joined(words: Sequence[str]) -> str:
-    """Returns a list in words: `a`, `a and b`, `a, b and c`."""
+    """Joins words to a list: `a`, `a and b`, `a, b and c`."""
     return " and ".join([", ".join(words[:-1]), words[-1]] if len(words) > 1 else words)
 
 
@@ -48,7 +48,7 @@ def events_of(run: Replay, names: Sequence[str]) -> list[Event]:
 
 
 def state_events(run: Replay, names: Sequence[str]) -> Iterator[Event]:
-    """Returns changes of state, frames lost by bus off or down, and restarts."""
+    """Yields the changes of state, the frames lost because an interface went bus off or down, and the restarts."""
     steps = run.steps
     # The step in which each interface last went bus off or down.
     went: dict[int, int] = {}
@@ -71,7 +71,7 @@ def state_events(run: Replay, names: Sequence[str]) -> Iterator[Event]:
 
 
 def down_of(run: Replay, number: int, name: str) -> Iterator[Event]:
-    """Returns the events of an interface that goes down in a step."""
+    """Yields the events of an interface that goes down in a step."""
     iface, lost = run.steps.ifaces[number], len(run.lost.get(number, []))
     yield Event(number, "down", iface, f"{name} went down: it takes no part until it is up")
     if lost:
@@ -81,8 +81,8 @@ def down_of(run: Replay, number: int, name: str) -> Iterator[Event]:
 
 
 def level_changes(steps: Steps, ifaces: int) -> Iterator[int]:
-    """Returns the steps in which an interface's count reaches or leaves a level of severity, and perhaps the first
-    step."""
+    """Yields the steps in which some error count reaches or leaves a level of severity. The first step may be
+    included."""
     for place in range(2 * ifaces if steps.changed else 0):
         column = steps.counts[place :: 2 * ifaces]
         most = max(column, default=0)
@@ -92,17 +92,18 @@ def level_changes(steps: Steps, ifaces: int) -> Iterator[int]:
 
 
 def states_of(counts: Sequence[int]) -> list[int]:
-    """Returns the severity of each interface, from the higher of its two counts."""
+    """Returns the severity of each interface, which depends on the higher of its two error counts."""
     return [severity(max(both)) for both in zip(counts[::2], counts[1::2])]
 
 
 def outage_of(steps: Steps, went: int, back: int) -> str:
-    """Returns how long an interface was off or down, between two steps: `; it was off for 203.1 ms, attempts 836 to
+    """Returns how long an interface was bus off or down between two steps: `; it was off for 203.1 ms, attempts 836 to
     1,012`."""
     micros = steps.moments[back] - steps.moments[went]
     duration = f" for {duration_words(micros)}" if micros > 0 else ""
     first, last = steps.attempts[went], steps.attempts[back] - 1
-    # The first attempt is the one that made the interface go off, or the one after it went down.
+    # An outage begins with the attempt in which the interface went bus off, or with the first attempt after it went
+    # down.
     is_down = steps.kinds[went] == DOWN
     is_tried = last >= first if is_down else last > first
     attempts = f"attempts {first:,} to {last:,}" if is_tried else "and no frame was tried"
@@ -110,7 +111,7 @@ def outage_of(steps: Steps, went: int, back: int) -> str:
 
 
 def duration_words(micros: int) -> str:
-    """Returns a duration in a suitable unit: `40 µs`, `203.1 ms`, `1.3 s`, `2 min 5.0 s`."""
+    """Formats a duration in a suitable unit: `40 µs`, `203.1 ms`, `1.3 s`, `2 min 5.0 s`."""
     if micros < 1_000:
         return f"{micros} µs"
     if micros < 1_000_000:
@@ -120,12 +121,12 @@ def duration_words(micros: int) -> str:
 
 
 class Climb(NamedTuple):
-    """The attempts that raised the transmit count of an interface since the count was last 0."""
+    """The attempts that raised the transmit error count of an interface since the count was last 0."""
 
-    #: The number of its first attempt, and the number of attempts that changed a count.
+    #: The number of the first of these attempts, and how many attempts changed the count.
     first: int
     attempts: int
-    #: The number of failed attempts, by their verdict or `noack`.
+    #: The number of failed attempts for each verdict, or for `noack`.
     faults: Counter[str]
 
     def words(self, names: Sequence[str]) -> str:
@@ -138,7 +139,7 @@ class Climb(NamedTuple):
 
 
 def climb_to(steps: Steps, last: int, iface: int) -> Climb:
-    """Returns the attempts that raised the transmit count of an interface, up to this step of that interface."""
+    """Returns the attempts that raised the transmit error count of an interface, up to this step of the interface."""
     found: list[int] = []
     for place in reversed(range(bisect.bisect_right(steps.changed, last))):
         number = steps.changed[place]
@@ -152,13 +153,13 @@ def climb_to(steps: Steps, last: int, iface: int) -> Climb:
 
 
 def fault_words(fault: str, names: Sequence[str]) -> str:
-    """Returns a verdict in words, or a missing acknowledgement."""
+    """Describes a verdict or a missing acknowledgement in words."""
     short = {"noack": "no acknowledgement", "lastbit": "last bit"}
     return short.get(fault) or verdict_words(fault, names)
 
 
 def change_of(steps: Steps, number: int, i: int, names: Sequence[str]) -> Iterator[Event]:
-    """Returns the change of an interface's state in a step."""
+    """Describes the change of an interface's state in a step."""
     tec, rec = steps.counts_after(number)[i]
     name, state = names[i], severity(max(tec, rec))
     if state == 3:
@@ -173,12 +174,13 @@ def change_of(steps: Steps, number: int, i: int, names: Sequence[str]) -> Iterat
 
 
 def second_copies(run: Replay, names: Sequence[str]) -> Iterator[Event]:
-    """Returns the attempts in which a receiver accepted a frame a second time, after a fault in the last bit."""
+    """Yields the attempts in which a receiver accepted a frame a second time, after a fault in the last bit."""
     steps = run.steps
     kinds, number = steps.kinds.tobytes(), -1
-    # Of each interface the last frame that has to be sent again, and how many copies receivers have.
+    # For each interface, the last frame that has to be sent again, and how many copies of the frame each receiver has.
     had: dict[int, tuple[int, Counter[int]]] = {}
-    # Without such a frame nothing is looked at before the next fault: there may be a million attempts.
+    # As long as no frame has to be sent again, the loop skips to the next fault, because there may be a million
+    # attempts.
     while 0 <= (number := number + 1 if had else kinds.find(LASTBIT, number + 1)) < len(kinds):
         kind, iface, accepted = kinds[number], steps.ifaces[number], steps.accepted[number]
         if not accepted or (iface not in had and kind != LASTBIT):
@@ -199,14 +201,14 @@ def second_copies(run: Replay, names: Sequence[str]) -> Iterator[Event]:
 
 
 def refusals_of(run: Replay, names: Sequence[str]) -> Iterator[Event]:
-    """Returns the sends that were refused because a queue was full or an interface was off."""
+    """Yields the sends that were refused because a queue was full or an interface was off."""
     for (iface, reason), steps in run.refused.items():
         for first, count in groups(steps):
             yield Event(first, "refused", iface, f"{names[iface]} refused {times(count, 'send')}: {REASONS[reason]}")
 
 
 def drops_of(run: Replay, names: Sequence[str]) -> Iterator[Event]:
-    """Returns the items that found no room in the receive queue of a socket."""
+    """Yields the items that were dropped because the receive queue of a socket was full."""
     items = run.items
     found: dict[int, list[int]] = {}
     for place in itertools.chain.from_iterable(items.drops()):
@@ -219,7 +221,7 @@ def drops_of(run: Replay, names: Sequence[str]) -> Iterator[Event]:
 
 
 def groups(steps: Iterable[int]) -> Iterator[tuple[int, int]]:
-    """Returns the first step of each group of close steps, and the number of steps in the group."""
+    """Groups steps that are close to each other, and yields the first step and the number of steps of each group."""
     first = last = count = 0
     for step in steps:
         if count and step - last > GAP:
@@ -232,7 +234,7 @@ def groups(steps: Iterable[int]) -> Iterator[tuple[int, int]]:
 
 
 def verdict_words(verdict: str, names: Sequence[str]) -> str:
-    """Returns a verdict of the record in words: `local crc at can1` for `local-crc:0002`."""
+    """Describes a verdict of the record in words: `local crc at can1` for `local-crc:0002`."""
     kind, colon, _ = verdict.partition(":")
     if not colon:
         return {"good": "none", "lastbit": "last bit, at the sender only"}.get(kind, kind.replace("-", " "))
@@ -245,7 +247,7 @@ def counts_by_kind(run: Replay) -> dict[str, int]:
 
 
 def facts_of(run: Replay) -> str:
-    """Returns the run in numbers."""
+    """Describes the run in numbers."""
     counts = counts_by_kind(run)
     outcomes = [f"{counts[kind]:,} {words}" for kind, words in OUTCOMES.items() if counts[kind]]
     facts = [f"{times(run.attempts, 'attempt')}: {joined(outcomes)}"] if outcomes else []
@@ -257,7 +259,8 @@ def facts_of(run: Replay) -> str:
 
 
 def heading_of(run: Replay, names: Sequence[str], events: Sequence[Event]) -> tuple[str, int]:
-    """Returns the size and the worst event of the run on one line, and the step of that event."""
+    """Describes the size and the worst event of the run on one line, and returns the line with the step of that
+    event."""
     size = f"{times(len(names), 'node')}, {times(run.attempts, 'attempt')}"
     if not run.attempts:
         return f"{size}: no frame was tried", 0

@@ -1,4 +1,4 @@
-"""A summary of a bus in a few lines: its events, the end of its log, and a table of its interfaces."""
+"""Summarises a bus in a few lines: its events, the end of its log, and a table of its interfaces."""
 
 import os
 import re
@@ -16,11 +16,11 @@ from canbusd.signals import Database
 
 HEADINGS = ("interface", "state", "TEC", "REC", "sent", "done", "waiting", "lost", "refused")
 LAST_LINES = 10
-# The last lines of a log, with the line before them, have fewer bytes than this.
+# More bytes than the last shown lines of a log have, together with the line before them.
 LAST_BYTES = 4096
 MOST_EVENTS = 10
 
-#: A line of the table: name, state, transmit and receive error count, and the counts of frames.
+#: A line of the table: the name, the state, the transmit and receive error counts, and the counts of frames.
 Row = tuple[object, ...]
 
 
@@ -34,7 +34,7 @@ def interfaces(record: Record) -> list[Row]:
 
 
 def story(record: Record, most: int = MOST_EVENTS) -> list[str]:
-    """Returns the run on one line, and its last events."""
+    """Returns a line that summarises the run, and the last events of the run."""
     replay, names = record.replay, record.names
     events = events_of(replay, names)
     lines = [heading_of(replay, names, events)[0]]
@@ -47,12 +47,12 @@ def story(record: Record, most: int = MOST_EVENTS) -> list[str]:
 
 
 def load_words(permille: int) -> str:
-    """Returns the load of a bus in thousandths, as text with a small bar: ` 43.2 % ####......`."""
+    """Formats the load of a bus, given in thousandths, with a small bar: ` 43.2 % ####......`."""
     return f"{permille / 10:5.1f} % {'#' * min(round(permille / 100), 10):.<10}"
 
 
 def table(rows: Iterable[Row], headings: Sequence[str] = HEADINGS) -> list[str]:
-    """Returns the lines of a table, with texts at the left of their columns and numbers at the right."""
+    """Returns the lines of a table. Texts are aligned left, and numbers are aligned right."""
     cells = [list(headings), *([str(cell) for cell in row] for row in rows)]
     widths = [max(len(row[place]) for row in cells) for place in range(len(headings))]
     return [
@@ -65,7 +65,7 @@ def table(rows: Iterable[Row], headings: Sequence[str] = HEADINGS) -> list[str]:
 
 
 def end_of_log(path: Path) -> list[str]:
-    """Returns the path and the last lines of a log, with the meaning of error message frames in words."""
+    """Returns the path and the last lines of a log. The meaning of error message frames is added in words."""
     try:
         with open(path, "rb") as file:
             file.seek(max(0, os.fstat(file.fileno()).st_size - LAST_BYTES))
@@ -77,7 +77,7 @@ def end_of_log(path: Path) -> list[str]:
 
 
 def with_meaning(line: str) -> str:
-    """Returns the line of a log, which may be cut off; for an error message frame, with its meaning."""
+    """Returns a line of a log, which may be partial. If the line has an error message frame, its meaning is added."""
     words = line.split()
     if len(words) == 3 and re.fullmatch(ERROR_FRAME, words[2]):
         return f"{line}  {meaning(words[2])}"
@@ -91,8 +91,8 @@ def write_page(
     rates: Optional[Rates] = None,
     database: Optional[Database] = None,
 ) -> Path:
-    """Writes the page of a run, and returns its path. The caller may give the rule of each attempt, the bus load, and
-    messages with their signals."""
+    """Writes the page of a run, and returns the path of the page. The caller may add the rule of each attempt, the bus
+    load, and messages with their signals."""
     from canbusd._page.report import page
 
     target = Path(path)

@@ -1,4 +1,4 @@
-"""Reads the lines of the events of a large run by several processes, and adds their chunks to the run in order."""
+"""Reads the event lines of a large run in several processes, and adds their chunks to the run in order."""
 
 import contextlib
 import itertools
@@ -14,19 +14,19 @@ from canbusd._run.chunks import Reader, opened_in
 from canbusd._run.run_parts import Bus
 from canbusd.replay import Replay
 
-# The number of texts that this process reads before others help: a small run needs none.
+# The number of texts that this process reads alone before other processes help. A small run needs no help.
 FEW = 32
-# The most processes that help. More are no quicker, since this process adds all chunks to the run.
+# The maximum number of processes that help. More would be no faster, because only this process adds chunks to the run.
 MOST = 3
 
 
 def take_all(run: Replay, texts: Iterable[str]) -> None:
-    """Has a run take the lines of its events; each text has whole lines."""
+    """Adds the lines of events to a run. Each text consists of complete lines."""
     all_texts = iter(texts)
     run.take_texts(itertools.islice(all_texts, FEW))
     count = min(len(os.sched_getaffinity(0)) - 1, MOST)
     text = next(all_texts, "")
-    # With threads a process is not forked.
+    # A process with several threads is not forked.
     if text and run.bus is not None and count > 0 and threading.active_count() == 1:
         with contextlib.closing(Workers(run.bus, count)) as workers:
             take_by(workers, run, itertools.chain([text], all_texts))
@@ -35,11 +35,11 @@ def take_all(run: Replay, texts: Iterable[str]) -> None:
 
 
 def take_by(workers: "Workers", run: Replay, texts: Iterator[str]) -> None:
-    """Has a run take lines that workers read."""
+    """Adds lines to a run that worker processes read."""
     sockets = run.socket_ifaces()
     busy: deque[Connection] = deque()
     for text in texts:
-        # A worker gets its next lines before what it read is taken, so that it has work meanwhile.
+        # A worker gets its next lines before its previous chunk is added to the run, so that it always has work.
         pipe = busy.popleft() if len(busy) == len(workers.pipes) else None
         chunk = pipe.recv() if pipe else None
         pipe = pipe or workers.pipes[len(busy)]
@@ -54,7 +54,7 @@ def take_by(workers: "Workers", run: Replay, texts: Iterator[str]) -> None:
 
 
 class Workers:
-    """Processes that read lines, each from its pipe."""
+    """Worker processes that read lines. Each has its own pipe."""
 
     def __init__(self, bus: Bus, count: int) -> None:
         self.pipes: list[Connection] = []
@@ -73,7 +73,7 @@ class Workers:
 
 
 def work(bus: Bus, pipe: Connection, others: Sequence[Connection]) -> None:
-    """Reads lines as they come, until the process that sends them closes the pipe, or has ended."""
+    """Reads lines as they arrive, until the main process closes the pipe or ends."""
     signal.signal(signal.SIGINT, signal.SIG_IGN)
     for other in others:
         other.close()

@@ -1,1 +1,1 @@
-"""Sessions with a server or a bench: addresses, the words of the protocol, and the base of a bus of python-can."""
+"""Sessions with a server or a bench: addresses, the protocol, and the base of a python-can bus."""

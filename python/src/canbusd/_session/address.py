@@ -1,4 +1,4 @@
-"""The address of a server: parsing, connecting, and the reason if there is no address."""
+"""The address of a server: parsing it, connecting to it, and explaining why a connection failed."""
 
 import os
 import re
@@ -6,7 +6,7 @@ import socket
 from typing import Optional
 
 DEFAULT_ADDRESS = "127.0.0.1:29536"
-# The errors if no server listens at an address: for TCP, and for a Unix path that does not exist.
+# The errors if no server listens at an address: one for TCP, and one for a Unix path that does not exist.
 NO_SERVER = (ConnectionRefusedError, FileNotFoundError)
 # Matches HOST:PORT or [V6]:PORT.
 HOST_PORT = re.compile(r"(?:\[([^][]+)\]|([^][:]+)):([0-9]{1,5})")
@@ -15,7 +15,7 @@ HOST_PORT = re.compile(r"(?:\[([^][]+)\]|([^][:]+)):([0-9]{1,5})")
 def parse_address(
     text: str, what: str = "address", least_port: int = 1
 ) -> tuple[Optional[str], Optional[tuple[str, int]]]:
-    """Returns the Unix path, or the host and the port, in an address; raises ValueError for any other text."""
+    """Parses an address, and returns its Unix path, or its host and port. Raises ValueError for any other text."""
     if text.startswith(("/", ".")):
         return text, None
     words = HOST_PORT.fullmatch(text)
@@ -26,32 +26,32 @@ def parse_address(
 
 
 def meant(text: str) -> str:
-    """Returns the address that an incomplete address may mean, as a question; the empty text if there is none."""
+    """Returns a suggestion for an incomplete address, as a question, or the empty text if there is none."""
     if re.fullmatch(":?[0-9]{1,5}", text):
         return f" (127.0.0.1:{text.lstrip(':')}?)"
     return f" (./{text}?)" if re.fullmatch("[^:]*[.][^:]*", text) else ""
 
 
 def server_address(given: Optional[str] = None) -> str:
-    """Returns the address of the server: this argument, else $CANBUSD_ADDRESS, else the default; raises ValueError if
-    it is malformed."""
+    """Returns the address of the server: the given one, or $CANBUSD_ADDRESS, or the default. Raises ValueError if the
+    address is malformed."""
     address = str(given or os.environ.get("CANBUSD_ADDRESS") or DEFAULT_ADDRESS)
     parse_address(address)
     return address
 
 
 def reason_of(fault: Exception) -> str:
-    """Returns the reason why there is no session, in words."""
+    """Describes in words why a session could not be opened."""
     hint = " (is `canbusd serve` running there?)" if isinstance(fault, NO_SERVER) else ""
     return f"{getattr(fault, 'strerror', None) or fault}{hint}"
 
 
 def connect(address: str, timeout: float) -> socket.socket:
-    """Returns a socket that is connected to this address, and that sends small writes at once."""
+    """Connects to this address, and returns a socket that sends small writes at once."""
     path, host_port = parse_address(address)
     if host_port is not None:
         connected = socket.create_connection(host_port, timeout)
-        # Without this option, a command waits up to 40 milliseconds for the acknowledgement of the command before.
+        # Without this option, a command waits up to 40 milliseconds until the previous command is acknowledged.
         connected.setsockopt(socket.IPPROTO_TCP, socket.TCP_NODELAY, 1)
     else:
         assert path is not None

@@ -1,4 +1,5 @@
-"""The arguments of a bus, which may be texts as in can.conf and on a command line, and arguments of other calls."""
+"""Checks the arguments of a bus, which may be texts, as in can.conf or on a command line, and the arguments of other
+calls."""
 
 from numbers import Real
 from typing import TypeVar, Union
@@ -10,7 +11,7 @@ TRUTHS = {"1": True, "true": True, "yes": True, "on": True, "0": False, "false":
 
 
 def truth(name: str, value: object) -> bool:
-    """Returns a truth value, which the caller may give as a text."""
+    """Returns a truth value. The caller may give it as a text."""
     found = TRUTHS.get(str(value).lower())
     if found is None:
         raise ValueError(f"{name} is true or false, not {value!r}")
@@ -18,7 +19,8 @@ def truth(name: str, value: object) -> bool:
 
 
 def mask_or_truth(name: str, value: object) -> Union[bool, int]:
-    """Returns a mask of error classes, or whether to receive all classes; 0 and 1 are truth values."""
+    """Returns a mask of error classes, or a truth value that stands for all classes or none. 0 and 1 are truth
+    values."""
     if str(value).lower() in TRUTHS:
         return truth(name, value)
     try:
@@ -31,7 +33,7 @@ def mask_or_truth(name: str, value: object) -> Union[bool, int]:
 
 
 def seconds(name: str, value: object) -> float:
-    """Returns a number of seconds above 0, which the caller may give as a text."""
+    """Returns a number of seconds above 0. The caller may give it as a text."""
     try:
         found = float(str(value))
     except ValueError:
@@ -42,7 +44,7 @@ def seconds(name: str, value: object) -> float:
 
 
 def bit_rates(**rates: object) -> dict[str, int]:
-    """Returns the given bit rates without missing ones; each may be a text."""
+    """Returns the bit rates that are not None, as whole numbers. The caller may give them as texts."""
     try:
         return {name: int(str(rate)) for name, rate in rates.items() if rate is not None}
     except ValueError:
@@ -58,7 +60,7 @@ def interface_name(channel: object) -> str:
 
 
 def check_within(seconds: object, what: str = "within") -> None:
-    """Raises ValueError if this is not a valid number of seconds to wait."""
+    """Raises ValueError unless `seconds` is a valid number of seconds to wait."""
     if not isinstance(seconds, Real) or not float(seconds) >= 0:
         raise ValueError(f"{what} is a number of seconds, 0 or more, not {seconds!r}")
 

@@ -1,4 +1,4 @@
-"""A session of a bench: a client of its bus with a raw socket."""
+"""A session on a bench: a client of its bus with a raw socket."""
 
 import re
 from collections import deque
@@ -36,13 +36,13 @@ from canbusd.frames import (
 if TYPE_CHECKING:
     from canbusd.bench import Bench
 
-#: What is in no message that `call` takes.
+#: Matches texts that `call` does not accept.
 NOT_ONE = re.compile(r"[<>\n]|^\s*close\b")
 CLOSED = re.compile(r"[0-9]+ < closed ([0-9]+) ([0-9]+) >")
 
 
 class PeriodicSend:
-    """A frame that a session sends again and again."""
+    """A frame that a session sends periodically."""
 
     def __init__(self, session: "Session", frame: Frame, period: float, duration: Optional[float]) -> None:
         self._session, self._frame, self._period = session, frame, round(period * 1e6)
@@ -50,14 +50,14 @@ class PeriodicSend:
         self._end = None if duration is None else session._bench._now + round(duration * 1e6)
 
     def modify_data(self, message: MessageLike) -> None:
-        """Sends this frame from now on, at the same times; it must have the same identifier."""
+        """Replaces the frame. The times of sending stay the same. The new frame must have the same identifier."""
         frame = frame_like(message)
         if identifier_word(frame) != identifier_word(self._frame):
             raise ValueError(f"a periodic frame keeps its identifier: {self._frame} can't become {frame}")
         self._frame = frame
 
     def start(self) -> None:
-        """Starts the task again, if it has ended."""
+        """Starts the task again if it has ended."""
         if self._next is None:
             self._next = self._session._bench._now
 
@@ -66,11 +66,11 @@ class PeriodicSend:
         self._next = None
 
     def first_due(self) -> Optional[int]:
-        """Returns the time when the next frame is due, in microseconds; None if the task has ended."""
+        """Returns the time in microseconds at which the next frame is due, or None if the task has ended."""
         return self._next
 
     def put_due(self, moment: int) -> None:
-        """Sends the frame if it is due at this time."""
+        """Sends the frame as often as it is due by this time."""
         while self._next is not None and self._next <= moment:
             if self._session._closed or (self._end is not None and self._next >= self._end):
                 self.stop()
@@ -84,14 +84,14 @@ class PeriodicSend:
 
 
 class Session(InjectsFaults, NamesWhatThereIs):
-    """A client of the bus with a raw socket on one interface, made by `Bench.open`."""
+    """A client of the bus with a raw socket on one interface. `Bench.open` creates it."""
 
     def __init__(self, bench: "Bench", number: int, channel: str) -> None:
         self._bench, self._number = bench, number
         self._closed = False
-        # The numbers of the session's sent frames at its interface.
+        # The numbers of this session's frames among the frames sent at its interface.
         self._own: set[int] = set()
-        # Frames that were read from the socket, but not yet returned.
+        # The frames that were read from the socket but not returned yet.
         self._received: deque[Frame] = deque()
         #: The name of the session's interface.
         self.channel = channel
@@ -117,9 +117,9 @@ class Session(InjectsFaults, NamesWhatThereIs):
     ) -> None:
         """Puts a frame into the transmit queue of the interface, or raises Refused.
 
-        `frame` is a Frame, a message of python-can, or an identifier, which has 11 bits up to 7FF unless
-        `is_extended_id` says otherwise. `dlc` is the length that a remote frame asks for. With a `timeout`, up to this
-        many seconds pass on the bus until a full queue has room.
+        `frame` is a Frame, a message of python-can, or an identifier. An identifier up to 7FF has 11 bits unless
+        `is_extended_id` says otherwise. `dlc` is the length that a remote frame requests. With a `timeout`, the call
+        lets up to this many seconds pass on the bus until a full queue has room.
         """
         if isinstance(frame, int):
             sent = frame_to_send(
@@ -155,7 +155,7 @@ class Session(InjectsFaults, NamesWhatThereIs):
             self._own.add(len(accepted) - 1)
 
     def _was_accepted(self, frame: Frame) -> bool:
-        """Puts a frame into the transmit queue if that has room; returns whether it had."""
+        """Puts a frame into the transmit queue if the queue has room, and returns whether it had room."""
         try:
             self._put(frame)
             return True
@@ -165,17 +165,17 @@ class Session(InjectsFaults, NamesWhatThereIs):
             return False
 
     def receive(self) -> list[Frame]:
-        """Returns the frames that the socket has received, oldest first, with error message frames if the session asked
-        for them."""
+        """Returns the frames that the socket has received, oldest first. Error message frames are included if the
+        session asked for them."""
         self._gather()
         frames = list(self._received)
         self._received.clear()
         return frames
 
     def recv(self, timeout: Optional[float] = None) -> Optional[Frame]:
-        """Returns the next frame; time passes on the bus until there is one.
+        """Returns the next frame. The call lets time pass on the bus until a frame arrives.
 
-        Returns None if no frame comes within these seconds, or, without a timeout, if no further frame can come.
+        Returns None if no frame arrives within `timeout` seconds or, without a timeout, if no further frame can arrive.
         """
 
         def first() -> Optional[Frame]:
@@ -185,8 +185,9 @@ class Session(InjectsFaults, NamesWhatThereIs):
         return first() or self._bench.pass_time(first, timeout)
 
     def send_periodic(self, msgs: MessageLike, period: float, duration: Optional[float] = None) -> "PeriodicSend":
-        """Sends a frame every `period` seconds of bus time, from now on and for the `duration`, or until the returned
-        task's `stop()`. A full queue, bus off, or an interface that is down does not end the task."""
+        """Sends a frame every `period` seconds of bus time, starting now. Sending ends after `duration` seconds, or
+        when the caller calls `stop()` of the returned task. A full queue, bus off, or an interface that is down does
+        not end the task."""
         check_within(period, "period")
         if not period > 0:
             raise ValueError(f"period is a number of seconds above 0, not {period!r}")
@@ -200,14 +201,14 @@ class Session(InjectsFaults, NamesWhatThereIs):
         return self._bench._ask(f"drain {number}\nfeed {number} < echo >")
 
     def _gather(self) -> None:
-        """Takes the items that the socket has received, for calls that return them."""
+        """Reads the items that the socket has received, so that `receive` and `recv` can return them."""
         for message in self.handed_over():
             frame = self._frame(message)
             if frame is not None:
                 self._received.append(frame)
 
     def error_counters(self) -> ErrorCounters:
-        """Returns the state of the interface and its error counts, like `status`."""
+        """Returns the state of the interface and its error counts. This is the same as `status`."""
         return self.status()
 
     def status(self) -> ErrorCounters:
@@ -219,18 +220,18 @@ class Session(InjectsFaults, NamesWhatThereIs):
         return self._parsed(self._answer("stats"), stats_of)
 
     def load(self) -> Load:
-        """Returns the bus load, in the last whole second before the bench's time, and in all."""
+        """Returns the bus load: in the last whole second before the bench's time, and in the whole run."""
         return self._parsed(self._answer("load"), load_of)
 
     def set_filters(self, filters: Optional[Filters] = None) -> None:
-        """Sets the filters of the socket, in python-can's form; None receives everything."""
+        """Sets the filters of the socket, in python-can's form. Without filters the socket receives everything."""
         message = filter_message(filters)
         if message is None:
             raise ValueError("filters are more than fit into one message of 1,024 bytes")
         self.call(message)
 
     def restart(self, at: Union[str, float, None] = None) -> None:
-        """Brings the interface back from bus off, at this time if one is given."""
+        """Brings the interface back from bus off, at the time `at` if it is given."""
         number = self._live()
         try:
             self._bench._ask(f"feed {number} < restart >< echo >", at)
@@ -238,10 +239,10 @@ class Session(InjectsFaults, NamesWhatThereIs):
             raise Refused(f"{self.channel}: {fault}, but {self.status().state}") from None
 
     def down(self, at: Union[str, float, None] = None) -> None:
-        """Takes the interface off the bus, at this time if one is given; the frames in its transmit queue are lost.
+        """Takes the interface off the bus, at the time `at` if it is given. The frames in its transmit queue are lost.
 
-        The interface sends, accepts and acknowledges nothing until `up`, and a send is refused as `interface down`. The
-        interface may already be down.
+        Until `up`, the interface sends, accepts and acknowledges nothing, and a send is refused as `interface down`. It
+        is no error if the interface is already down.
         """
         try:
             self._bench._ask(f"feed {self._live()} < down >< echo >", at)
@@ -249,8 +250,8 @@ class Session(InjectsFaults, NamesWhatThereIs):
             raise Refused(f"{self.channel}: {NO_DOWN if str(fault) == UNKNOWN_COMMAND else fault}") from None
 
     def up(self, at: Union[str, float, None] = None) -> None:
-        """Brings the interface up, or back from bus off, at this time if one is given. Both error counts are then 0.
-        The interface may already be up."""
+        """Brings the interface up, or back from bus off, at the time `at` if it is given. Both error counts become 0.
+        It is no error if the interface is already up."""
         try:
             self._bench._ask(f"feed {self._live()} < restart >< echo >", at)
         except Refused as fault:
@@ -258,12 +259,14 @@ class Session(InjectsFaults, NamesWhatThereIs):
                 raise
 
     def call(self, message: str) -> list[str]:
-        """Sends a message of the protocol, such as `recvown 1`, and returns its answers; raises a refusal."""
+        """Sends a message of the protocol, such as `recvown 1`, and returns its answers. Raises Refused if the message
+        is refused."""
         if NOT_ONE.search(message):
             raise ValueError(f"message is one message without < and >, and not close: {message!r}")
         text = f" {message} "
         if len(text.encode()) > LONGEST_MESSAGE:
-            # The session itself gives this refusal if a message is too long for it, but fits into a line of the bench.
+            # If a message fits into a line of the bench but is too long for the session, the session refuses it with
+            # this text.
             raise Refused("message too long")
         with self._bench._turn:
             answers = self._bench._ask(f"feed {self._live()} <{text}>< echo >")
@@ -284,7 +287,7 @@ class Session(InjectsFaults, NamesWhatThereIs):
         self.shutdown()
 
     def close(self) -> tuple[int, int]:
-        """Closes the socket; returns the number of unread frames, and the number of dropped frames."""
+        """Closes the socket, and returns the number of unread frames and the number of dropped frames."""
         line = self._bench._line_after(f"feed {self._live()} < close >")
         counts = CLOSED.fullmatch(line)
         if not counts:
@@ -293,7 +296,7 @@ class Session(InjectsFaults, NamesWhatThereIs):
         return int(counts[1]), int(counts[2])
 
     def _frame(self, message: str) -> Optional[Frame]:
-        """Returns the frame that a message hands over; None for an answer."""
+        """Returns the frame in a message from the socket, or None if the message is an answer."""
         frame = frame_of(message)
         if frame is not None and " same " in message and without_origin(message)[1] in self._own:
             return replace(frame, is_rx=False)

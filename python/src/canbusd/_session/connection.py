@@ -1,13 +1,14 @@
-"""A connection to a server, for any number of threads.
+"""A connection to a server that any number of threads can use.
 
-A thread that waits for a frame or an answer reads the socket, unless another thread already does. The reader sorts
-incoming messages into frames and answers, and wakes the other threads. So the connection needs no thread of its own,
-and reads nothing too early.
+A thread that waits for a frame or an answer reads the socket, unless another thread already reads it. The reading
+thread sorts the messages into frames and answers, and wakes the other threads. So the connection needs no thread of its
+own, and reads nothing too early.
 
-At any time a signal handler may raise an exception, as at Ctrl-C. So the code takes a lock only by `with`, or notes the
-taking as it happens. No thread waits while it holds a lock that others need. The code never forgets sent or received
-bytes: `noted.extend(map(call, (word,)))` is one call in C, and the list has what `call` returned before a handler is
-called. A threading.Condition releases its lock to wait and then takes it again, so an exception would leave it locked.
+A signal handler may raise an exception at any time, for example at Ctrl-C. So the code either takes a lock with `with`,
+or records in the same step that it took the lock. No thread waits while it holds a lock that others need. Sent or
+received bytes are never forgotten: `noted.extend(map(call, (word,)))` is a single call in C, so the list has the result
+of `call` before any handler runs. threading.Condition is not used, because it releases its lock to wait and then takes
+it again, so an exception would leave it locked.
 """
 
 import contextlib
@@ -27,17 +28,18 @@ from canbusd._session.readiness import PIECE, Readiness
 from canbusd._session.waits import seconds_until, wait_for_ready
 from canbusd._text import seconds_words
 
-# A server may take this many seconds to end a session.
+# How many seconds a server may take to end a session.
 CLOSE_TIMEOUT = 1.0
-# Seconds between two checks of a state that the server does not announce, such as a full transmit queue: first and
-# longest.
+# The shortest and the longest pause in seconds between two checks of a state that the server does not announce, such as
+# a full transmit queue.
 POLL, LONGEST_POLL = 0.0002, 0.01
-# A waiting thread checks after this many seconds for input that another thread has read, in case that was interrupted.
+# The maximum time in seconds for which a waiting thread sleeps. Then it checks for input that another thread has read,
+# because that thread may have been interrupted.
 LONGEST_NAP = 1.0
-# Another thread has its turn to read for this many seconds.
+# How many seconds another thread gets for its turn to read.
 A_TURN = 0.001
-# Any program may listen at an address, and terminals execute control characters. So characters that no message has
-# become `?`, and all kinds of whitespace become one space.
+# Any program may listen at an address, and terminals execute control characters. So characters that occur in no message
+# become `?`, and all whitespace characters become spaces.
 PRINTED = bytes(32 if byte in b"\t\n\v\f\r" else byte if 32 <= byte < 127 else ord("?") for byte in range(256))
 
 T = TypeVar("T")
@@ -48,33 +50,34 @@ class NoAnswer(TimeoutError):
 
 
 class SessionRefused(Exception):
-    """The server refused the session; the text is the server's."""
+    """The server refused the session. The text is the server's reason."""
 
 
 class Connection:
-    """A session with the server at this address, after its greeting.
+    """A session with the server at this address, after the server's greeting.
 
-    `timeout` is the number of seconds in which the server must answer, else calls raise NoAnswer. After the connection
-    has ended calls raise ConnectionError.
+    If the server does not answer within `timeout` seconds, calls raise NoAnswer. After the connection has ended, calls
+    raise ConnectionError.
     """
 
     def __init__(self, address: str, timeout: float) -> None:
         self._timeout = timeout
-        # These locks allow one question at a time, one reader at a time, and brief access to the state below.
+        # One lock allows only one question at a time, one allows only one reader at a time, and one protects the state
+        # below.
         self._asking = threading.Lock()
         self._reading = threading.Lock()
         self._lock = threading.Lock()
-        # Threads wait for this lock while another thread reads: it is locked until there is news.
+        # Threads wait for this lock while another thread reads. It is released when there is news.
         self._news: Optional[threading.Lock] = None
-        # The bytes that were read but not sorted, and the beginning of an incomplete message.
+        # The bytes that were read but not sorted yet, and the beginning of an incomplete message.
         self._pieces: list[bytes] = []
         self._rest = ""
         self._frames: deque[str] = deque()
-        # Whether the server accepts each frame by its number, and the numbers of this session's frames, if they are
-        # noted.
+        # Whether the server acknowledges each sent frame with its number, and the numbers of this session's frames if
+        # they are recorded.
         self._has_acks = False
         self._own: Optional[OwnNumbers] = None
-        # The length of the present question, and the number of its bytes that were sent.
+        # The length of the current question in bytes, and how many of its bytes were sent.
         self._length, self._sent = 0, [0]
         # The first expected answer is the greeting.
         self._asked = Asked(VERDICT)
@@ -91,8 +94,8 @@ class Connection:
             raise
 
     def ask(self, messages: Sequence[str]) -> list[str]:
-        """Writes these messages at once, and returns the answer to each; the empty text means no answer or an
-        accepted frame."""
+        """Writes these messages at once, and returns the answer to each. The empty text means that there was no answer
+        or that a frame was accepted."""
         written: list[str] = []
         ends = ""
         for message in messages:
@@ -114,20 +117,20 @@ class Connection:
             return answers
 
     def ask_acks(self, notes_own: bool = False) -> None:
-        """Asks the server to accept each frame by its number instead of an echo, and notes these numbers for `is_own`
-        if asked to. An older server continues with echoes."""
+        """Asks the server to acknowledge each sent frame with its number instead of an echo. If `notes_own` is true,
+        these numbers are recorded for `is_own`. An older server continues with echoes."""
         self._own = OwnNumbers() if notes_own else None
         self._has_acks = self.ask(["ack 1"]) == ["ok"]
 
     def is_own(self, number: int) -> bool:
-        """Returns whether this is the number of a frame of this session at its interface."""
+        """Returns whether the frame with this number at the interface was sent by this session."""
         return self._own is not None and number in self._own
 
     def frame(self, timeout: Optional[float]) -> Optional[str]:
-        """Returns the next message that hands over a frame, from `<` on; None if no frame comes within these
-        seconds."""
+        """Returns the next message with a frame, without the text before its `<`. Returns None if no frame arrives
+        within these seconds."""
         if self._frames and self._readiness is None:
-            # This is the usual case in a burst.
+            # In a burst of frames this is the usual case.
             try:
                 return self._frames.popleft()
             except IndexError:
@@ -136,16 +139,16 @@ class Connection:
             return self._wait(self._next_frame, None if timeout is None else time.monotonic() + timeout)
         except ConnectionError:
             with self._lock:
-                # A thread that waits for the file descriptor learns once of the connection's end.
+                # A thread that waits for the file descriptor is told only once that the connection has ended.
                 if self._readiness is not None and not self._is_closing:
                     self._readiness.show(False)
             raise
 
     def take_frames(self, to: deque[str]) -> int:
-        """Reads the socket once, without waiting, and appends the frames to `to`.
+        """Reads the socket once without waiting, appends the frames to `to`, and returns the number of frames.
 
-        Returns the number of frames. One call moves all of them, so an exception from a signal handler leaves each
-        frame in one of the two lists. If another thread reads, it has its turn first: otherwise repeated calls would
+        A single call moves all frames, so each frame is in one of the two lists even if a signal handler raises an
+        exception. If another thread reads, that thread finishes its turn first, because repeated calls would otherwise
         keep it from reading.
         """
         before = len(to)
@@ -159,17 +162,17 @@ class Connection:
         return len(to) - before
 
     def frames_at_hand(self) -> int:
-        """Returns the number of frames that were read already, and wait to be taken."""
+        """Returns the number of frames that were read but not taken yet."""
         return len(self._frames)
 
     def socket_fileno(self) -> int:
-        """Returns the file descriptor of the socket. It is readable if the server has sent something, even if only an
-        answer."""
+        """Returns the file descriptor of the socket. It becomes readable when the server sends anything, even if it is
+        only an answer."""
         return self._number
 
     def fileno(self) -> int:
-        """Returns a file descriptor that is readable if `frame` would return at once; raises NotImplementedError if
-        there is none."""
+        """Returns a file descriptor that is readable when `frame` would return at once. Raises NotImplementedError if
+        the system can't provide it."""
         if not hasattr(select, "epoll"):
             raise NotImplementedError("a file descriptor needs epoll, which this system does not have")
         with self._lock:
@@ -181,12 +184,12 @@ class Connection:
             return self._readiness.fileno()
 
     def close(self) -> None:
-        """Ends the session, and all calls that wait for it. This may be called again."""
+        """Ends the session, and all calls that wait for it. A second call does nothing."""
         with self._lock:
             if self._is_closed:
                 return
             self._is_closing = True
-        # A forked process leaves the session to its parent.
+        # A forked process must not end its parent's session.
         is_own = os.getpid() == self._process
         if is_own:
             self._part()
@@ -200,8 +203,8 @@ class Connection:
         self._release()
 
     def _part(self) -> None:
-        """Closes the server's input, which ends the session: the server then closes the connection. The server may be
-        gone, or busy."""
+        """Ends the session by closing the server's input. The server then closes the connection. The server may be gone
+        or busy."""
         taken: list[bool] = []
         try:
             taken.extend(map(self._asking.acquire, (True,), (CLOSE_TIMEOUT,)))
@@ -251,26 +254,27 @@ class Connection:
         return None
 
     def _settle(self) -> None:
-        """Forgets the present question. If the question was given up, its remaining answers are still to come."""
+        """Forgets the current question. If it was given up after it was sent, its remaining answers will still
+        arrive."""
         sent = sum(self._sent)
         if 0 < sent < self._length:
             self._stop("half a command was written")
         self._asked = self._asked.given_up(was_sent=sent > 0)
 
     def _write(self, left: memoryview, deadline: float) -> None:
-        """Writes the rest of a question, and reads frames meanwhile: a server that waits for its reader takes no
-        commands."""
+        """Writes the rest of a question, and reads frames meanwhile, because a server that waits for its reader accepts
+        no commands."""
         while left:
             sent = self._wait(lambda: self._send(left), deadline, select.POLLIN | select.POLLOUT)
             if sent is None:
                 with self._lock:
-                    # Perhaps only a part of a command was written.
+                    # Perhaps only part of a command was written.
                     self._stop(f"the server took no commands within {seconds_words(self._timeout)}")
                 raise NoAnswer(self._end)
             left = left[sent:]
 
     def _send(self, data: Union[bytes, memoryview]) -> Optional[int]:
-        """Writes as much of this as the socket takes, and notes the number of bytes."""
+        """Writes as many bytes as the socket accepts, and records their number."""
         if self._end is not None:
             self._raise_end()
         try:
@@ -285,9 +289,9 @@ class Connection:
     def _wait(
         self, ready: Callable[[], Optional[T]], deadline: Optional[float], events: int = select.POLLIN
     ) -> Optional[T]:
-        """Returns the first result of `ready` that is not None; None if there is none until the deadline.
+        """Returns the first result of `ready` that is not None, or None if there is no such result until the deadline.
 
-        `ready` is called again after each change. Messages that came before the end of the connection are still
+        `ready` is called again after each change. Messages that arrived before the end of the connection are still
         returned.
         """
         while True:
@@ -299,15 +303,16 @@ class Connection:
                 return found
 
     def _await_reader(self, ready: Callable[[], Optional[T]], left: Optional[float], events: int) -> Optional[T]:
-        """Waits until the reading thread has read, if it still does, and returns the result of `ready` then."""
+        """Waits until the reading thread has read something, if there is such a thread, and then returns the result of
+        `ready`."""
         with self._lock:
             found = self._look(ready)
             if found is not None or left == 0:
                 return found
             news = self._next_news()
-        # A thread that starts to read now sees that another thread waits to be woken.
+        # A thread that starts to read from now on will see that this thread waits to be woken.
         if self._reading.locked():
-            # The reader does not notice when the socket can take more.
+            # The reading thread does not notice when the socket accepts more bytes.
             most = 0.01 if events & select.POLLOUT else LONGEST_NAP
             if news.acquire(timeout=most if left is None else min(left, most)):
                 news.release()
@@ -321,7 +326,7 @@ class Connection:
         return found
 
     def _next_news(self) -> threading.Lock:
-        """Returns a lock that can be taken after another thread has read."""
+        """Returns a lock that can be taken once another thread has read something."""
         if self._news is None:
             news = threading.Lock()
             news.acquire()
@@ -339,10 +344,10 @@ class Connection:
     def _read(
         self, ready: Callable[[], Optional[T]], seconds: Optional[float], events: int
     ) -> tuple[bool, Optional[T]]:
-        """Reads the available input, or input that comes within these seconds, unless another thread reads or a result
-        is ready.
+        """Reads the available input, or waits for input for these seconds. Does nothing if another thread reads or a
+        result is ready.
 
-        Returns whether no other thread reads, and the result of `ready`.
+        Returns whether no other thread was reading, and the result of `ready`.
         """
         taken: list[bool] = []
         try:
@@ -375,12 +380,12 @@ class Connection:
                 self._stop(f"the connection broke: {fault.strerror}")
 
     def _sort(self) -> None:
-        """Sorts the input, messages which may be cut anywhere, into frames and answers."""
+        """Sorts the input into frames and answers. The input may end in the middle of a message."""
         is_end = b"" in self._pieces
         messages = (self._rest + b"".join(self._pieces).translate(PRINTED).decode("ascii")).split(">")
         rest = messages.pop()
         asked, frames, unasked = self._asked.sorted(messages, self._note)
-        # This changes everything or nothing: no signal handler runs before the frames are in their list.
+        # The state changes completely or not at all: no signal handler runs before the frames are in their list.
         self._pieces, self._rest, self._asked = [], rest, asked
         self._frames.extend(frames)
         if unasked and not self._is_closing:
@@ -397,7 +402,7 @@ class Connection:
             self._own.note(number)
 
     def _stop(self, reason: str) -> None:
-        """Marks the connection as unusable. The first reason counts."""
+        """Marks the connection as unusable. If it already is, the first reason stays."""
         if self._end is not None:
             return
         self._end = "the bus was shut down" if self._is_closing else reason

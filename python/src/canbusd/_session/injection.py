@@ -12,29 +12,29 @@ from canbusd.rules import Rule
 
 T = TypeVar("T")
 
-#: A server must answer within these seconds.
+#: The time in seconds within which a server must answer.
 TIMEOUT = 5.0
 
 
 def no_interface(connection: Connection) -> str:
-    """Returns the refusal for an unknown interface of a server, with the names of its interfaces."""
+    """Returns the text of the refusal for an unknown interface, with the names of the server's interfaces."""
     names = interfaces_of(connection.ask(["interfaces"])[0])
     return f"{NO_SUCH_INTERFACE}; the server has {', '.join(names)}" if names else NO_SUCH_INTERFACE
 
 
 class Refused(RuntimeError):
-    """The bus or the session refused a message; the text is canbusd's, such as `no buffers` or `bus off`."""
+    """The bus or the session refused a message. The text is canbusd's reason, such as `no buffers` or `bus off`."""
 
 
 class InjectsFaults:
-    """A session that adds rules to the bus of its interface, and ends them."""
+    """A session that can add fault rules to the bus of its interface and end them."""
 
     def _answer(self, message: str) -> str:
         """Returns the reply to a message: the empty text for `ok`, an answer, or the text of a refusal."""
         raise NotImplementedError
 
     def _refused(self, message: str) -> str:
-        """Returns the text of a message's refusal; the empty text if it was accepted."""
+        """Returns the reason why a message was refused, or the empty text if it was accepted."""
         return self._answer(message)
 
     def _refusal(self, text: str) -> Exception:
@@ -42,18 +42,18 @@ class InjectsFaults:
         return Refused(text)
 
     def _parsed(self, answer: str, read: Callable[[str], Optional[T]]) -> T:
-        """Returns the content of an answer, from the function that reads it; raises an exception if this version has no
-        such answer."""
+        """Returns the content of an answer, which `read` parses. Raises an exception if `read` does not know the
+        answer, as from another version."""
         found = read(answer)
         if found is None:
             raise self._refusal(f"another version of canbusd answers: {answer}")
         return found
 
     def inject(self, faults: Script) -> None:
-        """Adds these rules to the bus of the interface, after the present rules, from the next attempt on.
+        """Adds these rules to the bus of the interface, after the existing rules. They apply from the next attempt on.
 
         `faults` are rules of Faults, such as ``Faults().next(32, sender="ecu").destroyed()``, or their text. If a rule
-        is refused, as the 65th is, the exception names it; the rules before it are in force.
+        is refused, for example the 65th, the exception names it. The rules before it stay in force.
         """
         self._give(rules_of(faults))
 
@@ -64,26 +64,29 @@ class InjectsFaults:
                 raise self._refusal(f"{answer}: {rule}{self._wrong_name(rule) if answer == NO_SUCH_INTERFACE else ''}")
 
     def _wrong_name(self, rule: Rule) -> str:
-        """Returns an unknown name of a rule and the names of the server; the names of each bus are not known here."""
+        """Returns an explanation with the first unknown name in a rule and the names of the server's interfaces. If all
+        names are known, one of them is on another bus."""
         names = self._parsed(self._answer("interfaces"), interfaces_of)
         wrong = next((name for name in rule.names if name not in names), None)
         return f": {wrong} is none of {', '.join(names)}" if wrong else ": one of its interfaces is on another bus"
 
     def rules_left(self) -> int:
-        """Returns the number of rules of the interface's bus that are not used up, including rules without end."""
+        """Returns the number of rules of the interface's bus that are not used up. Rules without a count are
+        included."""
         return self._parsed(self._answer("faults"), rules_left_of)
 
     def end_rules(self) -> None:
-        """Ends all rules of the bus, whoever added them. Script lines for numbered attempts stay."""
+        """Ends all rules of the bus, no matter who added them. Script lines for numbered attempts stay in force."""
         answer = self._answer("nofaults")
         if answer:
             raise self._refusal(answer)
 
 
 class RuleSession(InjectsFaults):
-    """A session of a server on this interface without a socket: the record has no entry of the session.
+    """A session on an interface of a server without a socket. The record does not mention this session.
 
-    OSError if there is no server, SessionRefused if the server takes no session, Refused if it has no such interface.
+    Raises OSError if there is no server, SessionRefused if the server accepts no session, and Refused if it has no such
+    interface.
     """
 
     def __init__(self, address: str, channel: str) -> None:

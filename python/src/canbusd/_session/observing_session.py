@@ -1,5 +1,4 @@
-"""A session of a server's own that receives the frames of an interface, and a thread that reads several such
-sessions."""
+"""A server's own session that receives the frames of an interface, and a thread that reads several such sessions."""
 
 import os
 import select
@@ -15,37 +14,37 @@ from canbusd._session.raw_session import RawSession, fault, with_cure
 from canbusd._session.waits import wait_for_ready
 from canbusd.virtual import is_virtual
 
-# While nobody waits, messages collect for these seconds, so that one read takes many. A Unix socket holds some 4,000
-# frames. In virtual time a bus of
-# 1 Mbit/s carries half of that in these seconds; else a server without a pace does.
+# While no thread waits, messages collect for this many seconds, so that one read gets many of them. A Unix socket holds
+# about 4,000 frames. In this time, a bus of 1 Mbit/s in virtual time, or a server without a pace in real time, sends
+# half of that.
 NAP = 0.1 if is_virtual() else 0.02
-# If a read returned this many frames, there may be more.
+# If a read returns at least this many frames, there may be more.
 MANY = 256
-# A waiting thread checks after this many seconds for input that another thread has read.
+# The maximum time in seconds for which a waiting thread sleeps before it checks for input that another thread has read.
 LONGEST_NAP = 0.05
 
 
 class ObservingSession(RawSession):
-    """A session on an interface that receives frames, or only error message frames."""
+    """A session on an interface that receives all frames, or only error message frames."""
 
     _queries = ("status",)
 
     def __init__(self, address: str, name: str, has_frames: bool) -> None:
         #: The number of frames taken from this session.
         self.taken = 0
-        # The frames that were read, but not handed on.
+        # The messages that were read but not passed on yet.
         self._texts: deque[str] = deque()
         words = [] if has_frames else ["filter 0"]
         try:
             super().__init__(address, name, [*words, *options(fd=True), "origin 1"], TIMEOUT)
         except (OSError, SessionRefused) as reason:
             raise fault("CanInitializationError", f"{name}: no session to observe it: {reason_of(reason)}") from None
-        #: The first known state of the interface, and its error counts.
+        #: The state of the interface and its error counts at the start of the session.
         self.first = self._parsed(self._queried[0], counters_of)
 
     @property
     def unread(self) -> int:
-        """The number of frames that were read, but not handed on."""
+        """The number of frames that were read but not passed on yet."""
         return len(self._texts)
 
     def read(self) -> None:
@@ -54,7 +53,8 @@ class ObservingSession(RawSession):
             pass
 
     def hand_on(self, add: Callable[[str, str], None]) -> None:
-        """Hands on the available messages without waiting, including those that came before the end of the session."""
+        """Passes all available messages to `add` without waiting, including those that arrived before the end of the
+        session."""
         try:
             self.read()
         except Exception:
@@ -63,14 +63,14 @@ class ObservingSession(RawSession):
         self.hand_on_read(add, self.unread)
 
     def hand_on_read(self, add: Callable[[str, str], None], count: int) -> None:
-        """Hands on the oldest of the messages that were read, up to this number."""
+        """Passes the `count` oldest messages that were read to `add`."""
         for _ in range(count):
             add(self.channel, self._texts[0])
             self._texts.popleft()
             self.taken += 1
 
     def fileno(self) -> int:
-        """Returns the file descriptor that becomes readable when a message comes."""
+        """Returns the file descriptor that becomes readable when a message arrives."""
         return self._connection.socket_fileno()
 
     def _refusal(self, text: str) -> Exception:
@@ -81,13 +81,13 @@ class ObservingSession(RawSession):
 
 
 def wait_for_input(sessions: Sequence[ObservingSession], seconds: float) -> None:
-    """Waits until a message comes to one of these sessions, or for these seconds; but not for long, because another
+    """Waits for these seconds or until a message arrives at one of these sessions. The wait is short, because another
     thread may read the message."""
     wait_for_ready([session.fileno() for session in sessions], select.POLLIN, min(seconds, LONGEST_NAP))
 
 
 class Reader:
-    """A thread that calls `read` when messages come to these sessions, at most once in each `NAP`."""
+    """A thread that calls `read` when messages arrive at these sessions, at most once every `NAP` seconds."""
 
     def __init__(self, sessions: Sequence[ObservingSession], read: Callable[[], None]) -> None:
         self._has_ended = False

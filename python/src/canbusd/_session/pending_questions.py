@@ -1,52 +1,53 @@
-"""Sorts the output of a server into frames and answers, and notes the frames that a session has sent."""
+"""Sorts the output of a server into frames and answers, and records the numbers of the frames that a session has
+sent."""
 
 from collections.abc import Callable, Iterable
 from typing import NamedTuple
 
 from canbusd.frames import HANDED_OVER, MESSAGE
 
-# Matches the end of an answer: an echo, or the verdict on a frame, which is one message.
+# How an answer ends: with an echo, or with the verdict on a frame, which is a single message.
 ECHO, VERDICT = "e", "v"
-# Matches the verdict that accepts a frame, with its number. A bus has fewer than 2**32 entries, so the number has at
-# most ten digits.
+# The beginning of the verdict that accepts a frame, and the maximum length of such a verdict. The frame's number in the
+# verdict has at most ten digits, because a bus has fewer than 2**32 entries.
 ACK, LONGEST_ACK = "ack ", len("ack ") + 10
-# The numbers in a page, and the number of kept pages. A frame older than all pages would arrive 16 million numbers
-# late.
+# How many numbers a page has, and how many pages are kept. A frame that is older than all pages would arrive 16 million
+# numbers late.
 PAGE, MOST_PAGES = 4096, 4096
 
 
 class Asked(NamedTuple):
-    """The questions and their answers so far. This object is always replaced as a whole, so that an exception leaves no
-    partial state."""
+    """The pending questions and the answers so far. This object is always replaced as a whole, so an exception leaves
+    no partial state."""
 
-    #: The end of each expected answer.
+    #: How each expected answer ends.
     ends: str
-    #: The number of answers that came, and the number that belong to questions that were given up.
+    #: The number of answers that arrived, and the number of expected answers to questions that were given up.
     came: int = 0
     owed: int = 0
-    #: The answers to the present question, and the beginning of the next answer.
+    #: The answers to the current question, and the beginning of the next answer.
     answers: tuple[str, ...] = ()
     answer: str = ""
 
     @property
     def is_answered(self) -> bool:
-        """Whether all answers have come."""
+        """Whether all expected answers have arrived."""
         return self.came == len(self.ends)
 
     def given_up(self, was_sent: bool) -> "Asked":
-        """Returns the state after the present question is given up. If it was sent, its remaining answers are still to
-        come."""
+        """Returns the state after the current question is given up. If the question was sent, its remaining answers
+        will still arrive."""
         ends = self.ends[self.came :] if was_sent else self.ends[self.came : self.owed]
         return Asked(ends, 0, len(ends))
 
     def and_then(self, ends: str) -> "Asked":
-        """Returns the state with a further question, whose answers end like this."""
+        """Returns the state with one more question. `ends` says how its answers end."""
         return Asked(self.ends + ends, *self[1:])
 
     def sorted(self, messages: Iterable[str], note: Callable[[int], None]) -> tuple["Asked", list[str], str]:
-        """Returns the state after these messages, the frames among them, and the first unexpected message.
+        """Returns the state after these messages, the frames among the messages, and the first unexpected message.
 
-        `note` gets the number of each accepted frame.
+        `note` is called with the number of each accepted frame.
         """
         frames: list[str] = []
         ends, came, owed, answers, answer = self.ends, self.came, self.owed, [*self.answers], self.answer
@@ -72,7 +73,8 @@ class Asked(NamedTuple):
 
 
 def verdict(message: str, note: Callable[[int], None]) -> str:
-    """Returns the answer for a verdict on a frame: the empty text for `ack 17`, whose number is noted."""
+    """Returns the answer that a verdict on a frame stands for. For `ack 17` it is the empty text, and `note` gets the
+    number 17."""
     number = message[len(ACK) :]
     if not message.startswith(ACK) or not number.isdecimal() or len(message) > LONGEST_ACK:
         return message
@@ -81,7 +83,7 @@ def verdict(message: str, note: Callable[[int], None]) -> str:
 
 
 class OwnNumbers:
-    """The numbers of a session's frames at its interface, in pages with a place for each number."""
+    """The numbers of a session's frames at its interface. They are stored in pages with one byte for each number."""
 
     def __init__(self) -> None:
         self._pages: dict[int, bytearray] = {}
@@ -91,7 +93,7 @@ class OwnNumbers:
         return page is not None and page[number % PAGE] != 0
 
     def note(self, number: int) -> None:
-        """Adds a number; forgets the oldest numbers."""
+        """Adds a number. If there are too many pages, the oldest one is removed."""
         page = self._pages.get(number // PAGE)
         if page is None:
             page = self._pages[number // PAGE] = bytearray(PAGE)

@@ -1,6 +1,6 @@
-"""The protocol of a session: its options, its filters and its answers, as the bench and the server read and write them.
+"""The protocol of a session: its options, its filters and its answers. The bench and the server use the same protocol.
 
-Frames are in canbusd.frames: `command_of` and `frame_of`. Nothing here needs python-can.
+The functions for frames, `command_of` and `frame_of`, are in canbusd.frames. This module does not need python-can.
 """
 
 from collections.abc import Iterable, Mapping, Sequence
@@ -9,18 +9,18 @@ from typing import Any, Literal, NamedTuple, Optional, Union
 from canbusd._words import BUS_OFF, INTERFACE_DOWN, LONGEST_MESSAGE, NO_BUFFERS
 from canbusd.frames import EXTENDED, INVERTED
 
-# The length of the longest answer: the names of 256 interfaces.
+# The length of the longest answer, which has the names of 256 interfaces.
 LONGEST_ANSWER = 4120
 ALL_CLASSES = 0x1FFFFFFF
-# The states of an interface: the states from its error counts, best first, and `down`.
+# The states of an interface: first the states that depend on its error counts, with the best first, and then `down`.
 State = Literal["active", "warning", "passive", "off", "down"]
 STATES: tuple[State, ...] = ("active", "warning", "passive", "off", "down")
-# Filters that no frame passes: an inverted filter for everything.
+# Filters that let no frame pass: an inverted filter that matches everything.
 NO_FRAMES = [{"can_id": INVERTED, "can_mask": 0}]
 
-# Refusals after which a cyclic message continues: a full transmit queue, or an interface that is off the bus.
+# Refusals that do not end a cyclic message: a full transmit queue, or an interface that is off the bus.
 PASSING = (NO_BUFFERS, BUS_OFF, INTERFACE_DOWN)
-# The text for users in place of UNKNOWN_COMMAND, which an older program returns for a newer message.
+# The text that users see instead of UNKNOWN_COMMAND. An older program gives that answer to a newer message.
 NO_DOWN = "the program is older, and has no interfaces that go down"
 
 Filters = Sequence[Mapping[str, Any]]
@@ -44,58 +44,59 @@ def in_words(name: str, counters: ErrorCounters) -> str:
 
 
 class Stats(NamedTuple):
-    """Counts of a socket and of its interface."""
+    """The counts of a socket and of its interface."""
 
-    #: Of the socket: frames and error message frames that found room in its receive queue.
+    #: For the socket: the number of frames and error message frames that entered its receive queue.
     queued: int
-    #: Of the socket: items that found no room.
+    #: For the socket: the number of items that were dropped because the queue was full.
     dropped: int
-    #: Of the socket: items that were received.
+    #: For the socket: the number of items that the client received.
     taken: int
-    #: Of the interface: frames that were accepted for sending; `sent = done + waiting + lost`.
+    #: For the interface: the number of frames accepted for sending, with `sent = done + waiting + lost`.
     sent: int
-    #: Of the interface: frames that were put on the bus.
+    #: For the interface: the number of frames sent on the bus.
     done: int
-    #: Of the interface: frames that wait in the transmit queue.
+    #: For the interface: the number of frames that wait in the transmit queue.
     waiting: int
-    #: Of the interface: frames that were lost at bus off, or when it went down.
+    #: For the interface: the number of frames lost because it went bus off or down.
     lost: int
-    #: Of the interface: frames that a full transmit queue refused.
+    #: For the interface: the number of frames refused because the transmit queue was full.
     refused: int
 
 
 class Load(NamedTuple):
-    """The load of a bus with a bit rate, and its bit rates; for any other bus all values are 0."""
+    """The load and the bit rates of a bus. All values are 0 if the bus has no bit rate."""
 
-    #: The busy time of the wire in the last whole second, in thousandths: 1000 is a full bus.
+    #: The bus load in the last whole second, in thousandths: 1000 is a full bus.
     permille: int
-    #: The busy time of the wire since the server began, in microseconds.
+    #: How long the wire was busy since the server began, in microseconds.
     micros: int
     #: The nominal bit rate, in bit/s.
     bitrate: int
-    #: The bit rate for the data of FD frames with the bit rate switch; the nominal bit rate if the server has no other.
+    #: The bit rate for the data of FD frames with bit rate switch. If the server has no such rate, it is the nominal
+    #: bit rate.
     data_bitrate: int
 
 
 def refusal_in(answer: str) -> str:
-    """Returns the text of a refusal, the empty text for `ok`, and any other answer unchanged."""
+    """Returns the text of a refusal, the empty text for `ok`, or any other answer unchanged."""
     return "" if answer == "ok" else answer.removeprefix("error ")
 
 
 def numbers(words: Sequence[str], count: int) -> Optional[list[int]]:
-    """Returns the numbers in these words of decimal digits; None for other words, or another count."""
+    """Returns the values of these words if they are `count` decimal numbers, otherwise None."""
     is_right = len(words) == count and all(word.isascii() and word.isdigit() for word in words)
     return [int(word) for word in words] if is_right else None
 
 
 def numbers_after(first: str, answer: str, count: int) -> Optional[list[int]]:
-    """Returns this many numbers after the first word of an answer; None for another message."""
+    """Returns the numbers that follow the first word of an answer. Returns None if the word or the count differs."""
     words = answer.split()
     return numbers(words[1:], count) if words[:1] == [first] else None
 
 
 def counters_of(answer: str) -> Optional[ErrorCounters]:
-    """Returns the counters in the answer `status passive 128 0`; None for another message."""
+    """Returns the counters in an answer such as `status passive 128 0`, or None for any other message."""
     words = answer.split()
     counts = numbers(words[2:], 2)
     state = next((state for state in STATES if words[1:2] == [state]), None)
@@ -105,25 +106,25 @@ def counters_of(answer: str) -> Optional[ErrorCounters]:
 
 
 def stats_of(answer: str) -> Optional[Stats]:
-    """Returns the counts in the answer `stats 1 0 1 0 0 0 0 0`; None for another message."""
+    """Returns the counts in an answer such as `stats 1 0 1 0 0 0 0 0`, or None for any other message."""
     counts = numbers_after("stats", answer, 8)
     return None if counts is None else Stats(*counts)
 
 
 def load_of(answer: str) -> Optional[Load]:
-    """Returns the load in the answer `load 432 1080000 500000 2000000`; None for another message."""
+    """Returns the load in an answer such as `load 432 1080000 500000 2000000`, or None for any other message."""
     counts = numbers_after("load", answer, 4)
     return None if counts is None else Load(*counts)
 
 
 def rules_left_of(answer: str) -> Optional[int]:
-    """Returns the number of remaining fault rules in the answer `faults 3`; None for another message."""
+    """Returns the number of remaining fault rules in an answer such as `faults 3`, or None for any other message."""
     counts = numbers_after("faults", answer, 1)
     return None if counts is None else counts[0]
 
 
 def interfaces_of(answer: str) -> Optional[list[str]]:
-    """Returns the names in the answer `interfaces can0 can1`; None for another message."""
+    """Returns the names in an answer such as `interfaces can0 can1`, or None for any other message."""
     words = answer.split()
     return words[1:] if words[:1] == ["interfaces"] else None
 
@@ -138,8 +139,8 @@ def options(
 ) -> list[str]:
     """Returns the messages that set these options of a new session.
 
-    `error_frames` is whether the session receives error message frames, or the mask of their classes; 0 and 1 are truth
-    values.
+    `error_frames` says whether the session receives error message frames, or is the mask of their classes. 0 and 1 are
+    truth values.
     """
     if error_frames == 1:
         error_frames = ALL_CLASSES
@@ -157,7 +158,8 @@ def options(
 def filter_words(one: Mapping[str, Any]) -> tuple[int, int]:
     """Returns the identifier and the mask of a python-can filter, with the flags of linux/can.h.
 
-    If the filter has `extended`, only frames of that length pass; data and remote frames pass alike.
+    If the filter has `extended`, only frames with that length of identifier pass. Data frames and remote frames are
+    treated alike.
     """
     if not isinstance(one, Mapping):
         raise ValueError(f"a filter is a dict with can_id and can_mask, not {one!r}")
@@ -176,8 +178,8 @@ def filter_words(one: Mapping[str, Any]) -> tuple[int, int]:
 
 
 def filter_message(filters: Optional[Filters]) -> Optional[str]:
-    """Returns the message that sets these filters; None if they don't fit into one message. Without filters, everything
-    passes."""
+    """Returns the message that sets these filters, or None if they don't fit into one message. Without filters all
+    frames pass."""
     if filters is not None and (isinstance(filters, (str, Mapping)) or not isinstance(filters, Iterable)):
         raise ValueError(f"filters are a list of dicts, such as [{A_FILTER}], not {filters!r}")
     pairs = [filter_words(one) for one in filters] if filters else [(0, 0)]

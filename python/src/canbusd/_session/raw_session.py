@@ -1,7 +1,7 @@
 """A session with a raw socket on an interface of a server: sending, receiving, and the state of the interface.
 
-The interface of python-can builds on this module, and so do a server's own sessions. Nothing here needs python-can; if
-it is installed, faults are its exceptions.
+The python-can interface and a server's own sessions build on this module. It does not need python-can, but uses its
+exceptions if it is installed.
 """
 
 import errno
@@ -26,9 +26,9 @@ from canbusd._words import (
     UNKNOWN_COMMAND,
 )
 
-# The errno of the system's own CAN sockets.
+# The errno values that the system's own CAN sockets report.
 ERROR_CODES = {NO_BUFFERS: errno.ENOBUFS, BUS_OFF: errno.ENETDOWN, INTERFACE_DOWN: errno.ENETDOWN}
-# The remedy, if a few words describe it.
+# A hint for the user, for each refusal that has a short one.
 CURES = {
     NO_BUFFERS: ": the transmit queue is full; send(msg, timeout=1) waits for room, and a server's txqueue= makes more",
     BUS_OFF: ": restart() brings the interface back, as the server's auto_restart= does",
@@ -38,7 +38,7 @@ CURES = {
 
 
 def fault(kind: str, text: str, code: Optional[int] = None) -> Exception:
-    """Returns an exception of python-can of this kind, or a RuntimeError without python-can."""
+    """Returns a python-can exception of this kind, or a RuntimeError if python-can is not installed."""
     try:
         from can import exceptions
     except ImportError:
@@ -48,29 +48,30 @@ def fault(kind: str, text: str, code: Optional[int] = None) -> Exception:
 
 
 def refusal(text: str, after: str = "") -> Exception:
-    """Returns the exception for a refusal by the server; its `error_code` is that of the system's own CAN sockets."""
+    """Returns the exception for a refusal by the server. Its `error_code` is the errno of the system's own CAN
+    sockets."""
     return fault("CanOperationError", f"{text}{after}{CURES.get(text, '')}", ERROR_CODES.get(text))
 
 
 def stayed_full(after: str = "") -> Exception:
-    """Returns the exception for a transmit queue that made no room in time."""
+    """Returns the exception for a transmit queue that stayed full until the timeout."""
     return fault("CanTimeoutError", f"{NO_BUFFERS}{after}: the transmit queue stayed full", errno.ENOBUFS)
 
 
 def with_cure(text: str) -> str:
-    """Returns a text with a remedy, if the text ends like that of a full record."""
+    """Adds a hint to a text that ends with the refusal for a full record."""
     return f"{text}{CURES[RECORD_FULL]}" if text.endswith(RECORD_FULL) else text
 
 
 class RawSession(InjectsFaults):
-    """A session in raw mode; these messages set the options of its socket.
+    """A session in raw mode. `messages` set the options of its socket.
 
     Unless `notes_own` is None, the server answers each send with the number of its frame. If `notes_own` is true, these
-    numbers are noted for `is_own`. An older server can do neither. OSError if there is no server, SessionRefused if the
-    server refuses the session, the interface or an option.
+    numbers are recorded for `is_own`. An older server supports neither. Raises OSError if there is no server, and
+    SessionRefused if the server refuses the session, the interface or an option.
     """
 
-    # These questions are in the same write as the session's first messages, so that nothing comes between.
+    # These questions are written together with the first messages of the session, so that nothing happens in between.
     _queries: Sequence[str] = ()
 
     def __init__(
@@ -78,7 +79,7 @@ class RawSession(InjectsFaults):
     ) -> None:
         #: The name of the interface.
         self.channel = channel
-        #: The fault of a sweep at this session's socket.
+        #: A fault that a sweep injects at this session's socket.
         self.planted: Optional[AtSockets] = None
         self._timeout = timeout
         self._connection = Connection(address, timeout)
@@ -100,12 +101,12 @@ class RawSession(InjectsFaults):
             raise
 
     def is_own(self, number: int) -> bool:
-        """Returns whether the frame with this number at the interface is one of this session's frames."""
+        """Returns whether the frame with this number at the interface was sent by this session."""
         return self._connection.is_own(number)
 
     def answers(self, messages: Sequence[str]) -> list[str]:
-        """Sends these messages at once, and returns the reply to each: the empty text for `ok`, the text of a refusal,
-        or an answer."""
+        """Sends these messages at once, and returns the reply to each: the empty text for `ok`, the reason for a
+        refusal, or an answer."""
         planted = self.planted
         place = next((place for place, one in enumerate(messages) if planted.is_sent(one)), None) if planted else None
         if place is not None:
@@ -121,12 +122,12 @@ class RawSession(InjectsFaults):
             raise self._failed("CanOperationError", str(reason)) from None
 
     def answer(self, message: str) -> str:
-        """Sends one message, as `answers` does."""
+        """Sends one message, and returns its reply like `answers`."""
         return self.answers([message])[0]
 
     def frame(self, timeout: Optional[float]) -> Optional[str]:
-        """Returns the next message that hands over a frame, from `<` on; None if no frame comes within these
-        seconds."""
+        """Returns the next message with a frame, without the text before its `<`. Returns None if no frame arrives
+        within these seconds."""
         try:
             began = time.monotonic()
             found = self._connection.frame(timeout)
@@ -140,25 +141,26 @@ class RawSession(InjectsFaults):
             raise self._failed("CanOperationError", str(reason)) from None
 
     def take_frames(self, to: deque[str]) -> int:
-        """Reads the socket once, without waiting, and appends the frames to `to`; returns the number of frames."""
+        """Reads the socket once without waiting, appends the frames to `to`, and returns the number of frames."""
         try:
             return self._connection.take_frames(to)
         except ConnectionError as reason:
             raise self._failed("CanOperationError", str(reason)) from None
 
     def frames_at_hand(self) -> int:
-        """Returns the number of frames that were read already, and wait to be taken."""
+        """Returns the number of frames that were read but not taken yet."""
         return self._connection.frames_at_hand()
 
     def fileno(self) -> int:
-        """Returns a file descriptor that is readable if `frame` would return or raise at once."""
+        """Returns a file descriptor that is readable when `frame` would return or raise at once."""
         try:
             return self._connection.fileno()
         except ConnectionError as reason:
             raise self._failed("CanOperationError", str(reason)) from None
 
     def send(self, command: str, timeout: Optional[float] = None) -> None:
-        """Puts a frame into the transmit queue with this message; a full queue may make room within these seconds."""
+        """Sends this command, which puts a frame into the transmit queue. If the queue is full, waits up to `timeout`
+        seconds for room."""
         answer = self.answer(command)
         if answer == NO_BUFFERS and timeout is not None and timeout > 0:
             deadline = time.monotonic() + timeout
@@ -173,9 +175,9 @@ class RawSession(InjectsFaults):
             raise refusal(answer)
 
     def send_many(self, commands: Sequence[str], most: int, timeout: Optional[float] = None) -> None:
-        """Puts frames into the transmit queue in order; at most `most` of them, or as many as fit, wait there at once.
+        """Puts frames into the transmit queue in order. At most `most` of them wait there at a time, or as many as fit.
 
-        Without a timeout, some frames must be accepted within the timeout of the session.
+        Without a timeout, the call fails if no frame is accepted for as long as the timeout of the session.
         """
         rest = [*commands]
         total, window = len(rest), most
@@ -201,21 +203,21 @@ class RawSession(InjectsFaults):
             window = max(1, stats.waiting) if refused else min(most, window + 1)
 
     def restart(self, is_needed: bool = True) -> None:
-        """Brings the interface back from bus off; raises a fault if the interface is not bus off, unless `is_needed` is
-        false."""
+        """Brings the interface back from bus off. If the interface is not bus off, raises an exception unless
+        `is_needed` is false."""
         answer = self.answer("restart")
         if answer and (is_needed or answer != NOT_BUS_OFF):
             state = f", but {self.error_counters().state}" if answer == NOT_BUS_OFF else ""
             raise refusal(f"{self.channel}: {answer}{state}")
 
     def down(self) -> None:
-        """Takes the interface off the bus; an interface that is down stays down."""
+        """Takes the interface off the bus. If it is already down, it stays down."""
         answer = self.answer("down")
         if answer:
             raise refusal(f"{self.channel}: {NO_DOWN if answer == UNKNOWN_COMMAND else answer}")
 
     def up(self) -> None:
-        """Brings the interface up; an interface that is up stays up."""
+        """Brings the interface up. If it is already up, it stays up."""
         self.restart(is_needed=False)
 
     def error_counters(self) -> ErrorCounters:
@@ -227,11 +229,11 @@ class RawSession(InjectsFaults):
         return self._parsed(self.answer("stats"), stats_of)
 
     def load(self) -> Load:
-        """Returns the bus load and the bit rates; `Load(0, 0, 0, 0)` without bit rates."""
+        """Returns the bus load and the bit rates. Without bit rates the result is `Load(0, 0, 0, 0)`."""
         return self._parsed(self.answer("load"), load_of)
 
     def close(self) -> None:
-        """Ends the session, and all calls that wait for it. This may be called again."""
+        """Ends the session, and all calls that wait for it. A second call does nothing."""
         self._connection.close()
 
     def _answer(self, message: str) -> str:
@@ -241,15 +243,15 @@ class RawSession(InjectsFaults):
         return refusal(text)
 
     def _failed(self, kind: str, text: str) -> Exception:
-        """Returns the exception of python-can of this kind."""
+        """Returns a python-can exception of this kind."""
         return fault(kind, with_cure(text))
 
     def _departure(self, before: Optional[Stats], deadline: float) -> tuple[Stats, bool]:
-        """Waits until a frame has left the transmit queue since these counts, or until the deadline.
+        """Waits until a frame leaves the transmit queue after the counts in `before`, or until the deadline.
 
-        Returns the new counts, and whether the deadline is over. The counts don't show whether a frame can still leave,
-        but a last send does, because it reports a full record. A refused send is an entry of the record; a request for
-        the counts is not.
+        Returns the new counts, and whether the deadline has passed. The counts don't show whether the bus can still
+        send. So the caller tries a last send, which reports a full record. This function requests only counts, because
+        a refused send adds an entry to the record.
         """
         pause = POLL
         while True:

@@ -1,16 +1,16 @@
-"""A file descriptor that becomes readable when a connection has something for its reader."""
+"""A file descriptor that becomes readable when a connection has something to read."""
 
 import contextlib
 import os
 import select
 import socket
 
-# The most bytes that are read at once.
+# The maximum number of bytes in one read.
 PIECE = 65536
 
 
 class Readiness:
-    """A file descriptor that is readable if the socket is readable, or if frames that were read already are waiting."""
+    """A file descriptor that is readable if the socket is readable, or if some frames were read but not taken yet."""
 
     def __init__(self, connected: socket.socket) -> None:
         self._reader, self._writer = os.pipe()
@@ -25,18 +25,19 @@ class Readiness:
         return self._epoll.fileno()
 
     def show(self, is_ready: bool) -> None:
-        """Makes the descriptor readable, or readable only if the socket is."""
+        """Makes the file descriptor readable. If `is_ready` is false, it is readable only if the socket is."""
         if is_ready and not self._is_shown:
             os.write(self._writer, b"!")
             self._is_shown = True
         elif not is_ready:
-            # This also runs if the present state is unknown, and so repairs an interrupted call.
+            # This also runs if the descriptor is not marked as readable, because an earlier call may have been
+            # interrupted.
             self._is_shown = False
             with contextlib.suppress(BlockingIOError):
                 os.read(self._reader, PIECE)
 
     def forget(self, connected: socket.socket) -> None:
-        """Stops watching the socket, which has ended and would be readable for ever."""
+        """Stops watching the socket. Its connection has ended, so it would be readable forever."""
         self._epoll.unregister(connected)
 
     def close(self) -> None:

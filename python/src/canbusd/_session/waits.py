@@ -1,4 +1,4 @@
-"""Waits that end at their time to the microsecond, if nothing else delays them: this matters in virtual time."""
+"""Waits that end at the right time to the microsecond if nothing else delays them. This matters in virtual time."""
 
 import math
 import select
@@ -6,27 +6,26 @@ import time
 from collections.abc import Sequence
 from typing import Optional
 
-# No limit of the system's calls is below this number of seconds.
+# The maximum timeout in seconds for a system call. All of these calls have higher limits.
 LONGEST_WAIT = 3600.0
-# The descriptor numbers that select accepts are below this number, as FD_SETSIZE is.
+# select accepts only file descriptors below this number (FD_SETSIZE).
 MOST_SELECTED = 1024
 
 
 def seconds_until(deadline: float) -> float:
-    """Returns the seconds to wait until a time of `time.monotonic`, at most an hour; 0 from that time on.
+    """Returns the seconds until a time of `time.monotonic`: at most an hour, and 0 if the time has passed.
 
-    System calls round their timeout up. So the result is a little less than a whole number of microseconds, and
-    rounding errors in the difference of two times are ignored.
+    System calls round their timeout up. So the result is slightly below a whole number of microseconds. Rounding errors
+    in the difference of the two times are ignored.
     """
     left = min(deadline - time.monotonic(), LONGEST_WAIT)
     return max(0.0, math.ceil(left * 1e6 - 0.01) * 1e-6 - 5e-10)
 
 
 def wait_for_ready(numbers: Sequence[int], events: int, seconds: Optional[float]) -> bool:
-    """Waits until one of these file descriptors is readable, or writable if `events` has POLLOUT, for at most these
-    seconds.
+    """Waits up to these seconds until one of these file descriptors is readable, or writable if `events` has POLLOUT.
 
-    Returns whether one is ready. poll counts its timeout in milliseconds.
+    Returns whether one of them is ready. If select can't be used, poll rounds the timeout to milliseconds.
     """
     if max(numbers, default=0) < MOST_SELECTED:
         readable, writable, _ = select.select(numbers, numbers if events & select.POLLOUT else (), (), seconds)

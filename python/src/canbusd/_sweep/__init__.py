@@ -1,1 +1,2 @@
-"""The sweep: a test is carried out again for each fault at each of its attempts, each time in a process of its own."""
+"""The sweep: a test is repeated with each kind of fault at each of its attempts. Each repetition has its own
+process."""

@@ -1,4 +1,4 @@
-"""The attempts of a test, by the records that it left."""
+"""Finds the attempts of a test in the records that it wrote."""
 
 from collections import Counter, defaultdict
 from collections.abc import Iterator
@@ -13,36 +13,37 @@ from canbusd.record import Record, read_record
 
 @dataclass(frozen=True)
 class Attempted:
-    """An attempt to put a frame on a bus of a test."""
+    """An attempt to send a frame on a bus of a test."""
 
     bus: BusKey
-    #: Its number among those of its bus.
+    #: The number of the attempt on its bus.
     number: int
-    #: In seconds, with six digits after the point.
+    #: The timestamp in seconds, with six decimal places.
     moment: str
     sender: str
-    #: In candump's spelling, such as `123#1122`.
+    #: The frame in candump's spelling, such as `123#1122`.
     frame: str
-    #: Which of its sender's frames with this identifier it was, and which of all that its sender tried, from 0.
+    #: The number of the frame among the sender's frames with this identifier, and the number of the attempt among all
+    #: attempts of the sender. Both count from 0.
     nth: int
     nth_of_sender: int
-    #: The moment of the one before with its identifier and sender; of the first one 0.
+    #: The timestamp of the sender's previous attempt with this identifier, or 0 for the first one.
     since: str
-    #: The transmit error count of its sender before it.
+    #: The sender's transmit error count before the attempt.
     errors: int
-    #: `done`, `lastbit`, `destroyed` or `noack`, and the fault that struck it, which is `good` in most.
+    #: The outcome (`done`, `lastbit`, `destroyed` or `noack`), and the fault in the attempt, which is usually `good`.
     outcome: str
     fault: str
-    #: The other interfaces at which a socket of the test took the frame.
+    #: The other interfaces at which some socket of the test took the frame.
     receivers: tuple[str, ...] = ()
-    #: When its frame began; without a bit rate that is its moment.
+    #: The start time of the frame. Without a bit rate it is the timestamp.
     began: str = "0.000000"
-    #: Whether its sender is the only interface of the bus.
+    #: Whether the sender is the only interface of the bus.
     is_alone: bool = False
 
     @property
     def identifier(self) -> str:
-        """Its identifier, in 3 digits or 8."""
+        """The identifier of the frame, with 3 or 8 hexadecimal digits."""
         return self.frame.partition("#")[0]
 
     def __str__(self) -> str:
@@ -50,12 +51,12 @@ class Attempted:
 
 
 def attempts_in(folder: Path) -> list[Attempted]:
-    """Returns the attempts of the records in this folder, by their buses and in their order."""
+    """Returns the attempts of all records in this folder, sorted by bus and then by time."""
     return [one for path in sorted(folder.glob("*.rec")) for one in attempts_of(path)]
 
 
 def attempts_of(path: Path) -> Iterator[Attempted]:
-    """Yields the attempts of the bus whose record this is, with its facts beside it."""
+    """Yields the attempts in this record. A file next to it has the facts about the bus."""
     run, _, first = path.stem.partition("-")
     own, names, *numbers = path.with_suffix(".bus").read_text().split(" ")
     rates = Rates(*map(int, numbers)) if numbers else None
@@ -63,13 +64,13 @@ def attempts_of(path: Path) -> Iterator[Attempted]:
 
 
 def nanos_before(moment: str, nanos: int) -> str:
-    """Returns the moment that is so many nanoseconds before this one, which was rounded down."""
+    """Returns the time that is `nanos` nanoseconds before `moment`, rounded down."""
     micros = (int(moment.replace(".", "")) * 1000 - nanos) // 1000
     return f"{micros // 1_000_000}.{micros % 1_000_000:06}"
 
 
 def receivers_in(record: Record, own: int) -> dict[int, set[int]]:
-    """Returns by the number of a step the interfaces that have a socket which took its frame, but for the first sockets."""
+    """Maps steps to the interfaces whose sockets took the frame of the step. The first `own` sockets do not count."""
     items, sockets = record.replay.items, record.replay.sockets
     found: dict[int, set[int]] = defaultdict(set)
     for socket, step, error, fate in zip(items.sockets, items.steps, items.errors, items.fates()):
@@ -79,7 +80,7 @@ def receivers_in(record: Record, own: int) -> dict[int, set[int]]:
 
 
 def attempts_on(bus: BusKey, record: Record, own: int = 0) -> Iterator[Attempted]:
-    """Yields the attempts of a record, of whose sockets the first are the package's own."""
+    """Yields the attempts of a record. The first `own` sockets belong to the package and not to the test."""
     names, receivers = record.names, receivers_in(record, own)
     errors = [0] * len(names)
     of_identifier: Counter[tuple[int, str]] = Counter()

@@ -1,4 +1,4 @@
-"""A command as what is swept: it runs in virtual time, beside a server of its own, and its status is the verdict."""
+"""Sweeps a command: it runs in virtual time, with its own server, and its exit status is the verdict."""
 
 import os
 import shlex
@@ -13,19 +13,20 @@ from canbusd._placement import Placement
 from canbusd._sweep import worker
 from canbusd._sweep.places import Place, Result
 
-#: How many of the last lines that the command wrote a failure shows.
+#: How many lines from the end of the command's output a failure shows.
 LAST_LINES = 40
 
 
 class CommandTask:
-    """A command, whose programs under canbusd-run find the server by their environment."""
+    """A command that is swept. Its programs, which run under canbusd-run, find the server through the environment."""
 
     is_virtual = True
 
     def __init__(
         self, words: Sequence[str], buses: Sequence[str], options: Mapping[str, Any], given: Sequence[str]
     ) -> None:
-        """`options` are those of Server, and `given` the words of the command line by which they were given."""
+        """Prepares the task. `options` are the arguments of Server, and `given` has the words of the command line that
+        set them."""
         self._words, self._buses, self._options, self._given = list(words), list(buses), dict(options), list(given)
 
     @property
@@ -34,11 +35,11 @@ class CommandTask:
         return shlex.join(self._words)
 
     def redirect(self, path: Path) -> None:
-        """Has what the command writes go into a file."""
+        """Redirects the output of the command to a file."""
         worker.point_output_at(path)
 
     def carry_out(self, order: worker.Order, given: Placement, room: Path) -> "tuple[Result, list[str]]":
-        """Carries out the command."""
+        """Runs the command with its own server, and returns the result."""
         from canbusd.server import Server, ServerError
 
         out = room / "tmp"
@@ -65,17 +66,17 @@ class CommandTask:
         return Result("failed", message, "\n".join([words, *said]), took), list(sys.modules)
 
     def repeat(self, place: Place) -> str:
-        """Returns the command that carries out a placement again."""
+        """Returns the command line that repeats a placement."""
         words = ["canbusd", "sweep", *self._given, *place.words("--"), *self._buses, "--", *self._words]
         return shlex.join(words)
 
     def kept_as(self, rule: str) -> str:
-        """Returns the line of a script that has the fault without a sweep."""
+        """Returns the line of a script that causes the fault without a sweep."""
         return f"as a script: {rule}"
 
 
 class PlainTerminal:
-    """Standard output as what a sweep is written to."""
+    """Writes a sweep to standard output."""
 
     def __init__(self) -> None:
         self.isatty = sys.stdout.isatty()
@@ -97,6 +98,6 @@ class PlainTerminal:
         print(line, flush=True)
 
     def rewrite(self, line: str, **markup: bool) -> None:
-        """Writes a line over the last one."""
+        """Replaces the last line."""
         print(f"\r\033[K{line}", end="", flush=True)
         self._is_open = True

@@ -1,15 +1,15 @@
-"""The texts of faults, as `--canbusd-fault` takes them and the sweep prints them.
+"""Parses the texts of faults that `--canbusd-fault` accepts and that the sweep prints.
 
-    5 lastbit                                the attempt with this number, in the words of a fault script
-    5-20 global bit                          several attempts in a row
-    next 1 from ecu id 123 skip 2 lastbit    a rule
-    1:can0:5 lastbit                         of another bus than the first: the number of its server or bench, and the bus
-    missed ecu 123 1767225600.005089         the sockets of ecu lose the frame with this identifier and moment
-    late ecu 123 1767225600.005089           they have it 10 ms later
-    full tester 123 1767225600.005089        the first send of such a frame by tester from this moment on finds its queue full
-    reset 0 1767225600.005089                the first program of the test is killed at this moment, and starts anew
-    down ecu 1767225600.005089 0.100000      the interface is down from this moment on for so many seconds
-    noack ecu 1767225600.004958 0.000133     all others of its bus are, so that nobody acknowledges its frames
+    5 lastbit                                a fault at the attempt with this number, in the words of a fault script
+    5-20 global bit                          a fault at several consecutive attempts
+    next 1 from ecu id 123 skip 2 lastbit    a fault rule
+    1:can0:5 lastbit                         a fault on another bus: the number of its server or bench, and its name
+    missed ecu 123 1767225600.005089         the sockets of ecu lose the frame with this identifier and timestamp
+    late ecu 123 1767225600.005089           the sockets of ecu receive this frame 10 ms later
+    full tester 123 1767225600.005089        tester's first send of identifier 123 from this time on finds a full queue
+    reset 0 1767225600.005089                the first program of the test is killed at this time and started again
+    down ecu 1767225600.005089 0.100000      the interface is down from this time on, for this many seconds
+    noack ecu 1767225600.004958 0.000133     all other interfaces of the bus are down, so no node acknowledges ecu's frames
 """
 
 import re
@@ -35,11 +35,12 @@ NUMBERED = re.compile(rf"(?P<first>[0-9]{{1,8}})(?:-(?P<last>[0-9]{{1,8}}))? (?:
 
 @dataclass(frozen=True)
 class Fault:
-    """A fault that a placement gives a bus of a test."""
+    """A fault of a placement, at a bus of a test."""
 
-    #: The bus; None is that of the test's first server or bench, and of a server its first.
+    #: The bus. None stands for the bus of the test's first server or bench; if this server has several buses, for its
+    #: first bus.
     bus: Optional[BusKey]
-    #: The line of a script, or the same for several attempts in a row, as `5-20 global bit`.
+    #: The line of a fault script, or a line for several attempts in a row, such as `5-20 global bit`.
     line: str
 
     def __str__(self) -> str:
@@ -47,25 +48,25 @@ class Fault:
 
     @property
     def at_sockets(self) -> Optional[AtSockets]:
-        """The fault at the sockets of an interface, if it is such a fault."""
+        """The fault at the sockets of an interface. None if this is another kind of fault."""
         found = AT_SOCKETS.fullmatch(self.line)
         return AtSockets(*found.groups()) if found else None
 
     @property
     def reset(self) -> Optional[Reset]:
-        """The program that is killed and starts anew, if it is such a fault."""
+        """The program that is killed and started again. None if this is another kind of fault."""
         found = RESET.fullmatch(self.line)
         return Reset(int(found[1]), float(found[2])) if found else None
 
     @property
     def outage(self) -> Optional[Outage]:
-        """The interfaces that are down for some time, if it is such a fault."""
+        """The outage of interfaces that are down for some time. None if this is another kind of fault."""
         found = OUTAGE.fullmatch(self.line)
         return Outage(found["kind"], found["name"], float(found["moment"]), float(found["seconds"])) if found else None
 
     @property
     def lines(self) -> list[str]:
-        """The lines of a script."""
+        """The lines of a fault script. The list is empty for faults that a script can't express."""
         if self.at_sockets or self.reset or self.outage:
             return []
         numbers, _, verdict = self.line.partition(" ")
@@ -74,7 +75,7 @@ class Fault:
 
 
 def parse_fault(text: str) -> Fault:
-    """Returns the fault that this text is; ValueError says what is wrong with it."""
+    """Parses the text of a fault. Raises ValueError with the reason if the text is wrong."""
     found = TEXT.fullmatch(text)
     assert found is not None
     bus = (int(found["run"]), found["bus"]) if found["bus"] else None
@@ -96,7 +97,7 @@ def parse_fault(text: str) -> Fault:
 
 
 def lines_by_bus(faults: Iterable[Fault]) -> dict[BusKey, list[str]]:
-    """Returns the lines that each bus gets by these faults."""
+    """Returns the script lines of these faults for each bus."""
     found: dict[BusKey, list[str]] = {}
     for fault in faults:
         found.setdefault(fault.bus or FIRST, []).extend(fault.lines)

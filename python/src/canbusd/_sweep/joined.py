@@ -1,4 +1,4 @@
-"""The results of the parts of a sweep as those of one."""
+"""Joins the results of several parts of a sweep."""
 
 import json
 import os
@@ -14,8 +14,8 @@ from canbusd._text import shown
 
 
 def join(paths: Sequence[Path], out: Path) -> list[Facts]:
-    """Writes sweep.json and the page of all these parts into a folder, and returns their tests; ValueError says which file is
-    no part of the sweep of the others."""
+    """Joins these parts, writes their sweep.json and page into a folder, and returns the tests. If a file belongs to
+    another sweep, raises ValueError with its name."""
     parts: dict[str, list[tuple[Path, Facts]]] = defaultdict(list)
     for path in paths:
         for test in read_part(path):
@@ -27,7 +27,7 @@ def join(paths: Sequence[Path], out: Path) -> list[Facts]:
 
 
 def read_part(path: Path) -> list[Facts]:
-    """Returns the tests of a file; ValueError if it is no sweep.json."""
+    """Returns the tests in a file. Raises ValueError if the file is not a sweep.json."""
     try:
         found = json.loads(path.read_text(encoding="utf-8"))
     except ValueError:
@@ -39,7 +39,7 @@ def read_part(path: Path) -> list[Facts]:
 
 
 def joined(parts: Sequence[tuple[Path, Facts]], out: Path) -> Facts:
-    """Returns a test with the placements of its parts, in the order of a sweep that has no parts."""
+    """Returns a test with the placements of all parts, in the order of a sweep without parts."""
     (first, test), *others = parts
     for path, other in others:
         if records_of(other) != records_of(test):
@@ -54,19 +54,19 @@ def joined(parts: Sequence[tuple[Path, Facts]], out: Path) -> Facts:
 
 
 def records_of(test: Facts) -> Any:
-    """Returns what the run without a fault left."""
+    """Returns the checksum of the records from the test's run without a fault."""
     return (test["base"] or {}).get("records")
 
 
 def moved_places(path: Path, test: Facts, out: Path) -> Iterator[Facts]:
-    """Yields the placements of a part, whose pages are below its folder."""
+    """Yields the placements of a part. The paths of their pages are changed so that they are relative to `out`."""
     for place in test["placements"]:
         page = os.path.relpath(path.parent / place["page"], out) if place["page"] else ""
         yield {**place, "page": page}
 
 
 def lines_of(test: Facts) -> Iterator[str]:
-    """Yields what a sweep found of a test: a line, and three for each group that fails."""
+    """Yields the results of a test as text: one line for the test, and three lines for each failing group."""
     base, places = test["base"], test["placements"]
     if base is None or base["outcome"] != "passed":
         yield f"{test['test']}: {base['outcome'] if base else 'not run'} without a fault"
@@ -83,7 +83,7 @@ def lines_of(test: Facts) -> Iterator[str]:
 
 
 def failures_in(test: Facts) -> dict[str, list[Facts]]:
-    """Returns the placements that fail, by their groups."""
+    """Returns the failed placements of each group."""
     found: dict[str, list[Facts]] = defaultdict(list)
     for place in test["placements"]:
         if place["result"] is not None and place["result"]["outcome"] == "failed":
@@ -92,6 +92,6 @@ def failures_in(test: Facts) -> dict[str, list[Facts]]:
 
 
 def is_bad(test: Facts) -> bool:
-    """Whether a test fails without a fault, or in a group that may not."""
+    """Returns whether a test fails without a fault, or in a group that is not known to fail."""
     is_failed = test["base"] is None or test["base"]["outcome"] == "failed"
     return is_failed or any(group not in test["known"] for group in failures_in(test))

@@ -1,4 +1,4 @@
-"""The tests of pytest that are swept, and what their markers say."""
+"""Finds the tests of pytest that are swept, and reads their markers."""
 
 from collections.abc import Iterable, Sequence
 from typing import Any, Optional
@@ -9,12 +9,13 @@ from canbusd._sweep.items import BENCH_FIXTURE, SERVER_FIXTURES, ItemTask
 from canbusd._sweep.places import USUAL, known_kinds
 from canbusd._sweep.tests import Test
 
-#: The arguments of the marker.
+#: The arguments that the marker accepts.
 ARGUMENTS = ("faults", "senders", "ids", "known", "pairs")
 
 
 def swept_tests(items: Iterable[pytest.Item], all_of_them: bool, kinds: Optional[Sequence[str]]) -> list[Test]:
-    """Returns the tests that have the marker, or all that have a server or a bench; with these kinds, if any are given."""
+    """Returns the tests that have the marker, or all tests that use a server or a bench. If kinds of faults are given,
+    the tests use these kinds."""
     found = []
     for item in items:
         marker = item.get_closest_marker("canbusd_sweep")
@@ -25,7 +26,7 @@ def swept_tests(items: Iterable[pytest.Item], all_of_them: bool, kinds: Optional
 
 
 def test_of(item: pytest.Item, given: dict[str, Any], args: Sequence[Any], kinds: Optional[Sequence[str]]) -> Test:
-    """Returns a test with what its marker says; UsageError if that is wrong."""
+    """Returns a test with the settings of its marker. Raises UsageError if a setting is wrong."""
     unknown = next((name for name in given if name not in ARGUMENTS), None)
     if args or unknown:
         what = f"there is no argument {unknown}" if unknown else "its arguments have names"
@@ -45,12 +46,12 @@ def test_of(item: pytest.Item, given: dict[str, Any], args: Sequence[Any], kinds
 
 
 def listed(value: Any) -> list[Any]:
-    """Returns a list of what is one value or several."""
+    """Returns a list. A single value becomes a list with one element."""
     return [value] if isinstance(value, (str, int)) else list(value)
 
 
 def identifier_text(value: Any) -> str:
-    """Returns an identifier as records spell it: 3 digits or 8."""
+    """Returns an identifier in the spelling of records, with 3 or 8 hexadecimal digits."""
     if isinstance(value, str):
         return value.upper()
     return f"{value:03X}" if value <= 0x7FF else f"{value:08X}"

@@ -1,4 +1,4 @@
-"""The options of a sweep, and the loop of pytest that carries it out."""
+"""The command-line options of a sweep, and the function that replaces pytest's loop over the tests."""
 
 import os
 import re
@@ -12,9 +12,9 @@ from canbusd._sweep.places import ALL_KINDS
 if TYPE_CHECKING:
     from canbusd._sweep.sweep import Options
 
-#: The folder of the sweep's page, below that from which pytest was started.
+#: The folder for the page of the sweep, below the folder in which pytest was started.
 OUT = "canbusd-sweep"
-#: The options that need --canbusd-sweep: name, type, and help.
+#: The options that need --canbusd-sweep: name, type, metavar and help.
 OPTIONS: tuple[tuple[str, Any, str, str], ...] = (
     ("faults", str, "KINDS", f"kinds of faults in place of those of the tests: {', '.join(ALL_KINDS)}"),
     ("jobs", int, "N", "how many runs at once (default: one for each processor)"),
@@ -52,7 +52,8 @@ def add_sweep_options(group: Any) -> None:
 
 
 def is_swept(config: pytest.Config) -> bool:
-    """Whether pytest carries out a sweep; UsageError if options need one, or can't be had with one."""
+    """Returns whether pytest carries out a sweep. Raises UsageError for options that need a sweep, or that a sweep does
+    not allow."""
     is_wanted = bool(config.getoption("--canbusd-sweep") or config.getoption("--canbusd-sweep-all"))
     if not is_wanted:
         given = [
@@ -73,7 +74,8 @@ def is_swept(config: pytest.Config) -> bool:
 
 
 def begin(config: pytest.Config) -> None:
-    """Starts pytest anew with what runs in virtual time need, unless it was."""
+    """Restarts pytest with the library that runs in virtual time need, unless it was already started with the
+    library."""
     from canbusd._sweep import worker
 
     if worker.is_ready():
@@ -111,7 +113,7 @@ def carry_out(session: pytest.Session) -> None:
 
 
 def read_options(config: pytest.Config) -> "Options":
-    """Returns the options of the command line; UsageError names one that is wrong."""
+    """Returns the options of the command line. If one is wrong, raises UsageError with its name."""
     from canbusd._sweep.faults_given import parse_fault
     from canbusd._sweep.sweep import JITTER, Options, given_place
 
@@ -138,7 +140,7 @@ def read_options(config: pytest.Config) -> "Options":
 
 
 def numbered(config: pytest.Config, name: str, usual: int, least: int) -> int:
-    """Returns the number of an option; UsageError if it is too small."""
+    """Returns the number that an option has. Raises UsageError if the number is too small."""
     value = config.getoption(f"--canbusd-sweep-{name}")
     if value is None:
         return usual
@@ -148,7 +150,8 @@ def numbered(config: pytest.Config, name: str, usual: int, least: int) -> int:
 
 
 def shard_of(text: Optional[str]) -> Optional[tuple[int, int]]:
-    """Returns which part of how many this text is, as 2/4; ValueError if it is none."""
+    """Parses a part such as 2/4, and returns its number and the number of parts. Raises ValueError for any other
+    text."""
     if text is None:
         return None
     found = re.fullmatch("([0-9]+)/([0-9]+)", text)

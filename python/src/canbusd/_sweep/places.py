@@ -1,4 +1,4 @@
-"""The placements of a sweep: which fault at which attempt."""
+"""The placements of a sweep: the choices of a fault and an attempt."""
 
 import random
 from collections import Counter
@@ -9,32 +9,34 @@ from typing import Optional
 from canbusd._sweep.attempts import Attempted
 from canbusd._sweep.faults_given import Fault
 
-#: The number of attempts that in a row a burst destroys.
+#: The number of consecutive attempts that a burst destroys.
 BURST = 16
-#: For how many microseconds a sender is down. How long before a frame begins others go down, so that they do not acknowledge it,
-#: and how long after its end they come up: before it can be sent again.
+#: Times in microseconds: how long a sender is down, how long before the start of a frame other interfaces go down so
+#: that they do not acknowledge it, and how long after the end of the frame they come up. At that time the frame is not
+#: sent again yet.
 DOWN_MICROS, MICROS_BEFORE, MICROS_AFTER = 100_000, 2, 1
-#: By how much a failed attempt raises the transmit error count (ISO 11898-1), and the count at which its sender is bus off.
+#: The increase of the transmit error count after a failed attempt (ISO 11898-1), and the count at which the sender goes
+#: bus off.
 STEP, OFF = 8, 256
 
 
 def destroyed(one: Attempted) -> str:
-    """The line that destroys the frame."""
+    """Returns the script line that destroys the frame."""
     return f"{one.number} global bit"
 
 
 def twice(one: Attempted) -> str:
-    """The line by which receivers get the frame twice."""
+    """Returns the script line after which receivers have the frame twice."""
     return f"{one.number} lastbit"
 
 
 def burst(one: Attempted) -> str:
-    """The lines that destroy this frame and those after it."""
+    """Returns the line that destroys this attempt and those that follow it."""
     return f"{one.number}-{one.number + BURST - 1} global bit"
 
 
 def bus_off(one: Attempted) -> str:
-    """The rule that destroys what the sender tries, from this attempt on, until it is bus off."""
+    """Returns the rule that destroys all attempts of the sender from this one on, until the sender is bus off."""
     count = -(-(OFF - one.errors) // STEP)
     skip = f"skip {one.nth_of_sender} " if one.nth_of_sender else ""
     return f"next {count} from {one.sender} {skip}global bit"
@@ -42,11 +44,11 @@ def bus_off(one: Attempted) -> str:
 
 @dataclass(frozen=True)
 class Kind:
-    """A kind of fault: its line for an attempt, and its meaning."""
+    """A kind of fault: a function that makes the line for an attempt, and a description."""
 
     line: Callable[[Attempted], str]
     meaning: str
-    #: The verdict of a rule that leaves the same bytes; empty if there is none.
+    #: The verdict for a fault rule that leads to the same record. Empty if there is no such verdict.
     verdict: str = ""
 
 
@@ -56,7 +58,7 @@ KINDS = {
     "burst": Kind(burst, f"{BURST} attempts in a row are destroyed: frames come late, a sender may be error passive"),
     "busoff": Kind(bus_off, "what its sender tries is destroyed until it is bus off"),
 }
-#: Kinds of which an attempt has several faults, with their meanings.
+#: Other kinds, which may have several faults at an attempt, with their descriptions.
 OTHERS = {
     "missed": "the receive queues of a node lose the frame, as by an overrun",
     "late": "a node has the frame 10 ms later, as one that does other work",
@@ -65,17 +67,17 @@ OTHERS = {
     "down": f"the sender's interface goes down with this frame, and up {DOWN_MICROS // 1000} ms later",
     "noack": "nobody acknowledges the frame: all others of the bus are down for this attempt",
 }
-#: Kinds of servers only: a bench has no moments at which something else happens.
+#: Kinds that only servers support, because a bench has no times between its calls at which an interface could go down.
 OF_SERVERS = ("down", "noack")
-#: The word before the receiver.
+#: The word before the name of the receiver in the kind of a placement.
 BY = {"missed": "by", "late": "at"}
 ALL_KINDS = (*KINDS, *OTHERS)
-#: The kinds of a test that names none.
+#: The kinds for a test that does not name any.
 USUAL = ("destroyed", "twice", "burst")
 
 
 def known_kinds(names: Sequence[str]) -> Sequence[str]:
-    """Returns the names of kinds; ValueError if one is none."""
+    """Returns the names of kinds unchanged. Raises ValueError if one of them is unknown."""
     wrong = next((name for name in names if name not in ALL_KINDS), None)
     if wrong is not None:
         raise ValueError(f"no kind of fault {wrong!r}; there are {', '.join(ALL_KINDS)}")
@@ -84,61 +86,63 @@ def known_kinds(names: Sequence[str]) -> Sequence[str]:
 
 @dataclass
 class Result:
-    """The outcome of a test that was carried out once."""
+    """The result of one run of a test."""
 
-    #: `passed`, `failed` or `skipped`.
+    #: The outcome: `passed`, `failed` or `skipped`.
     outcome: str
-    #: The first line of what failed, and all that pytest says of it.
+    #: The first line of the failure, and the complete output of pytest about it.
     message: str = ""
     long: str = ""
-    #: Seconds of the test's own time.
+    #: The duration of the test in its own (virtual) time, in seconds.
     took: float = 0.0
-    #: The number of programs that it started.
+    #: The number of programs that the test started.
     programs: int = 0
-    #: A sum of its records: the same for the same run.
+    #: A checksum of the records. Equal runs have equal checksums.
     records: str = ""
 
 
 @dataclass
 class Place:
-    """A fault at an attempt of a test, or several, or another order of what is due at once; and what came of it."""
+    """A fault at an attempt of a test, or several faults, or another order of simultaneous events; and the result of
+    the run."""
 
     kind: str
     faults: Sequence[Fault]
     attempts: Sequence[Attempted] = ()
     seed: int = 0
     jitter: int = 0
-    #: Whether it is one of the first to be tried: the first two, the middle and the last of an identifier.
+    #: Whether the placement is tried first. This applies to the first two attempts of an identifier, the middle one and
+    #: the last one.
     is_sample: bool = True
     result: Optional[Result] = field(default=None, compare=False)
-    #: Whether its failure was the same when it was carried out again.
+    #: Whether a repetition led to the same failure.
     is_confirmed: bool = field(default=True, compare=False)
-    #: The attempts of the run that it made, if second faults are wanted.
+    #: The attempts of the resulting run. They are recorded only if second faults are wanted.
     later: Sequence[Attempted] = field(default=(), compare=False)
-    #: The page of its run, if there is one.
+    #: The path of the page of the run, if there is one.
     page: str = field(default="", compare=False)
 
     @property
     def group(self) -> str:
-        """Its group: the kind, and identifier and sender of its frames."""
+        """The group of the placement: its kind, and the identifiers and senders of its frames."""
         frames = " and ".join(f"{one.identifier} from {one.sender}" for one in self.attempts)
         return f"{self.kind} {frames}" if frames else self.kind
 
     @property
     def key(self) -> tuple[str, ...]:
-        """Its key among the placements of its test."""
+        """The key of the placement among the placements of its test."""
         return self.kind, str(self.seed), str(self.jitter), *map(str, self.faults)
 
     @property
     def has_failed(self) -> bool:
-        """Whether the test failed with it."""
+        """Whether the test failed with this placement."""
         return self.result is not None and self.result.outcome == "failed"
 
     def __str__(self) -> str:
         return " and ".join(map(str, self.attempts)) or f"seed {self.seed}, jitter {self.jitter} microseconds"
 
     def words(self, prefix: str) -> list[str]:
-        """Returns the options that carry it out again, whose names begin so."""
+        """Returns the options that repeat the placement. Their names begin with `prefix`."""
         words = [f"{prefix}seed", str(self.seed)] if self.seed else []
         words += [f"{prefix}jitter", str(self.jitter)] if self.jitter else []
         for fault in self.faults:
@@ -146,7 +150,8 @@ class Place:
         return words
 
     def as_rule(self) -> str:
-        """Returns the rule that leaves the same bytes, so that an ordinary test keeps the fault; empty if there is none."""
+        """Returns a fault rule with which an ordinary test gets the same fault, or the empty text if there is no such
+        rule."""
         if len(self.attempts) != 1 or self.faults[0].bus is not None:
             return ""
         one, line = self.attempts[0], self.faults[0].line
@@ -160,9 +165,10 @@ class Place:
 
 
 def pairs_of(places: Sequence[Place], count: int, draw: random.Random) -> Iterator[Place]:
-    """Yields placements with a second fault, each at an attempt of the run that a first one made, if the test passed."""
+    """Yields placements with two faults. The second fault is at an attempt of a run in which the test passed with the
+    first fault."""
     firsts = [one for one in places if one.later and one.result is not None and one.result.outcome == "passed"]
-    # A fault that makes the test fail by itself says nothing as a second one.
+    # A fault that makes the test fail by itself tells nothing new as a second fault.
     bad = {one.group for one in places if one.has_failed}
     seen: set[tuple[str, ...]] = set()
     for _ in range(count if firsts else 0):
@@ -183,18 +189,19 @@ def pairs_of(places: Sequence[Place], count: int, draw: random.Random) -> Iterat
 
 
 def micros_of(moment: str) -> int:
-    """Returns a moment in microseconds."""
+    """Converts a timestamp to microseconds."""
     return int(moment.replace(".", ""))
 
 
 def seconds_of(micros: int) -> str:
-    """Returns microseconds as a moment is written, which is 0 at least."""
+    """Formats microseconds as a timestamp. Negative numbers become 0."""
     whole, rest = divmod(max(0, micros), 1_000_000)
     return f"{whole}.{rest:06}"
 
 
 def faults_at(kind: str, one: Attempted, programs: int) -> Iterator[tuple[str, str]]:
-    """Yields the faults of a kind at an attempt: the kind, with what the fault is at, and the fault's line."""
+    """Yields the faults of a kind at an attempt. Each is a pair of the kind, with the receiver or program concerned,
+    and the line."""
     if kind in ("missed", "late"):
         for receiver in one.receivers:
             yield f"{kind} {BY[kind]} {receiver}", f"{kind} {receiver} {one.identifier} {one.moment}"
@@ -202,7 +209,7 @@ def faults_at(kind: str, one: Attempted, programs: int) -> Iterator[tuple[str, s
         yield kind, f"full {one.sender} {one.identifier} {one.since}"
     elif kind == "reset":
         for program in range(programs):
-            # Before the frame is there.
+            # The program is killed just before the frame arrives.
             yield f"reset of program {program}", f"reset {program} {seconds_of(micros_of(one.moment) - 1)}"
     elif kind == "down":
         yield kind, f"down {one.sender} {seconds_of(micros_of(one.moment) - 1)} {seconds_of(DOWN_MICROS)}"
@@ -222,8 +229,8 @@ def places_at(
     ids: Sequence[str] = (),
     programs: int = 0,
 ) -> Iterator[Place]:
-    """Yields the placements of these kinds at each good attempt of these senders and identifiers, or of all, in a test that
-    starts so many programs."""
+    """Yields the placements of these kinds at each attempt without a fault. `senders` and `ids` limit the attempts
+    unless they are empty. `programs` is the number of programs that the test starts."""
     buses = {one.bus for one in attempts}
     count = Counter((one.bus, one.sender, one.identifier) for one in attempts)
     for kind in kinds:

@@ -1,4 +1,4 @@
-"""The runs of a sweep, several at once, each on a processor of its own."""
+"""Carries out the runs of a sweep, several at a time. Each run has its own processor."""
 
 import os
 import select
@@ -16,24 +16,25 @@ from canbusd._sweep import worker
 from canbusd._sweep.places import Place, Result
 from canbusd._sweep.tests import Test
 
-#: Seconds of real time after which a run is ended, at the least, and how many times as long as the run without a fault.
+#: The limit for the real time of a run: at least this many seconds, plus this many times the duration of the run
+#: without a fault.
 LEAST_LIMIT, TIMES = 60.0, 50.0
-#: The same of a test's own time.
+#: The same limits for the test's own (virtual) time.
 LEAST_UNTIL, TIMES_UNTIL = 60.0, 10.0
 
 
 @dataclass
 class Job:
-    """A run that is to be: a test with a placement, or without a fault."""
+    """A run that waits to be carried out: a test with a placement, or without a fault."""
 
     test: Test
     place: Optional[Place] = None
-    #: Whether the page of a failed run is kept.
+    #: Whether to keep the page of the run if it fails.
     has_page: bool = False
 
     @property
     def order(self) -> worker.Order:
-        """How the run is to be carried out."""
+        """The settings for the run."""
         base, place = self.test.base, self.place
         until = None if base is None else LEAST_UNTIL + TIMES_UNTIL * base.took
         if place is None:
@@ -42,13 +43,13 @@ class Job:
 
     @property
     def limit(self) -> float:
-        """The seconds of real time that it may take."""
+        """The limit for the run's real time, in seconds."""
         return LEAST_LIMIT + TIMES * (self.test.real_seconds or LEAST_LIMIT)
 
 
 @dataclass
 class Run:
-    """A run that goes on."""
+    """A run that has started and not ended yet."""
 
     job: Job
     pid: int
@@ -60,7 +61,7 @@ class Run:
 
 @dataclass
 class Outcome:
-    """A run that is over, whose records are in this folder until the next one ends."""
+    """A run that has ended. Its records stay in the folder `room` until the next run ends."""
 
     job: Job
     result: Result
@@ -70,21 +71,21 @@ class Outcome:
 
 
 class Pool:
-    """Carries out runs. Nothing of them is left when it is done, or interrupted."""
+    """Carries out runs. After the end, or after an interruption, no processes or files of the runs are left."""
 
     def __init__(self, at_once: int, until: Optional[float]) -> None:
-        """`until` is the moment after which no run begins."""
+        """Prepares `at_once` processors and a folder. After the time `until` no further run starts."""
         processors = sorted(os.sched_getaffinity(0))
         self._free = deque(processors[number % len(processors)] for number in range(at_once))
         self._running: dict[int, Run] = {}
         self._until = until
         self._folder = Path(tempfile.mkdtemp(prefix="canbusd-sweep-"))
         self._number = 0
-        #: The number of runs that did not begin in time.
+        #: The number of runs that were not started because the time was over.
         self.not_begun = 0
 
     def carry_out(self, jobs: Iterable[Job], done: Callable[[Outcome], Iterable[Job]]) -> None:
-        """Carries out these runs, and those that `done` returns when one is over."""
+        """Carries out these runs, and further runs that `done` returns when a run ends."""
         waiting = deque(jobs)
         try:
             while waiting or self._running:
@@ -100,7 +101,7 @@ class Pool:
             raise
 
     def end(self) -> None:
-        """Ends what still runs, and removes the folders of all runs."""
+        """Kills the runs that have not ended, and removes the folders of all runs."""
         for run in self._running.values():
             kill_group(run.pid)
         self._running.clear()
@@ -119,7 +120,8 @@ class Pool:
         self._running[os.pidfd_open(pid)] = Run(job, pid, room, processor, time.monotonic())
 
     def _ended(self) -> list[int]:
-        """Waits until runs have ended, and ends those that take too long; returns the descriptors of those that have ended."""
+        """Waits until some run ends or exceeds its limit, and kills runs that exceed it. Returns the file descriptors
+        of runs that have ended."""
         poll = select.poll()
         for pidfd in self._running:
             poll.register(pidfd, select.POLLIN)
@@ -150,7 +152,7 @@ class Pool:
 
 
 def kill_group(pid: int) -> None:
-    """Ends the processes of a run that are in its group."""
+    """Kills the processes in the process group of a run."""
     try:
         os.killpg(pid, signal.SIGKILL)
     except ProcessLookupError:
@@ -158,7 +160,8 @@ def kill_group(pid: int) -> None:
 
 
 def end_children(known: set[int]) -> None:
-    """Ends the children of this process but these: what a run has left became one when its parent ended."""
+    """Kills all children of this process except `known`. Processes that a run left behind became children of this
+    process."""
     for _ in range(100):
         with open(f"/proc/self/task/{os.getpid()}/children", encoding="ascii") as file:
             left = [int(word) for word in file.read().split() if int(word) not in known]

@@ -1,4 +1,5 @@
-"""The file sweep.json: the results of a sweep, for `-resume`, `canbusd sweep --join` and other tools."""
+"""Reads and writes sweep.json. The file has the results of a sweep, for `-resume`, `canbusd sweep --join` and other
+tools."""
 
 import json
 from collections.abc import Iterable, Mapping, Sequence
@@ -11,14 +12,14 @@ from canbusd._sweep.places import Place, Result
 from canbusd._sweep.tests import Test
 from canbusd._whole_file import replaced
 
-#: Of this format; another one is not read.
+#: The version of the file format. Files with another version are ignored.
 FORMAT = 1
-#: A test, or a placement, as the file has it.
+#: A test or a placement, as it is stored in the file.
 Facts = Mapping[str, Any]
 
 
 def write_results(path: Path, tests: Sequence[Facts]) -> None:
-    """Writes the results of tests, whole or not at all."""
+    """Writes the results of tests. The file is replaced only after all of it is written."""
     path.parent.mkdir(parents=True, exist_ok=True)
     with replaced(path) as file:
         file.write(json.dumps({"format": FORMAT, "tests": tests}).encode())
@@ -35,7 +36,7 @@ def write_page(path: Path, tests: Sequence[Facts]) -> None:
 
 
 def test_facts(test: Test) -> Facts:
-    """Returns the results of a test."""
+    """Returns the results of a test in the form of the file."""
     return {
         "test": test.name,
         "base": None if test.base is None else asdict(test.base),
@@ -46,7 +47,7 @@ def test_facts(test: Test) -> Facts:
 
 
 def place_facts(test: Test, place: Place) -> Facts:
-    """Returns the results of a placement."""
+    """Returns the results of a placement in the form of the file."""
     return {
         "kind": place.kind,
         "group": place.group,
@@ -64,12 +65,13 @@ def place_facts(test: Test, place: Place) -> Facts:
 
 
 def bus_text(bus: BusKey) -> str:
-    """A bus of a test as a text."""
+    """Returns a bus of a test as text."""
     return f"{bus[0]}:{bus[1]}"
 
 
 def read_results(path: Path, tests: Iterable[Test]) -> None:
-    """Gives placements the results that an earlier sweep has written, if its test without faults left the same records."""
+    """Copies results from an earlier sweep to the placements of each test whose run without a fault left the same
+    records."""
     try:
         found = json.loads(path.read_text())
     except FileNotFoundError:
@@ -89,5 +91,5 @@ def read_results(path: Path, tests: Iterable[Test]) -> None:
 
 
 def key_of(facts: Facts) -> tuple[str, ...]:
-    """Returns the key of a placement among those of its test."""
+    """Returns the key of a placement among the placements of its test."""
     return facts["kind"], str(facts["seed"]), str(facts["jitter"]), *facts["faults"]

@@ -1,4 +1,4 @@
-"""A sweep of tests: each without a fault first, then with each placement, and what is said of them."""
+"""A sweep of tests: each test runs without a fault and then with each placement, and the results are reported."""
 
 import os
 import random
@@ -19,15 +19,15 @@ from canbusd._sweep.results import Facts, read_results, test_facts, write_page, 
 from canbusd._sweep.telling import Telling
 from canbusd._sweep.tests import Test
 
-#: The jitter of other orders, in microseconds, unless an option says another.
+#: The default jitter in microseconds for runs with other orders of simultaneous events.
 JITTER = 500
-#: Seconds between two notes of the results so far.
+#: The minimum time in seconds between two updates of the file with the results so far.
 BETWEEN_NOTES = 2.0
 
 
 @dataclass(frozen=True)
 class Options:
-    """The options of the command line for a sweep."""
+    """The command-line options of a sweep."""
 
     at_once: int
     seconds: Optional[float]
@@ -39,7 +39,7 @@ class Options:
     is_resumed: bool
     shard: Optional[tuple[int, int]]
     out: Path
-    #: One placement that is carried out again, by its faults, seed and jitter.
+    #: A single placement to repeat, given by its faults, seed and jitter.
     given: Optional[Place]
 
 
@@ -52,11 +52,11 @@ class Sweep:
         self._noted = 0.0
         self._modules: set[str] = set()
         self._groups: dict[tuple[str, str], list[Place]] = defaultdict(list)
-        #: The placements that did not leave the same records again.
+        #: The placements whose repetition did not leave the same records.
         self.differences: list[str] = []
 
     def carry_out(self) -> None:
-        """Carries out the sweep, and writes what was found."""
+        """Carries out the sweep, and reports its results."""
         worker.adopt_orphans()
         worker.warm(())
         pool = Pool(self._options.at_once, self._until)
@@ -88,7 +88,7 @@ class Sweep:
         self._telling.end(self._tests, took, pool.not_begun, self._options.seconds, self.differences)
 
     def _base_done(self, outcome: Outcome) -> Iterable[Job]:
-        """Takes a run without a fault."""
+        """Stores the result of a run without a fault."""
         test = outcome.job.test
         test.base, test.real_seconds = outcome.result, outcome.seconds
         if outcome.result.outcome == "passed":
@@ -97,7 +97,7 @@ class Sweep:
         return ()
 
     def _make_places(self) -> None:
-        """Makes the placements of each test that passed without a fault."""
+        """Makes the placements for each test that passed without a fault."""
         options = self._options
         for test in self._tests:
             if options.given is not None:
@@ -118,7 +118,7 @@ class Sweep:
             read_results(options.out / "sweep.json", self._tests)
 
     def _jobs(self) -> Iterator[Job]:
-        """Yields the runs to be, of all tests in turn, so that a limit of time is shared by all."""
+        """Yields the runs. They alternate between the tests, so that all tests share a time limit."""
         waiting = [
             iter([place for place in test.places if place.result is None and (place.is_sample or not self._is_quick)])
             for test in self._tests
@@ -134,7 +134,7 @@ class Sweep:
             left = still
 
     def _note(self, is_due: bool = False) -> None:
-        """Writes the results so far, now and then, so that a sweep that is killed can go on."""
+        """Writes the results so far from time to time, so that a killed sweep can be resumed."""
         now = time.monotonic()
         if self._options.given is None and (is_due or now - self._noted >= BETWEEN_NOTES):
             self._noted = now
@@ -145,11 +145,11 @@ class Sweep:
         return [test_facts(test) for test in self._tests]
 
     def _pairs_of(self, test: Test) -> int:
-        """How many second faults a test gets."""
+        """Returns how many second faults a test gets."""
         return self._options.pairs or test.pairs
 
     def _pairs(self) -> Iterator[Job]:
-        """Yields the runs with a second fault."""
+        """Yields the runs with two faults."""
         for test in self._tests:
             for place in [*pairs_of(test.places, self._pairs_of(test), random.Random(0))]:
                 test.places.append(place)
@@ -160,7 +160,8 @@ class Sweep:
         return self._options.is_quick and self._options.given is None
 
     def _done(self, outcome: Outcome) -> Iterable[Job]:
-        """Takes the run of a placement. If the samples of a group differ, all of it is run."""
+        """Stores the result of a run with a placement. In a quick sweep, if the samples of a group differ, returns the
+        rest of the group."""
         test, place = outcome.job.test, outcome.job.place
         assert place is not None
         place.result = outcome.result
@@ -180,7 +181,7 @@ class Sweep:
         return [Job(test, one) for one in rest]
 
     def _check(self, pool: Pool) -> None:
-        """Carries out some placements again, and compares the records."""
+        """Repeats some placements and compares their records."""
         done = [(test, place) for test in self._tests for place in test.places if place.result is not None]
         count = min(self._options.checks, len(done))
 
@@ -195,7 +196,7 @@ class Sweep:
         self.differences.sort()
 
     def _confirm(self, pool: Pool) -> None:
-        """Carries out the first failure of each group again, now with the page of its run."""
+        """Repeats the first failure of each group, and keeps the page of the run."""
         jobs = []
         for test in self._tests:
             firsts: dict[str, Place] = {}
@@ -214,7 +215,8 @@ class Sweep:
         pool.carry_out(jobs, take)
 
     def _kept_page(self, outcome: Outcome, name: str) -> str:
-        """Copies the page of a run and its records beside the page of the sweep; returns its path from there."""
+        """Copies the page and the records of a run next to the page of the sweep. Returns the relative path of the
+        copied page."""
         found = sorted(outcome.room.glob("tmp/**/*.html"))
         if not found:
             return ""
@@ -228,5 +230,5 @@ class Sweep:
 
 
 def given_place(faults: Iterable[Fault], seed: int, jitter: int) -> Place:
-    """The placement that a command line gives."""
+    """Returns the placement that the command line specifies."""
     return Place("given", list(faults), (), seed, jitter)

@@ -1,4 +1,4 @@
-"""The lines that a sweep writes."""
+"""Writes the lines that report a sweep."""
 
 import re
 import time
@@ -10,14 +10,15 @@ from canbusd._sweep.places import Place
 from canbusd._sweep.tests import Test
 from canbusd._text import times
 
-#: From how many groups of a kind on they are told as one line, and how many different failures of a group are shown.
+#: If a kind has more groups than this, they are combined for each sender. The second number is how many different
+#: failures of a group are shown.
 MOST_GROUPS, MOST_FAILURES = 8, 2
-#: Seconds between two lines of progress on a terminal, and elsewhere.
+#: Seconds between two progress lines, on a terminal and elsewhere.
 OFTEN, RARELY = 0.2, 30.0
 
 
 class Terminal(Protocol):
-    """The place that a sweep is written to, such as pytest's reporter."""
+    """The output for the report of a sweep, such as pytest's reporter."""
 
     isatty: bool
 
@@ -31,11 +32,11 @@ class Terminal(Protocol):
         """Writes a line."""
 
     def rewrite(self, line: str, **markup: bool) -> None:
-        """Writes a line over the last one."""
+        """Replaces the last line."""
 
 
 class Report(NamedTuple):
-    """The result of a test without a fault, or of a group of placements that fails."""
+    """The result of a test without a fault, or of a group with failed placements."""
 
     test: Test
     group: str
@@ -44,23 +45,24 @@ class Report(NamedTuple):
 
 
 class Telling:
-    """Writes the course of a sweep and its results."""
+    """Writes the progress of a sweep and its results."""
 
     def __init__(self, terminal: Terminal, page: str, report: Callable[[Report], None]) -> None:
-        """`page` is the path of the page, if there is one; `report` is called with what failed and what passed."""
+        """Prepares the output. `page` is the path of the page, or the empty text if there is none. `report` is called
+        with each failure and each success."""
         self._terminal, self._page, self._report = terminal, page, report
         self._began = self._last = time.monotonic()
-        #: The number of failures that are none that a marker knows of.
+        #: The number of failures that no marker declares as known.
         self.failures = 0
         self._reports: list[Report] = []
 
     def begin(self, count: int) -> None:
-        """Says that the sweep begins."""
+        """Writes that the sweep begins."""
         self._terminal.ensure_newline()
         self._terminal.write_line(f"canbusd sweep: {count} test{'' if count == 1 else 's'} without a fault first")
 
     def progress(self, tests: Sequence[Test]) -> None:
-        """Says how far the sweep is, now and then."""
+        """Writes the progress of the sweep from time to time."""
         now = time.monotonic()
         is_terminal = self._terminal.isatty
         if now - self._last < (OFTEN if is_terminal else RARELY):
@@ -85,7 +87,7 @@ class Telling:
         limit: Optional[float],
         differences: Sequence[str],
     ) -> None:
-        """Writes what was found."""
+        """Writes the results of the sweep."""
         self._terminal.ensure_newline()
         self._terminal.section("canbusd sweep")
         for test in tests:
@@ -132,7 +134,7 @@ class Telling:
                 self._terminal.write_line(f"  {group}: known to fail, and none of {len(places)} does now", yellow=True)
 
     def _tell_given(self, test: Test, place: Place) -> None:
-        """Writes the one placement that was carried out again."""
+        """Writes the result of a single placement that was repeated."""
         result = place.result
         assert result is not None
         self._reports.append(Report(test, "", result.outcome, result.long))
@@ -161,17 +163,17 @@ class Telling:
 
 
 def line_of_test(name: str, attempts: int, placements: int, run: int, failed: int) -> str:
-    """Returns the line of a test that passes without a fault."""
+    """Returns the line for a test that passes without a fault."""
     return f"{name}: {times(attempts, 'attempt')}, {times(placements, 'placement')}, {run} run, {failed} failed"
 
 
 def line_of_group(group: str, failed: int, placements: int, is_known: bool) -> str:
-    """Returns the line of a group that fails."""
+    """Returns the line for a group with failed placements."""
     return f"  {group}: {failed} of {placements} placements fail{', as is known' if is_known else ''}"
 
 
 def groups_of(places: Sequence[Place]) -> dict[str, list[Place]]:
-    """Returns placements by what they are of; many groups of a kind are one line for each sender."""
+    """Returns the placements of each group. If a kind has many groups, they are combined for each sender."""
     by_kind: dict[str, set[str]] = defaultdict(set)
     for place in places:
         by_kind[place.kind].add(place.group)
@@ -186,7 +188,8 @@ def groups_of(places: Sequence[Place]) -> dict[str, list[Place]]:
 
 
 def failures_of(places: Sequence[Place]) -> list[tuple[str, int]]:
-    """Returns the most frequent failures of placements, those alike but for numbers as one; each with its count."""
+    """Returns the most frequent failures of placements, each with its count. Failures that differ only in numbers are
+    combined."""
     first: dict[str, str] = {}
     count: Counter[str] = Counter()
     for place in places:

@@ -19,10 +19,10 @@ class Test:
     kinds: Sequence[str] = USUAL
     senders: Sequence[str] = ()
     ids: Sequence[str] = ()
-    #: The groups that fail and may.
+    #: The groups that are known to fail.
     known: Sequence[str] = ()
     pairs: int = 0
-    #: The run without a fault, its attempts, and the seconds of real time that it took.
+    #: The result of the run without a fault, its attempts, and its duration in seconds of real time.
     base: Optional[Result] = None
     attempts: list[Attempted] = field(default_factory=list)
     real_seconds: float = 0.0
@@ -30,5 +30,5 @@ class Test:
 
     @property
     def name(self) -> str:
-        """Its name."""
+        """The name of the test or command."""
         return self.task.name

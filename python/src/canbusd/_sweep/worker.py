@@ -1,7 +1,9 @@
-"""One run of a sweep: a child of a process that has imported, and collected, all that a run needs.
+"""Carries out one run of a sweep in a forked child. The parent has already imported and collected everything that a run
+needs.
 
-A test with a server runs in virtual time of its own: the child forks the process that carries out the test, and becomes
-`canbusd-run --virtual` itself, which coordinates the run. A test with benches only needs no clock, and no such run.
+A test with a server runs in its own virtual time. The child forks the process that carries out the test, and then
+becomes `canbusd-run --virtual`, which coordinates the run. A test that uses only benches needs neither a clock nor a
+coordinator.
 """
 
 import ctypes
@@ -25,11 +27,12 @@ from canbusd._sweep.faults_given import Fault, lines_by_bus
 from canbusd._sweep.places import Place, Result
 from canbusd.virtual import OPTIONS, SETTING, python_words
 
-#: The files of a run: its result, and the standard output and standard error of its processes.
+#: The files of a run: one for its result, and one for the standard output and standard error of its processes.
 RESULT, SAID = "result.json", "said"
-#: The variable by which the process of pytest gets a library when it is started anew, and that library.
+#: The environment variable that loads a library when pytest is restarted, and the name of that library.
 PRELOAD, LIBRARY = "LD_PRELOAD", "libcanbusd-virtual.so"
-#: Seconds of a processor, or of nothing that goes on, after which a run is given up.
+#: A run is given up if a thread uses this many seconds of processor time without waiting, or if nothing happens for this
+#: many seconds.
 STALL = 5
 # Of prctl(2).
 PR_SET_PDEATHSIG, PR_SET_CHILD_SUBREAPER = 1, 36
@@ -37,42 +40,42 @@ PR_SET_PDEATHSIG, PR_SET_CHILD_SUBREAPER = 1, 36
 
 @dataclass(frozen=True)
 class Order:
-    """How a test is carried out once."""
+    """The settings for one run of a test."""
 
     faults: Sequence[Fault]
     seed: int
     jitter: int
-    #: The seconds of its own time after which the run is ended; None is no end.
+    #: The limit for the test's own (virtual) time in seconds; None for no limit.
     until: Optional[float]
-    #: Whether the page of a failed run is kept.
+    #: Whether to keep the page of the run if it fails.
     has_page: bool
 
 
-#: That of a run without a fault.
+#: The settings for a run without a fault.
 FIRST_ORDER = Order((), 0, 0, None, False)
 
 
 def is_ready() -> bool:
-    """Whether runs in virtual time can begin in children of this process."""
+    """Returns whether children of this process can start runs in virtual time."""
     return LIBRARY in os.environ.get(PRELOAD, "")
 
 
 def start_anew(words: Sequence[str]) -> NoReturn:
-    """Starts this Python anew, by these words of pytest, with the library of virtual time, which does nothing until a child
-    begins a run. Addresses are the same each time then, and so is the order of sets.
-    """
+    """Restarts this Python with pytest's arguments in `words` and with the library for virtual time. The library does
+    nothing until a child begins a run. After the restart, addresses and the order of sets are the same each time."""
     os.environ.setdefault("PYTHONHASHSEED", "0")
     program = find_program("canbusd-run")
     os.execv(program, [program, "--ready", "--", *python_words(words)])
 
 
 def adopt_orphans() -> None:
-    """Has this process become the parent of processes whose parent has ended, so that it can end them."""
+    """Makes this process the parent of orphaned descendants, so that it can kill them."""
     ctypes.CDLL(None).prctl(PR_SET_CHILD_SUBREAPER, 1)
 
 
 def warm(modules: Iterable[str]) -> None:
-    """Imports what a run has imported, so that the others find it there; what is there is not looked at for garbage."""
+    """Imports the modules that a run imported, so that later runs have them already. The garbage collector then ignores
+    all present objects."""
     with warnings.catch_warnings():
         warnings.simplefilter("ignore")
         for name in modules:
@@ -89,27 +92,28 @@ class Task(Protocol):
 
     @property
     def name(self) -> str:
-        """Its name."""
+        """The name of the task."""
 
     @property
     def is_virtual(self) -> bool:
-        """Whether it runs in virtual time."""
+        """Whether the task runs in virtual time."""
 
     def redirect(self, path: Path) -> None:
-        """Has the standard output and the standard error of this process go into a file."""
+        """Redirects the standard output and standard error of this process to a file."""
 
     def carry_out(self, order: Order, given: placement.Placement, room: Path) -> "tuple[Result, list[str]]":
-        """Carries it out in this process, and returns its result, and the modules that are imported then."""
+        """Carries out the task in this process, and returns its result and the modules that are then imported."""
 
     def repeat(self, place: Place) -> str:
-        """Returns the command that carries out a placement again."""
+        """Returns the command line that repeats a placement."""
 
     def kept_as(self, rule: str) -> str:
-        """Returns how a rule of faults keeps a placement, without a sweep."""
+        """Describes how the fault rule `rule` causes the same fault without a sweep."""
 
 
 def start(task: Task, order: Order, room: Path, processor: int) -> int:
-    """Starts a run in a child, and returns its process. Its result is in the file RESULT of this folder."""
+    """Starts a run in a child process, and returns the process ID. The child writes its result to the file RESULT in
+    this folder."""
     pid = os.fork()
     if pid:
         return pid
@@ -127,7 +131,7 @@ def start(task: Task, order: Order, room: Path, processor: int) -> int:
         if given.failure:
             result = Result("failed", f"the sweep itself failed: {given.failure}")
         result.programs, result.records = given.programs, sum_of(room)
-        # The others are begun with those of a run without a fault.
+        # Only a run without a fault reports its modules. They are imported before the other runs start.
         write_result(room, result, modules if order == FIRST_ORDER else [])
         status = 0
     except BaseException:  # noqa: B902  nothing of the child goes on in pytest
@@ -137,7 +141,7 @@ def start(task: Task, order: Order, room: Path, processor: int) -> int:
 
 
 def placement_of(faults: Sequence[Fault], room: Path) -> placement.Placement:
-    """Returns what these faults add to the runs of a process, whose records go into this folder."""
+    """Returns the placement of these faults. The records of the run go into this folder."""
     return placement.Placement(
         lines_by_bus(faults),
         placement.copy_to(room),
@@ -148,12 +152,13 @@ def placement_of(faults: Sequence[Fault], room: Path) -> placement.Placement:
 
 
 def die_with_parent() -> None:
-    """Ends this process when its parent ends."""
+    """Makes the kernel kill this process when its parent ends."""
     ctypes.CDLL(None).prctl(PR_SET_PDEATHSIG, signal.SIGKILL)
 
 
 def begin_run(order: Order) -> None:
-    """Begins a run in virtual time: this process coordinates it, and its child, the first of the run, returns from here."""
+    """Begins a run in virtual time. This process becomes the coordinator, and the call returns in its child, which is
+    the first process of the run."""
     program = os.path.join(os.path.dirname(library_in_use()), "canbusd-run")
     words = [program, "--virtual", "--stall", str(STALL), "--seed", str(order.seed), "--jitter", str(order.jitter)]
     words += ["--until", f"{order.until:.6f}"] if order.until is not None else []
@@ -179,24 +184,24 @@ def begin_run(order: Order) -> None:
 
 
 def library_in_use() -> str:
-    """The library of virtual time that this process was started with."""
+    """Returns the path of the virtual-time library with which this process was started."""
     return next(path for path in os.environ[PRELOAD].split(":") if path.endswith(LIBRARY))
 
 
 def point_output_at(path: Path) -> None:
-    """Has the standard output and the standard error of this process go into a file."""
+    """Redirects the standard output and standard error of this process to a file."""
     with open(path, "wb", buffering=0) as said:
         os.dup2(said.fileno(), 1)
         os.dup2(said.fileno(), 2)
 
 
 def first_line(text: str) -> str:
-    """The first line of a text."""
+    """Returns the first line of a text."""
     return next(iter(text.strip().splitlines()), "")
 
 
 def sum_of(room: Path) -> str:
-    """A sum of the records of a run: the same for the same run."""
+    """Returns a checksum of the records of a run. Equal runs have equal checksums."""
     found = hashlib.sha256()
     for path in sorted(room.glob("*.rec")):
         found.update(path.name.encode() + path.read_bytes())
@@ -204,14 +209,14 @@ def sum_of(room: Path) -> str:
 
 
 def write_result(room: Path, result: Result, modules: Sequence[str]) -> None:
-    """Writes the result of a run for the process that started it."""
+    """Writes the result of a run to a file for the process that started the run."""
     draft = room / f"{RESULT}.new"
     draft.write_text(json.dumps([asdict(result), list(modules)]))
     draft.rename(room / RESULT)
 
 
 def read_result(room: Path, status: int) -> "tuple[Result, list[str]]":
-    """Returns the result of a run that has ended with this status, and the modules that were imported in it."""
+    """Returns the result of a run that ended with this exit status, and the modules that were imported in it."""
     try:
         result, modules = json.loads((room / RESULT).read_text())
         return Result(**result), modules

@@ -1,4 +1,5 @@
-"""The commands of `canbusd`: each module has `add_arguments`, which adds its arguments, and `run`."""
+"""The commands of `canbusd`. Each module has a function `add_arguments`, which adds its arguments, and a function
+`run`."""
 
 import argparse
 from typing import Optional
@@ -10,7 +11,7 @@ from canbusd.signals import Database, load_database
 
 
 def add_address(parser: argparse.ArgumentParser) -> None:
-    """Adds the options that name a server."""
+    """Adds the option for the address of a server."""
     parser.add_argument(
         "-a",
         "--address",
@@ -32,12 +33,12 @@ def add_database(parser: argparse.ArgumentParser) -> None:
 
 
 def database_of(options: argparse.Namespace) -> Optional[Database]:
-    """Returns the messages of the given files; None if there are none."""
+    """Returns the messages in the given files, or None if no file is given."""
     return load_database(*options.dbc) if options.dbc else None
 
 
 def add_rates(parser: argparse.ArgumentParser, what: str) -> None:
-    """Adds the options for bit rates; `what` describes their use."""
+    """Adds the options for bit rates. `what` describes what they are used for."""
     parser.add_argument(
         "--bitrate",
         type=digits,
@@ -54,14 +55,14 @@ def add_rates(parser: argparse.ArgumentParser, what: str) -> None:
 
 
 def digits(text: str) -> int:
-    """Returns the number in a word of decimal digits."""
+    """Returns the number in a text of decimal digits."""
     if not (text.isascii() and text.isdigit()):
         raise argparse.ArgumentTypeError(f"not a number in decimal digits: {text!r}")
     return int(text)
 
 
 def least_zero(text: str) -> float:
-    """Returns the number in a word, which must be at least 0."""
+    """Returns the number in a text. The number must be at least 0."""
     try:
         found = float(text)
     except ValueError:
@@ -72,7 +73,7 @@ def least_zero(text: str) -> float:
 
 
 def above_zero(text: str) -> float:
-    """Returns the number in a word, which must be above 0."""
+    """Returns the number in a text. The number must be above 0."""
     found = least_zero(text)
     if not found:
         raise argparse.ArgumentTypeError(f"not a number above 0: {text!r}")
@@ -80,7 +81,7 @@ def above_zero(text: str) -> float:
 
 
 def address_of(text: str) -> str:
-    """Returns an address after a check of its form."""
+    """Checks the form of an address and returns it."""
     try:
         parse_address(text)
     except ValueError as fault:
@@ -89,7 +90,7 @@ def address_of(text: str) -> str:
 
 
 def rates_of(options: argparse.Namespace) -> Optional[Rates]:
-    """Returns the given bit rates; None if there are none."""
+    """Returns the given bit rates, or None if none are given."""
     if options.bitrate is None:
         if options.dbitrate is not None:
             raise BadWords("--dbitrate needs --bitrate")

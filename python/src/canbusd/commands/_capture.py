@@ -1,4 +1,4 @@
-"""Captures of a running server for Wireshark: the frames of several interfaces, each once."""
+"""Captures frames of a running server for Wireshark. A frame that several interfaces receive is captured once."""
 
 import collections
 import time
@@ -11,12 +11,13 @@ from canbusd._run.pcapng import INBOUND, OUTBOUND, Capture, Packet
 from canbusd.bus import CanbusdBus
 from canbusd.frames import Frame, frame_like
 
-# The time limit in seconds for a session to hand over its frames, and the most frames that are taken from it at once.
+# How many seconds a session may take to deliver its frames, and the maximum number of frames that are read from it at a
+# time.
 PATIENCE, BATCH = 5.0, 1000
 
 
 class Watched(CanbusdBus):
-    """A bus that treats all frames sent by its interface as its own, whichever session has sent them."""
+    """A bus that treats all frames sent from its interface as its own, no matter which session sent them."""
 
     #: The number of frames that the bus has received.
     received = 0
@@ -29,7 +30,7 @@ class Watched(CanbusdBus):
         return super()._message(text)
 
     def at_hand(self) -> Iterator[Frame]:
-        """Yields received frames, up to a maximum number."""
+        """Yields frames that were received, up to BATCH of them."""
         for _ in range(BATCH):
             message = self.recv(0)
             if message is None:
@@ -37,37 +38,39 @@ class Watched(CanbusdBus):
             yield frame_like(message)
 
     def up_to_now(self) -> Iterator[Frame]:
-        """Yields all frames of the socket, including those still on their way from the server."""
+        """Yields all frames for the socket, including frames that are still on their way from the server."""
         wanted, deadline = self.stats().queued, time.monotonic() + PATIENCE
         while self.received < wanted and time.monotonic() < deadline:
             message = self.recv(0.01)
             if message is not None:
                 yield frame_like(message)
-        # A frame that has not come by now is not waited for again.
+        # Later calls do not wait again for frames that have not arrived by now.
         self.received = max(self.received, wanted)
 
 
 class Merged:
-    """The frames that several interfaces receive: each once, at its sender if that is one of these interfaces."""
+    """Merges the frames of several interfaces, so that each frame appears once. If the sender is one of these
+    interfaces, the frame appears there."""
 
     def __init__(self, buses: Sequence[tuple[str, Watched]]) -> None:
         self._buses = buses
-        # By the time, the text and the number among equal frames: the copies of a frame at the interfaces, in the order
-        # of the first arrivals.
+        # The copies of each frame at the interfaces, in order of their arrival. The key has the time, the text, and the
+        # number among equal frames.
         self._held: dict[tuple[float, str, int, str], list[Packet]] = {}
-        # For each interface, the time of its last frame, and its frames of this time.
+        # For each interface, the timestamp of its last frame, and its frames with this timestamp.
         self._last: dict[str, tuple[float, collections.Counter[str]]] = {}
 
     @property
     def has_more(self) -> bool:
-        """Whether received frames are waiting."""
+        """Whether frames have been received but not taken yet."""
         return bool(self._held)
 
     def take(self) -> list[Packet]:
-        """Returns the waiting frames, by their timestamps."""
+        """Returns the frames that can be taken, sorted by timestamp."""
         for name, bus in self._buses:
             self._add(name, bus.at_hand())
-        # An attempt posts its frame to the sockets of all interfaces at once, so every socket has these frames by now.
+        # An attempt delivers its frame to the sockets of all interfaces at once. So every socket has the frames that
+        # were read here.
         whole = [*self._held]
         if whole and len(self._buses) > 1:
             for name, bus in self._buses:
@@ -81,19 +84,19 @@ class Merged:
             if self._last.get(name, (-1.0,))[0] != moment:
                 self._last[name] = moment, collections.Counter()
             before = self._last[name][1]
-            # Error message frames belong to one interface each.
+            # An error message frame belongs to a single interface.
             key = moment, text, before[text], name if frame.is_error_frame else ""
             before[text] += 1
             self._held.setdefault(key, []).append((name, frame, INBOUND if frame.is_rx else OUTBOUND))
 
 
 def once(packets: Sequence[Packet]) -> Sequence[Packet]:
-    """Returns one packet for a frame of a bus; several if several interfaces sent the same frame at this time."""
+    """Returns one packet for a frame, or several packets if several interfaces sent the same frame at the same time."""
     return [packet for packet in packets if packet[2] == OUTBOUND] or packets[:1]
 
 
 class Captured:
-    """Writes the frames of interfaces into a capture as they come."""
+    """Writes the frames of interfaces into a capture as they arrive."""
 
     def __init__(self, file: BinaryIO, buses: Sequence[tuple[str, Watched]]) -> None:
         self._file = file
@@ -103,11 +106,11 @@ class Captured:
 
     @property
     def has_more(self) -> bool:
-        """Whether received frames are waiting."""
+        """Whether frames have been received but not taken yet."""
         return self._merged.has_more
 
     def take(self, ready: object, most: int) -> int:
-        """Writes the waiting frames, up to a maximum number; returns their number."""
+        """Writes up to `most` frames that have arrived, and returns their number."""
         packets = self._merged.take()[:most]
         self._capture.write(packets)
         self._file.flush()

@@ -1,4 +1,4 @@
-"""The common parts of the commands: error reports, and the options that name a record and its interfaces."""
+"""The common parts of the commands: reporting errors, and the options for a record and its interfaces."""
 
 import argparse
 import gc
@@ -13,16 +13,16 @@ from canbusd.record import BadRecord, Record, is_named, read_run
 
 
 class BadWords(ValueError):
-    """The words of a command are wrong: the exit status is 2, as for words that argparse refuses."""
+    """The arguments of a command are wrong. The exit status is 2, like that of argparse."""
 
 
 def run_command(work: Callable[[], Optional[int]], name: str) -> NoReturn:
-    """Runs a command's work, and exits. A fault is reported on one line of standard error, with status 1.
+    """Runs a command and exits. An error is reported in one line on standard error, with exit status 1.
 
-    The command ends silently at Ctrl-C, and if the reader of standard output ends, as `head` does.
+    At Ctrl-C the command ends without a message, and also if the reader of its standard output ends, such as `head`.
     """
     signal.signal(signal.SIGINT, signal.SIG_DFL)
-    # A long run makes many objects but no reference cycles.
+    # A long run creates many objects but no reference cycles.
     gc.disable()
     try:
         status = status_of(work)
@@ -46,7 +46,8 @@ def run_command(work: Callable[[], Optional[int]], name: str) -> NoReturn:
 
 
 def status_of(work: Callable[[], Optional[int]]) -> Optional[int]:
-    """Returns the status of a command's work, even if the parser of its words ends it, for example after the help."""
+    """Returns the exit status of a command. The parser of its arguments may also end the command, for example after it
+    has printed the help."""
     try:
         return work()
     except SystemExit as end:
@@ -56,18 +57,18 @@ def status_of(work: Callable[[], Optional[int]]) -> Optional[int]:
 
 
 def forget_output() -> None:
-    """Discards output that could not be written, so that it is not tried again."""
+    """Discards output that could not be written, so that Python does not try to write it again."""
     os.dup2(os.open(os.devnull, os.O_WRONLY), sys.stdout.fileno())
 
 
 def is_can_error(fault: Exception) -> bool:
-    """Returns whether this is a fault of python-can, which is imported only if a command needs it."""
+    """Returns whether this is an exception of python-can, which is imported only if a command needs it."""
     can = sys.modules.get("can")
     return can is not None and isinstance(fault, can.CanError)
 
 
 def add_record(parser: argparse.ArgumentParser) -> None:
-    """Adds the options that name a record and its interfaces."""
+    """Adds the arguments for a record and the names of its interfaces."""
     parser.add_argument("record", metavar="RECORD", help="what `canbusd bench --record` or `canbusd serve --out` wrote")
     parser.add_argument(
         "--names",
@@ -81,7 +82,7 @@ def add_record(parser: argparse.ArgumentParser) -> None:
 
 
 def replayed(path: str, names: Optional[str], cut: bool = False, rates: Optional[Rates] = None) -> Record:
-    """Returns the record in this file, without its text, with the events of its run."""
+    """Returns the record in this file, with the events of its run but without its text."""
     try:
         return read_run(path, names, cut, rates)
     except BadRecord as fault:
@@ -89,7 +90,8 @@ def replayed(path: str, names: Optional[str], cut: bool = False, rates: Optional
 
 
 def note_of_names(command: str, *runs: tuple[str, Record]) -> None:
-    """Prints on standard error which interfaces of the first incompletely named record have no name, and the remedy."""
+    """Prints a note on standard error if some interfaces of a record have no name. The note is about the first such
+    record, and says how to name all its interfaces."""
     for path, record in runs:
         nameless = [name for name in record.names if not is_named(name)]
         if nameless:

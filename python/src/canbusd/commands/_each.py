@@ -1,4 +1,4 @@
-"""Commands that treat each of several interfaces of a server in the same way."""
+"""The common part of commands that do the same with each of several interfaces of a server."""
 
 import argparse
 from collections.abc import Callable
@@ -19,7 +19,7 @@ def add_arguments(parser: argparse.ArgumentParser) -> None:
 
 
 def do_with_each(options: argparse.Namespace, do: Callable[[CanbusdBus], None]) -> None:
-    """Calls this function with each interface; raises ValueError with the refusals after all of them."""
+    """Calls `do` for each interface. If some calls were refused, raises ValueError with all reasons afterwards."""
     faults: list[str] = []
     for bus in [
         CanbusdBus(name, NO_FRAMES, address=options.address, error_frames=False) for name in options.interfaces

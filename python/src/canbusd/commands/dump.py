@@ -42,7 +42,7 @@ class View:
         self.stamp: Callable[[float], str] = STAMPS[options.timestamps](options.timestamps)
 
     def lines(self, name: str, frame: Frame) -> list[str]:
-        """Returns the lines of a frame."""
+        """Returns the lines that show a frame."""
         if self.is_log:
             return [log_line(name, frame)]
         lines = [f" {self.stamp(frame.timestamp)} {name:>{self.width}}  {self.long(frame)}"]
@@ -54,13 +54,12 @@ class View:
         return lines
 
     def long(self, frame: Frame) -> str:
-        """Returns a frame as candump writes it on a screen."""
+        """Returns a frame in the form that candump prints to a terminal."""
         if frame.is_error_frame:
             digits = f"{frame.arbitration_id | ERROR:08X}"
         elif frame.is_extended_id:
             digits = f"{frame.arbitration_id:08X}"
-            # As in candump, after the first frame with 29 bits, identifiers with 11 bits are aligned at their low
-            # digits.
+            # As in candump, 11-bit identifiers are aligned right after the first frame with a 29-bit identifier.
             self.has_seen_extended = True
         else:
             digits = f"{frame.arbitration_id:03X}".rjust(8 if self.has_seen_extended else 3)
@@ -77,12 +76,12 @@ def no_stamp(_: str) -> Callable[[float], str]:
 
 
 def absolute(_: str) -> Callable[[float], str]:
-    """Returns the seconds since 1970."""
+    """Returns a function that formats the seconds since 1970."""
     return lambda moment: f"({moment:017.6f}) "
 
 
 def dated(_: str) -> Callable[[float], str]:
-    """Returns the date and time of day."""
+    """Returns a function that formats the date and the time of day."""
 
     def stamp(moment: float) -> str:
         seconds, micros = divmod(round(moment * 1e6), 1000000)
@@ -92,7 +91,7 @@ def dated(_: str) -> Callable[[float], str]:
 
 
 def since(kind: str) -> Callable[[float], str]:
-    """Returns a function that shows the seconds since the last frame, or since the first."""
+    """Returns a function that formats the seconds since the previous frame, or since the first one."""
     start: list[float] = []
 
     def stamp(moment: float) -> str:
@@ -135,7 +134,7 @@ def add_arguments(parser: argparse.ArgumentParser) -> None:
 
 
 def opened(text: str, options: argparse.Namespace, kind: "type[Bus]", errors: int, **more: bool) -> "tuple[str, Bus]":
-    """Opens an interface with its filters, and these classes of error message frames; returns its name, and the bus."""
+    """Opens an interface with its filters and with the error classes in `errors`. Returns its name and the bus."""
     name, *parts = text.split(",")
     filters: list[dict[str, Any]] = []
     join = False
@@ -157,7 +156,8 @@ def opened(text: str, options: argparse.Namespace, kind: "type[Bus]", errors: in
 
 
 class Drops:
-    """Reports the items without room in the receive queues of the sessions, at most once in this time."""
+    """Reports items that were dropped because the receive queue of a session was full, at most once per INTERVAL in
+    seconds."""
 
     INTERVAL = 1.0
 
@@ -166,7 +166,7 @@ class Drops:
         self.next_look, self.has_received = time.monotonic() + self.INTERVAL, False
 
     def look(self, has_received: bool) -> None:
-        """Asks the server, if frames came since the last request."""
+        """Asks the server for dropped items, if frames have arrived since the last request."""
         self.has_received |= has_received
         if not self.has_received or time.monotonic() < self.next_look:
             return
@@ -183,7 +183,7 @@ class Drops:
 
 
 class Printed:
-    """Prints the frames of interfaces on standard output as they come."""
+    """Prints the frames of interfaces on standard output as they arrive."""
 
     has_more = False
 
@@ -191,7 +191,7 @@ class Printed:
         self.buses, self.view = buses, view
 
     def take(self, ready: Sequence[CanbusdBus], most: int) -> int:
-        """Prints the waiting frames, up to a maximum number; returns their number."""
+        """Prints up to `most` frames that have arrived, and returns their number."""
         left = most
         for name, bus in self.buses:
             if bus in ready:
@@ -201,7 +201,7 @@ class Printed:
 
 
 def run(options: argparse.Namespace) -> None:
-    """Prints frames as they come, or captures them."""
+    """Prints or captures frames as they arrive."""
     if options.log and options.dbc:
         raise BadWords("--dbc does not go with -L: a log has frames only")
     if options.pcapng is None:
@@ -220,7 +220,7 @@ def run(options: argparse.Namespace) -> None:
 
 
 def capture_file(path: str) -> "contextlib.AbstractContextManager[BinaryIO]":
-    """Opens the file of a capture."""
+    """Opens a file for a capture."""
     if path != "-":
         return open(path, "wb")
     if sys.stdout.isatty():
@@ -234,7 +234,8 @@ def follow(
     count: Optional[int] = None,
     timeout: Optional[float] = None,
 ) -> None:
-    """Hands frames to the output as they come, up to this number, until no frame comes for this many milliseconds."""
+    """Passes frames to the output as they arrive. Ends after `count` frames, or if no frame arrives for `timeout`
+    milliseconds."""
     drops = Drops(buses)
     left = sys.maxsize if count is None else count
     most = float("inf") if timeout is None else timeout / 1000
@@ -253,7 +254,7 @@ def follow(
 
 
 def print_frames(name: str, bus: CanbusdBus, view: View, most: int) -> int:
-    """Prints the waiting frames, up to a maximum number; returns their number."""
+    """Prints up to `most` frames that have arrived, and returns their number."""
     for count in range(min(most, BATCH)):
         message = bus.recv(0)
         if message is None:

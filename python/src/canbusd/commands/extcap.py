@@ -13,7 +13,7 @@ from canbusd._session.protocol import ALL_CLASSES
 from canbusd.commands import add_address
 from canbusd.commands._command import BadWords
 
-# Wireshark calls this several times before it shows its list, so python-can is imported only if needed.
+# Wireshark calls this program several times before it shows its list. So python-can is imported only if it is needed.
 
 EPILOG = """\
 Once it is installed for the user, Wireshark and tshark list `canbusd`, which captures all interfaces of a server, each frame
@@ -25,9 +25,9 @@ options of a capture the server may be another. There are no capture filters, on
 """
 # The name of the capture of all interfaces, and the prefix of the capture of one interface.
 ALL, ONE = "canbusd", "canbusd-"
-# The folders in the user's home that Wireshark reads, since version 4.2 and before.
+# The folders in the user's home directory that Wireshark reads: the first since version 4.2, the second before.
 FOLDERS = (".local/lib/wireshark/extcap", ".config/wireshark/extcap")
-# Seconds for the answer of a server that may not exist.
+# How many seconds to wait for the answer of a server that may not exist.
 DETECTION = 1.0
 NO_FILTERS = "canbusd has no capture filters; a display filter selects frames"
 SCRIPT = """\
@@ -41,7 +41,7 @@ main()' {package} extcap "$@"
 
 
 def add_arguments(parser: argparse.ArgumentParser) -> None:
-    """Adds the arguments of the command; Wireshark's arguments are not in the help."""
+    """Adds the arguments of the command. The arguments that only Wireshark uses are not shown in the help."""
     parser.usage = "canbusd extcap --install"
     parser.add_argument("--install", action="store_true", help="install it for this user, and print where")
     for name in ("--extcap-interfaces", "--extcap-dlts", "--extcap-config", "--capture"):
@@ -52,7 +52,7 @@ def add_arguments(parser: argparse.ArgumentParser) -> None:
 
 
 def run(options: argparse.Namespace) -> None:
-    """Carries out Wireshark's request, or installs the script."""
+    """Answers Wireshark's request, or installs the script."""
     if options.install:
         install()
     elif options.extcap_interfaces:
@@ -74,7 +74,7 @@ def run(options: argparse.Namespace) -> None:
 
 
 def install() -> None:
-    """Writes the script that Wireshark starts into Wireshark's folders."""
+    """Writes the script that Wireshark starts to the folders that Wireshark reads."""
     package = os.path.dirname(os.path.dirname(os.path.abspath(canbusd.__file__)))
     text = SCRIPT.format(python=shlex.quote(sys.executable), package=shlex.quote(package))
     for folder in FOLDERS:
@@ -86,8 +86,8 @@ def install() -> None:
 
 
 def list_interfaces(options: argparse.Namespace) -> None:
-    """Prints the available captures; without a server only the capture of all interfaces, whose server the user may
-    choose."""
+    """Prints the available captures. Without a server this is only the capture of all interfaces. The user may choose
+    the server for it."""
     from can.exceptions import CanInitializationError
 
     from canbusd.bus import interfaces
@@ -103,7 +103,7 @@ def list_interfaces(options: argparse.Namespace) -> None:
 
 
 def capture(options: argparse.Namespace) -> None:
-    """Writes the capture of an interface, or of all interfaces, to the fifo that Wireshark reads."""
+    """Writes the frames of one or all interfaces to the fifo that Wireshark reads."""
     from canbusd.bus import interfaces
     from canbusd.commands._capture import Captured, Watched
     from canbusd.commands.dump import follow

@@ -35,7 +35,7 @@ def add_arguments(parser: argparse.ArgumentParser) -> None:
 
 
 def run(options: argparse.Namespace) -> None:
-    """Ends rules, adds a rule, and prints the number of remaining rules."""
+    """Ends rules, adds a rule, and prints how many rules remain."""
     rule = " ".join(options.rule)
     if not (rule or options.left or options.end):
         raise BadWords("a rule is missing, such as 'next 32 from ecu global bit', or --left or --end")
@@ -45,7 +45,7 @@ def run(options: argparse.Namespace) -> None:
             if options.end:
                 session.end_rules()
             if rule:
-                # A text with a newline is a script, whatever its words are.
+                # The newline marks the text as a script and not as a path.
                 session.inject(f"{rule}\n")
             if options.left:
                 print(session.rules_left())

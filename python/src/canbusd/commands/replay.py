@@ -32,7 +32,7 @@ bits after them. With --json it is the last line, with its times in seconds.
   canbusd replay --quiet --bitrate 500000 run.rec
   canbusd replay --json run.rec | jq 'select(.outcome == "destroyed")'
 """
-# The most overlapping attempts that are reported.
+# The maximum number of overlapping attempts that are reported.
 MOST_OVERLAPS = 10
 
 
@@ -46,7 +46,8 @@ def add_arguments(parser: argparse.ArgumentParser) -> None:
 
 
 def run(options: argparse.Namespace) -> int:
-    """Writes a line for each attempt, restart and down, then a summary of their times, and the verdict."""
+    """Prints a line for each attempt, each restart and each interface that goes down, and then the bus load and the
+    verdict."""
     rates = rates_of(options)
     record = replayed(options.record, options.names, options.cut, rates)
     slots = slots_of(record.replay) if rates else []
@@ -72,7 +73,7 @@ def run(options: argparse.Namespace) -> int:
 
 
 def report(overlaps: Sequence[str]) -> None:
-    """Reports the first overlapping attempts, and the number of the others."""
+    """Reports the first overlapping attempts, and how many more there are."""
     for line in overlaps[:MOST_OVERLAPS]:
         print(f"canbusd replay: {line}", file=sys.stderr)
     if len(overlaps) > MOST_OVERLAPS:
@@ -80,7 +81,7 @@ def report(overlaps: Sequence[str]) -> None:
 
 
 def load_object(load: Load) -> dict[str, object]:
-    """Returns the bus load: times in seconds, and the share between 0 and 1."""
+    """Returns the bus load as an object: the times in seconds, and the share as a fraction."""
     return {"type": "load", "busy": load.busy / 1e9, "time": load.whole / 1e9, "share": load.share}
 
 
@@ -98,7 +99,7 @@ def objects_of(record: Record) -> Iterator[dict[str, object]]:
 
 
 def lines_of(record: Record) -> Iterator[str]:
-    """Yields a line for each step, with the state of the interface that sent or came back if that changed."""
+    """Yields a line for each step, with the error counts of the interface that sent, was restarted or went down."""
     run, names, steps = record.replay, record.names, record.replay.steps
     for place, (kind, moment, iface) in enumerate(zip(steps.kinds, steps.moments, steps.ifaces)):
         tec, rec = steps.counts_after(place)[iface]
@@ -112,7 +113,7 @@ def lines_of(record: Record) -> Iterator[str]:
 
 
 def words_of(attempt: Attempt) -> str:
-    """Returns the outcome of an attempt in words."""
+    """Describes the outcome of an attempt in words."""
     words: list[str] = [attempt.outcome]
     if attempt.fault not in ("good", attempt.outcome):
         words.append(f"({attempt.fault})")

@@ -79,10 +79,10 @@ def add_arguments(parser: argparse.ArgumentParser) -> None:
 
 
 def run(options: argparse.Namespace) -> int:
-    """Writes the page, or the drawings, to standard output. Returns the status."""
+    """Writes the page or the drawings to standard output, and returns the exit status."""
     rates = rates_of(options)
     check_words(options)
-    # These files are opened first, because a server that ends meanwhile renames both.
+    # The faults are opened before the record is read, because a server that ends in the meantime renames both files.
     faults = None if has_drawings(options) else faults_of(options)
     record, named, rules = with_rules(faults, rates, options)
     other = None if options.other is None else replayed(options.other, options.names, options.cut)
@@ -97,12 +97,12 @@ def run(options: argparse.Namespace) -> int:
 
 
 def has_drawings(options: argparse.Namespace) -> bool:
-    """Returns whether the options ask for text in place of a page."""
+    """Returns whether the options ask for text instead of a page."""
     return bool(options.text or options.counters or options.arbitration)
 
 
 def check_words(options: argparse.Namespace) -> None:
-    """Refuses combinations of options without an effect."""
+    """Refuses options that have no effect together."""
     if options.exit_code and options.other is None:
         raise BadWords("--exit-code needs a second record")
     given = [f"--{name}" for name in ("first", "last") if vars(options)[name] is not None]
@@ -134,7 +134,7 @@ def write_page(
     options: argparse.Namespace,
     rates: Optional[Rates],
 ) -> None:
-    """Writes the page, with the rule of each attempt."""
+    """Writes the page, which shows the rule of each attempt."""
     from canbusd._page.report import page
 
     title = os.path.basename(options.record)
@@ -145,7 +145,8 @@ def write_page(
 
 
 def faults_of(options: argparse.Namespace) -> Optional[FaultsFile]:
-    """Returns the named faults, else the faults that a server left next to the record, if there are any."""
+    """Opens the faults that the user has named, or the faults that a server left next to the record. Returns None if
+    there are none."""
     if options.faults is not None:
         return FaultsFile(options.faults, options.record)
     try:
@@ -158,10 +159,10 @@ def faults_of(options: argparse.Namespace) -> Optional[FaultsFile]:
 def with_rules(
     faults: Optional[FaultsFile], rates: Optional[Rates], options: argparse.Namespace
 ) -> tuple[Record, Record, list[str]]:
-    """Returns the record, the record with a name from its faults, and the rule of each attempt. Faults next to the
-    record may be wrong.
+    """Returns the record, the record with one more name that its faults imply, and the rule of each attempt. If the
+    faults next to the record are wrong, the rules are left out.
 
-    For a comparison, two runs use the names in their logs. If the user gives all names, the record is read once.
+    A comparison uses the names in the logs of both runs. If the user gives all names, the record is read only once.
     """
     if faults is None:
         return as_it_is(rates, options)
@@ -189,7 +190,7 @@ def with_rules(
 
 
 def as_it_is(rates: Optional[Rates], options: argparse.Namespace) -> tuple[Record, Record, list[str]]:
-    """Returns the same values without faults."""
+    """Returns the same values as `with_rules` if there are no faults."""
     record = replayed(options.record, options.names, options.cut, rates)
     return record, record, []
 
@@ -200,7 +201,7 @@ def note(words: str) -> None:
 
 
 def title_beside(path: str, other: str) -> str:
-    """Returns the name of the second of two records, with its folder if both files have the same name."""
+    """Returns a title for the second of two records: its file name, or its path if both files have the same name."""
     name = os.path.basename(other)
     return other if name == os.path.basename(path) else name
 

@@ -49,7 +49,7 @@ def add_arguments(parser: argparse.ArgumentParser) -> None:
 
 
 def run(options: argparse.Namespace) -> None:
-    """Sends until the end, and prints the numbers of frames by outcome."""
+    """Sends the messages until the end, and prints how many frames were sent, refused and skipped."""
     nodes = dict(pairs_of(options.node, "--node", "NODE=NAME"))
     values = list(pairs_of(options.set, "--set", "NODE.SIGNAL=VALUE"))
     database = load_database(*options.files)
@@ -78,7 +78,7 @@ def run(options: argparse.Namespace) -> None:
 def chosen_of(
     database: Database, options: argparse.Namespace, nodes: Mapping[str, str], known: Sequence[str]
 ) -> dict[str, str]:
-    """Returns the interface of each node; if a node has none, raises a fault that names helpful options."""
+    """Returns the interface of each node. If a node has none, raises ValueError and suggests options."""
     without = [name for names in options.without for name in names.split(",")]
     try:
         return interfaces_of(database, without, nodes, options.interface, known)
@@ -89,7 +89,7 @@ def chosen_of(
 
 
 def pairs_of(words: Sequence[str], option: str, form: str) -> Iterator[tuple[str, str]]:
-    """Returns the words of an option, each split into a name and a value."""
+    """Splits the arguments of an option into names and values."""
     for word in words:
         name, equals, value = word.partition("=")
         if not (name and equals and value):
@@ -98,7 +98,8 @@ def pairs_of(words: Sequence[str], option: str, form: str) -> Iterator[tuple[str
 
 
 def table_of(database: Database, rest: RestBus) -> Iterator[str]:
-    """Returns a line for each message, with its interface, or with a note that it is not sent."""
+    """Yields a line for each message, with its interface or with a note that it is not sent. Also yields a line for
+    each node that is not simulated."""
     sent = {message.format.name: message for message in rest.messages}
     for message in database.messages:
         interface = sent[message.name].interface if message.name in sent else "-"
@@ -109,9 +110,9 @@ def table_of(database: Database, rest: RestBus) -> Iterator[str]:
 
 
 def send_until(rest: LiveRestBus, duration: Optional[float]) -> None:
-    """Waits for the end or for Ctrl-C, and prints the numbers of frames by outcome."""
+    """Waits for the end or for Ctrl-C, and prints how many frames were sent, refused and skipped."""
     end = time.monotonic() + (float("inf") if duration is None else duration)
-    # Most runs end with Ctrl-C.
+    # Ctrl-C is the usual way to end the command.
     signal.signal(signal.SIGINT, signal.default_int_handler)
     with contextlib.suppress(KeyboardInterrupt):
         while (left := end - time.monotonic()) > 0:

@@ -46,7 +46,7 @@ def add_arguments(parser: argparse.ArgumentParser) -> None:
 
 
 def frames_of_words(words: Iterable[str], database: Optional[Database]) -> Iterator[Frame]:
-    """Yields the frames that the words of the command line describe."""
+    """Yields the frames that the arguments describe."""
     message, values = "", dict[str, Value]()
     for text in words:
         signal = SIGNAL.fullmatch(text)
@@ -62,14 +62,14 @@ def frames_of_words(words: Iterable[str], database: Optional[Database]) -> Itera
 
 
 def frame_of_signals(message: str, values: Mapping[str, Value], database: Optional[Database]) -> Frame:
-    """Returns the frame of a message with these values."""
+    """Returns the frame of a message with these signal values."""
     if database is None:
         raise ValueError(f"{message}.{next(iter(values))}: the names of signals need --dbc FILE")
     return database.encode(message, values)
 
 
 def frame_of_word(text: str) -> Frame:
-    """Returns the frame that a word of the command line describes."""
+    """Returns the frame that an argument describes."""
     frame = Frame.parse(text)
     if frame.is_error_frame:
         raise BadFrame(f"{text}: an error message frame, which nobody sends")

@@ -60,7 +60,7 @@ def run(options: argparse.Namespace) -> None:
 
 
 def table_of(rows: Sequence[Row], loads: Sequence[Load]) -> list[str]:
-    """Returns the lines of the table; they include the bus load of each interface if a bus has a bit rate."""
+    """Returns the lines of the table. If a bus has a bit rate, the table shows the bus load."""
     if not any(load.bitrate for load in loads):
         return table(rows)
     words = [load_words(load.permille) if load.bitrate else "-" for load in loads]
@@ -68,7 +68,7 @@ def table_of(rows: Sequence[Row], loads: Sequence[Load]) -> list[str]:
 
 
 def row_of(name: str, bus: CanbusdBus) -> Row:
-    """Returns the row of the interface."""
+    """Returns the row of an interface."""
     counters, stats = bus.error_counters(), bus.stats()
     counts: list[int] = [stats.sent, stats.done, stats.waiting, stats.lost, stats.refused]
     return (name, counters.state, counters.tec, counters.rec, *counts)

@@ -103,7 +103,7 @@ def add_arguments(parser: argparse.ArgumentParser) -> None:
 
 
 def run(options: argparse.Namespace) -> int:
-    """Runs the sweep, or joins its parts. Returns the status."""
+    """Runs the sweep or joins its parts, and returns the exit status."""
     if options.join:
         return join_parts(options.words)
     buses, words = parted(options.words)
@@ -114,7 +114,7 @@ def run(options: argparse.Namespace) -> int:
     task = CommandTask(words, buses, server_options(options), given_words(options))
     test = Test(task, kinds, named(options.senders), named(options.ids.upper()), options.known)
     found = sweep_options(options)
-    # This import comes last, so that wrong words are reported at once.
+    # This restart comes last, so that wrong arguments are reported at once.
     if not worker.is_ready():
         worker.start_anew(())
     page = "" if found.given is not None else os.path.join(OUT, "index.html")
@@ -125,7 +125,7 @@ def run(options: argparse.Namespace) -> int:
 
 
 def join_parts(names: "list[str]") -> int:
-    """Joins the parts of a sweep, and writes their findings. Returns the status."""
+    """Joins the parts of a sweep, prints their results, and returns the exit status."""
     if not names:
         raise BadWords("canbusd sweep --join FILE ..: it takes the files sweep.json of the parts")
     tests = joined.join([Path(name) for name in names], Path(OUT))
@@ -137,7 +137,7 @@ def join_parts(names: "list[str]") -> int:
 
 
 def parted(words: "list[str]") -> "tuple[list[str], list[str]]":
-    """Returns the buses and the words of the command."""
+    """Splits the arguments into the buses and the words of the command."""
     if "--" not in words:
         raise BadWords("canbusd sweep BUS -- COMMAND ..: -- is before the command")
     place = words.index("--")
@@ -147,17 +147,17 @@ def parted(words: "list[str]") -> "tuple[list[str], list[str]]":
 
 
 def named(text: str) -> "list[str]":
-    """Returns the names in a text, which commas separate."""
+    """Returns the names in a comma-separated text."""
     return [name for name in text.split(",") if name]
 
 
 def server_options(options: argparse.Namespace) -> "dict[str, Any]":
-    """Returns the options of Server."""
+    """Returns the arguments for Server."""
     return {"bitrate": options.bitrate, "dbitrate": options.dbitrate, "auto_restart": options.auto_restart}
 
 
 def given_words(options: argparse.Namespace) -> "list[str]":
-    """Returns the words for the server's options, as the user gave them."""
+    """Returns the command-line arguments that set the options of the server."""
     pairs = {
         "--bitrate": options.bitrate,
         "--dbitrate": options.dbitrate,
@@ -167,7 +167,7 @@ def given_words(options: argparse.Namespace) -> "list[str]":
 
 
 def sweep_options(options: argparse.Namespace) -> Options:
-    """Returns the options of the sweep."""
+    """Returns the options for the sweep."""
     try:
         faults: list[Fault] = [parse_fault(text) for text in options.fault]
         shard: Optional[tuple[int, int]] = shard_of(options.shard)

@@ -46,20 +46,20 @@ BUS_ERROR, NOT_ACKNOWLEDGED, END_OF_FRAME, FORM = 0x080, 0x020, 0x1A, 0x02
 
 
 class Watcher:
-    """The sessions on the interfaces."""
+    """The sessions on all interfaces that the page shows."""
 
     def __init__(self, names: Sequence[str], address: Optional[str], database: Optional[Database] = None) -> None:
         self.database = database
         self.buses = [Watched(name, address=address, fd=True, receive_own_messages=True) for name in names]
-        # The time of the last request for the counts.
+        # The time when the counts were last requested.
         self.asked = 0.0
-        # The times of frames on the bus of each interface; buses with the same bit rates share them.
+        # For each interface, the times of frames on its bus. Buses with the same bit rates share the cached times.
         rates = [rates_of(bus.load()) for bus in self.buses]
         times = {one: times_of(one) for one in rates if one}
         self.wires = [times[one] if one else None for one in rates]
 
     def tick(self, seconds: float) -> tuple[Json, list[Row]]:
-        """Returns the state of the interfaces after these seconds, and the frames that came meanwhile."""
+        """Waits for these seconds. Returns the state of the interfaces and the frames that arrived in the meantime."""
         rows: dict[tuple[float, str, int], Row] = {}
         faults = [[0, 0, 0] for _ in self.buses]
         deadline = time.monotonic() + seconds
@@ -72,11 +72,11 @@ class Watcher:
                 break
         began, asked = self.asked, time.monotonic()
         stats, self.asked = [bus.stats() for bus in self.buses], asked
-        # All events counted between two requests came after the first request was sent.
+        # Everything counted between two requests happened after the first of them was sent.
         span, now = time.monotonic() - began if began else 0.0, time.time()
         loads = [bus.load().permille for bus in self.buses]
         for number in range(len(self.buses)):
-            # These frames came before the counts.
+            # These frames arrived before the counts were read.
             self.take(number, rows, faults[number])
         ifaces = [[*bus.error_counters(), *one[3:]] for bus, one in zip(self.buses, stats)]
         missed = sum(one.dropped for one in stats)
@@ -85,10 +85,10 @@ class Watcher:
         return tick, list(rows.values())
 
     def take(self, number: int, rows: dict[tuple[float, str, int], Row], faults: list[int]) -> None:
-        """Takes the frames that an interface has received.
+        """Reads the frames that an interface has received.
 
-        A row has the time, the frame, the interfaces, the meaning, the sender, the nanoseconds on the wire, and the
-        message with its signals, if a file knows it.
+        A row has the timestamp, the frame, the interfaces, the meaning, the sender, the nanoseconds on the wire, and
+        the message with its signals if a file knows it.
         """
         for _ in range(MOST_FRAMES):
             message = self.buses[number].recv(0)
@@ -98,7 +98,7 @@ class Watcher:
             kind = fault_of(frame)
             if kind is not None:
                 faults[kind] += 1
-            # An error message frame belongs to one interface; a frame that several interfaces received is one row.
+            # An error message frame belongs to one interface. A frame that several interfaces received has one row.
             key = frame.timestamp, str(frame), number if frame.is_error_frame else -1
             if key not in rows:
                 decoded = self.decoded(frame)
@@ -109,19 +109,18 @@ class Watcher:
             row[4] = row[4] if frame.is_rx else number
 
     def decoded(self, frame: Frame) -> Optional[Decoded]:
-        """Returns the message and the signals of a frame, if a file knows the frame."""
+        """Returns the message and the signals of a frame, or None if no file knows the frame."""
         return self.database.decode(frame) if self.database is not None else None
 
     def meaning(self, frame: Frame) -> str:
-        """Returns the text of an error message frame, or of a frame that a file knows."""
+        """Returns the meaning of an error message frame, or of a frame that a file knows."""
         return says(frame, self.decoded(frame))
 
     def note_times(self, rows: Iterable[Row]) -> None:
-        """Adds the nanoseconds that each frame took on the wire, with the bits that follow it, if there is a bit
-        rate."""
+        """Adds the nanoseconds that each frame and the bits after it took on the wire, if the bus has a bit rate."""
         by_wire: dict[FrameTimes, list[Row]] = {}
         for row in filter(is_frame, rows):
-            # All interfaces of a frame are on the same bus.
+            # All interfaces that received a frame are on the same bus.
             wire = self.wires[(row[2] & -row[2]).bit_length() - 1]
             if wire is not None:
                 by_wire.setdefault(wire, []).append(row)
@@ -131,12 +130,13 @@ class Watcher:
 
 
 def rates_of(load: Load) -> Optional[Rates]:
-    """Returns the bit rates of a bus, if it has any."""
+    """Returns the bit rates of a bus, or None if it has none."""
     return Rates(load.bitrate, load.data_bitrate) if load.bitrate else None
 
 
 def times_of(rates: Rates) -> Optional[FrameTimes]:
-    """Returns the times of frames at these bit rates; None, with a note, if the program for them is missing."""
+    """Returns the times of frames at these bit rates. If the program for this is missing, prints a note and returns
+    None."""
     try:
         return FrameTimes(rates)
     except ProgramNotFound as fault:
@@ -145,12 +145,13 @@ def times_of(rates: Rates) -> Optional[FrameTimes]:
 
 
 def says(frame: Frame, decoded: Optional[Decoded]) -> str:
-    """Returns the text of an error message frame, or of a decoded frame."""
+    """Returns the meaning of an error message frame or of a decoded frame."""
     return frame.meaning if decoded is None else str(decoded)
 
 
 def fault_of(frame: Frame) -> Optional[int]:
-    """Returns the fault of an interface's own frame: 0 last bit, 1 destroyed, 2 not acknowledged; else None."""
+    """Returns the kind of fault in a frame that the interface sent: 0 for last bit, 1 for destroyed, 2 for not
+    acknowledged. Returns None for other frames."""
     kind, place = frame.data.ljust(4, b"\0")[2:4]
     if not frame.is_error_frame or not frame.arbitration_id & BUS_ERROR or not kind & SENDING:
         return None
@@ -180,7 +181,7 @@ def add_arguments(parser: argparse.ArgumentParser) -> None:
 
 
 def run(options: argparse.Namespace) -> None:
-    """Serves the page until the server ends or Ctrl-C."""
+    """Serves the page until the server ends or the user presses Ctrl-C."""
     if options.port > 65535:
         raise BadWords(f"--port is a number from 0 to 65535, not {options.port}")
     names: list[str] = options.interfaces or interfaces(options.address)
