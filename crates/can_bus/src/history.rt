@@ -1,8 +1,9 @@
 ghost use Rattle.std.specs.Prelude.{◌≡◌, [], ◌∷◌};
 ghost use Rattle.can_event.specs.Replies.{entry_of};
-ghost use Rattle.can_record.specs.PackedEntry.{receive_entry};
+ghost use Rattle.can_record.specs.PackedEntry.{receive_entry, send_entry};
 
 use can_event::{Event, Received, Refusal, Reply, SocketId};
+use can_frame::Frame;
 use std::marker::Model;
 use std::mem::{self, size_of};
 use std::snapshot::Snapshot;
@@ -19,6 +20,12 @@ enum Chain {
         Snapshot<SocketId>,
         Snapshot<Result<bool, Refusal>>,
         Snapshot<Received>,
+    ),
+    Sent(
+        Snapshot<Chain>,
+        Snapshot<SocketId>,
+        Snapshot<Frame>,
+        Snapshot<Result<u64, Refusal>>,
     ),
 }
 
@@ -68,6 +75,20 @@ impl History {
             Snapshot::of(id),
             Snapshot::of(outcome),
             Snapshot::of(room),
+        );
+        self.chain = Snapshot::of(&chain);
+    }
+
+    /// Notes a send, which gave the frame this number or was refused.
+    pub fn note_send(&mut self, id: &SocketId, frame: &Frame, outcome: &Result<u64, Refusal>)
+        ensures { self.new ≡ send_entry id.now frame.now outcome.now ∷ self.old }
+    {
+        let before = mem::replace(&mut self.chain, Snapshot::of(&Chain::Empty));
+        let chain = Chain::Sent(
+            before,
+            Snapshot::of(id),
+            Snapshot::of(frame),
+            Snapshot::of(outcome),
         );
         self.chain = Snapshot::of(&chain);
     }

@@ -15,6 +15,7 @@ ghost use Rattle.can_event.specs.Events.{IsLongConfig};
 ghost use Rattle.can_event.specs.Replies.{taken_reply};
 ghost use Rattle.can_event.specs.declared.entry.Entry.{Entry};
 ghost use Rattle.can_event.specs.declared.event.Event.TheVariants as event;
+ghost use Rattle.can_event.specs.declared.reply.Reply.TheVariants as reply;
 
 use crate::bus::RingBus;
 use crate::long_bus::{LongEnd, LongRingBus};
@@ -61,6 +62,13 @@ pub trait Journaled: Drop {
     fn answer(&mut self, alloc: Global, event: &Event) -> Reply
         requires { 0 < places_in self.old }
         ensures answered { IsAnswered (journal self.old) event.now result (journal self.new) }
+        ensures out { handed_out self.new ≡ handed_out self.old };
+
+    /// Puts a frame into the transmit queue of the socket's interface, and returns its number there.
+    fn send(&mut self, id: SocketId, frame: Frame) -> Result<u64, Refusal>
+        requires { 0 < places_in self.old }
+        ensures answer { Answers reply.Sent (journal self.old) (event.Send id frame) result
+            (journal self.new) }
         ensures out { handed_out self.new ≡ handed_out self.old };
 
     /// Takes the oldest item of a socket into `room`, and returns whether there was one.
@@ -167,6 +175,10 @@ impl Journaled for RingBus {
         RingBus::answer(self, alloc, event)
     }
 
+    fn send(&mut self, id: SocketId, frame: Frame) -> Result<u64, Refusal> {
+        RingBus::send(self, id, frame)
+    }
+
     fn receive_into(&mut self, id: SocketId, room: &mut Received) -> Result<bool, Refusal> {
         RingBus::receive_into(self, id, room)
     }
@@ -207,6 +219,10 @@ impl Journaled for LongRingBus {
 
     fn answer(&mut self, alloc: Global, event: &Event) -> Reply {
         LongRingBus::answer(self, alloc, event)
+    }
+
+    fn send(&mut self, id: SocketId, frame: Frame) -> Result<u64, Refusal> {
+        LongRingBus::send(self, id, frame)
     }
 
     fn receive_into(&mut self, id: SocketId, room: &mut Received) -> Result<bool, Refusal> {

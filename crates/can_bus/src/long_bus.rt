@@ -9,6 +9,7 @@ ghost use Rattle.can_bus.specs.State.{IsKept};
 ghost use Rattle.can_event.specs.Events.{IsLongConfig};
 ghost use Rattle.can_event.specs.Replies.{taken_reply};
 ghost use Rattle.can_event.specs.declared.event.Event.TheVariants as event;
+ghost use Rattle.can_event.specs.declared.reply.Reply.TheVariants as reply;
 
 use crate::bus::{BusFault, filters_entry};
 use crate::history::History;
@@ -16,6 +17,7 @@ use crate::state::State;
 use can_arbiter::{Arbiter, IndexArbiter};
 use can_event::{BusConfig, Event, Pending, Received, Refusal, Reply, SocketId};
 use can_filter::FilterSet;
+use can_frame::Frame;
 use can_queue::{BoundedQueue, RingQueue};
 use can_record::PackedRecord;
 use std::alloc::Global;
@@ -169,6 +171,23 @@ impl<T: BoundedQueue<Pending>, R: BoundedQueue<Received>, A: Arbiter> LongBus<T,
         self.history.note(&entry.event, &entry.reply);
         self.tail.push_boxed(entry);
         reply
+    }
+
+    /// Puts a frame into the transmit queue of the socket's interface, as `Bus::send` does.
+    pub fn send(&mut self, id: SocketId, frame: Frame) -> Result<u64, Refusal>
+        requires { HasPlace self.old }
+        ensures answer { Answers reply.Sent (journal_of self.old) (event.Send id frame) result
+            (journal_of self.new) }
+        ensures tail { KeepsTail self.old self.new }
+        ensures out { handed_entries self.new ≡ handed_entries self.old }
+    {
+        if self.is_full() {
+            return Err(Refusal::RecordFull);
+        }
+        let outcome = self.state.send(id, frame);
+        self.tail.push_send(id, &frame, outcome);
+        self.history.note_send(&id, &frame, &outcome);
+        outcome
     }
 
     /// Takes the oldest item of a socket into `room`, as `Bus::receive_into` does.

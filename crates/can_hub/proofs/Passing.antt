@@ -7,7 +7,8 @@ use Rattle.can_event.specs.declared.reply.Reply.{Reply}
 use Rattle.can_event.specs.declared.received.Received.{Received}
 use Rattle.can_event.specs.declared.socket_id.SocketId.{SocketId}
 use Rattle.can_event.specs.Replies.{received_into, taken_item, taken_reply}
-use Rattle.can_dialog.specs.Calls.Call.{Receive}
+use Rattle.can_dialog.specs.Calls.Call.{Receive, Send}
+use Rattle.can_frame.specs.Frames.{CanFrame}
 use Rattle.can_record.specs.Outcomes.{done_reply}
 use Rattle.can_event.specs.declared.reply.Reply.TheVariants as reply
 use Rattle.std.specs.Prelude.{slice_get, IfOk}
@@ -23,7 +24,7 @@ use Rattle.can_station.specs.declared.refusals.StationRefusal.TheVariants as sta
 use Rattle.can_proto.specs.declared.answer.BusLoad.{BusLoad}
 use Rattle.can_wire.specs.Times.{rates_of}
 use Rattle.can_hub.specs.Buses.{BusSeen, IsFirstNamed, config_on, items_on, names_on, rates_on}
-use Rattle.can_hub.specs.PassSteps.{EnteredSeen, PortSeen, PassStep, CountsSocket, CountsIface, entered_with, reply_of_station, refused_as, socket_room_in, with_socket_room, is_shared, OnPort, SomeNamed, SomeNamedFull, Attaches, GaugeReports, ReportsCounters, ReportsRates, InjectsNamed, Injects, RulesLeft}
+use Rattle.can_hub.specs.PassSteps.{EnteredSeen, PortSeen, PassStep, CountsSocket, CountsIface, entered_with, reply_of_station, refused_as, socket_room_in, with_socket_room, OnPort, SomeNamed, SomeNamedFull, Attaches, GaugeReports, ReportsCounters, ReportsRates, InjectsNamed, Injects, RulesLeft}
 
 -- The port with this entered station.
 abbrev over : List BusSeen → EnteredSeen → PortSeen
@@ -93,6 +94,16 @@ on_pass F old buses inside now pass e room outcome answer seen is has told calle
     subst (λ (o : PortSeen). Steps (PassStep F) o e answer after) (ap (λ (i : Option EnteredSeen). record { buses = buses; entered = i }) (sym is) ∙ seen)
     (subst (λ (a : Result Reply PortRefusal). Steps (PassStep F) (over buses now) e a after) (sym told) stepped)
 
+-- A send of the entered station is a call of the port.
+pub sent : (F : Type 0) (old : PortSeen) (buses : List BusSeen) (inside : Option EnteredSeen) (now : EnteredSeen) (pass : PassSeen) (socket : SocketId) (frame : CanFrame) (outcome : Result ℕ StationRefusal) (answer : Result ℕ PortRefusal)
+    → ◌≡◌ {A = PortSeen} (record { buses = buses; entered = inside }) old → inside ≡ Some now → answer ≡ reply_of_station outcome
+    → Called reply.Sent now.station.number now.pass (event.Send socket frame) outcome pass
+    → PassStep F old (Send socket frame) answer (over buses (record now { pass = pass }))
+sent F old buses inside now pass socket frame outcome answer seen is told called =
+    let after : PortSeen = over buses (record now { pass = pass }) in
+    subst (λ (o : PortSeen). PassStep F o (Send socket frame) answer after) (ap (λ (i : Option EnteredSeen). record { buses = buses; entered = i }) (sym is) ∙ seen)
+    (subst (λ (a : Result ℕ PortRefusal). PassStep F (over buses now) (Send socket frame) a after) (sym told) (on F buses now pass reply.Sent (event.Send socket frame) outcome called))
+
 -- A receive call of the entered station with `room` is a call of the port.
 pub received : (F : Type 0) (old : PortSeen) (buses : List BusSeen) (inside : Option EnteredSeen) (now : EnteredSeen) (pass : PassSeen) (socket : SocketId) (room : Received) (outcome : Result Bool StationRefusal) (answer : Result Bool PortRefusal)
     → ◌≡◌ {A = PortSeen} (record { buses = buses; entered = inside }) old → inside ≡ Some now → answer ≡ reply_of_station outcome
@@ -102,11 +113,6 @@ received F old buses inside now pass socket room outcome answer seen is told cal
     let after : PortSeen = over buses (record now { pass = pass }) in
     subst (λ (o : PortSeen). PassStep F o (Receive socket) (received_into room answer) after) (ap (λ (i : Option EnteredSeen). record { buses = buses; entered = i }) (sym is) ∙ seen)
     (subst (λ (a : Result Bool PortRefusal). PassStep F (over buses now) (Receive socket) (received_into room a) after) (sym told) (taken F buses now pass room socket outcome called))
-
--- The number of items that a socket holds does not matter to a send or a receive.
-pub shared : (e : Event) (room : ℕ) → true ≡ is_shared e → with_socket_room e room ≡ e
-shared (event.Open iface asked) room is = absurd (cc (is))
-shared e room is = refl
 
 -- The port returns the counters that its gauge returns.
 pub on_gauge : (old : PortSeen) (buses : List BusSeen) (inside : Option EnteredSeen) (now : EnteredSeen) (gauge : Readings) (iface : ℕ) (answer : ErrorCounts)

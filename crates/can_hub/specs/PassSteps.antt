@@ -57,12 +57,6 @@ abbrev pub with_socket_room : Event → ℕ → Event
 with_socket_room (event.Open iface asked) room = event.Open iface room
 with_socket_room e room = e
 
--- The event may share one hold of the lock with others.
-abbrev pub is_shared : Event → Bool
-is_shared (event.Send socket frame) = true
-is_shared (event.Receive socket) = true
-is_shared e = false
-
 -- The port's refusal for a station's refusal.
 abbrev pub refused_as : StationRefusal → PortRefusal
 refused_as (station.Bus why) = port.Bus why

@@ -7,6 +7,7 @@ use can_bus::{
     RingBus, RingState, SocketId,
 };
 use can_event::MAX_LIMIT;
+use can_frame::Frame;
 use can_record::PackedRecord;
 use std::alloc::Global;
 use std::marker::Model;
@@ -98,6 +99,13 @@ impl Journaled for HubBus {
         match &mut self.bus {
             AnyBus::Whole(bus) => bus.answer(alloc, event),
             AnyBus::Long(bus) => bus.answer(alloc, event),
+        }
+    }
+
+    fn send(&mut self, id: SocketId, frame: Frame) -> Result<u64, Refusal> {
+        match &mut self.bus {
+            AnyBus::Whole(bus) => bus.send(id, frame),
+            AnyBus::Long(bus) => bus.send(id, frame),
         }
     }
 

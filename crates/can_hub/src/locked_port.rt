@@ -1,14 +1,12 @@
 ghost use Rattle.std.specs.Prelude.{◌≡◌};
-ghost use Rattle.can_hub.specs.PassSteps.{is_shared};
 
 use crate::hub_bus::HubBus;
 use crate::pass_port::{PassPort, pass_on};
-use crate::tally::Counted;
 use can_bus::{Event, IfaceStats, Received, Refusal, Reply, SocketId, SocketStats};
 use can_confine::Counters;
 use can_dialog::{Port, PortRefusal};
 use can_fault::FaultSource;
-use can_frame::{Iface, Moment};
+use can_frame::{Frame, Iface, Moment};
 use can_proto::BusLoad;
 use can_station::{BusName, Gate, Hold, Station};
 use std::alloc::AllocError;
@@ -70,13 +68,6 @@ fn hold_of<'h, 'a, N: BusName, F: FaultSource + Drop, G: Gate + Drop, R: Wait>(
     taken.as_mut().unwrap()
 }
 
-/// Returns whether an event may share a hold with others: it is a send or a receive.
-fn is_shared(event: &Event) -> bool
-    ensures { result ≡ is_shared event.now }
-{
-    matches!(event, Event::Send(_, _) | Event::Receive(_))
-}
-
 impl<'a, N: BusName, F: FaultSource + Drop, G: Gate + Drop, R: Wait> Port
     for LockedPort<'a, N, F, G, R> {
     ghost use Rattle.can_hub.specs.PassSteps.{PassStep};
@@ -84,22 +75,22 @@ impl<'a, N: BusName, F: FaultSource + Drop, G: Gate + Drop, R: Wait> Port
     ghost step = { PassStep F };
 
     fn call(&mut self, event: Event) -> Result<Reply, PortRefusal> {
-        if !is_shared(&event) {
-            self.hold = None;
-            return self.port.call(event);
-        }
+        self.hold = None;
+        self.port.call(event)
+    }
+
+    // Sends and receives are the most frequent calls of a session: they make no event and no reply.
+    fn send(&mut self, socket: SocketId, frame: Frame) -> Result<u64, PortRefusal> {
         let port = &mut self.port;
         let Some(entered) = &mut port.entered else {
             return Err(PortRefusal::Bus(Refusal::NoSocket));
         };
-        let counted = Counted::of(&event);
         let hold = hold_of(port.rt, entered.station, &mut self.hold);
-        let outcome = hold.call(port.alloc, &mut entered.pass, event);
-        port.tally.add(counted, &outcome);
+        let outcome = hold.send(port.alloc, &mut entered.pass, socket, frame);
+        port.tally.add_send(&outcome);
         pass_on(outcome)
     }
 
-    // The most frequent call of a session, without an event and a reply value.
     fn receive_into(&mut self, socket: SocketId, room: &mut Received) -> Result<bool, PortRefusal> {
         let port = &mut self.port;
         let Some(entered) = &mut port.entered else {

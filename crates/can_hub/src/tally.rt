@@ -71,6 +71,16 @@ impl Tally {
         }
     }
 
+    /// Adds a send with its outcome.
+    pub(crate) fn add_send(&mut self, outcome: &Result<u64, StationRefusal>) {
+        match outcome {
+            Err(StationRefusal::Bus(why)) if why.leaves_entry() => {
+                self.refused = self.refused.saturating_add(1);
+            }
+            _ => {}
+        }
+    }
+
     /// Returns the interface that was restarted last, if any since the previous look. An interface
     /// that was taken down later does not count.
     pub fn take_restarted(&mut self) -> Option<Iface> {

@@ -1,7 +1,9 @@
 ghost use Rattle.std.specs.Prelude.{◌≡◌};
-ghost use Rattle.can_event.specs.Replies.{receive_reply};
+ghost use Rattle.can_event.specs.Replies.{receive_reply, told};
 ghost use Rattle.can_event.specs.declared.event.Event.TheVariants as asked;
+ghost use Rattle.can_event.specs.declared.reply.Reply.TheVariants as answer;
 ghost use Rattle.can_event.specs.declared.socket_id.SocketId.{SocketId};
+ghost use Rattle.can_frame.specs.Frames.{CanFrame};
 ghost use Rattle.can_record.specs.Boxed.{needs_box, is_large, is_off_alone};
 
 use can_event::{Attempt, Event, Received, Refusal, Reply};
@@ -39,6 +41,17 @@ pub fn receive_needs_box(outcome: Result<bool, Refusal>, room: &Received) -> boo
     match outcome {
         Ok(true) => is_large(room.number),
         _ => false,
+    }
+}
+
+/// Returns whether the entry of a send does not fit in 32 bytes. The send gave the frame this number, or was refused.
+pub fn send_needs_box(outcome: Result<u64, Refusal>) -> bool
+    ensures { (id : SocketId) → (frame : CanFrame) →
+        result ≡ needs_box (asked.Send id frame) (told answer.Sent outcome) }
+{
+    match outcome {
+        Ok(number) => is_large(number),
+        Err(_) => false,
     }
 }
 

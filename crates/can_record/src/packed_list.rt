@@ -1,14 +1,15 @@
 ghost use Rattle.std.specs.Prelude.{◌≡◌, ◌<◌, ◌≤◌, ◌+◌, ◌==◌, true, [], length, slice_get, IsOk, OnOk};
 ghost use Rattle.can_event.specs.Replies.{entry_of};
-ghost use Rattle.can_record.specs.PackedEntry.{receive_entry};
+ghost use Rattle.can_record.specs.PackedEntry.{receive_entry, send_entry};
 ghost use Rattle.can_record.specs.Records.{Adds};
 ghost use Rattle.can_record.specs.Boxed.{needs_box};
 
-use crate::boxed::{needs_box, receive_needs_box};
+use crate::boxed::{needs_box, receive_needs_box, send_needs_box};
 use crate::entry_ref::EntryRef;
-use crate::outcomes::receive_reply;
+use crate::outcomes::{receive_reply, sent_reply};
 use crate::packed_record::PackedRecord;
 use can_event::{Entry, Event, Received, Refusal, Reply, SocketId};
+use can_frame::Frame;
 use std::alloc::{AllocError, Global};
 use std::marker::Model;
 
@@ -113,6 +114,29 @@ impl PackedList {
         ensures { Adds self.old.entries (receive_entry id room.now outcome) self.new.entries }
     {
         self.push_spare(Event::Receive(id), receive_reply(outcome, room));
+    }
+
+    /// Adds a send, which gave the frame this number or was refused. No memory is taken.
+    pub fn push_send(&mut self, id: SocketId, frame: &Frame, outcome: Result<u64, Refusal>)
+        requires room { length self.old.entries < self.old.room }
+        requires spare { self.old.spare ≡ true }
+        ensures { Adds self.old.entries (send_entry id frame.now outcome) self.new.entries }
+    {
+        if send_needs_box(outcome) {
+            self.push_boxed_send(id, frame, outcome);
+        } else {
+            self.entries.push_send(id, frame, outcome);
+        }
+    }
+
+    // Its event and its reply are made only in the rare case.
+    #[inline(never)]
+    fn push_boxed_send(&mut self, id: SocketId, frame: &Frame, outcome: Result<u64, Refusal>)
+        requires room { length self.old.entries < self.old.room }
+        requires spare { self.old.spare ≡ true }
+        ensures { Adds self.old.entries (send_entry id frame.now outcome) self.new.entries }
+    {
+        self.push_spare(Event::Send(id, *frame), sent_reply(&outcome));
     }
 
     /// Adds an event with its reply in the spare box.

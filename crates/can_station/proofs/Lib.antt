@@ -3,5 +3,5 @@ pub mod Marking
 pub mod Stepping
 pub mod Answering
 pub mod PublishedFacts
-pub mod Receiving
+pub mod Outcomes
 pub mod Listing

@@ -22,7 +22,7 @@ use Rattle.can_record.specs.Records.{ListedEntries}
 use Rattle.can_rules.specs.Plans.{PlanSeen, Injected, given, plan_after}
 use Rattle.can_rules.specs.declared.rules.RuleRefusal.{RuleRefusal}
 use Rattle.can_event.specs.Events.{IsLongConfig}
-use Rattle.can_event.specs.Replies.{receive_reply}
+use Rattle.can_event.specs.Replies.{receive_reply, told}
 pub use Rattle.can_event.specs.Replies.{Suits}
 use Rattle.can_roll.specs.Lists.{row, Distinct, AllBelow}
 use Rattle.can_roll.specs.Seen.{SlipSeen}
@@ -122,6 +122,12 @@ abbrev pub IsReceivedForSlip :
     {F : Type 0} → Held F → SlipSeen → SocketId → Received → Result Bool Refusal → Held F → SlipSeen → Type 0
 IsReceivedForSlip old slip socket room outcome new slip' =
     IsCarriedOutForSlip old slip (event.Receive socket) (receive_reply room outcome) new slip'
+
+-- A send with this outcome is carried out in the same way.
+abbrev pub IsSentForSlip :
+    {F : Type 0} → Held F → SlipSeen → SocketId → CanFrame → Result ℕ Refusal → Held F → SlipSeen → Type 0
+IsSentForSlip old slip socket frame outcome new slip' =
+    IsCarriedOutForSlip old slip (event.Send socket frame) (told reply.Sent outcome) new slip'
 
 -- Nothing changes: the station's state, the slip and the list of its pass are the same.
 abbrev pub ChangesNothing :

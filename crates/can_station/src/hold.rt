@@ -1,17 +1,18 @@
 ghost use Rattle.std.specs.Prelude.{◌≡◌, ◌≢◌, ◌≤◌, Ok, Some, true, length, IfOk, IfSome, IfNone, IsTrue, ◌↔◌};
 ghost use Rattle.can_bus.specs.Heads.{next_head};
-ghost use Rattle.can_event.specs.Replies.{receive_reply, taken_reply};
+ghost use Rattle.can_event.specs.Replies.{receive_reply, taken_reply, told};
 ghost use Rattle.can_event.specs.declared.event.Event.TheVariants as event;
+ghost use Rattle.can_event.specs.declared.reply.Reply.TheVariants as reply;
 ghost use Rattle.can_rules.specs.Plans.{Injected};
 ghost use Rattle.can_station.specs.Held.{TakesRule, after_end};
-ghost use Rattle.can_station.specs.Passes.{ChangesNothing, IsCarriedOutForSlip, HasMemoryForCall, IsReadyFor, IsReceivedForSlip, IsStepped, Keeps, Suits, Called, Made, MadeJudged, MadeStep, next_attempt, next_verdict, same};
+ghost use Rattle.can_station.specs.Passes.{ChangesNothing, IsCarriedOutForSlip, HasMemoryForCall, IsReadyFor, IsReceivedForSlip, IsSentForSlip, IsStepped, Keeps, Suits, Called, Made, MadeJudged, MadeStep, next_attempt, next_verdict, same};
 ghost use Rattle.can_station.specs.Waits.{IsNearlyFull, has_work};
 
 use crate::attempts::with_verdict;
 use crate::bus_name::BusName;
 use crate::gate::{Gate, Point};
 use crate::pass::{Pass, keep, make_ready, make_ready_for};
-use crate::receives::keep_receive;
+use crate::kept::{keep_receive, keep_send};
 use crate::refusals::StationRefusal;
 use crate::station::Station;
 use crate::station_state::StationState;
@@ -125,6 +126,56 @@ impl<'s, N: BusName, F: FaultSource + Drop, G: Gate + Drop, B: Journaled> Hold<'
         self.wakeups.add(&event, &reply);
         keep(calls, event, &reply);
         Some(reply)
+    }
+
+    /// Sends a frame with a pass, as the station's `send` does, and returns its number at the
+    /// interface.
+    pub fn send(
+        &mut self,
+        alloc: Global,
+        pass: &mut Pass<N>,
+        socket: SocketId,
+        frame: Frame,
+    ) -> Result<u64, StationRefusal>
+        ensures made { Made reply.Sent self.old pass.old (event.Send socket frame) result
+            self.new pass.new }
+        ensures called { Called reply.Sent self.old.number pass.old
+            (event.Send socket frame) result pass.new }
+    {
+        if make_ready(&mut pass.calls, alloc).is_err() {
+            return Err(StationRefusal::Bus(Refusal::NoMemory));
+        }
+        if pass.slip.number() != self.state.number() {
+            return Err(StationRefusal::WrongStation);
+        }
+        match self.carry_out_send(&mut pass.slip, &mut pass.calls, socket, frame) {
+            Some(Ok(number)) => Ok(number),
+            Some(Err(why)) => Err(StationRefusal::Bus(why)),
+            None => Err(StationRefusal::Bus(Refusal::NoMemory)),
+        }
+    }
+
+    /// Sends a frame for the pass of this slip, and adds the call to the calls of the pass.
+    fn carry_out_send(
+        &mut self,
+        slip: &mut Slip<N>,
+        calls: &mut Option<PackedList>,
+        socket: SocketId,
+        frame: Frame,
+    ) -> Option<Result<u64, Refusal>>
+        requires own { slip.old.number ≡ self.old.number }
+        requires ready { HasMemoryForCall calls.old }
+        ensures carried { IfSome result
+            (λ r. IsSentForSlip self.old slip.old socket frame r self.new slip.new) }
+        ensures calls { IfSome result
+            (λ r. Keeps calls.old (event.Send socket frame) (told reply.Sent r) calls.new) }
+        ensures none { IfNone result
+            (ChangesNothing self.old slip.old calls.old self.new slip.new calls.new) }
+    {
+        let outcome = self.state.send(slip, socket, frame)?;
+        self.wakeups.add_send(outcome);
+        keep_send(calls, socket, &frame, outcome);
+        Some(outcome)
     }
 
     /// Receives an item into the caller's `room`, as the station's `receive` does, and returns

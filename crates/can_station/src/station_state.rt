@@ -9,7 +9,7 @@ ghost use Rattle.can_rules.specs.RuleLines.{text_of_lines, never_lines, with_non
 ghost use Rattle.can_station.specs.Held.{HasEntered, HasNoPlace, NoPassLeft, TakesRule, after_end, new_held, roll_after, slip_after, station_seen, with_plan_lines};
 ghost use Rattle.can_rules.specs.Plans.{Injected, given, plan_after};
 ghost use Rattle.can_station.specs.Marks.{IsBooked, IsMarked};
-ghost use Rattle.can_station.specs.Passes.{IsCarriedOutForSlip, IsReceivedForSlip, IsStateOf, IsStepped, SettlesIn, Suits, next_try, next_verdict};
+ghost use Rattle.can_station.specs.Passes.{IsCarriedOutForSlip, IsReceivedForSlip, IsSentForSlip, IsStateOf, IsStepped, SettlesIn, Suits, next_try, next_verdict};
 ghost use Rattle.can_bus.specs.Run.{IsAnswered};
 ghost use Rattle.can_roll.specs.Seen.{scroll_seen};
 ghost use Rattle.can_station.specs.Published.{AreTrue, IsPublished, TakesBack, TakesBackScroll};
@@ -30,7 +30,7 @@ use can_bus::{
 use can_fault::{FaultSource, Verdict};
 use can_frame::{Frame, Iface, Moment, Names};
 use can_meter::{Gauge, Keeper};
-use can_record::receive_reply;
+use can_record::{receive_reply, sent_reply};
 use can_roll::{HandedOut, Roll, RollBlank, RollName, Scroll, Slip, roll_with_scroll};
 use can_rules::{Plan, RuleLines, RuleRefusal, spelled_rule};
 use std::alloc::{AllocError, Global};
@@ -218,6 +218,30 @@ impl<N: BusName, F: FaultSource + Drop, B: Journaled> StationState<N, F, B> {
             slip,
             event,
         ))
+    }
+
+    /// Sends a frame for the pass of this slip, as `call` does, and returns its number at the
+    /// interface. No error counter changes. Returns `None` as `call` does.
+    pub fn send(
+        &mut self,
+        slip: &mut Slip<N>,
+        socket: SocketId,
+        frame: Frame,
+    ) -> Option<Result<u64, Refusal>>
+        requires { slip.old.number ≡ self.old.number }
+        ensures carried { IfSome result (λ r.
+            IsSentForSlip self.old slip.old socket frame r self.new slip.new) }
+        ensures place { IfNone result (HasNoPlace B.journal B.places_in self.old.journal) }
+        ensures none { IfNone result ((self.new ≡ self.old) × (slip.new ≡ slip.old)) }
+    {
+        if self.bus.places() == 0 {
+            return None;
+        }
+        let outcome = self.bus.send(socket, frame);
+        let event = Event::Send(socket, frame);
+        let reply = sent_reply(&outcome);
+        book(&mut self.roll, slip, &event, &reply);
+        Some(outcome)
     }
 
     /// Receives an item into the caller's `room` for the pass of this slip, as `call` does, and

@@ -73,6 +73,14 @@ impl Wakeups {
         }
     }
 
+    /// Adds a send with its outcome.
+    pub(crate) fn add_send(&mut self, outcome: Result<u64, Refusal>) {
+        match outcome {
+            Ok(_) => self.has_work = true,
+            Err(why) => self.add_refusal(why),
+        }
+    }
+
     /// Adds a refusal.
     pub(crate) fn add_refusal(&mut self, why: Refusal) {
         if why == Refusal::RecordFull {
