@@ -21,12 +21,7 @@ enum Chain {
         Snapshot<Result<bool, Refusal>>,
         Snapshot<Received>,
     ),
-    Sent(
-        Snapshot<Chain>,
-        Snapshot<SocketId>,
-        Snapshot<Frame>,
-        Snapshot<Result<u64, Refusal>>,
-    ),
+    Sent(Snapshot<Chain>, Snapshot<SocketId>, Snapshot<Frame>, Snapshot<Result<u64, Refusal>>),
 }
 
 /// The entries of a bus, the newest first. Only contracts see them: the value takes no memory, and
