@@ -120,8 +120,8 @@ impl<'a, N: BusName, F: FaultSource + Drop, G: Gate + Drop, R: Wait> Port
         self.port.iface_stats(iface)
     }
 
+    // This method needs no lock.
     fn status(&mut self, iface: Iface) -> Counters {
-        self.hold = None;
         self.port.status(iface)
     }
 
