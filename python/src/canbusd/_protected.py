@@ -1,4 +1,4 @@
-"""The end-to-end protection profile of a message: a test gives the profile, or attributes in the database do."""
+"""The end-to-end protection profile of a message, which a test passes or the attributes in a database define."""
 
 import re
 from typing import TYPE_CHECKING, Any, Optional
@@ -10,8 +10,8 @@ if TYPE_CHECKING:
 
 
 def profile_of(profile: object, message: "Optional[MessageFormat]") -> Profile:
-    """Returns the known profile for a message; without an argument, the profile of the message's attributes. Raises
-    ValueError for a wrong or unsuitable profile."""
+    """Returns the profile for a message. If `profile` is None, the attributes of the message define it. Raises ValueError if the
+    profile is unknown or does not suit the message."""
     if profile is None:
         found = None if message is None else profile_in(message)
         if found is None:
