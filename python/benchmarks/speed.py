@@ -22,7 +22,7 @@ import can
 from canbusd.server import Server
 
 RUNS = 3
-# Bursts of as many frames as python-can's socketcand client handles without a loss, and more.
+# The sizes of bursts: as many frames as python-can's socketcand client handles without loss, and a larger number.
 FEW, SOME = 15, 1000
 
 
@@ -58,7 +58,7 @@ def canbusd():
 
 
 def round_trips(one, other, count):
-    """Returns the duration of each of these round trips."""
+    """Makes `count` round trips, and returns the duration of each in seconds."""
     took = []
     for number in range(count):
         begun = time.perf_counter()
@@ -79,7 +79,8 @@ def send_together(bus, frames):
 
 
 def burst(one, other, count, part, send):
-    """Returns the number of frames that arrived each second, and the number of lost frames."""
+    """Sends `count` frames in bursts of `part`. Returns the received frames per second, and the number of lost frames.
+    """
     frames = [frame(number) for number in range(count)]
     got = sent = 0
     arrived = threading.Semaphore(0)
@@ -105,8 +106,8 @@ def burst(one, other, count, part, send):
 
 
 def measured(interface, count, part, send):
-    """Returns the best of several runs: round trips a second, latencies, frames a second, and the total of lost
-    frames."""
+    """Returns the best of several runs: round trips per second, latencies and frames per second. Also returns the lost
+    frames of all runs."""
     rows, lost = [], 0
     for _ in range(RUNS):
         with interface() as (one, other):

@@ -48,7 +48,8 @@ if TYPE_CHECKING:
     from canbusd.steps import step
     from canbusd.virtual import is_virtual
 
-#: The version of the program and of the wheel. The folder canbusd-*.dist-info next to this package has the same version.
+#: The version of the program and of the wheel. The folder canbusd-*.dist-info next to this package has the same
+#: version.
 __version__ = "0.3.0"
 
 __all__ = [

@@ -29,8 +29,8 @@ OTHER_NAMES = {
 
 
 def close_at_exit(close: Callable[[], object], kind: Optional[type[BaseException]]) -> None:
-    """Closes an object at the end of a `with` block. If an exception ended the block, that exception is raised, and an error while
-    closing is ignored."""
+    """Closes an object at the end of a `with` block. If an exception ended the block, that exception is raised, and an
+    error while closing is ignored."""
     try:
         close()
     except Exception:
@@ -46,13 +46,15 @@ def meant(word: str, known: Iterable[str]) -> str:
 
 
 def no_such(kind: str, word: str, known: Iterable[str]) -> str:
-    """Returns the error text for an unknown name, with the names that exist: `no option pace (pace_ms?); there are ..`."""
+    """Returns the error text for an unknown name, with the names that exist: `no option pace (pace_ms?); there are ..`.
+    """
     names = list(known)
     return f"no {kind} {word}{meant(word, names)}; there are {', '.join(names) or 'none'}"
 
 
 def explained(cure: str = "") -> Callable[[F], F]:
-    """Returns a decorator that explains calls with wrong arguments: the error lists the valid arguments and the remedy."""
+    """Returns a decorator that explains calls with wrong arguments: the error lists the valid arguments and the remedy.
+    """
 
     def decorated(function: F) -> F:
         @functools.wraps(function)
@@ -72,7 +74,8 @@ def explained(cure: str = "") -> Callable[[F], F]:
 
 
 def misfit(function: Callable[..., Any], args: tuple[Any, ...], kwargs: Mapping[str, Any]) -> str:
-    """Returns the reason why a function does not accept these arguments, or the empty string if the function accepts them."""
+    """Returns the reason why a function does not accept these arguments, or the empty string if the function accepts
+    them."""
     # This check is slow, so it runs only after a mistake.
     import inspect
 
@@ -107,7 +110,8 @@ class NamesWhatThereIs:
 
         def __getattr__(self, name):
             if hasattr(type(self), name):
-                # The attribute exists: one of its property's statements raised AttributeError, which this call raises again.
+                # The attribute exists: one of its property's statements raised AttributeError, which this call raises
+                # again.
                 return object.__getattribute__(self, name)
             public = [one for one in dir(type(self)) if not one.startswith("_")]
             instead = self._INSTEAD.get(name) or meant(name, public) or self._INSTEAD.get("*", "")

@@ -1,7 +1,8 @@
-"""The current placement of a sweep: the faults that this process adds to the runs of a test, and where the records of the runs go.
+"""The current placement of a sweep: the faults that this process adds to the runs of a test, and where the records of
+the runs go.
 
-A sweep runs a test many times, each time in a new process and with the fault at a different attempt. Outside a sweep there is no
-placement, and this module does nothing.
+A sweep runs a test many times, each time in a new process and with the fault at a different attempt. Outside a sweep
+there is no placement, and this module does nothing.
 """
 
 import os
@@ -163,15 +164,15 @@ def at_sockets_of(interface: str) -> Optional[AtSockets]:
 
 
 def acknowledged_by(usual: "Ack") -> "Ack":
-    """Returns which nodes acknowledge frames: only the other nodes of the bus if the placement takes those nodes off the bus, else
-    the usual nodes."""
+    """Returns which nodes acknowledge frames: only the other nodes of the bus if the placement takes those nodes off
+    the bus, else the usual nodes."""
     is_noack = _current is not None and any(one.kind == "noack" for one in _current.outages)
     return "peers" if is_noack else usual
 
 
 def note_server(buses: Sequence[Sequence[str]], take_down: Callable[[Sequence[str], float, float], None]) -> None:
-    """Notes that the test has started a server with these buses. `take_down` is called with a list of interfaces, the time at which
-    they go down, and how many seconds they stay down."""
+    """Notes that the test has started a server with these buses. `take_down` is called with a list of interfaces, the
+    time at which they go down, and how many seconds they stay down."""
     for outage in _current.outages if _current else ():
         names = outage.among(buses)
         if names:

@@ -10,8 +10,8 @@ if TYPE_CHECKING:
 
 
 def profile_of(profile: object, message: "Optional[MessageFormat]") -> Profile:
-    """Returns the profile for a message. If `profile` is None, the attributes of the message define it. Raises ValueError if the
-    profile is unknown or does not suit the message."""
+    """Returns the profile for a message. If `profile` is None, the attributes of the message define it. Raises
+    ValueError if the profile is unknown or does not suit the message."""
     if profile is None:
         found = None if message is None else profile_in(message)
         if found is None:

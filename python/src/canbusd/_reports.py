@@ -22,7 +22,8 @@ def attach_to_allure(text: str, pages: Sequence[str]) -> None:
 
 
 def add_to_html(config: Any, report: Any, text: str, pages: Sequence[str]) -> None:
-    """Adds the steps, the facts about the buses, and links to their pages to the report of pytest-html, if that plugin is active.
+    """Adds the steps, the facts about the buses, and links to their pages to the report of pytest-html, if that plugin
+    is active.
 
     The additions are attached to pytest's report of the end of the test.
     """

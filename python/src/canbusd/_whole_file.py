@@ -19,13 +19,13 @@ NAMES_ONLY = (errno.EOPNOTSUPP, errno.EISDIR)
 
 @contextlib.contextmanager
 def replaced(path: Path, is_synced: bool = True) -> Iterator[BinaryIO]:
-    """Yields a file for the new content of this path, which replaces the old content after the block. If `is_synced` is true, the
-    new content is on the disk by then.
+    """Yields a file for the new content of this path, which replaces the old content after the block. If `is_synced` is
+    true, the new content is on the disk by then.
 
-    If the block raises an exception, or the process is killed, the old file stays unchanged, and no other file is left. The file
-    keeps its permissions and, if possible, its owner. A file without write permission is refused. A fifo or a device gets the
-    content after the block. A symbolic link to a file is refused: a new file would replace the link, and somebody else may have
-    chosen its target.
+    If the block raises an exception, or the process is killed, the old file stays unchanged, and no other file is left.
+    The file keeps its permissions and, if possible, its owner. A file without write permission is refused. A fifo or a
+    device gets the content after the block. A symbolic link to a file is refused: a new file would replace the link,
+    and somebody else may have chosen its target.
     """
     with named(path):
         old = checked(path)
@@ -35,8 +35,8 @@ def replaced(path: Path, is_synced: bool = True) -> Iterator[BinaryIO]:
 
 @contextlib.contextmanager
 def named(path: Path, is_its: bool = False) -> Iterator[None]:
-    """Adds the path of this file to an OSError that has no path. If `is_its` is true, the path also replaces a different path in
-    the error."""
+    """Adds the path of this file to an OSError that has no path. If `is_its` is true, the path also replaces a
+    different path in the error."""
     try:
         yield
     except OSError as fault:
@@ -46,8 +46,8 @@ def named(path: Path, is_its: bool = False) -> Iterator[None]:
 
 
 def checked(path: Path) -> Optional[os.stat_result]:
-    """Returns the status of the file at this path, or None if there is no file. Raises OSError for a symbolic link to a file, and
-    for a file without write permission."""
+    """Returns the status of the file at this path, or None if there is no file. Raises OSError for a symbolic link to a
+    file, and for a file without write permission."""
     try:
         old = os.stat(path)
     except FileNotFoundError:
@@ -85,8 +85,8 @@ def renamed(path: Path, old: Optional[os.stat_result], is_synced: bool) -> Itera
 
 
 def drafted(folder: int, name: str) -> tuple[int, bool]:
-    """Opens a new file in a folder. The file has this name only if the file system can't create files without a name; the second
-    result says whether it has the name."""
+    """Opens a new file in a folder. The file has this name only if the file system can't create files without a name;
+    the second result says whether it has the name."""
     # Without the folder OWN_FILES, a file without a name can't get a name later.
     if os.path.exists(OWN_FILES):
         try:

@@ -66,7 +66,8 @@ def set_of(names: Optional[str]) -> tuple[str, ...]:
 
 
 def write_files(texts: Mapping[Path, Optional[bytes]]) -> None:
-    """Writes each file completely or not at all, and continues after an error. Then raises BenchError with the first error."""
+    """Writes each file completely or not at all, and continues after an error. Then raises BenchError with the first
+    error."""
     faults: list[str] = []
     for path, text in texts.items():
         try:
@@ -151,7 +152,8 @@ class Bench(PassesTime, Dialogue, HasRestBus["BenchRestBus"], NamesWhatThereIs):
         self._busy_until = 0.0
 
     def _inside(self, config: bytes, capacity: int, why: Callable[[bytes], str]) -> Optional[Lines]:
-        """Returns the bench inside this process; None if the library refuses the arguments. The program then reports the reason."""
+        """Returns the bench inside this process; None if the library refuses the arguments. The program then reports
+        the reason."""
         try:
             return BenchInside(self.names, config, capacity, self._script, why)
         except BenchRefused:
@@ -220,8 +222,8 @@ class Bench(PassesTime, Dialogue, HasRestBus["BenchRestBus"], NamesWhatThereIs):
     def bus(self, channel: str, can_filters: Optional[Filters] = None, **options: Any) -> Session:
         """Opens a session on this interface like `open`. From now on, the bench's expectations can check its frames.
 
-        A test that uses this method, `send` and `recv` of the session, and the expectations of the bench runs unchanged on a
-        server. While it waits, only the simulated time of the bus passes.
+        A test that uses this method, `send` and `recv` of the session, and the expectations of the bench runs unchanged
+        on a server. While it waits, only the simulated time of the bus passes.
         """
         self._observing()
         return self.open(channel, can_filters, **options)
@@ -257,8 +259,8 @@ class Bench(PassesTime, Dialogue, HasRestBus["BenchRestBus"], NamesWhatThereIs):
 
         `interface` names an interface of the bus, as on a server with several buses.
 
-        Either all rules are added or none. Raises Refused if the bus would have more than 64 unused rules, and ValueError if a rule
-        is wrong.
+        Either all rules are added or none. Raises Refused if the bus would have more than 64 unused rules, and
+        ValueError if a rule is wrong.
         """
         rules = rules_of(faults)
         self._named(interface)
@@ -280,8 +282,8 @@ class Bench(PassesTime, Dialogue, HasRestBus["BenchRestBus"], NamesWhatThereIs):
     def attempt(self, at: Union[str, float, None] = None) -> Optional[Attempt]:
         """Puts the frame that wins arbitration on the bus, and returns the attempt; None if no frame is queued.
 
-        `at` is the time of the attempt in seconds. Without `at`, the time of the last call is used again, which is 0 at first. An
-        attempt that only restarts an interface, without a frame, is returned with the outcome `idle`.
+        `at` is the time of the attempt in seconds. Without `at`, the time of the last call is used again, which is 0 at
+        first. An attempt that only restarts an interface, without a frame, is returned with the outcome `idle`.
         """
         with self._turn:
             self._write("attempt", at)
@@ -296,11 +298,11 @@ class Bench(PassesTime, Dialogue, HasRestBus["BenchRestBus"], NamesWhatThereIs):
         return attempt
 
     def run(self, most: int = 100_000, *, until: Union[str, float, None] = None) -> list[Attempt]:
-        """Makes attempts until no frame is queued, and returns them. Raises RuntimeError if frames are still queued after `most`
-        attempts.
+        """Makes attempts until no frame is queued, and returns them. Raises RuntimeError if frames are still queued
+        after `most` attempts.
 
-        On a bus with a `bitrate`, `until` may be given instead: then only the attempts that begin before that time are made,
-        however many there are, and the time of the bench is `until` afterwards.
+        On a bus with a `bitrate`, `until` may be given instead: then only the attempts that begin before that time are
+        made, however many there are, and the time of the bench is `until` afterwards.
         """
         if until is not None:
             return self._run_until(moment_text(until, "until"))
@@ -342,8 +344,8 @@ class Bench(PassesTime, Dialogue, HasRestBus["BenchRestBus"], NamesWhatThereIs):
         return attempts
 
     def _begin_before(self, moment: str) -> list[Attempt]:
-        """Makes all attempts that begin before a time, and sets the bench to that time. The `echo` reply marks the end of their
-        lines."""
+        """Makes all attempts that begin before a time, and sets the bench to that time. The `echo` reply marks the end
+        of their lines."""
         lines: list[str] = []
         with self._turn:
             last = min(self._sessions, MOST_SESSIONS)
@@ -394,8 +396,8 @@ class Bench(PassesTime, Dialogue, HasRestBus["BenchRestBus"], NamesWhatThereIs):
         return self._path(ending)
 
     def _write_files(self) -> None:
-        """Writes the record and the log to files, unless this was done before. With an `out` folder this happens when the run ends,
-        else when a file is first needed."""
+        """Writes the record and the log to files, unless this was done before. With an `out` folder this happens when
+        the run ends, else when a file is first needed."""
         if not self._has_files:
             self._has_files = True
             write_files({self._path(ending): self._lines.left(ending) for ending in ("rec", "log")})
@@ -404,7 +406,8 @@ class Bench(PassesTime, Dialogue, HasRestBus["BenchRestBus"], NamesWhatThereIs):
         return self._out / f"{self.names[0]}.{ending}"
 
     def _attempt_of(self, words: "re.Match[str]") -> Optional[Attempt]:
-        """Returns the attempt that a matched line describes; None if the line is `idle` and no interface was restarted."""
+        """Returns the attempt that a matched line describes; None if the line is `idle` and no interface was restarted.
+        """
         winner, digits, outcome, accepted, off, again, at, fault, rule = words.groups()
         moment, restarted = float(at or self._moment), set_of(again)
         self._busy_until = moment

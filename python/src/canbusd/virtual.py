@@ -9,8 +9,8 @@ import warnings
 from collections.abc import Iterable, Sequence
 from typing import Optional
 
-#: The variables that canbusd-run sets for programs in virtual time: the name of its shared memory, and the options that
-#: repeat the run.
+#: The variables that canbusd-run sets for programs in virtual time: the path of the run's shared memory, and the
+#: options that repeat the run.
 SETTING, OPTIONS = "CANBUSD_RUN_VIRTUAL", "CANBUSD_RUN_OPTIONS"
 
 
