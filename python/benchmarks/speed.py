@@ -1,14 +1,15 @@
 #!/usr/bin/env python3
-"""Measures the interface `canbusd` beside python-can's `virtual` and its `socketcand` client, in one run.
+"""Compares the interface `canbusd` with python-can's `virtual` interface and its `socketcand` client, in one run.
 
     CANBUSD=/path/to/canbusd PYTHONPATH=python/src python3 python/benchmarks/speed.py
 
-Round trips: a frame there and one back, in one thread. Latency: half of such a round trip, its median and its 99th
-percentile. Bursts: frames that one thread sends and another receives, in parts, the next once the last frame of a part
-has arrived; the run ends at the first loss. Of several runs the best counts, and all losses.
+Round trip: one thread sends a frame and receives a frame back. Latency: half of a round trip, as median and 99th
+percentile. Burst: one thread sends frames in parts, and another thread receives them; the next part is sent after the
+last frame of a part has arrived. A burst ends at the first loss. The best of several runs counts, and losses are added
+up.
 
-With PYTHONPATH=DIR/python/src, after `git archive COMMIT python/src | tar x -C DIR`, it measures the package of another
-commit with the same program. Two packages are compared in turn, several times, on a machine without other work.
+To measure the package of another commit with the same program, run `git archive COMMIT python/src | tar x -C DIR` and
+set PYTHONPATH=DIR/python/src. To compare two packages, measure them alternately, several times, on an idle machine.
 """
 
 import argparse

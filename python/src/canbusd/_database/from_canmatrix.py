@@ -29,7 +29,7 @@ def messages_in(path: str) -> Iterator[MessageFormat]:
         matrices = formats.loadp(path)
     left_out = LEFT_OUT.search(printed.getvalue())
     if left_out:
-        # canmatrix may print the wrong line number if a line of values precedes.
+        # The line number that canmatrix prints may be wrong because of a line of values, so this searches for the line.
         number = next((number for number, line in lines_of(path) if repr(line) == left_out[1]), 0)
         raise LineFault(number, shown(ast.literal_eval(left_out[1]).decode("latin-1").strip()))
     if not matrices:
