@@ -52,7 +52,7 @@ class AtSockets(NamedTuple):
         return is_it and self.kind != "full"
 
     def is_sent(self, message: str) -> bool:
-        """Returns whether a message sends this frame, and the time of the fault has come."""
+        """Returns whether a message sends this frame at or after the time of the fault."""
         is_it = message.split(" ", 2)[:2] == ["send", self.identifier]
         return is_it and self.kind == "full" and time.time() >= float(self.moment)
 

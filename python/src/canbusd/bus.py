@@ -316,19 +316,20 @@ class CanbusdBus(InjectsFaults, NamesWhatThereIs, BusABC):
         self._session.send_many([self._command(msg) for msg in msgs], self.window, timeout)
 
     def set_filters(self, filters: Optional[Filters] = None) -> None:
-        """Receives messages that match one of these filters, by the rules of linux/can.h; all messages if there is no
-        filter.
+        """Receives only messages that match one of these filters, by the rules of linux/can.h; all messages without
+        filters.
 
-        If a filter has ``extended``, only frames of 29 bits match it, or only those of 11 bits; remote frames match
-        as data frames do. Bit 29 of ``can_id`` inverts a filter. Error message frames are not filtered.
+        A filter with ``extended`` matches only frames with 29 bits if it is true, and only frames with 11 bits if it is
+        false. Remote frames are matched in the same way as data frames. Bit 29 of ``can_id`` inverts a filter. Error
+        message frames are not filtered.
         """
         super().set_filters(filters)  # type: ignore[arg-type]
 
     @property
     def state(self) -> BusState:
-        """The state of the interface: ACTIVE up to error warning, PASSIVE, or ERROR if it is bus off or down.
+        """The state of the interface: ACTIVE (also for error warning), PASSIVE, or ERROR if it is bus off or down.
 
-        Setting ACTIVE brings the interface back from both; no other state can be set.
+        Setting ACTIVE restarts the interface after bus off, or brings it up if it is down. No other state can be set.
         """
         return BUS_STATES[self.error_counters().state]
 
@@ -341,7 +342,8 @@ class CanbusdBus(InjectsFaults, NamesWhatThereIs, BusABC):
         self._session.restart(is_needed=False)
 
     def restart(self) -> None:
-        """Brings the interface back from bus off, or up; raises CanOperationError if it is neither bus off nor down."""
+        """Restarts the interface after bus off, or brings it up if it is down. Raises CanOperationError in any other
+        state."""
         self._session.restart()
 
     def down(self) -> None:
@@ -353,8 +355,8 @@ class CanbusdBus(InjectsFaults, NamesWhatThereIs, BusABC):
         self._session.down()
 
     def up(self) -> None:
-        """Brings the interface up, or back from bus off. Both error counters are then 0. The interface may already be
-        up."""
+        """Brings the interface up, or restarts it after bus off. Both error counters are then 0. The interface may
+        already be up."""
         self._session.up()
 
     def error_counters(self) -> ErrorCounters:

@@ -23,7 +23,7 @@ is 1 then.
   canbusd bench tester,can0 < run.bench
 """
 MOST_INTERFACES = 16
-# The most bytes that `canbusd bench` reads.
+# The maximum size of an input that `canbusd bench` reads, in bytes.
 MOST_BYTES = 16777216
 # The maximum number of omitted lines that are reported individually.
 MOST_NAMED = 100

@@ -331,7 +331,7 @@ def without_origin(message: str) -> tuple[str, Optional[int]]:
 
 @functools.lru_cache(maxsize=4096)
 def fields_of(kind: str, digits: str) -> dict[str, object]:
-    """Returns the fields that the first words of a message give a frame."""
+    """Returns the fields of a frame that are determined by the first words of its message."""
     return vars(frame_of_message(Frame, *kind.split(" "), digits, "0.0", "0" if kind == "remote" else ""))
 
 

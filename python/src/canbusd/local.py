@@ -408,7 +408,7 @@ class LocalBus(NamesWhatThereIs):
         return ErrorCounters(STATES[state], tec, rec)
 
     def restart(self, channel: str) -> None:
-        """Brings an interface back from bus off, or up."""
+        """Restarts an interface after bus off, or brings it up if it is down."""
         self._call("restart", self._iface(channel), self.moment)
 
     def down(self, channel: str) -> None:

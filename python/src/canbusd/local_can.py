@@ -66,7 +66,7 @@ class LocalCanbusdBus(BusABC):
             self.restart()
 
     def restart(self) -> None:
-        """Brings the interface back from bus off, or up."""
+        """Restarts the interface after bus off, or brings it up if it is down."""
         self.local.restart(self.channel)
 
     def down(self) -> None:

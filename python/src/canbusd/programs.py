@@ -42,8 +42,8 @@ def words_of(words: Words) -> list[str]:
 
 
 def check_no_shell(arguments: dict[str, Any]) -> None:
-    """Raises ValueError if `shell` is given. With a shell, the started program would be the shell, and the CAN sockets
-    on the server would be the shell's."""
+    """Raises ValueError if `shell` is true. To use a shell, a test runs it as the program: its CAN sockets are then on
+    the server, too."""
     if arguments.get("shell"):
         raise ValueError("shell=True: a shell is a program, too: ['sh', '-c', 'cangen can0 | ..']")
 

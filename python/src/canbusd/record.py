@@ -61,7 +61,7 @@ class Attempt:
 
 @dataclass(frozen=True)
 class Item:
-    """A frame or an error message frame that an interface delivered to a socket, and whether a program read it."""
+    """A frame or an error message frame that was delivered to a socket or dropped, and what happened to it."""
 
     interface: str
     #: The number of the socket, from 0 in the order in which sockets were opened.
@@ -191,8 +191,8 @@ def parse_record(
     cut: bool = False,
     rates: Optional[Rates] = None,
 ) -> Record:
-    """Returns the record in these bytes, like read_record. The log of the interface names may be next to the file
-    `path`."""
+    """Returns the record in these bytes, like read_record. A log with interface names may be next to the file `path`.
+    """
     with Events(cut, rates) as events:
         return record_of(events.texts(data), data[: data.rfind(b"\n") + 1], path, names, rates)
 

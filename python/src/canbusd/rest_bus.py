@@ -123,8 +123,8 @@ class RestMessage(NamesWhatThereIs):
         self._function: Optional[Callable[[Outgoing], None]] = None
         self._protection: Optional[Protection] = None
         self._tick: Callable[[int], None] = functools.partial(self._send_due, 0)
-        # The number of the current start or stop, which makes scheduled calls of earlier ones invalid, and the number
-        # of each signal's current table.
+        # A counter that `stop` increments, so that calls that were scheduled before are ignored; and the number of each
+        # signal's current table.
         self._run, self._tables = 0, dict[str, int]()
         # For each signal that follows a shape: the shape, and the time at which it began.
         self._shapes: dict[str, Playing] = {}

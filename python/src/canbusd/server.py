@@ -229,8 +229,9 @@ class Server(Expectations, SimulatesNodes, RunsPrograms, HasProgram, Run, NamesW
         """Returns the node of this interface, which can leave the bus and return. `programs` are the programs of the
         node, started by :meth:`start`: ``server.node("ecu", server.start("./ecu can0"))``.
 
-        ``node.power_off()`` kills the programs, and ``power_on()`` starts them again. After ``sleep()``, ``wake()`` and
-        ``with node.unplugged():`` they keep running. An interface has one node; later calls may add programs to it.
+        ``node.power_off()`` kills the programs, and ``power_on()`` starts them again. ``sleep()``, ``wake()`` and
+        ``with node.unplugged():`` do not stop the programs. An interface has one node; later calls may add programs to
+        it.
         """
         self._first(str(name))
         node = self._nodes.setdefault(name, Node(self, name))

@@ -56,8 +56,8 @@ class Watch:
         self._session.up(self._moment())
 
     def _moment(self) -> Optional[float]:
-        """Returns the current time of a bench without bit rate; None for a bench with a bit rate, whose time is then
-        used."""
+        """Returns the current time of a bench without a bit rate. For a bench with a bit rate, returns None, because
+        the bench has set its own time."""
         bench = self._session._bench
         return bench.now if bench._rates is None else None
 

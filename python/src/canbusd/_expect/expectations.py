@@ -129,8 +129,8 @@ class Expectations(Supervision):
 
     @explained()
     def up(self, name: str) -> None:
-        """Brings an interface up, or back from bus off. Both error counters are then 0. The interface may already be
-        up."""
+        """Brings an interface up, or restarts it after bus off. Both error counters are then 0. The interface may
+        already be up."""
         self._observing().session(name).up()
 
     @explained()

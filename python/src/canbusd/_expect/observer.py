@@ -414,7 +414,7 @@ class Observer:
             session.close()
 
     def _states(self) -> Iterator[str]:
-        """Yields a text for each interface that had an error, or whose queue still has frames."""
+        """Yields the state and the counts of each interface that has had errors, or has queued or lost frames."""
         for name in self._all:
             try:
                 session = self.session(name)
