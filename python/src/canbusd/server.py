@@ -89,7 +89,8 @@ class Server(Expectations, SimulatesNodes, RunsPrograms, HasProgram, Run, NamesW
     ``out`` is a folder for logs and records; without it, they are deleted together with the server object. With
     ``record="live"`` the server writes logs and records while it runs, ``flush`` milliseconds (100) after each call,
     and :meth:`log`, :meth:`record` and :meth:`attempts` return the data so far. With ``record="none"`` it writes logs
-    in the same way, but no record. Then a run may continue for weeks, and ``limit`` (1,000,000 entries) does not apply.
+    in the same way, but no record, so that a run may continue for weeks. Only with the default, ``record="end"``, a
+    ``limit`` may be given (default: 1,000,000 entries).
 
     With a ``bitrate``, an attempt takes as long as its bits, and ``pace_ms`` is not used. With a ``data_bitrate``, also
     called ``dbitrate``, FD frames with ``bitrate_switch`` use that rate for their data. Each rate is a number for all

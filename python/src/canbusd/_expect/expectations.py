@@ -32,7 +32,7 @@ if TYPE_CHECKING:
 
     from canbusd._expect.observer import Observer, Watching
 
-#: An interface is bus off from this transmit error count on, and each destroyed frame adds this number to the count.
+#: An interface is bus off from a transmit error count of OFF on. Each destroyed frame adds DESTROYED to the count.
 OFF, DESTROYED = 256, 8
 
 T = TypeVar("T")

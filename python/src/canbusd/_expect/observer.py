@@ -31,7 +31,7 @@ MOST_WITH_STATES = 16
 # processes FRAMES_AT_ONCE of them, and then pauses so that other threads can run, such as the thread of a rest bus.
 MOST_UNREAD_FRAMES, FRAMES_AT_ONCE, PAUSE_SECONDS = 20_000, 16, 0.0001
 
-#: How many earlier frames are searched for a missing expected frame.
+#: How many earlier frames are searched to find out whether a missing frame has arrived before.
 MOST_TAKEN = 10_000
 IN_ORDER = (
     "expectations look after the frame that the last one returned: expect frames in their order, or by expect_sequence"

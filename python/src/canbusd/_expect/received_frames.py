@@ -58,8 +58,8 @@ class Seen:
 def without_copies(frames: Iterable[Seen]) -> Iterator[Seen]:
     """Yields frames without the second copies that receivers get after a fault in the last bit of the end of frame.
 
-    A second copy is the next frame of its sender, and has the same number as the first copy. So the sender sends no
-    other frame between the two copies.
+    A second copy is the next frame of its sender, and has the same number as the first copy. So no other frame with the
+    same identifier and data is between the two copies.
     """
     numbers: dict[tuple[str, ...], str] = {}
     for seen in frames:

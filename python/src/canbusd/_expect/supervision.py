@@ -80,9 +80,9 @@ class Supervision:
 
         `count` is the number of gaps. Each gap must be as long as the `period`, within the `tolerance`, which is a
         tenth of the period by default. The frames are those since the last expectation. Their timestamps on the bus are
-        compared, so it does not matter how late the test calls this method. Raises AssertionError that shows each wrong
-        gap. Also raises it if not enough frames arrive within `within` seconds; the default is the time of the periods
-        plus one second.
+        compared, so it does not matter how late the test calls this method. Raises AssertionError if gaps are wrong;
+        the error shows each wrong gap. Also raises it if not enough frames arrive within `within` seconds; the default
+        is the time of the periods plus one second.
         """
         __tracebackhide__ = True
         check_within(period, "period")
@@ -129,7 +129,8 @@ class Supervision:
         `profile` is a profile of canbusd.e2e, such as ``e2e.Profile1(data_id=0x123)``. By default, the attributes of
         the message in the database define it. The frames are those since the last expectation, and those that arrive
         within `within` seconds. The counter of the first frame must follow the counter of the previous frame if that
-        frame was expected. Raises AssertionError that shows each wrong frame and what is wrong with it.
+        frame was expected. Raises AssertionError if frames are wrong; the error shows each wrong frame and what is
+        wrong with it.
         """
         __tracebackhide__ = True
         check_within(within)
@@ -177,7 +178,8 @@ class Supervision:
         before the shape are ignored. The `tolerance` is in units of the signal; the default is a hundredth of the
         difference between the shape's ends. A value may be up to `late` seconds late. Without a shape, all values in
         these seconds are returned. They must be `between` two values, by default within the limits of the database.
-        Raises AssertionError that says how far the signal followed the shape, or which value is outside the limits.
+        Otherwise raises AssertionError; the error says how far the signal followed the shape, or which value is outside
+        the limits.
         """
         __tracebackhide__ = True
         check_within(within)
@@ -289,8 +291,8 @@ class Supervision:
 
         A step is an identifier, the name of a message, or a dict with arguments of `expect`, such as ``{"id": 0x123,
         "data": b"\\\\x01"}``. Between the first and the last step, any other frame is allowed; if `between` is given,
-        only the frames in it. Error message frames are always allowed. Raises AssertionError that names the missing
-        step, or the frame that is not allowed.
+        only the frames in it. Error message frames are always allowed. Otherwise raises AssertionError; the error names
+        the missing step, or the frame that is not allowed.
         """
         __tracebackhide__ = True
         if not steps:
