@@ -18,9 +18,10 @@ read_record    reads from a record what happened on a bus: a Record of Attempts
 step           names a step of a test, for the test's report
 is_virtual     whether this process runs in virtual time
 
-Other modules: canbusd.uds has a simulated ECU and a UDS client, canbusd.e2e has counters and checksums of messages, canbusd.shapes
-has signal values over time, canbusd.pytest_plugin has the fixture `canbusd`, and canbusd.strategies has frames and faults for
-Hypothesis. A name is imported when it is first used: only CanbusdBus and logs need python-can, and only the plugin needs pytest.
+Other modules: canbusd.uds has a simulated ECU and a UDS client, canbusd.e2e has counters and checksums of messages,
+canbusd.shapes has signal values over time, canbusd.pytest_plugin has the fixture `canbusd`, and canbusd.strategies has
+frames and faults for Hypothesis. A name is imported when it is first used: only CanbusdBus and logs need python-can,
+and only the plugin needs pytest.
 """
 
 import importlib

@@ -282,9 +282,9 @@ class CanbusdBus(InjectsFaults, NamesWhatThereIs, BusABC):
         As on a bench, the message may be a Frame, or an identifier followed by its data: ``send(0x123, b"\\x01")``. An
         identifier above 7FF has 29 bits.
 
-        :param timeout: how many seconds to wait if the transmit queue is full; without it, a full queue is an error at once
-        :raises ~can.exceptions.CanOperationError: if the server refuses the message; the ``error_code`` is ``ENOBUFS`` for
-            ``no buffers``, and ``ENETDOWN`` for ``bus off`` and ``interface down``
+        :param timeout: how many seconds to wait for room in a full transmit queue; without it, a full queue is an error
+        :raises ~can.exceptions.CanOperationError: if the server refuses the message; the ``error_code`` is ``ENOBUFS``
+            for ``no buffers``, and ``ENETDOWN`` for ``bus off`` and ``interface down``
         :raises ~can.exceptions.CanTimeoutError: if the queue was full until the timeout, or the server did not answer
         :raises ValueError: if this bus can't send the message
         """

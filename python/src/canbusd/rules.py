@@ -93,7 +93,7 @@ def is_rule(line: str) -> bool:
 
 
 def parse_rule(text: str) -> Rule:
-    """Returns the rule in this text. Raises ValueError that names the wrong word."""
+    """Returns the rule in this text. If the rule is wrong, raises ValueError that names the wrong word."""
     words = text.split(" ")
     try:
         count = count_of(words)
