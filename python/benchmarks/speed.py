@@ -80,8 +80,7 @@ def send_together(bus, frames):
 
 
 def burst(one, other, count, part, send):
-    """Sends `count` frames in bursts of `part`. Returns the received frames per second, and the number of lost frames.
-    """
+    """Sends `count` frames in bursts of `part`. Returns the received frames per second, and the number of lost frames."""
     frames = [frame(number) for number in range(count)]
     got = sent = 0
     arrived = threading.Semaphore(0)

@@ -29,8 +29,7 @@ canbusd-run runs programs with CAN sockets, such as candump; candump2bench turns
 
 
 def module_of(name: str) -> Any:
-    """Returns the module of a command. No other command's module is imported, because reports do not need python-can.
-    """
+    """Returns the module of a command. No other command's module is imported, because reports do not need python-can."""
     return importlib.import_module(f"canbusd.commands.{name}")
 
 

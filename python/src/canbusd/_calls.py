@@ -46,15 +46,13 @@ def meant(word: str, known: Iterable[str]) -> str:
 
 
 def no_such(kind: str, word: str, known: Iterable[str]) -> str:
-    """Returns the error text for an unknown name, with the names that exist: `no option pace (pace_ms?); there are ..`.
-    """
+    """Returns the error text for an unknown name, with the names that exist: `no option pace (pace_ms?); there are ..`."""
     names = list(known)
     return f"no {kind} {word}{meant(word, names)}; there are {', '.join(names) or 'none'}"
 
 
 def explained(cure: str = "") -> Callable[[F], F]:
-    """Returns a decorator that explains calls with wrong arguments: the error lists the valid arguments and the remedy.
-    """
+    """Returns a decorator that explains calls with wrong arguments: the error lists the valid arguments and the remedy."""
 
     def decorated(function: F) -> F:
         @functools.wraps(function)

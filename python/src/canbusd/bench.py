@@ -406,8 +406,7 @@ class Bench(PassesTime, Dialogue, HasRestBus["BenchRestBus"], NamesWhatThereIs):
         return self._out / f"{self.names[0]}.{ending}"
 
     def _attempt_of(self, words: "re.Match[str]") -> Optional[Attempt]:
-        """Returns the attempt that a matched line describes; None if the line is `idle` and no interface was restarted.
-        """
+        """Returns the attempt that a matched line describes; None if the line is `idle` and no interface was restarted."""
         winner, digits, outcome, accepted, off, again, at, fault, rule = words.groups()
         moment, restarted = float(at or self._moment), set_of(again)
         self._busy_until = moment

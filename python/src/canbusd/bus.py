@@ -152,8 +152,7 @@ class CanbusdBus(InjectsFaults, NamesWhatThereIs, BusABC):
     }
 
     def __new__(cls, *args: Any, local: Optional["LocalBus"] = None, **kwargs: Any) -> Any:
-        """Returns a bus of a server. With `local`, returns a `LocalCanbusdBus`, which uses a bus inside this process.
-        """
+        """Returns a bus of a server. With `local`, returns a `LocalCanbusdBus`, which uses a bus inside this process."""
         if local is None:
             return super().__new__(cls)
         from canbusd.local_can import LocalCanbusdBus
@@ -233,8 +232,7 @@ class CanbusdBus(InjectsFaults, NamesWhatThereIs, BusABC):
         self._lock_send_periodic = threading.Lock()
 
     def _compare(self, rates: Mapping[str, int]) -> None:
-        """Warns if the server's bit rates differ from the given ones. The server is asked only if bit rates are given.
-        """
+        """Warns if the server's bit rates differ from the given ones. The server is asked only if bit rates are given."""
         load = load_of(self._session.answer("load")) if rates else None
         if load is None:
             # An older server does not report bit rates.

@@ -336,16 +336,14 @@ def fields_of(kind: str, digits: str) -> dict[str, object]:
 
 
 def with_fields(fields: dict[str, object]) -> Frame:
-    """Returns the frame with these fields without checking them. The constructor of the frozen dataclass takes longer.
-    """
+    """Returns the frame with these fields without checking them. The constructor of the frozen dataclass takes longer."""
     frame = NEW(Frame)
     SET(frame, "__dict__", fields)
     return frame
 
 
 def frame_of(message: str) -> Optional[Frame]:
-    """Returns the frame in a session's message, which is given without `<` and `>`; None if the message is an answer.
-    """
+    """Returns the frame in a session's message, which is given without `<` and `>`; None if the message is an answer."""
     words = MESSAGE.fullmatch(message.strip())
     if not words:
         return None

@@ -227,8 +227,7 @@ class UnusedMarker(pytest.PytestWarning):
 
 
 class StartsServer(Protocol):
-    """The type of the fixture `canbusd_server`, which starts a server with these buses and with the options of Server.
-    """
+    """The type of the fixture `canbusd_server`, which starts a server with these buses and with the options of Server."""
 
     def __call__(self, *buses: str, **options: Any) -> "Server":
         """Starts a server."""
@@ -366,8 +365,7 @@ class Runs:
                 yield from (rule for rule in unused_rules(names, faults) if str(rule) not in given)
 
     def _report(self) -> None:
-        """Adds the facts about each bus and program to the test's report, and to the test's properties in a JUnit file.
-        """
+        """Adds the facts about each bus and program to the test's report, and to the test's properties in a JUnit file."""
         facts = [self._facts(path, run, names) for path, (run, names) in self._records.items()]
         facts += [{"program": program.shown().splitlines()} for run in self._runs for program in programs_of(run)]
         sections = []
@@ -386,8 +384,7 @@ class Runs:
         self._item.add_report_section("teardown", "canbusd", text)
 
     def _from_junit(self, page: str) -> str:
-        """Returns the path of a page relative to the folder of the JUnit file, so that the two can be copied together.
-        """
+        """Returns the path of a page relative to the folder of the JUnit file, so that the two can be copied together."""
         file = self._item.config.getoption("xmlpath", None)
         return os.path.relpath(page, os.path.dirname(os.path.abspath(file)) if file else None)
 

@@ -191,8 +191,7 @@ def parse_record(
     cut: bool = False,
     rates: Optional[Rates] = None,
 ) -> Record:
-    """Returns the record in these bytes, like read_record. A log with interface names may be next to the file `path`.
-    """
+    """Returns the record in these bytes, like read_record. A log with interface names may be next to the file `path`."""
     with Events(cut, rates) as events:
         return record_of(events.texts(data), data[: data.rfind(b"\n") + 1], path, names, rates)
 
@@ -242,8 +241,7 @@ def timed(run: Replay, rates: Rates) -> Replay:
 
 
 def names_of(run: Replay, path: Optional[Path], given: Optional[Sequence[str]]) -> tuple[str, ...]:
-    """Returns the names of the interfaces: the given names, else the names in the log next to the record, else numbers.
-    """
+    """Returns the names of the interfaces: the given names, else the names in the log next to the record, else numbers."""
     if given is not None:
         names = given.split(",") if isinstance(given, str) else given
         if len(names) != len(run.ifaces):

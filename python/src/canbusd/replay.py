@@ -240,8 +240,7 @@ class Replay:
         return found
 
     def _place_texts(self, chunk: Chunk, first_item: int, unknown: Sequence[Drop]) -> None:
-        """Assigns indexes to the frames and error message frames of a chunk, and to items whose content no line shows.
-        """
+        """Assigns indexes to the frames and error message frames of a chunk, and to items whose content no line shows."""
         errors, before = self.items.errors, len(chunk.texts)
         if unknown and UNKNOWN not in self.texts:
             # UNKNOWN gets an index after the texts of all steps and items that come before the first unknown item.

@@ -372,8 +372,7 @@ class RestBus(NamesWhatThereIs):
 
     @explained("values are a dict, such as {'EngineSpeed': 800}")
     def send(self, message: str, values: Optional[Mapping[str, Value]] = None) -> None:
-        """Sets these values, and sends one frame of a message now, as if triggered by an event. The values remain set.
-        """
+        """Sets these values, and sends one frame of a message now, as if triggered by an event. The values remain set."""
         self.message(message).send(values)
 
     def start(self, name: Optional[str] = None) -> None:

@@ -15,8 +15,7 @@ SETTING, OPTIONS = "CANBUSD_RUN_VIRTUAL", "CANBUSD_RUN_OPTIONS"
 
 
 def is_virtual() -> bool:
-    """Returns whether this process runs in virtual time, because of ``canbusd-run --virtual`` or ``--canbusd-virtual``.
-    """
+    """Returns whether this process runs in virtual time, because of ``canbusd-run --virtual`` or ``--canbusd-virtual``."""
     return bool(os.environ.get(SETTING))
 
 

@@ -210,8 +210,7 @@ class MessageFormat:
 
     @property
     def is_cyclic(self) -> bool:
-        """Whether the message is sent at its cycle time: it has a cycle time, and its send type does not name an event.
-        """
+        """Whether the message is sent at its cycle time: it has a cycle time, and its send type does not name an event."""
         kind = self.send_type.lower()
         is_event = any(word in kind for word in EVENTS) and not any(word in kind for word in PERIODS)
         return self.cycle_time > 0 and not is_event

@@ -182,8 +182,7 @@ class PassesTime(Expectations):
         self._observing().session(self._named(interface)).end_rules()
 
     def _named(self, interface: Optional[str], what: str = "interface") -> str:
-        """Returns the given interface; the first interface if None. Raises ValueError if the bus has no such interface.
-        """
+        """Returns the given interface; the first interface if None. Raises ValueError if the bus has no such interface."""
         if interface is not None and interface not in self.names:
             raise ValueError(f"{what} is an interface of the bench, one of {', '.join(self.names)}, not {interface!r}")
         return interface or self.names[0]

@@ -320,8 +320,7 @@ class Drive:
         return f"{now}, and did not go bus off within {seconds_words(timeout)}: {self._reason(counters, stats)}{others}"
 
     def end_rule(self) -> None:
-        """Ends the injected rule if it is the only rule of the bus, because a bus can only end all its rules together.
-        """
+        """Ends the injected rule if it is the only rule of the bus, because a bus can only end all its rules together."""
         if self._is_only(self._bus.rules_left()):
             self._bus.end_rules()
 

@@ -320,8 +320,7 @@ class Observer:
         return self.wait(lambda: self.came_into(name, state, is_settled=True), may_be, within)
 
     def came_into(self, name: str, state: str, is_settled: bool = False) -> Optional[StateSeen]:
-        """Returns the first time that an interface entered a state after the last expected state; None if it did not.
-        """
+        """Returns the first time that an interface entered a state after the last expected state; None if it did not."""
         if not is_settled:
             self.settle()
         counters = self.session(name).error_counters()

@@ -195,8 +195,7 @@ class Received:
                 self.arrived += 1
 
     def begin(self, name: str, counters: ErrorCounters) -> None:
-        """Adds the first known state of an interface before the states that error message frames have already reported.
-        """
+        """Adds the first known state of an interface before the states that error message frames have already reported."""
         self.states.setdefault(name, []).insert(0, StateSeen(None, counters))
 
     def note_down(self, name: str, counters: ErrorCounters) -> None:

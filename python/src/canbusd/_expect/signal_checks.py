@@ -92,8 +92,7 @@ def limits_of(formats: Sequence[SignalFormat], between: Optional[Sequence[float]
 
 
 def number_of(value: Value, formats: Sequence[SignalFormat]) -> Optional[Decimal]:
-    """Returns a value as a number. For a name, returns the number that it stands for, or None if the name is unknown.
-    """
+    """Returns a value as a number. For a name, returns the number that it stands for, or None if the name is unknown."""
     if not isinstance(value, str):
         return Decimal(str(value))
     for one in formats:

@@ -22,8 +22,7 @@ ONLY_FOR: dict[str, str] = {"wrong number": CONSECUTIVE, "wait": FLOW_CONTROL, "
 
 @dataclass(frozen=True)
 class SegmentFault:
-    """A fault that is applied to a segment in each of the next messages with that segment. Use uds.fault to create one.
-    """
+    """A fault that is applied to a segment in each of the next messages with that segment. Use uds.fault to create one."""
 
     segment: str
     kind: Kind
