@@ -1,6 +1,8 @@
-"""Puts the programs into wheels, as `make install` takes them, with the launcher of servers; pyproject.toml says all else.
+"""Adds the programs, and the launcher of servers, to wheels. `scripts/` selects the same files as for `make install`.
+Everything else is in pyproject.toml.
 
-A source distribution has no clone around it, so a wheel that is made of one has no program, and is for any platform.
+A source distribution is not inside a clone. So a wheel that is built from it contains no program, and is for any
+platform.
 """
 
 import contextlib
@@ -18,25 +20,26 @@ except ImportError:
     # Before setuptools 70.1.
     from wheel.bdist_wheel import bdist_wheel
 
-# A copy of this folder that is built has a link to the scripts of the clone beside it.
+# If a copy of this folder is built, the scripts of the clone are found through a link next to the copy.
 SCRIPTS = (Path(__file__).resolve().parents[1] / "scripts").resolve()
 CLONE = SCRIPTS.parent
-# The proved program, and canbusd-run of dist/, take no symbols of a later glibc than 2.34 (`scripts/program glibc`).
+# The proved program, and the canbusd-run in dist/, need no glibc later than 2.34 (`scripts/program glibc`).
 LEAST_GLIBC = 34
 
 
 def said(script, verb):
-    """The lines that a script of the clone prints of the program that fits the sources at hand, built or of dist/."""
+    """Returns the lines that a script of the clone prints. They name the files that match the current sources, built
+    here or from dist/."""
     return subprocess.check_output([SCRIPTS / script, verb], text=True).splitlines()
 
 
 @functools.lru_cache(maxsize=None)
 def program_files():
-    """Returns the files of the folder `program` of the package; none outside of a clone."""
+    """Returns the files that are copied to the package's folder `program`; an empty list outside of a clone."""
     if not (SCRIPTS / "program").is_file():
         return []
     programs = said("program", "choose")
-    # Without a gcc, as it has said then, there may be no canbusd-run, as with `make install`.
+    # Without gcc there may be no canbusd-run, as with `make install`. The script has then printed the reason.
     with contextlib.suppress(subprocess.CalledProcessError):
         programs += said("run-program", "files")
     with contextlib.suppress(subprocess.CalledProcessError):
@@ -45,7 +48,7 @@ def program_files():
 
 
 class BuildWithProgram(build_py):
-    """Copies the program beside the modules. Where the package is used in place, it finds that of the clone."""
+    """Copies the program into the package. An editable install uses the program of its clone instead."""
 
     def run(self):
         super().run()
@@ -60,7 +63,7 @@ class BuildWithProgram(build_py):
 
 
 class PlatformWheel(bdist_wheel):
-    """Any Python 3, on the platform of the program."""
+    """A wheel for any Python 3, and for the platform of the program."""
 
     def get_tag(self):
         names = {file.name for file in program_files()}

@@ -1,9 +1,9 @@
-"""How punctual a rest bus is: 100 messages of 10 to 1,000 ms on a bus of 500 kbit/s, as a receiver sees them.
+"""Measures how punctual a rest bus is: a receiver gets 100 messages of 10 to 1,000 ms on a bus with 500 kbit/s.
 
     nice -n -10 python3 python/benchmarks/rest_bus.py [SECONDS]
 
-It prints how far the periods are from the cycle times, of all frames and of those of each cycle time: half of them are
-nearer than p50, 99 % nearer than p99.
+The output shows how much the periods deviate from the cycle times, for all frames and for each cycle time. Half of the
+deviations are below p50, and 99 % are below p99.
 """
 
 import os
@@ -20,7 +20,8 @@ MICROS = 1_000_000
 
 
 def database(folder):
-    """Writes a file with these messages, of 8 bytes; returns the cycle time of each by its identifier."""
+    """Writes a DBC file with these messages of 8 bytes. Returns the path of the file, and the cycle time of each
+    message by identifier."""
     lines, cycles = ['VERSION ""\n\nBU_: Others ECU\n'], {}
     for cycle, count in CYCLES.items():
         for _ in range(count):

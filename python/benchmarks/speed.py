@@ -1,14 +1,15 @@
 #!/usr/bin/env python3
-"""Measures the interface `canbusd` beside python-can's `virtual` and its `socketcand` client, in one run.
+"""Compares the interface `canbusd` with python-can's `virtual` interface and its `socketcand` client, in one run.
 
     CANBUSD=/path/to/canbusd PYTHONPATH=python/src python3 python/benchmarks/speed.py
 
-Round trips: a frame there and one back, in one thread. Latency: half of such a round trip, its median and its 99th
-percentile. Bursts: frames that one thread sends and another receives, in parts, the next once the last frame of a part
-has arrived; the run ends at the first loss. Of several runs the best counts, and all losses.
+Round trip: one thread sends a frame and receives a frame back. Latency: half of a round trip, as median and 99th
+percentile. Burst: one thread sends frames in parts, and another thread receives them; the next part is sent after the
+last frame of a part has arrived. A burst ends at the first loss. The best of several runs counts, and losses are added
+up.
 
-With PYTHONPATH=DIR/python/src, after `git archive COMMIT python/src | tar x -C DIR`, it measures the package of another
-commit with the same program. Two packages are compared in turn, several times, on a machine without other work.
+To measure the package of another commit with the same program, run `git archive COMMIT python/src | tar x -C DIR` and
+set PYTHONPATH=DIR/python/src. To compare two packages, measure them alternately, several times, on an idle machine.
 """
 
 import argparse
@@ -22,7 +23,7 @@ import can
 from canbusd.server import Server
 
 RUNS = 3
-# Bursts of as many frames as python-can's socketcand client handles without a loss, and more.
+# The sizes of bursts: as many frames as python-can's socketcand client handles without loss, and a larger number.
 FEW, SOME = 15, 1000
 
 
@@ -58,7 +59,7 @@ def canbusd():
 
 
 def round_trips(one, other, count):
-    """Returns the duration of each of these round trips."""
+    """Makes `count` round trips, and returns the duration of each in seconds."""
     took = []
     for number in range(count):
         begun = time.perf_counter()
@@ -79,7 +80,7 @@ def send_together(bus, frames):
 
 
 def burst(one, other, count, part, send):
-    """Returns the number of frames that arrived each second, and the number of lost frames."""
+    """Sends `count` frames in bursts of `part`. Returns the received frames per second, and the number of lost frames."""
     frames = [frame(number) for number in range(count)]
     got = sent = 0
     arrived = threading.Semaphore(0)
@@ -105,8 +106,8 @@ def burst(one, other, count, part, send):
 
 
 def measured(interface, count, part, send):
-    """Returns the best of several runs: round trips a second, latencies, frames a second, and the total of lost
-    frames."""
+    """Returns the best of several runs: round trips per second, latencies and frames per second. Also returns the lost
+    frames of all runs."""
     rows, lost = [], 0
     for _ in range(RUNS):
         with interface() as (one, other):

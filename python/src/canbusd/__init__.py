@@ -5,23 +5,23 @@
             can0.send(can.Message(arbitration_id=0x123, data=[1, 2], is_extended_id=False))
             first, again = can1.recv(5), can1.recv(5)
 
-Server         a server of one bus or several: opens buses, runs programs, expects frames and states
-Bench          one bus, step by step: its time goes on with each attempt, and each run gives the same
+Server         a server with one or more buses: opens buses, runs programs, expects frames and states
+Bench          one bus, step by step: time advances with each attempt, and each run gives the same result
 Faults         rules that disturb frames, for a server, a bench or one test
 CanbusdBus     the bus that `can.Bus(interface="canbusd", channel="can0")` opens
-Frame          a frame as a bench and a record have it; `str()` of it is candump's spelling
-IsoTp          an end of a connection by ISO-TP, which `Server.isotp` opens
-RestBus        the messages of a database, sent as they are due: `Server.rest_bus`, `Bench.rest_bus`
-Program        a program that a test started: `Server.start`
-load_database  the messages and signals of a file of DBC, KCD, ARXML or SYM: a Database
-read_record    what happened on a bus, as its record has it: a Record of Attempts
-step           names a step of a test, for its report
+Frame          a frame of a bench or a record; `str()` returns candump's spelling
+IsoTp          one end of an ISO-TP connection, which `Server.isotp` opens
+RestBus        the messages of a database, sent at their cycle times: `Server.rest_bus`, `Bench.rest_bus`
+Program        a program that a test has started: `Server.start`
+load_database  loads the messages and signals of a DBC, KCD, ARXML or SYM file: a Database
+read_record    reads from a record what happened on a bus: a Record of Attempts
+step           names a step of a test, for the test's report
 is_virtual     whether this process runs in virtual time
 
-Modules beside these: canbusd.uds has a simulated ECU and a client of UDS, canbusd.e2e counters and checksums of messages,
-canbusd.shapes values of signals over time, canbusd.pytest_plugin the fixture `canbusd`, canbusd.strategies frames and faults
-for Hypothesis. A name is imported when it is first used: only CanbusdBus and logs need python-can, and only the plugin needs
-pytest.
+Other modules: canbusd.uds has a simulated ECU and a UDS client, canbusd.e2e has counters and checksums of messages,
+canbusd.shapes has signal values over time, canbusd.pytest_plugin has the fixture `canbusd`, and canbusd.strategies has
+frames and faults for Hypothesis. A name is imported when it is first used: only CanbusdBus and logs need python-can,
+and only the plugin needs pytest.
 """
 
 import importlib
@@ -29,7 +29,7 @@ import sys
 from typing import TYPE_CHECKING, Any
 
 if sys.version_info < (3, 9):
-    # Else the first module says that a type is not subscriptable.
+    # Without this check, the first error would be that a type is not subscriptable.
     raise ImportError("canbusd needs Python 3.9 or later, and this is %d.%d" % sys.version_info[:2])
 
 if TYPE_CHECKING:
@@ -49,7 +49,8 @@ if TYPE_CHECKING:
     from canbusd.steps import step
     from canbusd.virtual import is_virtual
 
-#: The version of the program and of the wheel, also in the name of the folder canbusd-*.dist-info beside this package.
+#: The version of the program and of the wheel. The folder canbusd-*.dist-info next to this package has the same
+#: version.
 __version__ = "0.3.0"
 
 __all__ = [
@@ -103,7 +104,7 @@ _HOMES = {
     "virtual": ["is_virtual"],
 }
 
-#: Modules that a test has names of by `from canbusd import uds`.
+#: The modules that a test can import from this package, such as `from canbusd import uds`.
 _MODULES = ["e2e", "shapes", "uds"]
 
 

@@ -29,12 +29,12 @@ canbusd-run runs programs with CAN sockets, such as candump; candump2bench turns
 
 
 def module_of(name: str) -> Any:
-    """Returns the module of a command. Only this module is imported: reports need no python-can."""
+    """Returns the module of a command. No other command's module is imported, because reports do not need python-can."""
     return importlib.import_module(f"canbusd.commands.{name}")
 
 
 def parser_of(name: str) -> argparse.ArgumentParser:
-    """Returns the parser of a command."""
+    """Returns the argument parser of a command."""
     module = module_of(name)
     parser = argparse.ArgumentParser(
         prog=f"canbusd {name}",
@@ -47,12 +47,12 @@ def parser_of(name: str) -> argparse.ArgumentParser:
 
 
 def help_text() -> str:
-    """Returns the list of commands, one on each line, and the way to get more help."""
+    """Returns the list of commands, one on each line, and how to get more help."""
     return TEXT.format(commands="\n".join(f"  {name:<9}{text}" for name, text in COMMANDS.items()))
 
 
 def version_text() -> str:
-    """Returns the version, and the commit from which an installed package was made."""
+    """Returns the version. For an installed package, the text also has the commit that it was built from."""
     try:
         commit = (Path(__file__).parent / "COMMIT").read_text(encoding="utf-8").strip()
     except OSError:
@@ -61,7 +61,7 @@ def version_text() -> str:
 
 
 def main_parser() -> argparse.ArgumentParser:
-    """Returns the parser of the first word."""
+    """Returns the parser for the options before the command and for the name of the command."""
     parser = argparse.ArgumentParser(
         prog="canbusd",
         usage="canbusd COMMAND ..",
@@ -77,7 +77,7 @@ def main_parser() -> argparse.ArgumentParser:
 
 
 def command_named(words: Sequence[str]) -> str:
-    """Returns the command that the first of these words names."""
+    """Returns the command that the first of these words names, and exits with an error if there is no such command."""
     parser = main_parser()
     found, unknown = parser.parse_known_args(words[:1])
     if unknown:
@@ -92,7 +92,7 @@ def command_named(words: Sequence[str]) -> str:
 
 
 def carry_out(words: Sequence[str]) -> Optional[int]:
-    """Carries out the command that these words name, and returns its status."""
+    """Runs the command that these words name, and returns its exit status."""
     name = command_named(words)
     if name in PROGRAM:
         run_program("canbusd", words)
@@ -107,7 +107,7 @@ def carry_out(words: Sequence[str]) -> Optional[int]:
 
 
 def main(given: Optional[list[str]] = None) -> NoReturn:
-    """Carries out a command."""
+    """Runs the command that the arguments name."""
     arguments = sys.argv[1:] if given is None else given
     if arguments[:1] == ["help"]:
         # `help COMMAND` is the same as `COMMAND --help`.
@@ -117,7 +117,7 @@ def main(given: Optional[list[str]] = None) -> NoReturn:
 
 
 def canbusd_run() -> NoReturn:
-    """Runs the command canbusd-run of the wheel: this process becomes the program with this name."""
+    """Runs the command canbusd-run of the wheel: the program of the same name replaces this process."""
     run_command(lambda: run_program("canbusd-run", sys.argv[1:]), "canbusd-run")
 
 

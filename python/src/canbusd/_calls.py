@@ -7,7 +7,7 @@ from typing import TYPE_CHECKING, Any, ClassVar, Optional, TypeVar, cast
 
 F = TypeVar("F", bound=Callable[..., Any])
 
-#: The names that other calls and libraries use for these arguments.
+#: Argument names that other calls and libraries use, and the names of the same arguments here.
 OTHER_NAMES = {
     "bit_rate": "bitrate",
     "cycle": "period",
@@ -29,8 +29,8 @@ OTHER_NAMES = {
 
 
 def close_at_exit(close: Callable[[], object], kind: Optional[type[BaseException]]) -> None:
-    """Closes an object at the end of a `with` block. If an exception ended the block, that exception is raised, and a
-    fault of the closing is not."""
+    """Closes an object at the end of a `with` block. If an exception ended the block, that exception is raised, and an
+    error while closing is ignored."""
     try:
         close()
     except Exception:
@@ -39,21 +39,20 @@ def close_at_exit(close: Callable[[], object], kind: Optional[type[BaseException
 
 
 def meant(word: str, known: Iterable[str]) -> str:
-    """Returns the name that this word may mean, as a question; the empty text if the word resembles no name."""
+    """Returns a suggestion such as ` (pace_ms?)` if the word resembles a known name; else the empty string."""
     names = list(known)
     near = [OTHER_NAMES[word]] if OTHER_NAMES.get(word) in names else difflib.get_close_matches(word, names, n=1)
     return f" ({near[0]}?)" if near else ""
 
 
 def no_such(kind: str, word: str, known: Iterable[str]) -> str:
-    """Returns the text that no such name exists, with the names that do: `no option pace (pace_ms?); there are ..`."""
+    """Returns the error text for an unknown name, with the names that exist: `no option pace (pace_ms?); there are ..`."""
     names = list(known)
     return f"no {kind} {word}{meant(word, names)}; there are {', '.join(names) or 'none'}"
 
 
 def explained(cure: str = "") -> Callable[[F], F]:
-    """Makes a method or function explain a call with wrong arguments: the error lists the valid arguments and the
-    remedy."""
+    """Returns a decorator that explains calls with wrong arguments: the error lists the valid arguments and the remedy."""
 
     def decorated(function: F) -> F:
         @functools.wraps(function)
@@ -73,7 +72,7 @@ def explained(cure: str = "") -> Callable[[F], F]:
 
 
 def misfit(function: Callable[..., Any], args: tuple[Any, ...], kwargs: Mapping[str, Any]) -> str:
-    """Returns the reason why a method or function does not accept these arguments; the empty text if it accepts
+    """Returns the reason why a function does not accept these arguments, or the empty string if the function accepts
     them."""
     # This check is slow, so it runs only after a mistake.
     import inspect
@@ -82,7 +81,7 @@ def misfit(function: Callable[..., Any], args: tuple[Any, ...], kwargs: Mapping[
     parameters = [one.replace(annotation=one.empty) for one in signature.parameters.values()]
     owner, _, own = function.__qualname__.rpartition(".")
     if owner:
-        # The first argument is the object.
+        # The first parameter of a method is the object itself.
         del parameters[0]
     name = owner if own == "__init__" else own
     names = [one.name for one in parameters if one.kind in (one.POSITIONAL_OR_KEYWORD, one.KEYWORD_ONLY)]
@@ -99,17 +98,18 @@ def misfit(function: Callable[..., Any], args: tuple[Any, ...], kwargs: Mapping[
 
 
 class NamesWhatThereIs:
-    """Makes the error for a missing attribute suggest the name that may be meant."""
+    """A class whose error for a missing attribute suggests the attribute that may be meant."""
 
     __slots__ = ()
-    #: Names of attributes of other classes, and the names to write here; `*` is any attribute.
+    #: Attribute names that other classes use, and what to write instead. The key `*` stands for any other name.
     _INSTEAD: ClassVar[Mapping[str, str]] = {}
 
     if not TYPE_CHECKING:
 
         def __getattr__(self, name):
             if hasattr(type(self), name):
-                # The exception comes from inside a property.
+                # The attribute exists: one of its property's statements raised AttributeError, which this call raises
+                # again.
                 return object.__getattribute__(self, name)
             public = [one for one in dir(type(self)) if not one.startswith("_")]
             instead = self._INSTEAD.get(name) or meant(name, public) or self._INSTEAD.get("*", "")

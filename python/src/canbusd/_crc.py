@@ -1,4 +1,4 @@
-"""The CRCs of AUTOSAR's SWS_CRCLibrary that its profiles use, computed with tables."""
+"""The CRCs that the AUTOSAR end-to-end profiles use (SWS_CRCLibrary), computed with tables."""
 
 from collections.abc import Sequence
 
@@ -6,7 +6,7 @@ from canbusd.frames import data_bytes
 
 
 def _table(polynomial: int, bits: int) -> list[int]:
-    """Returns the CRC of each byte."""
+    """Returns a table with the CRC of each byte."""
     table, highest, mask = [], 1 << bits - 1, (1 << bits) - 1
     for byte in range(256):
         crc = byte << bits - 8

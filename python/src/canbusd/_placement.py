@@ -1,8 +1,8 @@
-"""The placement of a sweep that this process carries out: the faults for the runs of a test, and the path of their
-records.
+"""The current placement of a sweep: the faults that this process adds to the runs of a test, and where the records of
+the runs go.
 
-A sweep runs a test again and again, each time in a new process, with a fault at another attempt. Outside a sweep there
-is no placement, and this module does nothing.
+A sweep runs a test many times, each time in a new process and with the fault at a different attempt. Outside a sweep
+there is no placement, and this module does nothing.
 """
 
 import os
@@ -20,59 +20,61 @@ if TYPE_CHECKING:
     from canbusd._process.program_run import Ack
     from canbusd._process.rates import Rates
 
-#: A bus of a test: the number of its server or bench, in the order of their starts, and its first interface.
+#: A bus of a test: the number of its server or bench, in the order in which they start, and the bus's first interface.
 BusKey = tuple[int, str]
 
 
-#: A record: its file, or its text.
+#: A record: the path of its file, or its text.
 Left = Union[Path, bytes]
 Keep = Callable[[BusKey, Sequence[str], int, Left, "Optional[Rates]"], None]
 
 
-#: The delay of a late frame, in seconds.
+#: The delay of a late frame in seconds.
 DELAY = 0.010
 
 
 class AtSockets(NamedTuple):
     """A fault at the sockets of an interface."""
 
-    #: `missed`: the sockets lose the frame of this time, as in an overrun. `late`: the sockets receive the frame DELAY
-    #: later. `full`: the first send of such a frame from this time on finds the transmit queue full.
+    #: `missed`: the sockets lose the frame with this timestamp, as in an overrun. `late`: the sockets receive that
+    #: frame DELAY seconds later. `full`: from this time on, the first attempt to send such a frame finds the transmit
+    #: queue full.
     kind: str
     interface: str
-    #: The identifier in 3 or 8 digits, and the time in seconds with six decimals, both as in messages.
+    #: The identifier with 3 or 8 hexadecimal digits, and the time in seconds with six decimals, both spelled as in
+    #: messages.
     identifier: str
     moment: str
 
     def is_received(self, message: str) -> bool:
-        """Returns whether a message hands over this frame."""
+        """Returns whether a message delivers this frame to a socket."""
         is_it = f" {self.identifier} {self.moment} " in message and not message.startswith("< error ")
         return is_it and self.kind != "full"
 
     def is_sent(self, message: str) -> bool:
-        """Returns whether a message sends this frame now."""
+        """Returns whether a message sends this frame at or after the time of the fault."""
         is_it = message.split(" ", 2)[:2] == ["send", self.identifier]
         return is_it and self.kind == "full" and time.time() >= float(self.moment)
 
 
 class Outage(NamedTuple):
-    """Interfaces of a server that are down for some time."""
+    """Interfaces of a server that are down for a certain time."""
 
-    #: `down`: this interface is down. `noack`: all other interfaces of its bus are, so that no node acknowledges its
-    #: frames.
+    #: `down`: this interface is down. `noack`: all other interfaces of its bus are down, so that no node acknowledges
+    #: its frames.
     kind: str
     interface: str
     moment: float
     seconds: float
 
     def among(self, buses: Sequence[Sequence[str]]) -> list[str]:
-        """Returns the interfaces that are down, of a server with these buses."""
+        """Returns the interfaces that go down on a server with these buses."""
         own = next((names for names in buses if self.interface in names), ())
         return [name for name in own if (name == self.interface) == (self.kind == "down")]
 
 
 class Reset(NamedTuple):
-    """A program of a test that is killed at a given time, and starts anew."""
+    """A program of a test that is killed at a given time and then started again."""
 
     program: int
     moment: float
@@ -84,31 +86,32 @@ FIRST: BusKey = (0, "")
 
 @dataclass
 class Placement:
-    """The faults that this process adds to the runs of its test, and a function that takes their records."""
+    """The faults that this process adds to the runs of its test, and a function that receives the runs' records."""
 
     #: The script lines for a bus, which come before the test's own lines.
     lines: Mapping[BusKey, Sequence[str]] = field(default_factory=dict)
-    #: A function that gets each record of a run: its bus, the names of its interfaces, the number of its first sockets
-    #: that are the package's own, its path or its text, and its bit rates if it has any.
+    #: A function that is called with each record of a run. Its arguments are the bus, the names of its interfaces, the
+    #: number of first sockets that belong to the package itself, the record's path or text, and the bit rates if the
+    #: bus has any.
     keep: "Keep" = lambda *_: None
     at_sockets: Sequence[AtSockets] = ()
     resets: Sequence[Reset] = ()
     outages: Sequence[Outage] = ()
-    #: The number of programs that the test has started.
+    #: The number of programs that the test has started so far.
     programs: int = 0
     #: The reason why a fault could not be carried out.
     failure: str = ""
-    #: The number of servers and benches that the test has started, and the first bus of the first of them.
+    #: The number of servers and benches that the test has started, and the bus of the first call of `lines_of`.
     runs: int = 0
     first: Optional[BusKey] = None
 
     def next_run(self) -> int:
-        """Returns the number of a server or a bench that starts."""
+        """Returns the number of the next server or bench that starts."""
         self.runs += 1
         return self.runs - 1
 
     def lines_of(self, bus: BusKey) -> list[str]:
-        """Returns the lines for a bus. The bus of the first call is the first of all buses."""
+        """Returns the script lines for a bus. The bus of the first call counts as the first of all buses."""
         self.first = self.first or bus
         return [*(self.lines.get(FIRST, ()) if bus == self.first else ()), *self.lines.get(bus, ())]
 
@@ -130,18 +133,18 @@ def is_there() -> bool:
 
 
 def has_faults() -> bool:
-    """Whether this process carries out a placement with faults."""
+    """Returns whether this process carries out a placement with faults."""
     one = _current
     return one is not None and bool(one.lines or one.at_sockets or one.resets or one.outages)
 
 
 def next_run() -> int:
-    """Returns the number of a server or a bench that starts; 0 if there is no placement."""
+    """Returns the number of the next server or bench that starts; 0 if there is no placement."""
     return _current.next_run() if _current else 0
 
 
 def script_of(bus: BusKey, script: Optional[Script]) -> Optional[Script]:
-    """Returns the script of a bus, with the faults of the placement before its own."""
+    """Returns the fault script of a bus: the lines of the placement come before the test's own lines."""
     added = _current.lines_of(bus) if _current else ()
     if not added:
         return script
@@ -151,7 +154,7 @@ def script_of(bus: BusKey, script: Optional[Script]) -> Optional[Script]:
 
 
 def rules_of(bus: BusKey) -> Sequence[str]:
-    """Returns the rules that the placement adds to a bus."""
+    """Returns the rules that the placement adds to the script of a bus."""
     return [line for line in (_current.lines_of(bus) if _current else ()) if not line[:1].isdigit()]
 
 
@@ -161,15 +164,15 @@ def at_sockets_of(interface: str) -> Optional[AtSockets]:
 
 
 def acknowledged_by(usual: "Ack") -> "Ack":
-    """Returns the nodes that acknowledge frames: only the other nodes of the bus, if the placement takes these off the
-    bus."""
+    """Returns which nodes acknowledge frames: only the other nodes of the bus if the placement takes those nodes off
+    the bus, else the usual nodes."""
     is_noack = _current is not None and any(one.kind == "noack" for one in _current.outages)
     return "peers" if is_noack else usual
 
 
 def note_server(buses: Sequence[Sequence[str]], take_down: Callable[[Sequence[str], float, float], None]) -> None:
-    """Notes that the test has started a server with these buses. `take_down` gets interfaces, the time when they go
-    down, and the number of seconds that they stay down."""
+    """Notes that the test has started a server with these buses. `take_down` is called with a list of interfaces, the
+    time at which they go down, and how many seconds they stay down."""
     for outage in _current.outages if _current else ():
         names = outage.among(buses)
         if names:
@@ -177,13 +180,13 @@ def note_server(buses: Sequence[Sequence[str]], take_down: Callable[[Sequence[st
 
 
 def note_failure(reason: Exception) -> None:
-    """Notes that a fault of the placement could not be carried out: its run proves nothing about the test."""
+    """Notes that a fault of the placement could not be carried out. Its run then shows nothing about the test."""
     if _current is not None:
         _current.failure = str(reason)
 
 
 def note_program(restart: Callable[[], None]) -> None:
-    """Notes that the test has started a program; `restart` kills the program and starts it anew."""
+    """Notes that the test has started a program. `restart` kills the program and starts it again."""
     if _current is None:
         return
     number = _current.programs
@@ -210,7 +213,8 @@ def keep(bus: BusKey, names: Sequence[str], own: int, record: Left, rates: "Opti
 
 
 def copy_to(folder: Path) -> "Keep":
-    """Returns a function that copies each record into this folder, together with the other facts about its bus."""
+    """Returns a function that copies each record to this folder. A file next to the record has the number of the
+    package's own sockets, the names of the interfaces and the bit rates."""
 
     def copy(bus: BusKey, names: Sequence[str], own: int, record: Left, rates: "Optional[Rates]") -> None:
         target = folder / f"{bus[0]}-{bus[1]}.rec"

@@ -1,4 +1,4 @@
-"""The end-to-end protection profile of a message: a test gives the profile, or attributes in the database do."""
+"""The end-to-end protection profile of a message, which a test passes or the attributes in a database define."""
 
 import re
 from typing import TYPE_CHECKING, Any, Optional
@@ -10,8 +10,8 @@ if TYPE_CHECKING:
 
 
 def profile_of(profile: object, message: "Optional[MessageFormat]") -> Profile:
-    """Returns the known profile for a message; without an argument, the profile of the message's attributes. Raises
-    ValueError for a wrong or unsuitable profile."""
+    """Returns the profile for a message. If `profile` is None, the attributes of the message define it. Raises
+    ValueError if the profile is unknown or does not suit the message."""
     if profile is None:
         found = None if message is None else profile_in(message)
         if found is None:
@@ -27,10 +27,12 @@ def profile_of(profile: object, message: "Optional[MessageFormat]") -> Profile:
 
 
 def profile_in(message: "MessageFormat") -> Optional[Profile]:
-    """Returns the profile that a DBC file gives a message by its attributes; None if it has no E2EProfile.
+    """Returns the profile that the attributes of a message in a DBC file define; None if there is no attribute
+    E2EProfile.
 
-    E2EProfile is its number, as `5`, `P05` or `Profile5`. E2EDataId, E2EDataIdMode, E2EOffset (in bits), E2EMaxDelta,
-    and of profiles 2 and 22 E2EDataIds, 16 numbers with commas, are its arguments. ValueError if an attribute is wrong.
+    E2EProfile is the number of the profile, spelled `5`, `P05` or `Profile5`. The other attributes are its arguments:
+    E2EDataId, E2EDataIdMode, E2EOffset (in bits) and E2EMaxDelta. Profiles 2 and 22 use E2EDataIds, which is 16 numbers
+    separated by commas. Raises ValueError if an attribute is wrong.
     """
     given = {name: text for name, text in message.attributes.items() if name.startswith("E2E") and text}
     number = re.search("[1-9][0-9]*$", given.get("E2EProfile", ""))

@@ -11,8 +11,7 @@ CURE = "`apt-get install python3-can` for Debian's /usr/bin/python3, else `pip i
 
 
 class NoPythonCan(ImportError):
-    """python-can is missing or too old; the text has the version that was found, and the command that installs
-    python-can."""
+    """python-can is missing or too old. The text says which version was found, and which command installs python-can."""
 
 
 try:

@@ -1,6 +1,6 @@
 """Adds the steps and buses of a test to the reports of pytest-html and allure-pytest.
 
-The code follows the documentation of both.
+The code follows the documentation of both plugins.
 """
 
 import os
@@ -12,7 +12,7 @@ from canbusd import steps
 
 
 def attach_to_allure(text: str, pages: Sequence[str]) -> None:
-    """Adds the facts about a bus, and its page, to the report of allure-pytest, if there is one."""
+    """Adds a text about a bus and the pages of the bus to the report of allure-pytest, if that plugin is active."""
     allure = steps.with_allure()
     if allure is None:
         return
@@ -22,9 +22,10 @@ def attach_to_allure(text: str, pages: Sequence[str]) -> None:
 
 
 def add_to_html(config: Any, report: Any, text: str, pages: Sequence[str]) -> None:
-    """Adds steps, the facts about the buses, and links to their pages to the report of pytest-html, if there is one.
+    """Adds the steps, the facts about the buses, and links to their pages to the report of pytest-html, if that plugin
+    is active.
 
-    pytest's report on the end of a test carries these additions.
+    The additions are attached to pytest's report of the end of the test.
     """
     html: Any = sys.modules.get("pytest_html")
     path = config.getoption("htmlpath", None)

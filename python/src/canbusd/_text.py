@@ -1,4 +1,4 @@
-"""The name of an interface, lines of a file for error texts, and numbers in words."""
+"""The pattern of interface names, excerpts of lines for error texts, and numbers in words."""
 
 import re
 
@@ -6,7 +6,8 @@ NAME = re.compile("[A-Za-z0-9_.-]{1,15}")
 
 
 def shown(line: str) -> str:
-    """Returns the beginning of a line, without control characters for terminals."""
+    """Returns the first 60 characters of a line. Control and non-ASCII characters are replaced, so that it can be
+    printed on a terminal."""
     return "".join(char if " " <= char <= "~" else "?" for char in line[:60]) + (" .." if len(line) > 60 else "")
 
 

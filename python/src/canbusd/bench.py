@@ -1,4 +1,4 @@
-"""The bench in a dialogue: a bus without sockets, threads or clocks, so that each run gives the same result.
+"""A bench: a bus without sockets, threads or clocks, so that each run gives the same result.
 
     with Bench("can0,can1", faults=Faults().last_bit(0)) as bench:
         sender, receiver = bench.open("can0"), bench.open("can1")
@@ -7,8 +7,8 @@
             pass
         assert len(receiver.receive()) == 2
 
-Nothing happens on the bus but in `attempt`. python-can is not needed. Threads may share a bench: each call is carried
-out whole before the next.
+Frames are sent only while `attempt` or `run` is called. python-can is not needed. Several threads may use one bench:
+each call is completed before the next call begins.
 """
 
 import errno
@@ -51,7 +51,7 @@ if TYPE_CHECKING:
 
     from canbusd._restbus.bench_rest_bus import BenchRestBus
 
-#: The errors of a file that was opened.
+#: The errors of writing to a file that is already open.
 OF_WRITING = (errno.EFBIG, errno.ENOSPC, errno.EDQUOT, errno.EIO)
 TRIED = re.compile(
     r"(?:idle|tried (?P<winner>\S+) (?P<number>\d+) (?P<outcome>\w+) (?P<accepted>\S+) (?P<off>\S+))"
@@ -61,17 +61,18 @@ TRIED = re.compile(
 
 
 def set_of(names: Optional[str]) -> tuple[str, ...]:
-    """The interfaces that the bench names; `-` is none."""
+    """Returns the interfaces in a list of the bench, in which `-` means no interface."""
     return tuple(names.split(",")) if names and names != "-" else ()
 
 
 def write_files(texts: Mapping[Path, Optional[bytes]]) -> None:
-    """Writes each file whole or not at all, also after a fault of another; BenchError with the first."""
+    """Writes each file completely or not at all, and continues after an error. Then raises BenchError with the first
+    error."""
     faults: list[str] = []
     for path, text in texts.items():
         try:
             if text is not None:
-                # The program follows a link, too.
+                # The program also follows symbolic links.
                 with replaced(os.path.realpath(path), is_synced=False) as file:
                     file.write(text)
         except OSError as fault:
@@ -82,12 +83,12 @@ def write_files(texts: Mapping[Path, Optional[bytes]]) -> None:
 
 
 class Bench(PassesTime, Dialogue, HasRestBus["BenchRestBus"], NamesWhatThereIs):
-    """A bus with these interfaces, as `"can0,can1"` or a list, and the options of `canbusd bench`.
+    """A bus with these interfaces, given as `"can0,can1"` or a list, and with the options of `canbusd bench`.
 
-    With a `bitrate` attempts take the time of their bits, and their moment is the end of their frame; with a
-    `data_bitrate`, which may be called `dbitrate` too, FD frames with `bitrate_switch` go on at that for their data. `faults` is a script: Faults, a path, or a text. `out`
-    is a folder for the log and the record, which are written at the end and are called after the first interface;
-    without it they are kept as long as the bench is.
+    With a `bitrate`, an attempt takes as long as its bits, and its timestamp is the end of its frame. With a
+    `data_bitrate`, also called `dbitrate`, FD frames with `bitrate_switch` use that rate for their data. `faults` is a
+    script: Faults, a path, or a text. `out` is a folder for the log and the record. They are written when the run ends,
+    and are named after the first interface. Without `out` they are deleted together with the bench.
     """
 
     _INSTEAD = {
@@ -101,7 +102,7 @@ class Bench(PassesTime, Dialogue, HasRestBus["BenchRestBus"], NamesWhatThereIs):
         "attempts": "record().attempts",
     }
 
-    # Whether the record and the log are in files.
+    # Whether the record and the log have been written to files.
     _has_files = False
 
     @explained()
@@ -142,31 +143,32 @@ class Bench(PassesTime, Dialogue, HasRestBus["BenchRestBus"], NamesWhatThereIs):
         config = config_of(len(self.names), ack, report, auto_restart, txqueue, limit, self._rates)
         inside = self._inside(config, rxqueue, lambda given: this._why(given)) if is_used() else None
         self._begin(inside or self._as_process())
-        # Wrong words are reported before the first session is used.
+        # Errors of the arguments are reported here, before the first session is used.
         self._greet()
         self._given = GivenRules(rules_in(script.decode()))
-        # The rule of each attempt, if one gave its fault.
+        # For each attempt, the rule that caused its fault, or the empty string.
         self._rules: list[str] = []
-        # The end of the last attempt.
+        # The time at which the last attempt ended.
         self._busy_until = 0.0
 
     def _inside(self, config: bytes, capacity: int, why: Callable[[bytes], str]) -> Optional[Lines]:
-        """The bench inside this process; None if the library refuses it, of which the program says why."""
+        """Returns the bench inside this process; None if the library refuses the arguments. The program then reports
+        the reason."""
         try:
             return BenchInside(self.names, config, capacity, self._script, why)
         except BenchRefused:
             return None
 
     def _why(self, given: bytes) -> str:
-        """The program's text for the fault of this input."""
+        """Returns the program's error text for this input."""
         return fault_of(self._words_of_run(), given)
 
     def _as_process(self) -> Lines:
-        """The bench as a process."""
+        """Returns the bench as a separate process."""
         return BenchProcess(self._words_of_run(), self._folder / "stderr")
 
     def _words_of_run(self) -> list[str]:
-        """The words of the program, for which the script is in a file."""
+        """Returns the command line arguments of the program. The fault script is written to a file."""
         bus = ",".join(self.names)
         if self._script:
             path = self._folder / "faults"
@@ -187,7 +189,7 @@ class Bench(PassesTime, Dialogue, HasRestBus["BenchRestBus"], NamesWhatThereIs):
         error_frames: Union[bool, int] = True,
         join_filters: bool = False,
     ) -> Session:
-        """Opens a session with a raw socket on this interface; the options are those of CanbusdBus."""
+        """Opens a session with a raw socket on this interface. The options are those of CanbusdBus."""
         messages = options(
             fd=fd,
             receive_own_messages=receive_own_messages,
@@ -203,7 +205,7 @@ class Bench(PassesTime, Dialogue, HasRestBus["BenchRestBus"], NamesWhatThereIs):
                 raise Refused(TOO_MANY_SESSIONS)
             session = Session(self, self._sessions, channel)
             try:
-                # A message after one that is refused is refused, too, or leaves nothing.
+                # If a message is refused, the messages after it are refused too, or have no effect.
                 words = " >< ".join([f"open {channel}", "rawmode", *messages, "echo"])
                 self._ask(f"feed {self._sessions} < {words} >")
                 if can_filters is not None:
@@ -218,17 +220,17 @@ class Bench(PassesTime, Dialogue, HasRestBus["BenchRestBus"], NamesWhatThereIs):
 
     @explained()
     def bus(self, channel: str, can_filters: Optional[Filters] = None, **options: Any) -> Session:
-        """Opens a session on this interface, as `open` does, of a bench whose frames can be expected from now on.
+        """Opens a session on this interface like `open`. From now on, the bench's expectations can check its frames.
 
-        A test that uses it, its `send` and `recv`, and the expectations of the bench, is the same on a server. Time passes
-        while it waits, that of the bus.
+        A test that uses this method, `send` and `recv` of the session, and the expectations of the bench runs unchanged
+        on a server. While it waits, only the simulated time of the bus passes.
         """
         self._observing()
         return self.open(channel, can_filters, **options)
 
     @property
     def said(self) -> str:
-        """The fault with which the bench has ended, if it has."""
+        """The error with which the bench ended; the empty string without an error."""
         return self._lines.said
 
     @property
@@ -245,7 +247,7 @@ class Bench(PassesTime, Dialogue, HasRestBus["BenchRestBus"], NamesWhatThereIs):
 
     @explained()
     def node(self, name: str) -> Node:
-        """Returns the node of this interface, which comes and goes: ``bench.node("ecu").power_off()``."""
+        """Returns the node of this interface, which can be powered off and on: ``bench.node("ecu").power_off()``."""
         return self._nodes.setdefault(self._named(str(name), "name"), Node(self, str(name)))
 
     def _attempt_now(self) -> Optional[Attempt]:
@@ -253,12 +255,12 @@ class Bench(PassesTime, Dialogue, HasRestBus["BenchRestBus"], NamesWhatThereIs):
 
     @explained()
     def inject(self, faults: Script, interface: Optional[str] = None) -> None:
-        """Gives the bus these rules of faults, after those that it has, from the next attempt on.
+        """Adds these fault rules after the existing rules of the bus, from the next attempt on.
 
-        An `interface` may be named, as of a server with several buses.
+        `interface` names an interface of the bus, as on a server with several buses.
 
-        All of them are in force then, or none: Refused if they would be more than 64 with those that are left, and
-        ValueError if one is wrong.
+        Either all rules are added or none. Raises Refused if the bus would have more than 64 unused rules, and
+        ValueError if a rule is wrong.
         """
         rules = rules_of(faults)
         self._named(interface)
@@ -267,21 +269,21 @@ class Bench(PassesTime, Dialogue, HasRestBus["BenchRestBus"], NamesWhatThereIs):
             if len(self._given) + len(rules) > MOST_RULES:
                 raise Refused(TOO_MANY_RULES)
             for rule in rules:
-                # Such a line has no answer.
+                # The bench does not reply to a line `fault`.
                 self._write(f"fault {rule}")
                 self._in_step = True
                 self._given.add(rule)
 
     def rules_left(self, interface: Optional[str] = None) -> int:
-        # Without those of a sweep.
+        # The rules of a sweep are not counted.
         planted = self._given.among(len(placement.rules_of((self._number, self.names[0]))))
         return super().rules_left(interface) - planted
 
     def attempt(self, at: Union[str, float, None] = None) -> Optional[Attempt]:
-        """Puts the frame that wins arbitration on the bus, at this moment if one is given; None if no frame waits.
+        """Puts the frame that wins arbitration on the bus, and returns the attempt; None if no frame is queued.
 
-        A moment stays until the next is given, and is 0 at first. An attempt without a frame that restarts an interface
-        is returned with the outcome `idle`.
+        `at` is the time of the attempt in seconds. Without `at`, the time of the last call is used again, which is 0 at
+        first. An attempt that only restarts an interface, without a frame, is returned with the outcome `idle`.
         """
         with self._turn:
             self._write("attempt", at)
@@ -296,10 +298,11 @@ class Bench(PassesTime, Dialogue, HasRestBus["BenchRestBus"], NamesWhatThereIs):
         return attempt
 
     def run(self, most: int = 100_000, *, until: Union[str, float, None] = None) -> list[Attempt]:
-        """Makes attempts until none has a frame, and returns them; RuntimeError if after `most` frames still wait.
+        """Makes attempts until no frame is queued, and returns them. Raises RuntimeError if frames are still queued
+        after `most` attempts.
 
-        On a bus with a `bitrate`, with `until` these are only the attempts that begin before that moment, however many;
-        then it is the moment set.
+        On a bus with a `bitrate`, `until` may be given instead: then only the attempts that begin before that time are
+        made, however many there are, and the time of the bench is `until` afterwards.
         """
         if until is not None:
             return self._run_until(moment_text(until, "until"))
@@ -314,12 +317,12 @@ class Bench(PassesTime, Dialogue, HasRestBus["BenchRestBus"], NamesWhatThereIs):
         raise RuntimeError(f"frames still wait after {most} attempts")
 
     def _run_until(self, moment: str, until_woken: bool = False) -> list[Attempt]:
-        """Makes the attempts that begin before a moment, with `until_woken` only up to one that wakes a node."""
+        """Makes the attempts that begin before a time; with `until_woken`, stops after an attempt that wakes a node."""
         if self._rates is None:
             raise ValueError("until needs a bench with a bit rate, such as Bench(.., bitrate=500000)")
         attempts: list[Attempt] = []
         with self._turn:
-            # The frame that wakes a node may end later.
+            # The frame that wakes a node may end after `moment`.
             while not attempts or float(self._moment) < float(moment):
                 asleep = len(self._sleepers)
                 found = self._run_to_next(moment, self._rates.bitrate) if asleep else []
@@ -331,7 +334,7 @@ class Bench(PassesTime, Dialogue, HasRestBus["BenchRestBus"], NamesWhatThereIs):
         return attempts
 
     def _run_to_next(self, moment: str, bitrate: int) -> list[Attempt]:
-        """Makes the next attempt, if it begins before a moment, and wakes the nodes that it wakes, at its end."""
+        """Makes the next attempt if it begins before a time, and wakes the nodes that its frame wakes when it ends."""
         soon = max(float(self._moment), self._busy_until) + SOON / bitrate
         attempts = self._begin_before(moment_text(soon) if soon < float(moment) else moment)
         for attempt in attempts:
@@ -341,7 +344,8 @@ class Bench(PassesTime, Dialogue, HasRestBus["BenchRestBus"], NamesWhatThereIs):
         return attempts
 
     def _begin_before(self, moment: str) -> list[Attempt]:
-        """Makes all attempts that begin before a moment, and sets it; an echo follows them."""
+        """Makes all attempts that begin before a time, and sets the bench to that time. The `echo` reply marks the end
+        of their lines."""
         lines: list[str] = []
         with self._turn:
             last = min(self._sessions, MOST_SESSIONS)
@@ -357,23 +361,24 @@ class Bench(PassesTime, Dialogue, HasRestBus["BenchRestBus"], NamesWhatThereIs):
         return [attempt for attempt in attempts if attempt is not None]
 
     def record(self) -> Record:
-        """Ends the run and returns its record."""
+        """Ends the run, and returns the record of the run."""
         return read_record(self._left("rec"), self.names, rates=self._rates)
 
     def log(self) -> "list[Message]":
-        """Ends the run and returns what was on the bus, as messages of python-can; what failed is an error frame."""
+        """Ends the run, and returns the log of the bus as python-can messages. A failed attempt is an error message
+        frame."""
         return read_log(self._left("log"))
 
     def report(self) -> Path:
-        """Ends the run, writes its page, and returns the path of that."""
+        """Ends the run, writes the page of the run, and returns the path of the page."""
         return self._page(self.record(), self._path("html"))
 
     def audit(self) -> str:
-        """Ends the run and has its record audited by the program; returns what that said, `ok 7 entries`."""
+        """Ends the run, and lets the program audit its record. Returns the program's result, such as `ok 7 entries`."""
         return audited(self._left("rec"))
 
     def _page(self, record: Record, path: Path) -> Path:
-        """Writes the page of the run there."""
+        """Writes the page of the run to this path, and returns the path."""
         return write_page(record, path, self._rules, self._rates, self.database)
 
     def _ended(self) -> None:
@@ -384,14 +389,15 @@ class Bench(PassesTime, Dialogue, HasRestBus["BenchRestBus"], NamesWhatThereIs):
             placement.keep(bus, self.names, self._own_sessions, record, self._rates)
 
     def _left(self, ending: str) -> Path:
-        """Ends the run, and returns the path of the file with its record or its log."""
+        """Ends the run, and returns the path of its record or log."""
         self.stop()
         with self._turn:
             self._write_files()
         return self._path(ending)
 
     def _write_files(self) -> None:
-        """Writes the record and the log, if the bench has not: in an `out` at once, else as one of them is asked for."""
+        """Writes the record and the log to files, unless this was done before. With an `out` folder this happens when
+        the run ends, else when a file is first needed."""
         if not self._has_files:
             self._has_files = True
             write_files({self._path(ending): self._lines.left(ending) for ending in ("rec", "log")})
@@ -400,7 +406,7 @@ class Bench(PassesTime, Dialogue, HasRestBus["BenchRestBus"], NamesWhatThereIs):
         return self._out / f"{self.names[0]}.{ending}"
 
     def _attempt_of(self, words: "re.Match[str]") -> Optional[Attempt]:
-        """The attempt that these words of a line describe."""
+        """Returns the attempt that a matched line describes; None if the line is `idle` and no interface was restarted."""
         winner, digits, outcome, accepted, off, again, at, fault, rule = words.groups()
         moment, restarted = float(at or self._moment), set_of(again)
         self._busy_until = moment
@@ -421,7 +427,7 @@ class Bench(PassesTime, Dialogue, HasRestBus["BenchRestBus"], NamesWhatThereIs):
         )
 
     def _follow(self, message: str) -> None:
-        """Keeps up with the rules that a message of a session, which was not refused, has given or ended."""
+        """Updates the list of rules after an accepted message of a session has added or ended rules."""
         command, _, rule = " ".join(message.split()).partition(" ")
         if command == "fault":
             self._given.add(parse_rule(rule))
@@ -429,7 +435,7 @@ class Bench(PassesTime, Dialogue, HasRestBus["BenchRestBus"], NamesWhatThereIs):
             self._given.end()
 
     def _greet(self) -> None:
-        """Starts the session of the next `open`, while there is room for one."""
+        """Starts the session that the next `open` uses, unless the bench has the maximum number of sessions."""
         self._sessions += 1
         if self._sessions <= MOST_SESSIONS:
             self._line_after(f"session {self._sessions}")

@@ -69,13 +69,13 @@ BUS_STATES = {
 }
 # python-can and its tools pass these arguments to all interfaces.
 OF_PYTHON_CAN = {"single_handle", "timing", "ignore_config", "config_context", "poll_interval"}
-# Seconds for the answer of a server that may not exist.
+# How many seconds to wait for the answer of a server that may not exist.
 DETECTION = 1.0
 
 
 def interfaces(address: Optional[str] = None, timeout: float = 5.0) -> list[str]:
-    """Returns the names of all interfaces of the server at this address, in the server's order; the default address is
-    that of buses."""
+    """Returns the names of all interfaces of the server at this address, in the server's order. The default address is
+    the same as for CanbusdBus."""
     found = server_address(address)
     try:
         connection = Connection(found, timeout)
@@ -92,21 +92,23 @@ def interfaces(address: Optional[str] = None, timeout: float = 5.0) -> list[str]
 
 
 def as_message(given: Any) -> Any:
-    """Returns a python-can message for a Frame, also for Frames in a list; anything else unchanged."""
+    """Returns a python-can message for a Frame, and a list of messages for a list. Any other object is returned
+    unchanged."""
     if isinstance(given, (list, tuple)):
         return [as_message(one) for one in given]
     return given.message() if isinstance(given, Frame) else given
 
 
 class Periodic:
-    """A bus as a periodic task uses it: if the transmit queue is full, or the interface off, the task continues, as
-    with the system's own CAN sockets. This class logs that once; python-can would log each send with a traceback."""
+    """The bus as a periodic task sees it. If the transmit queue is full, or the interface is bus off or down, the task
+    continues, as with the CAN sockets of Linux. This class logs the problem once; python-can would log each failed send
+    with a traceback."""
 
     def __init__(self, bus: "CanbusdBus") -> None:
         self._bus, self._is_refused = bus, False
 
     def send(self, msg: Message, timeout: Optional[float] = None) -> None:
-        """Sends a message, unless the server refuses it."""
+        """Sends a message. If the server refuses the message, only a warning is logged."""
         try:
             self._bus.send(msg, timeout)
             self._is_refused = False
@@ -125,21 +127,22 @@ class CanbusdBus(InjectsFaults, NamesWhatThereIs, BusABC):
     """A raw socket on an interface of a canbusd server.
 
     :param channel: the name of the interface, such as ``can0``
-    :param can_filters: see :meth:`can.BusABC.set_filters`; the server filters, if they fit into one message
+    :param can_filters: see :meth:`can.BusABC.set_filters`; the server applies the filters if they fit into one message
     :param address: ``HOST:PORT``, ``[V6]:PORT``, or a Unix path that begins with ``/`` or ``.``; by default
         ``$CANBUSD_ADDRESS``, else ``127.0.0.1:29536``
     :param fd: send and receive CAN FD frames too
-    :param receive_own_messages: receive what was sent here, with ``is_rx`` false
-    :param local_loopback: what is sent here reaches other sockets of the same interface
+    :param receive_own_messages: also receive the messages that this bus sends, with ``is_rx`` false
+    :param local_loopback: other sockets on the same interface receive the messages that this bus sends
     :param error_frames: receive error message frames; true, false or a mask of their classes
-    :param join_filters: receive what matches all filters, not only one
-    :param timeout: seconds in which the server has to reply
-    :param bitrate: the nominal bit rate; it is the server's, and where that has another or none, a warning is logged
-    :param data_bitrate: likewise that of the data of FD frames with ``bitrate_switch``
+    :param join_filters: receive only messages that match all filters, instead of at least one
+    :param timeout: how many seconds the server may take to reply
+    :param bitrate: the expected nominal bit rate; a warning is logged if the server has a different rate or none
+    :param data_bitrate: the expected bit rate for the data of FD frames with ``bitrate_switch``; a warning is logged
+        if the server has a different rate or none
     :param dbitrate: the same as ``data_bitrate``
-    :param kwargs: what python-can hands to all interfaces, and has no meaning here
+    :param kwargs: arguments that python-can passes to all interfaces; they have no effect here
 
-    It may be used by several threads at once. Each value may be a text, as in can.conf.
+    A bus may be used by several threads at once. Each value may be a string, as in can.conf.
     """
 
     _INSTEAD = {
@@ -149,7 +152,7 @@ class CanbusdBus(InjectsFaults, NamesWhatThereIs, BusABC):
     }
 
     def __new__(cls, *args: Any, local: Optional["LocalBus"] = None, **kwargs: Any) -> Any:
-        """Returns a bus of a server; with `local`, a `LocalCanbusdBus` on a bus inside this process."""
+        """Returns a bus of a server. With `local`, returns a `LocalCanbusdBus`, which uses a bus inside this process."""
         if local is None:
             return super().__new__(cls)
         from canbusd.local_can import LocalCanbusdBus
@@ -174,7 +177,7 @@ class CanbusdBus(InjectsFaults, NamesWhatThereIs, BusABC):
         dbitrate: Union[int, str, None] = None,
         **kwargs: Any,
     ) -> None:
-        # python-can 4.3 warns of a bus without a shutdown, even if its constructor failed.
+        # Since version 4.3, python-can warns about a bus without a shutdown, even if its constructor failed.
         self._is_shutdown = True
         self.channel = interface_name(channel)
         if "host" in kwargs or "port" in kwargs:
@@ -194,7 +197,7 @@ class CanbusdBus(InjectsFaults, NamesWhatThereIs, BusABC):
             error_frames=mask_or_truth("error_frames", error_frames),
             join_filters=self._join,
         )
-        #: The most frames that `send_many` lets wait in the transmit queue, if that has as much room.
+        #: The maximum number of frames that `send_many` keeps in the transmit queue, if the queue has room for them.
         self.window = 10
         self.channel_info = f"canbusd: channel '{self.channel}' of the server at {self.address}"
         self._prepare()
@@ -217,8 +220,8 @@ class CanbusdBus(InjectsFaults, NamesWhatThereIs, BusABC):
             raise
 
     def _prepare(self) -> None:
-        """Sets the facts about the bus before it is connected."""
-        # python-can has this attribute since version 4.3.
+        """Sets the attributes that do not depend on the connection."""
+        # python-can has had this attribute since version 4.3.
         protocols = getattr(can, "CanProtocol", None)
         if protocols is not None:
             self._can_protocol = protocols.CAN_FD if self._fd else protocols.CAN_20
@@ -229,7 +232,7 @@ class CanbusdBus(InjectsFaults, NamesWhatThereIs, BusABC):
         self._lock_send_periodic = threading.Lock()
 
     def _compare(self, rates: Mapping[str, int]) -> None:
-        """Logs the bit rates that differ from the server's; asks the server only if bit rates are given."""
+        """Warns if the server's bit rates differ from the given ones. The server is asked only if bit rates are given."""
         load = load_of(self._session.answer("load")) if rates else None
         if load is None:
             # An older server does not report bit rates.
@@ -241,7 +244,7 @@ class CanbusdBus(InjectsFaults, NamesWhatThereIs, BusABC):
                 LOG.warning("%s: %s %s is left out: %s", self.channel, name, rate, said)
 
     def __enter__(self: Self) -> Self:
-        # This method has no type in python-can 4.1.
+        # This method has no type annotation in python-can 4.1.
         return self
 
     @overload
@@ -260,7 +263,7 @@ class CanbusdBus(InjectsFaults, NamesWhatThereIs, BusABC):
     ) -> None:
         ...
 
-    # The second argument has two names.
+    # The second argument is `data` in one overload and `timeout` in the other.
     @explained()  # type: ignore[misc]
     def send(
         self,
@@ -273,15 +276,15 @@ class CanbusdBus(InjectsFaults, NamesWhatThereIs, BusABC):
     ) -> None:
         """Puts a message into the transmit queue of the interface.
 
-        When this returns, the server has accepted the message, which is sent as soon as it wins arbitration. As on a
-        bench the message may be a Frame, or an identifier with its data, ``send(0x123, b"\\x01")``. An identifier above
-        7FF has 29 bits.
+        When the call returns, the server has accepted the message. The message is sent as soon as it wins arbitration.
+        As on a bench, the message may be a Frame, or an identifier followed by its data: ``send(0x123, b"\\x01")``. An
+        identifier above 7FF has 29 bits.
 
-        :param timeout: seconds in which a full transmit queue may make room; none: a full one is an error at once
-        :raises ~can.exceptions.CanOperationError: if the server refuses it; the ``error_code`` of ``no buffers`` is
-            ``ENOBUFS``, of ``bus off`` and ``interface down`` ``ENETDOWN``
-        :raises ~can.exceptions.CanTimeoutError: if the queue was full until the timeout, or no answer came
-        :raises ValueError: if this is no message that can be sent here
+        :param timeout: how many seconds to wait for room in a full transmit queue; without it, a full queue is an error
+        :raises ~can.exceptions.CanOperationError: if the server refuses the message; the ``error_code`` is ``ENOBUFS``
+            for ``no buffers``, and ``ENETDOWN`` for ``bus off`` and ``interface down``
+        :raises ~can.exceptions.CanTimeoutError: if the queue was full until the timeout, or the server did not answer
+        :raises ValueError: if this bus can't send the message
         """
         if isinstance(msg, int):
             given = b"" if data is None else data_bytes(data)
@@ -294,34 +297,37 @@ class CanbusdBus(InjectsFaults, NamesWhatThereIs, BusABC):
         self._session.send(self._command(msg), timeout)
 
     def send_many(self, msgs: Iterable[Message], timeout: Optional[float] = None) -> None:
-        """Sends messages in order, in writes of as many as fit into the transmit queue.
+        """Sends messages in order, as many in one write as fit into the transmit queue.
 
-        All messages are taken before the first is sent; call :meth:`send` for each if they become available over time.
-        When this returns, the server has accepted all of them. At most :attr:`window` of them wait in the transmit
-        queue at once. The queue may still be full, because others send by the same interface or it has less room.
-        Refused messages are then sent again, after the accepted messages of the same write.
+        All messages are read from `msgs` before the first is sent. If they become available over time, call
+        :meth:`send` for each message. When this method returns, the server has accepted all messages. At most
+        :attr:`window` of them are in the transmit queue at the same time. The queue may still be full, because other
+        sockets use the same interface or the queue is shorter. Refused messages are then sent again, after the accepted
+        messages of the same write.
 
-        :param timeout: seconds for all messages; none: as long as some are accepted within the timeout of the bus
-        :raises: what :meth:`send` raises; the text says how many messages were accepted
+        :param timeout: seconds for all messages; without it, the call continues while the server accepts some of them
+            within the timeout of the bus
+        :raises: the same errors as :meth:`send`; the text says how many messages were accepted
         """
         if not isinstance(msgs, Iterable):
             raise ValueError(f"msgs are several can.Message, as a list, not {msgs!r}")
         self._session.send_many([self._command(msg) for msg in msgs], self.window, timeout)
 
     def set_filters(self, filters: Optional[Filters] = None) -> None:
-        """Receives messages that match one of these filters, by the rules of linux/can.h; all messages if there is no
-        filter.
+        """Receives only messages that match one of these filters, by the rules of linux/can.h; all messages without
+        filters.
 
-        If a filter has ``extended``, only frames of 29 bits match it, or only those of 11 bits; remote frames match
-        as data frames do. Bit 29 of ``can_id`` inverts a filter. Error message frames are not filtered.
+        A filter with ``extended`` matches only frames with 29 bits if it is true, and only frames with 11 bits if it is
+        false. Remote frames are matched in the same way as data frames. Bit 29 of ``can_id`` inverts a filter. Error
+        message frames are not filtered.
         """
         super().set_filters(filters)  # type: ignore[arg-type]
 
     @property
     def state(self) -> BusState:
-        """The state of the interface: ACTIVE up to error warning, PASSIVE, or ERROR if it is bus off or down.
+        """The state of the interface: ACTIVE (also for error warning), PASSIVE, or ERROR if it is bus off or down.
 
-        Setting ACTIVE brings the interface back from both; no other state can be set.
+        Setting ACTIVE restarts the interface after bus off, or brings it up if it is down. No other state can be set.
         """
         return BUS_STATES[self.error_counters().state]
 
@@ -334,28 +340,29 @@ class CanbusdBus(InjectsFaults, NamesWhatThereIs, BusABC):
         self._session.restart(is_needed=False)
 
     def restart(self) -> None:
-        """Brings the interface back from bus off, or up; raises CanOperationError if it is neither bus off nor down."""
+        """Restarts the interface after bus off, or brings it up if it is down. Raises CanOperationError in any other
+        state."""
         self._session.restart()
 
     def down(self) -> None:
-        """Takes the interface off the bus, as `ip link set can0 down` does; the frames in its transmit queue are lost.
+        """Takes the interface off the bus, as `ip link set can0 down` does. The frames in its transmit queue are lost.
 
-        The interface sends, accepts and acknowledges nothing until `up`, and a send is refused as `interface down`. Its
-        sockets stay open. The interface may already be down.
+        Until `up` is called, the interface sends, accepts and acknowledges nothing, and a send is refused with
+        `interface down`. Its sockets stay open. If the interface is already down, nothing changes.
         """
         self._session.down()
 
     def up(self) -> None:
-        """Brings the interface up, or back from bus off. Both error counts are then 0. The interface may already be
-        up."""
+        """Brings the interface up, or restarts it after bus off. Both error counters are then 0. The interface may
+        already be up."""
         self._session.up()
 
     def error_counters(self) -> ErrorCounters:
-        """Returns the state of the interface and its error counts."""
+        """Returns the state of the interface and its error counters."""
         return self._session.error_counters()
 
     def stats(self) -> Stats:
-        """Returns the counts of this socket and of its interface."""
+        """Returns the counts of this socket and its interface."""
         return self._session.stats()
 
     def load(self) -> Load:
@@ -363,18 +370,20 @@ class CanbusdBus(InjectsFaults, NamesWhatThereIs, BusABC):
         return self._session.load()
 
     def fileno(self) -> int:
-        """Returns a file descriptor that is readable if `recv` would return a message or raise an error at once.
+        """Returns a file descriptor that is readable when `recv` would return a message or raise an error at once.
 
-        Programs must not read from it: it is also readable for a frame that was already read from the server.
+        Programs must not read from the descriptor. It is also readable if this process has already read the next frame
+        from the server.
         """
         return self._session.fileno()
 
     def flush_tx_buffer(self) -> None:
-        """Not supported: nobody can take frames back from the transmit queue of an interface."""
+        """Always raises NotImplementedError: frames in the transmit queue of an interface can't be taken back."""
         raise NotImplementedError("frames in the transmit queue of an interface can't be taken back")
 
     def shutdown(self) -> None:
-        """Ends the session; a waiting call in another thread raises CanOperationError. This may be called again."""
+        """Ends the session. A call that waits in another thread raises CanOperationError. It is safe to call this
+        method again."""
         super().shutdown()
         self._is_shutdown = True
         self._session.close()
@@ -388,10 +397,10 @@ class CanbusdBus(InjectsFaults, NamesWhatThereIs, BusABC):
             return []
 
     def recv(self, timeout: Optional[float] = None) -> Optional[Message]:
-        """Returns the next message; None if no message comes within these seconds.
+        """Returns the next message; None if no message arrives within `timeout` seconds.
 
-        The method of python-can computes the remaining time from `time.time`, whose numbers are a quarter of a
-        microsecond apart.
+        This method uses the monotonic clock. The method of python-can computes the remaining time from `time.time`,
+        whose values are a quarter of a microsecond apart.
         """
         message, _ = self._recv_internal(timeout)
         if message is not None:
@@ -408,8 +417,8 @@ class CanbusdBus(InjectsFaults, NamesWhatThereIs, BusABC):
                 timeout = max(0.0, deadline - time.monotonic())
 
     def send_periodic(self, msgs: Any, *args: Any, **kwargs: Any) -> CyclicSendTaskABC:
-        """Sends a message periodically, as python-can defines it; the message may be a Frame, also in `modify_data` of
-        the task."""
+        """Sends a message periodically, as defined by python-can. The message may also be a Frame, here and in the
+        task's `modify_data`."""
         task: Any = super().send_periodic(as_message(msgs), *args, **kwargs)
         modify = getattr(task, "modify_data", None)
         if modify is not None:
@@ -417,7 +426,7 @@ class CanbusdBus(InjectsFaults, NamesWhatThereIs, BusABC):
         return cast(CyclicSendTaskABC, task)
 
     def _send_periodic_internal(self, *args: Any, **kwargs: Any) -> CyclicSendTaskABC:
-        # The task's thread sends under this lock, so only after the task has the bus for its sends.
+        # The task's thread sends only while it holds this lock. So it can't send before the task has its Periodic bus.
         with self._lock_send_periodic:
             task = super()._send_periodic_internal(*args, **kwargs)
             cast(Any, task).bus = Periodic(self)
@@ -426,7 +435,7 @@ class CanbusdBus(InjectsFaults, NamesWhatThereIs, BusABC):
     def _apply_filters(self, filters: Any) -> None:
         message = filter_message(filters)
         self._pairs = [filter_words(one) for one in filters or ()]
-        # Filters that do not fit into one message are applied only here.
+        # Filters that do not fit into one message to the server are applied in this process.
         self._filters_here = message is None
         answer = self._session.answer(message or str(filter_message(None)))
         if answer:
@@ -444,7 +453,8 @@ class CanbusdBus(InjectsFaults, NamesWhatThereIs, BusABC):
         return message
 
     def _message(self, text: str) -> Message:
-        """Returns the message in this text; a message that this bus sent itself is marked, if it receives those."""
+        """Returns the message in this text. If the bus receives its own messages, `is_rx` is false for a message that
+        it sent."""
         if not self._receives_own:
             return frame_of_message(self._make, *text.split()[1:])
         text, number = without_origin(text)
@@ -453,11 +463,11 @@ class CanbusdBus(InjectsFaults, NamesWhatThereIs, BusABC):
         return message
 
     def _is_own(self, number: int) -> bool:
-        """Returns whether the frame with this number at the interface is one of this bus's frames."""
+        """Returns whether this bus sent the frame that has this number at the interface."""
         return self._session.is_own(number)
 
     def _passes(self, message: Message) -> bool:
-        """Returns whether a message passes the filters, if the server did not apply them."""
+        """Returns whether a message passes the filters. Messages that the server has filtered already pass at once."""
         if not self._filters_here:
             if not self._unfiltered:
                 return True
@@ -467,7 +477,7 @@ class CanbusdBus(InjectsFaults, NamesWhatThereIs, BusABC):
         return passes_filters(identifier_word(message), self._pairs, self._join)
 
     def _command(self, msg: Union[Message, Frame]) -> str:
-        """Returns the command that sends this message; raises ValueError if there is none."""
+        """Returns the command that sends this message. Raises ValueError if the message can't be sent."""
         if not isinstance(msg, (Message, Frame)):
             raise ValueError(f"msg is a can.Message, such as can.Message(arbitration_id=0x123, data=[1]), not {msg!r}")
         if msg.is_fd and not self._fd:

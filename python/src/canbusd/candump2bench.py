@@ -23,11 +23,11 @@ is 1 then.
   canbusd bench tester,can0 < run.bench
 """
 MOST_INTERFACES = 16
-# The most bytes that `canbusd bench` reads.
+# The maximum size of an input that `canbusd bench` reads, in bytes.
 MOST_BYTES = 16777216
-# The most omitted lines that are reported, one on each line.
+# The maximum number of omitted lines that are reported individually.
 MOST_NAMED = 100
-# In the lines that candump writes to a screen, the number of bytes is in brackets.
+# Matches the lines that candump prints on a terminal, which have the number of bytes in brackets.
 SCREEN_LINE = re.compile(r".*\S +[0-9A-Fa-f]{3,8} +\[[0-9]{1,2}\].*")
 
 
@@ -36,19 +36,19 @@ class NotTaken(Exception):
 
 
 class BenchInput:
-    """The generated input: sessions are numbered from 1, in the order of their interfaces' first frames."""
+    """The generated input. Sessions are numbered from 1, in the order in which their interfaces first appear."""
 
     def __init__(self, listeners: Sequence[str]) -> None:
         self.sessions: dict[str, int] = {}
         self.lines: list[str] = []
         self.bytes = 0
-        # The sessions that asked for FD frames.
+        # The sessions that have enabled FD frames.
         self._with_fd = set[int]()
         self._names_of_listeners = listeners
         self._listeners = [self._session(name) for name in listeners]
 
     def take(self, text: str) -> None:
-        """Adds a line of the log."""
+        """Adds the frame of a log line to the input."""
         line = LINE.fullmatch(text)
         if not line:
             hint = ", which `candump -L` and `candump -l` write" if SCREEN_LINE.fullmatch(text) else ""
@@ -61,7 +61,7 @@ class BenchInput:
         self._add(f"at {line[1]}", f"feed {sender} < {command} >", "attempt", *drains)
 
     def _session(self, name: str) -> int:
-        """Returns the number of the session on the interface with this name."""
+        """Returns the number of the session on the interface with this name, and opens it if needed."""
         if name not in self.sessions:
             if not NAME.fullmatch(name):
                 raise NotTaken("an interface has 1 to 15 letters, digits, `_`, `-` and `.` for a name")
@@ -74,7 +74,7 @@ class BenchInput:
         return self.sessions[name]
 
     def _ask_for_fd(self, *numbers: int) -> None:
-        """Sets the option for FD frames in these sessions, unless it is set already."""
+        """Enables FD frames in these sessions, unless they are already enabled."""
         for number in numbers:
             if number not in self._with_fd:
                 self._with_fd.add(number)
@@ -86,7 +86,7 @@ class BenchInput:
 
 
 def parser() -> argparse.ArgumentParser:
-    """Returns the parser of the command's words."""
+    """Returns the argument parser of the command."""
     made = argparse.ArgumentParser(
         prog="candump2bench",
         description="Makes an input of `canbusd bench` from a log of candump, or from an ASC or BLF file.",
@@ -117,7 +117,7 @@ def parser() -> argparse.ArgumentParser:
 
 
 def convert() -> int:
-    """Reads the log and writes the input; returns the status."""
+    """Reads the log and writes the input; returns the exit status."""
     words = parser().parse_args()
     try:
         bench = BenchInput(words.listen)
@@ -133,9 +133,9 @@ def convert() -> int:
 
 
 def take_lines(bench: BenchInput, log: Iterable[bytes], place: str) -> int:
-    """Adds the lines of a log, and reports the lines that are left out; returns their number.
+    """Adds the lines of a log, and reports the lines that are left out. Returns the number of omitted lines.
 
-    Lines that differ only in their timestamps, as for repeated bus off frames, are reported once, with their number.
+    Lines that differ only in their timestamps, such as repeated bus off frames, are reported once with their count.
     """
     left_out = 0
     named: dict[tuple[str, str], str] = {}
@@ -165,7 +165,7 @@ def take_lines(bench: BenchInput, log: Iterable[bytes], place: str) -> int:
 
 
 def write(bench: BenchInput, left_out: int) -> int:
-    """Writes the input; returns the status."""
+    """Writes the input; returns the exit status."""
     first = f"# canbusd bench {','.join(bench.sessions)} < THIS FILE"
     if bench.bytes + len(first) + 1 > MOST_BYTES:
         print(

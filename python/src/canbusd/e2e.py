@@ -1,11 +1,11 @@
-"""End-to-end protection: the profiles 1, 2, 5, 11 and 22 of AUTOSAR, CRC-8 of SAE J1850, and counters in signals.
+"""End-to-end protection: the AUTOSAR profiles 1, 2, 5, 11 and 22, CRC-8 of SAE J1850, and counters in signals.
 
     rest.protect("EngineData", e2e.Profile1(data_id=0x123))
     server.expect_protected("BrakeData", e2e.Profile5(data_id=0x1234), count=20)
 
-A profile defines the places of counter and checksum in a message, and the computation of the checksum (AUTOSAR
-PRS_E2EProtocol, and SWS_CRCLibrary). A Protection counts sent frames, and may make faults; a Checker checks received
-frames.
+A profile defines where the counter and the checksum are in a message, and how the checksum is computed (AUTOSAR
+PRS_E2EProtocol and SWS_CRCLibrary). A Protection adds both to sent frames, and can inject faults. A Checker checks
+received frames.
 """
 
 from collections.abc import Callable, Sequence
@@ -20,10 +20,10 @@ from canbusd.frames import data_bytes
 if TYPE_CHECKING:
     from canbusd._database.formats import MessageFormat, SignalFormat
 
-#: The results of a check, in the words of AUTOSAR, and the results that are good.
+#: The results of a check, in AUTOSAR's words, and the results that count as good.
 Status = Literal["initial", "ok", "some lost", "repeated", "wrong sequence", "wrong crc"]
 GOOD = ("initial", "ok", "some lost")
-#: The faults that a Protection makes.
+#: The faults that a Protection can inject.
 Fault = Literal["wrong crc", "repeated", "some lost"]
 FAULTS: tuple[Fault, ...] = get_args(Fault)
 Mode = Literal["both", "alternating", "low", "nibble"]
@@ -31,24 +31,25 @@ MODES: tuple[Mode, ...] = get_args(Mode)
 
 
 class Profile:
-    """The common part of profiles: the places of a counter and a checksum, and the bytes that they protect."""
+    """The base class of profiles: where the counter and the checksum are, and which bytes they protect."""
 
-    #: The number of values of the counter, and the first value that is sent.
+    #: The number of values of the counter, and the value in the first sent frame.
     modulo: int
     first: ClassVar[int] = 0
-    #: The fewest bytes of a message.
+    #: The minimum length of a message in bytes.
     least: int
     #: The largest accepted step of the counter from one frame to the next; a step above 1 means lost frames.
     max_delta: int
 
     def of(self, message: "MessageFormat") -> "Profile":
-        """Returns the profile for this message of a database; raises ValueError if the message has no room for it."""
+        """Returns the profile for this message of a database. Raises ValueError if the message is too short for the
+        profile."""
         if message.size < self.least:
             raise ValueError(f"{self} needs {times(self.least, 'byte')}, and {message.name} has {message.size}")
         return self
 
     def protect(self, data: bytes, counter: int) -> bytes:
-        """Returns the bytes of a message with this counter and their checksum."""
+        """Returns the bytes of a message after setting the counter and the checksum."""
         content = bytearray(data_bytes(data))
         self._check(content)
         self._set_counter(content, counter % self.modulo)
@@ -56,7 +57,7 @@ class Profile:
         return bytes(content)
 
     def is_right(self, data: bytes) -> bool:
-        """Returns whether the checksum of a message is right."""
+        """Returns whether the checksum of a message is correct."""
         content = bytearray(data_bytes(data))
         return len(content) >= self.least and content == self._with_crc(content)
 
@@ -80,12 +81,12 @@ class Profile:
         raise NotImplementedError
 
     def _crc(self, content: bytearray) -> int:
-        """Returns the checksum of a message that has its counter."""
+        """Returns the checksum of a message whose counter is already set."""
         raise NotImplementedError
 
 
 def _nibble(content: bytearray, place: int, value: int) -> None:
-    """Sets four bits, starting at this bit."""
+    """Sets four bits of the content, starting at this bit."""
     shift = place % 8
     content[place // 8] = content[place // 8] & ~(15 << shift) & 0xFF | value << shift
 
@@ -108,10 +109,11 @@ def _check_delta(max_delta: object, modulo: int) -> None:
 
 @dataclass(frozen=True)
 class Profile1(Profile):
-    """Profile 1: a CRC-8 with the polynomial of SAE J1850, and a counter from 0 to 14. Places are in bits.
+    """Profile 1: a CRC-8 with the polynomial of SAE J1850, and a counter from 0 to 14. Offsets are in bits.
 
-    The `mode` selects the bytes of the data ID in the CRC: `both` bytes (1A), `alternating` low and high byte (1B),
-    only the `low` byte, or `nibble` (1C), with four bits of the high byte in the message.
+    The `mode` selects which bytes of the data ID are part of the CRC: `both` bytes (1A), `alternating` between the low
+    and the high byte (1B), only the `low` byte, or `nibble` (1C). With `nibble`, the message contains four bits of the
+    high byte.
     """
 
     data_id: int
@@ -172,8 +174,8 @@ class Profile11(Profile1):
 
 @dataclass(frozen=True)
 class Profile2(Profile):
-    """Profile 2: a CRC-8 with the polynomial 2F, and a counter from 0 to 15 that selects one of 16 data IDs of one
-    byte."""
+    """Profile 2: a CRC-8 with the polynomial 2F, and a counter from 0 to 15. The counter selects one of 16 data IDs of
+    one byte each."""
 
     data_ids: Sequence[int]
     offset: int = 0
@@ -209,12 +211,12 @@ class Profile2(Profile):
 
 @dataclass(frozen=True)
 class Profile22(Profile2):
-    """Profile 22: like profile 2."""
+    """Profile 22: the same layout and checksum as profile 2."""
 
 
 @dataclass(frozen=True)
 class Profile5(Profile):
-    """Profile 5: a CRC-16, low byte first, and then a counter from 0 to 255. The offset is in bits."""
+    """Profile 5: a CRC-16 with the low byte first, followed by a counter from 0 to 255. The offset is in bits."""
 
     data_id: int
     offset: int = 0
@@ -248,8 +250,9 @@ class Profile5(Profile):
 class Signals(Profile):
     """A counter and a checksum that are signals of a message in a database: ``Signals("Alive", crc="Checksum")``.
 
-    The counter starts at 0 and has `modulo` values, else all values of its signal. The checksum has whole bytes.
-    `function` computes it from all other bytes; the default is the CRC-8 of SAE J1850.
+    The counter starts at 0 and has `modulo` values, by default as many as its signal can have. The checksum must
+    consist of whole bytes. `function` computes the checksum from all other bytes of the message; the default is the
+    CRC-8 of SAE J1850.
     """
 
     def __init__(
@@ -293,7 +296,7 @@ class Signals(Profile):
         return self._counter
 
     def _bytes(self) -> list[int]:
-        """Returns the places of the checksum's bytes."""
+        """Returns the positions of the checksum's bytes in the message."""
         return sorted({bit // 8 for bit in self._checksum.bits}) if self._checksum else []
 
     def _check(self, content: bytearray) -> None:
@@ -316,13 +319,13 @@ class Signals(Profile):
 
 
 def _place(content: bytearray, signal: "SignalFormat", number: int) -> None:
-    """Sets the bits of a signal to those of a number."""
+    """Writes a number to the bits of a signal."""
     for place, bit in enumerate(signal.bits):
         content[bit // 8] = content[bit // 8] & ~(1 << bit % 8) & 0xFF | (number >> place & 1) << bit % 8
 
 
 class Protection(NamesWhatThereIs):
-    """The protection of a sent message, which counts its frames; `RestBus.protect` returns it."""
+    """The protection of a sent message, which counts the message's frames. `RestBus.protect` returns it."""
 
     _INSTEAD = {"fault": "inject('wrong crc', count=3)"}
 
@@ -333,8 +336,8 @@ class Protection(NamesWhatThereIs):
         self._faults: list[Fault] = []
 
     def inject(self, fault: Fault, count: int = 1) -> None:
-        """Adds a fault to the next `count` frames: a `wrong crc`, the counter `repeated`, or a counter left out, as if
-        `some lost`."""
+        """Injects a fault into the next `count` frames: a `wrong crc`, a `repeated` counter, or `some lost`, which
+        skips a counter value."""
         if fault not in FAULTS:
             raise ValueError(f"fault is one of {', '.join(FAULTS)}, not {fault!r}{meant(str(fault), FAULTS)}")
         if isinstance(count, bool) or not isinstance(count, int) or count < 1:
@@ -342,7 +345,7 @@ class Protection(NamesWhatThereIs):
         self._faults += [fault] * count
 
     def applied(self, data: bytes) -> bytes:
-        """Returns the bytes of the next frame with its counter and its checksum."""
+        """Returns the bytes of the next frame after setting its counter and checksum, and applying the next fault."""
         fault = self._faults.pop(0) if self._faults else None
         self._next += {"repeated": -1, "some lost": 1}.get(fault or "", 0)
         content = self.profile.protect(data, self._next)
@@ -355,7 +358,7 @@ class Protection(NamesWhatThereIs):
 
 
 class Checker:
-    """The check of a received message, one frame after the other."""
+    """Checks the frames of a received message, one after the other."""
 
     def __init__(self, profile: Profile) -> None:
         #: The profile.
@@ -363,8 +366,8 @@ class Checker:
         self._last: Optional[int] = None
 
     def check(self, data: bytes) -> Status:
-        """Returns the result for the next frame: `initial` for the first frame, and `some lost` if the counter advanced
-        by more than 1, but not by more than the profile's `max_delta`."""
+        """Returns the result for the next frame. `initial` is the result for the first frame. `some lost` means that
+        the counter advanced by more than 1, but by at most the profile's `max_delta`."""
         if not self.profile.is_right(data):
             return "wrong crc"
         counter, last = self.profile.counter(data), self._last

@@ -27,12 +27,12 @@ IS_TEXT = re.compile(r"\A\Z|\n|\A(?:[0-9]+|next|always) ")
 # The largest identifier with 11 bits, and with 29.
 SHORT, LONG = 0x7FF, 0x1FFFFFFF
 
-#: The help for a call without a rule.
+#: The hint for a call that lacks a rule.
 BY_NUMBER = "attempts are their numbers, from 0; a rule comes first: Faults().next(1).last_bit()"
 #: The remedy for a rule that has no fault yet.
 SAYS_WHICH = ".destroyed(), .last_bit(), .local(..) or .good() says which"
 
-#: The faults that destroy a frame, and the faults that a single node may see.
+#: The faults that destroy a frame, and the faults that only some nodes may see.
 Destroying = Literal["bit", "form"]
 Seen = Literal["stuff", "crc", "form"]
 
@@ -41,21 +41,21 @@ Names = Union[str, Sequence[str]]
 
 
 def global_fault(kind: str) -> str:
-    """Returns the verdict that destroys a frame."""
+    """Returns the verdict for a frame that all nodes destroy."""
     if kind not in ("bit", "form"):
         raise ValueError(f"kind of a destroyed frame is bit or form, not {kind!r}")
     return f"global {kind}"
 
 
 def local_fault(kind: str, names: Names) -> str:
-    """Returns the verdict that only these interfaces see."""
+    """Returns the verdict for a fault that only these interfaces see."""
     if kind not in ("stuff", "crc", "form"):
         raise ValueError(f"kind of a local fault is stuff, crc or form, not {kind!r}")
     return f"local {kind} {','.join(listed(names, 'names of a local fault'))}"
 
 
 def listed(names: Names, what: str) -> list[str]:
-    """Returns the names of interfaces, at least one; an error names the argument."""
+    """Returns the names of interfaces as a list. The error for an empty or wrong list mentions the argument `what`."""
     found = names.split(",") if isinstance(names, str) else list(names) if isinstance(names, Iterable) else []
     if not found or not all(isinstance(name, str) and NAME.fullmatch(name) for name in found):
         raise ValueError(f"{what} are names of interfaces, not {names!r}")
@@ -63,22 +63,23 @@ def listed(names: Names, what: str) -> list[str]:
 
 
 def whole_number(value: object, what: str, least: int = 0) -> int:
-    """Returns a number of a rule; an error names the argument."""
+    """Returns a number of a rule after a check. The error for a wrong number mentions the argument `what`."""
     if isinstance(value, bool) or not isinstance(value, int) or not least <= value <= MOST:
         raise ValueError(f"{what} is a number from {least} to {MOST}, not {value!r}")
     return value
 
 
 def some_bits(value: object, what: str, most: int) -> int:
-    """Returns an identifier or a mask of a rule; an error names the argument."""
+    """Returns an identifier or a mask of a rule after a check. The error for a wrong value mentions the argument
+    `what`."""
     if isinstance(value, bool) or not isinstance(value, int) or not 0 <= value <= most:
         raise ValueError(f"{what} is a number from 0 to 0x{most:X}, not {value!r}")
     return value
 
 
 def identifier_words(id: Optional[int], mask: Optional[int], extended: Optional[bool]) -> Optional[tuple[int, int]]:
-    """Returns the identifier word and the mask of a rule, which matches frames with 11 bits or with 29, but not
-    both."""
+    """Returns the identifier word and the mask of a rule. The rule matches either frames with 11 bits or frames with 29
+    bits."""
     if id is None:
         if mask is not None or extended is not None:
             raise ValueError("mask and extended belong to an id, and none is given")
@@ -90,7 +91,8 @@ def identifier_words(id: Optional[int], mask: Optional[int], extended: Optional[
 
 
 class Chosen:
-    """The attempts that a rule takes; each method sets their fault, and returns the Faults with the rule."""
+    """The attempts that a rule selects. Each method sets the fault of these attempts, and returns the Faults with the
+    rule."""
 
     def __init__(self, head: Rule, add: Callable[[Rule], "Faults"]) -> None:
         self._head, self._add = head, add
@@ -129,7 +131,7 @@ class Chosen:
 
 
 class Faults(NamesWhatThereIs):
-    """Rules and lines of a fault script; each method adds to them, and returns the Faults object."""
+    """The rules and lines of a fault script. Each method adds to the script, and returns the Faults object."""
 
     _INSTEAD = {
         **dict.fromkeys(
@@ -154,12 +156,12 @@ class Faults(NamesWhatThereIs):
         extended: Optional[bool] = None,
         skip: int = 0,
     ) -> Chosen:
-        """Begins a rule for the next `count` matching attempts; the next method call sets their fault.
+        """Begins a rule for the next `count` matching attempts. The next method call sets their fault.
 
-        `sender` names one or more sending interfaces. `id` is the frame's identifier, with 29 bits from 0x800 on or
-        with `extended=True`. With a `mask` it matches identifiers with the same bits in the mask. Data, remote and FD
-        frames match alike. The rule leaves the first `skip` matching attempts to later rules. A retransmission is an
-        attempt like any other.
+        `sender` names one or more sending interfaces. `id` is the identifier of the frame; it has 29 bits if it is
+        0x800 or more, or with `extended=True`. With a `mask`, the rule matches all identifiers that have the same bits
+        in the mask. Data frames, remote frames and FD frames all match. The rule leaves the first `skip` matching
+        attempts to later rules. A retransmission is an attempt like any other.
         """
         return self._chosen(whole_number(count, "count", 1), sender, id, mask, extended, skip)
 
@@ -173,7 +175,7 @@ class Faults(NamesWhatThereIs):
         extended: Optional[bool] = None,
         skip: int = 0,
     ) -> Chosen:
-        """Begins a rule for all matching attempts; the arguments are those of `next`."""
+        """Begins a rule for all matching attempts. The arguments are the same as for `next`."""
         return self._chosen(None, sender, id, mask, extended, skip)
 
     def _chosen(
@@ -230,15 +232,16 @@ class Faults(NamesWhatThereIs):
         return self
 
     def of(self, attempt: int) -> str:
-        """Returns the verdict of the line of this attempt, such as `local crc can1`; `good` without one.
+        """Returns the verdict of the script line for this attempt, such as `local crc can1`; `good` if there is no
+        line.
 
-        The verdicts of rules depend on the run.
+        The verdicts of rules are not included, because they depend on the run.
         """
         return self._verdicts.get(whole_number(attempt, "attempt"), GOOD)
 
     @property
     def rules(self) -> list[str]:
-        """The rules in order, each as a line of the script: `next 32 from ecu global bit`."""
+        """The rules in order, each spelled as a line of the script: `next 32 from ecu global bit`."""
         return [str(rule) for rule in self._rules]
 
     def __str__(self) -> str:
@@ -258,7 +261,7 @@ class Faults(NamesWhatThereIs):
 
 
 def attempts_text(numbers: list[int]) -> str:
-    """Returns the argument that names these attempts, in ascending order."""
+    """Returns the argument that names these attempts, which must be in ascending order."""
     first, last = numbers[0], numbers[-1]
     if len(numbers) > 2 and last - first == len(numbers) - 1:
         return f"range({first}, {last + 1})"
@@ -266,7 +269,7 @@ def attempts_text(numbers: list[int]) -> str:
 
 
 def call_of(verdict: str, attempts: str = "") -> str:
-    """Returns the call that adds a fault, with the argument that names its attempts if there is one."""
+    """Returns the call that adds a fault. `attempts` is the argument that names the attempts, if there is one."""
     kind, *words = verdict.split()
     given = [attempts] if attempts else []
     if kind == "global":
@@ -287,7 +290,7 @@ def head_call(rule: Rule) -> str:
 
 
 def identifier_arguments(word: int, mask: int) -> list[str]:
-    """Returns the arguments that describe the identifier of a rule, without defaults."""
+    """Returns the arguments that describe the identifier of a rule, without arguments that have their defaults."""
     identifier, bits, extended = word & ~EXTENDED, mask & ~EXTENDED, bool(word & EXTENDED)
     arguments = [f"id={identifier:#x}"]
     arguments += [] if bits == (LONG if extended else SHORT) else [f"mask={bits:#x}"]
@@ -319,7 +322,7 @@ def script_bytes(script: Optional[Script]) -> bytes:
             return file.read()
     except FileNotFoundError as fault:
         if isinstance(script, str) and LIKE_RULE.search(script):
-            # This raises an error that explains the fault.
+            # This call raises an error that explains what is wrong with the rule.
             parse_rule(script)
         hint = (
             f"{fault.strerror}; a text begins with the number of an attempt, as '0 lastbit' does, or with a rule, as "

@@ -1,4 +1,4 @@
-"""Frames: their fields, candump's spelling of them, and error message frames in words."""
+"""Frames: their fields, their spelling in candump's format, and the meaning of error message frames in words."""
 
 import functools
 import re
@@ -13,13 +13,13 @@ if TYPE_CHECKING:
     from can.message import Message
 
 EXTENDED, REMOTE, ERROR = 0x80000000, 0x40000000, 0x20000000
-# The same bit in the identifier word of a filter.
+# The bit of a filter's identifier word that inverts the filter; ERROR is the same bit of a frame.
 INVERTED = 0x20000000
-# The meanings of the classes of error message frames (linux/can/error.h) that a bus of canbusd makes.
+# The meanings of the error message frame classes (linux/can/error.h) that a canbusd bus generates.
 CLASSES = [(0x040, "bus off"), (0x100, "restarted"), (0x080, "bus error"), (0x020, "no acknowledgement")]
-# The states in byte 1, for class 004.
+# The error states in byte 1 of an error message frame with class 004.
 STATE_BITS = [(0x40, "error active"), (0x0C, "error warning"), (0x30, "error passive")]
-# The kinds of bus errors in byte 2, and their places in byte 3.
+# The kinds of bus errors in byte 2, and the positions of bus errors in byte 3.
 FAULTS = [(0x01, "bit error"), (0x02, "form error"), (0x04, "stuff error")]
 SENDING = 0x80
 PLACES = {
@@ -38,9 +38,9 @@ ERROR_FRAME = "[23][0-9A-F]{7}#[0-9A-F]{16}"
 
 # cansend's spelling: an FD frame has a second # and a digit for its flags.
 SPELLING = re.compile("([0-9A-Fa-f]+)#(?:#([0-9A-Fa-f]))?([0-9A-Fa-fRr.]*)")
-# Match a session's message with a frame or an error message frame: its first word, and the whole message. An FD frame
-# with flags has these after the first word. On request the message says whether the same interface sent the frame, and
-# the frame's number there. In replies no time follows `error`.
+# MESSAGE matches a message by which a session receives a frame or an error message frame; HANDED_OVER has its possible
+# first words. An FD frame with flags has these after the first word. On request, the message also says whether the same
+# interface sent the frame, and the frame's number at that interface. In replies, no timestamp follows `error`.
 HANDED_OVER = ("frame", "fdframe", "remote", "error")
 MESSAGE = re.compile(
     "(frame|fdframe|fdframex [0-3]|remote|error) ([0-9A-F]+) ([0-9]+[.][0-9]{6})(?: +([0-9A-F]*))?"
@@ -53,12 +53,12 @@ NEW, SET = object.__new__, object.__setattr__
 
 
 class BadFrame(ValueError):
-    """The reason why a text or its fields are not a frame."""
+    """The reason why a text or a set of fields is not a frame."""
 
 
 def data_bytes(data: object) -> bytes:
-    """Returns the bytes of a frame; raises BadFrame for a text or a number, which Python would convert to other
-    bytes."""
+    """Returns the payload of a frame as bytes. Raises BadFrame for a text or a number, which `bytes` would convert to
+    something else."""
     if isinstance(data, str) and re.fullmatch("(?:[0-9A-Fa-f]{2} ?)+", data):
         raise BadFrame(f"data is bytes, such as bytes.fromhex({data!r}), not {data!r}")
     if isinstance(data, (str, int)) or not isinstance(data, Iterable):
@@ -71,10 +71,10 @@ def data_bytes(data: object) -> bytes:
 
 @dataclass(frozen=True)
 class Frame(NamesWhatThereIs):
-    """A frame to send or a received frame, with the attribute names of python-can's `Message`.
+    """A sent or received frame, with the attribute names of python-can's `Message`.
 
     `str()` returns candump's spelling, `123#1122`, which `Frame.parse` reads. Unlike a `Message`, a frame has an 11-bit
-    identifier unless `extended` says otherwise. Comparison ignores the timestamp and the sender.
+    identifier by default. Comparison ignores the timestamp and the sender.
     """
 
     arbitration_id: int
@@ -83,14 +83,14 @@ class Frame(NamesWhatThereIs):
     is_remote_frame: bool = False
     is_error_frame: bool = False
     is_fd: bool = False
-    #: The number of bytes; for a remote frame the requested number.
+    #: The number of data bytes; for a remote frame, the requested number.
     dlc: int = 0
     timestamp: float = field(default=0.0, compare=False)
-    #: False if the receiving session has sent the frame itself.
+    #: False if the receiving session sent the frame itself.
     is_rx: bool = field(default=True, compare=False)
-    #: For an FD frame: whether its data use the data bit rate.
+    #: For an FD frame: whether the data phase uses the data bit rate.
     bitrate_switch: bool = False
-    #: For an FD frame: whether its sender reports that it is error passive.
+    #: For an FD frame: whether its sender signals that it is error passive.
     error_state_indicator: bool = False
 
     _INSTEAD = {
@@ -108,10 +108,10 @@ class Frame(NamesWhatThereIs):
 
     @classmethod
     def parse(cls, text: str, timestamp: float = 0.0) -> "Frame":
-        """Returns the frame in cansend's spelling: `123#11.22`, `00000123#R4`, `123##11122`.
+        """Returns the frame for a text in cansend's spelling: `123#11.22`, `00000123#R4`, `123##11122`.
 
-        In the flags digit of an FD frame, 1 is the bit rate switch and 2 the error state indicator. Other bits are
-        ignored (candump adds 4, with which Linux marks FD frames).
+        In the flags digit of an FD frame, 1 is the bit rate switch and 2 is the error state indicator. Other bits are
+        ignored (candump adds 4, which marks FD frames in Linux).
         """
         try:
             return cls._parsed(text, timestamp)
@@ -156,7 +156,7 @@ class Frame(NamesWhatThereIs):
 
     @property
     def meaning(self) -> str:
-        """The meaning of an error message frame, in words; the empty text for another frame."""
+        """The meaning of an error message frame in words; the empty string for any other frame."""
         return meaning(str(self))
 
     def message(self, channel: Optional[str] = None) -> "Message":
@@ -167,7 +167,7 @@ class Frame(NamesWhatThereIs):
 
 
 def frame_to_send(id: object, data: bytes = b"", *, is_extended_id: Optional[bool] = None, **more: object) -> Frame:
-    """Returns the frame of an identifier, which has 29 bits above 7FF unless `is_extended_id` says otherwise."""
+    """Returns the frame with this identifier, which has 29 bits if it is above 7FF. `is_extended_id` overrides this."""
     if isinstance(id, bool) or not isinstance(id, int):
         raise BadFrame(f"an identifier is a number, such as 0x123, not {id!r}")
     extended = id > 0x7FF if is_extended_id is None else is_extended_id
@@ -180,12 +180,12 @@ def log_line(name: str, frame: Frame) -> str:
 
 
 def described_line(name: str, frame: Frame) -> str:
-    """Returns the line of a log, with the meaning of an error message frame after it."""
+    """Returns a log line that ends with the meaning of the frame, if the frame is an error message frame."""
     return f"{log_line(name, frame)}  {frame.meaning}".rstrip()
 
 
 class MessageLike(Protocol):
-    """The common part of a frame and python-can's Message."""
+    """The attributes that Frame and python-can's Message have in common."""
 
     @property
     def arbitration_id(self) -> int:
@@ -233,7 +233,7 @@ class MessageLike(Protocol):
 
 
 def flags_of(number: int) -> dict[str, bool]:
-    """Returns the flags of an FD frame in a number, by their names."""
+    """Returns the flags of an FD frame that are set in a number, by name."""
     return {"bitrate_switch": bool(number & BRS), "error_state_indicator": bool(number & ESI)}
 
 
@@ -243,7 +243,7 @@ def flag_number(message: MessageLike) -> int:
 
 
 def frame_like(message: MessageLike) -> Frame:
-    """Returns the frame for a python-can message."""
+    """Returns the Frame for a python-can message."""
     if isinstance(message, Frame):
         return message
     return Frame(
@@ -298,7 +298,7 @@ def command_of(message: MessageLike) -> str:
 
 
 def frame_of_message(make: Callable[..., Made], kind: str, *words: str) -> Made:
-    """Returns the result of `make` for the words of a message that hands over a frame."""
+    """Returns the result of `make` for the words of a message that delivers a frame."""
     if kind == "fdframex":
         flags, *words_of_frame = words
         return made(make, "fdframe", *words_of_frame, flags=int(flags))
@@ -306,7 +306,7 @@ def frame_of_message(make: Callable[..., Made], kind: str, *words: str) -> Made:
 
 
 def made(make: Callable[..., Made], kind: str, digits: str, moment: str, payload: str = "", *, flags: int = 0) -> Made:
-    """Returns the result of `make` for a message with these flags."""
+    """Returns the result of `make` for the words of a message that delivers a frame with these flags."""
     is_remote, is_error = kind == "remote", kind == "error"
     data = b"" if is_remote else bytes.fromhex(payload)
     return make(
@@ -323,27 +323,27 @@ def made(make: Callable[..., Made], kind: str, digits: str, moment: str, payload
 
 
 def without_origin(message: str) -> tuple[str, Optional[int]]:
-    """Returns a message that hands over a frame without ` same 17` or ` other 17`, and the number if the same interface
-    sent the frame, else None."""
+    """Removes ` same 17` or ` other 17` from a message that delivers a frame. Also returns the number after `same`,
+    which means that the same interface sent the frame; else None."""
     message, _, number = message.partition(" same ")
     return message.partition(" other ")[0], int(number) if number else None
 
 
 @functools.lru_cache(maxsize=4096)
 def fields_of(kind: str, digits: str) -> dict[str, object]:
-    """Returns the fields that the first words of a message give a frame."""
+    """Returns the fields of a frame that are determined by the first words of its message."""
     return vars(frame_of_message(Frame, *kind.split(" "), digits, "0.0", "0" if kind == "remote" else ""))
 
 
 def with_fields(fields: dict[str, object]) -> Frame:
-    """Returns the frame with these fields, without a test of them. A frozen dataclass takes longer to set each."""
+    """Returns the frame with these fields without checking them. The constructor of the frozen dataclass takes longer."""
     frame = NEW(Frame)
     SET(frame, "__dict__", fields)
     return frame
 
 
 def frame_of(message: str) -> Optional[Frame]:
-    """Returns the frame in a session's message, which is given without `<` and `>`; None for an answer."""
+    """Returns the frame in a session's message, which is given without `<` and `>`; None if the message is an answer."""
     words = MESSAGE.fullmatch(message.strip())
     if not words:
         return None
@@ -361,17 +361,17 @@ def frame_of(message: str) -> Optional[Frame]:
 
 
 def is_fd(text: str) -> bool:
-    """Returns whether this is the text of an FD frame."""
+    """Returns whether this text is the spelling of an FD frame."""
     return "##" in text
 
 
 def is_error(text: str) -> bool:
-    """Returns whether this is the text of an error message frame."""
+    """Returns whether this text is the spelling of an error message frame."""
     return text[0] in "23" and text.find("#") == 8
 
 
 def meaning(text: str) -> str:
-    """Returns the meaning of an error message frame in words; the empty text for another frame."""
+    """Returns the meaning of an error message frame in words; the empty string for any other frame."""
     if not is_error(text):
         return ""
     number, data = int(text[:8], 16), bytes.fromhex(text[9:]).ljust(8, b"\0")
@@ -386,7 +386,7 @@ def meaning(text: str) -> str:
 
 
 def fault_words(data: bytes) -> list[str]:
-    """Returns the kind and the place of a bus error."""
+    """Returns the kind and the position of a bus error, in words."""
     words = [name for bit, name in FAULTS if data[2] & bit]
     if data[2] & SENDING:
         words.append("while sending")
@@ -396,15 +396,15 @@ def fault_words(data: bytes) -> list[str]:
 
 
 def identifier_word(frame: MessageLike) -> int:
-    """Returns the word of a frame that filters check: the identifier, and whether the frame has 29 bits and is
-    remote."""
+    """Returns the word of a frame that filters check: the identifier, and bits for extended and remote frames."""
     return frame.arbitration_id | EXTENDED * frame.is_extended_id | REMOTE * frame.is_remote_frame
 
 
 def passes_filters(word: int, filters: Sequence[tuple[int, int]], join: bool) -> bool:
-    """Returns whether an identifier word passes these filters, pairs of identifier word and mask (linux/can/raw.h).
+    """Returns whether an identifier word passes these filters, each a pair of identifier word and mask
+    (linux/can/raw.h).
 
-    The word must match one filter, or all with `join`. Without filters nothing passes.
+    The word must match one filter, or all filters if `join` is true. Without filters no word passes.
     """
     matches = [((word ^ identifier) & mask == 0) != bool(identifier & INVERTED) for identifier, mask in filters]
     return bool(matches) and (all(matches) if join else any(matches))

@@ -1,4 +1,4 @@
-"""Ends of ISO-TP on interfaces of a server: by can-isotp if it is installed, by a socket of canbusd-run, or in Python.
+"""ISO-TP on the interfaces of a server: with can-isotp if it is installed, with a socket of canbusd-run, or in Python.
 
     with server.isotp("ecu", tx=0x7E8, rx=0x7E0) as ecu, server.isotp("tester", tx=0x7E0, rx=0x7E8) as tester:
         tester.send(b"\\x22\\xf1\\x90")
@@ -33,17 +33,17 @@ if TYPE_CHECKING:
 HOW_TO_GET = "`pip install can-isotp`, or canbusd-run beside the program"
 #: The implementations.
 LIBRARIES = ("can-isotp", "canbusd-run", "canbusd")
-#: The program that canbusd-run runs.
+#: The program that canbusd-run starts to open the socket.
 SOCKET_PROGRAM = os.path.join(os.path.dirname(__file__), "_process", "isotp_socket.py")
-#: The time limit in seconds for the start and the end of a socket's process.
+#: How many seconds the process with the socket may take to start, and to end.
 START, END = 20.0, 5.0
 
 
 def open_isotp(
     opened: "Callable[..., CanbusdBus]", address: str, channel: str, options: Options, library: Optional[str] = None
 ) -> IsoTp:
-    """Returns an end on an interface; `opened` opens a bus of python-can there. `library` names the implementation; the
-    default is the first available one that supports the options."""
+    """Returns one end of a connection on an interface. `opened` opens a python-can bus on an interface. `library` names
+    the implementation; the default is the first available implementation that supports the options."""
     if library not in (None, *LIBRARIES):
         raise ValueError(f"library is {', '.join(map(repr, LIBRARIES[:-1]))} or {LIBRARIES[-1]!r}, not {library!r}")
     if options.functional is not None and library not in (None, "canbusd"):
@@ -67,13 +67,13 @@ def open_isotp(
 
 
 def check_physical(functional: bool) -> None:
-    """Raises ValueError for a request to all nodes, if the end has no identifier for such requests."""
+    """Raises ValueError for a functional request, because this implementation has no identifier for such requests."""
     if functional:
         raise ValueError("functional=True needs the identifier of requests to all: isotp(.., functional=0x7DF)")
 
 
 class CanIsoTp(IsoTp):
-    """An end that is a can-isotp stack, version 2 or later, with its own threads."""
+    """An end of a connection that uses a can-isotp stack, version 2 or later, with the stack's own threads."""
 
     library = "can-isotp"
 
@@ -125,11 +125,11 @@ class CanIsoTp(IsoTp):
 
 
 class SocketIsoTp(IsoTp):
-    """An end that is a CAN_ISOTP socket in a process that canbusd-run starts; both processes share a pair of sockets.
+    """An end of a connection that uses a CAN_ISOTP socket in another process, which canbusd-run starts. The two
+    processes communicate over a pair of sockets.
 
-    A packet to that process is a message to send. A packet from there begins with a letter: `r` comes before a received
-    message. `s` comes before the errno of a sent message, 0 for success. `e` comes before the errno of a message that
-    was not received.
+    A packet to that process is a message to send. A packet from that process begins with a letter: `r` precedes a
+    received message, `s` precedes the errno of a send (0 for success), and `e` precedes the errno of a failed receive.
     """
 
     library = "canbusd-run"
@@ -147,7 +147,7 @@ class SocketIsoTp(IsoTp):
                 stderr=subprocess.PIPE,
             )
         self._sending, self._news = threading.Lock(), threading.Condition()
-        # The packets that no call has taken, and whether a thread is reading.
+        # The packets that no call has returned yet, and whether a thread is reading packets.
         self._received: list[bytes] = []
         self._is_read = False
         try:
@@ -185,7 +185,7 @@ class SocketIsoTp(IsoTp):
         return b""
 
     def close(self) -> None:
-        # The process ends when its socket of the pair is closed.
+        # The process ends when this end of the socket pair is closed.
         self._own.close()
         try:
             self._child.wait(END)
@@ -196,9 +196,10 @@ class SocketIsoTp(IsoTp):
         self._child.stderr.close()
 
     def _next(self, letters: str, timeout: Optional[float]) -> Optional[bytes]:
-        """Returns the next packet with one of these letters; None if no packet comes within this time.
+        """Returns the next packet that begins with one of these letters; None if no packet arrives within `timeout`
+        seconds.
 
-        One of the waiting threads reads, and keeps packets for the others.
+        If several threads wait, one of them reads packets and stores those for the other threads.
         """
         deadline = None if timeout is None else time.monotonic() + timeout
         with self._news:
@@ -216,7 +217,7 @@ class SocketIsoTp(IsoTp):
                     self._read(left)
 
     def _read(self, left: Optional[float]) -> None:
-        """Reads a packet, if one comes within this time; meanwhile other threads may check the kept packets."""
+        """Reads a packet, if one arrives within this time. Meanwhile, other threads may check the stored packets."""
         self._is_read = True
         self._news.release()
         try:
@@ -233,15 +234,16 @@ class SocketIsoTp(IsoTp):
             self._received.append(packet)
 
     def _said(self) -> str:
-        """Returns the standard error of the process, after it has ended."""
+        """Returns the last line of the process's standard error, after the process has ended."""
         assert self._child.stderr is not None
         return self._child.stderr.read().decode(errors="replace").strip().split("\n")[-1] or "without a word"
 
 
 def outage_of(address: str, channel: str) -> str:
-    """Returns the reason why an interface takes no part, if the server reports one: `bus off`, `down`, or the empty
-    text."""
-    # This also suppresses the errors of python-can, if it is installed: without an answer there is no reason.
+    """Returns the reason why an interface is off the bus, if the server reports one: `bus off` or `down`; else the
+    empty string."""
+    # Errors of python-can are also suppressed, if it is installed: without an answer from the server, there is no
+    # reason.
     with contextlib.suppress(Exception):
         session = ObservingSession(address, channel, has_frames=False)
         session.close()

@@ -1,4 +1,4 @@
-"""A bus inside this process, by libcanbusd: no server, no socket, no thread and no clock.
+"""A bus inside this process, simulated by libcanbusd without a server, sockets, threads or clocks.
 
     bus = LocalBus("can0,can1")
     ecu, tester = bus.open("can0"), bus.open("can1")
@@ -6,9 +6,9 @@
     bus.attempt()
     assert tester.receive() == Frame(0x123, b"\\x11\\x22")
 
-Frames move in `attempt` and `run`, or as they are sent where the bus is made with `attempts="sent"`, as it is for python-can:
-`can.Bus(interface="canbusd", channel="can0", local=bus)`. Threads may share a bus: each call is carried out whole before the
-next. python-can is not needed.
+Frames are transmitted during `attempt` and `run`. With `attempts="sent"`, they are transmitted when they are sent.
+python-can uses the bus in this way: `can.Bus(interface="canbusd", channel="can0", local=bus)`. Several threads may use
+one bus: each call is completed before the next call begins. This module does not need python-can.
 """
 
 import ctypes
@@ -48,17 +48,17 @@ OUTCOMES: tuple[Outcome, ...] = ("idle", "done", "lastbit", "destroyed", "noack"
 ERR_FILTER, LOOPBACK, RECV_OWN, FD_FRAMES, JOIN = 2, 3, 4, 5, 6
 FDF = 4
 BAD_RUN = 23
-# The places of an attempt's outcome and moment in canbusd_tried.
+# The offsets of the outcome and of the timestamp in the struct canbusd_tried.
 OUTCOME_AT, MOMENT_AT = 72, 88
 MOMENT = struct.Struct("=Q")
-# The number of heads of frames that are kept.
+# The maximum number of frame heads that are cached.
 MOST_HEADS = 4096
 put_frame, item_in, tried_in = lib.FRAME.pack_into, lib.ITEM.unpack, lib.TRIED.unpack
 
 
 class HeadsOfFrames(dict[bytes, tuple[dict[str, object], int]]):
-    """The fields that the head of a struct gives frames, and the number of bytes of data that they carry. To make them takes
-    longer than a call of the library."""
+    """The cached fields of frames, by the first bytes of their structs, and how many bytes of data follow. Computing
+    the fields takes longer than a call of the library."""
 
     def __missing__(self, head: bytes) -> tuple[dict[str, object], int]:
         word, length, flags = lib.HEAD.unpack(head)
@@ -86,7 +86,7 @@ HEADS = HeadsOfFrames()
 
 
 def frame_of(head: bytes, data: bytes, micros: int) -> Frame:
-    """Returns the frame of a struct, which needs no test."""
+    """Returns the frame in a struct of the library without checking its fields."""
     fields, length = HEADS[head]
     fields = fields.copy()
     fields["data"] = data[:length]
@@ -95,12 +95,12 @@ def frame_of(head: bytes, data: bytes, micros: int) -> Frame:
 
 
 class Tried:
-    """The outcome of an attempt that tried a frame."""
+    """The outcome of an attempt that tried to send a frame."""
 
     __slots__ = ("_names", "_struct")
 
     def __init__(self, names: Sequence[str], tried: bytes) -> None:
-        # The struct is read by whoever asks for a field.
+        # The struct is decoded when one of the fields is read.
         self._names, self._struct = names, tried
 
     @property
@@ -111,32 +111,32 @@ class Tried:
 
     @property
     def winner(self) -> str:
-        """The interface that sent it."""
+        """The interface that sent the frame."""
         return self._names[self._field(3)]
 
     @property
     def number(self) -> int:
-        """The number of the frame at that interface."""
+        """The number of the frame at the interface that sent it."""
         return self._field(4)
 
     @property
     def outcome(self) -> Outcome:
-        """Whether it was sent and received, or how it failed: `done`, `lastbit`, `destroyed` or `noack`."""
+        """`done` if the frame was sent and received, or how the attempt failed: `lastbit`, `destroyed` or `noack`."""
         return OUTCOMES[self._field(2)]
 
     @property
     def accepted(self) -> tuple[str, ...]:
-        """The interfaces that have accepted it."""
+        """The interfaces that accepted the frame."""
         return self._named(6)
 
     @property
     def off(self) -> tuple[str, ...]:
-        """Those that went bus off."""
+        """The interfaces that went bus off in this attempt."""
         return self._named(7)
 
     @property
     def restarted(self) -> tuple[str, ...]:
-        """Those that were restarted."""
+        """The interfaces that were restarted after this attempt."""
         return self._named(8)
 
     def _field(self, place: int) -> int:
@@ -159,7 +159,7 @@ class Tried:
 
 
 class LocalSocket(NamesWhatThereIs):
-    """A raw socket on an interface of a local bus; `LocalBus.open` makes it."""
+    """A raw socket on an interface of a local bus. `LocalBus.open` returns it."""
 
     _INSTEAD = {
         **dict.fromkeys(("recv", "read"), "receive() returns the oldest frame, or None"),
@@ -168,9 +168,9 @@ class LocalSocket(NamesWhatThereIs):
 
     def __init__(self, bus: "LocalBus", number: int, channel: str) -> None:
         self._bus, self._number = bus, number
-        #: The name of its interface.
+        #: The name of the interface that the socket is on.
         self.channel = channel
-        # The arguments of a call for each frame, as objects of ctypes.
+        # The arguments of the calls for each frame, stored as ctypes objects.
         self._given = ctypes.c_uint32(number)
         self._sent = ctypes.create_string_buffer(lib.FRAME.size)
         self._room = ctypes.create_string_buffer(lib.ITEM.size)
@@ -184,7 +184,8 @@ class LocalSocket(NamesWhatThereIs):
         is_extended_id: Optional[bool] = None,
         is_fd: bool = False,
     ) -> None:
-        """Puts a frame into the transmit queue of the interface: a Frame, or an identifier with its data.
+        """Puts a frame into the transmit queue of the interface. The argument is a Frame, or an identifier followed by
+        its data.
 
         :raises Refused: `no buffers`, `bus off`, `interface down`, `fd frames off` or `record full`
         """
@@ -193,7 +194,7 @@ class LocalSocket(NamesWhatThereIs):
             flags = FDF + flag_number(frame) if frame.is_fd else 0
             word |= ERROR * frame.is_error_frame
         elif is_extended_id is None and not is_fd and data.__class__ is bytes and frame.__class__ is int and frame >= 0:
-            # The usual frame, which the bus itself tests.
+            # For the most common kind of frame, the library itself checks the fields.
             length, word, flags = len(data), frame if frame < 0x800 else frame | EXTENDED, 0
             if length > 8 or frame >= EXTENDED >> 2:
                 frame_to_send(frame, data)
@@ -210,7 +211,7 @@ class LocalSocket(NamesWhatThereIs):
                 bus._settle()
 
     def receive(self) -> Optional[Frame]:
-        """Returns the oldest frame or error message frame that waits, or None."""
+        """Returns the oldest frame or error message frame in the receive queue, or None."""
         bus = self._bus
         with bus._turn:
             code = bus._receive(bus._handle, self._given, self._room)
@@ -222,7 +223,8 @@ class LocalSocket(NamesWhatThereIs):
         return frame_of(head, data, micros)
 
     def wait(self, timeout: Optional[float] = None) -> Optional[Frame]:
-        """Returns the oldest frame, and waits for one that another thread sends; None if none comes within `timeout` seconds."""
+        """Returns the oldest frame, and waits until another thread sends one if the queue is empty; None after
+        `timeout` seconds."""
         bus = self._bus
         with bus._news:
             found: list[Frame] = []
@@ -241,7 +243,8 @@ class LocalSocket(NamesWhatThereIs):
         return found[0] if found else None
 
     def set_filters(self, filters: Optional[Filters] = None) -> None:
-        """Receives what matches one of these filters, by the rules of linux/can.h; None is everything."""
+        """Receives only frames that match one of these filters, by the rules of linux/can.h. With None, all frames are
+        received."""
         pairs = [(0, 0)] if filters is None else [filter_words(one) for one in filters]
         packed = b"".join(lib.FILTER.pack(*pair) for pair in pairs)
         self._bus._call("set_filters", self._number, packed or None, len(pairs))
@@ -251,20 +254,20 @@ class LocalSocket(NamesWhatThereIs):
         self._bus._call("set_option", self._number, option, value)
 
     def stats(self) -> Stats:
-        """Returns the counts of this socket and of its interface."""
+        """Returns the counts of this socket and its interface."""
         counts = lib.STATS.unpack(self._bus._read("get_stats", self._number, lib.STATS.size))
         return Stats(*counts, *self._bus._status(self.channel)[3:])
 
     def close(self) -> None:
-        """Closes the socket; frames that it sent stay in their queue."""
+        """Closes the socket. Frames that it sent remain in the transmit queue."""
         self._bus._call("close", self._number, None)
 
 
 class LocalBus(NamesWhatThereIs):
-    """A bus with these interfaces, as `"can0,can1"` or a list. The options are those of a Bench.
+    """A bus with these interfaces, given as `"can0,can1"` or a list. The options are the same as for a Bench.
 
-    With `attempts="sent"` attempts are made as frames are sent, until none has one to send; on a bus with bit rates they take
-    the time of their bits then, and `moment` goes on.
+    With `attempts="sent"`, each call that sends a frame also makes attempts until no frame is queued. On a bus with bit
+    rates, these attempts take as long as their bits, and `moment` advances.
     """
 
     _INSTEAD = {
@@ -297,16 +300,17 @@ class LocalBus(NamesWhatThereIs):
         #: The names of the interfaces.
         self.names, faults = bus_of(names, faults)
         rates = rates_by_bus({self.names[0]: self.names}, bitrate, data_bitrate, dbitrate)[self.names[0]]
-        #: The moment of the bus in microseconds: where attempts are made. On a bus with bit rates they move it.
+        #: The current time of the bus in microseconds. Attempts are made at this time; on a bus with bit rates they
+        #: advance it.
         self.moment = 0
         self._is_timed = rates is not None
         self._settles = attempts == "sent"
         self._turn = threading.RLock()
         self._news = threading.Condition(self._turn)
-        # The number of threads that wait for news.
+        # The number of threads that wait for a frame.
         self._waiting = 0
         config = lib.config_of(len(self.names), ack, report, auto_restart, txqueue, limit, rates)
-        # NULL once it is closed.
+        # The pointer to the bus of the library; NULL after the bus is closed.
         self._handle = ctypes.c_void_p()
         functions = library()
         code = functions.canbusd_new(",".join(self.names).encode(), config, ctypes.addressof(self._handle))
@@ -314,7 +318,7 @@ class LocalBus(NamesWhatThereIs):
             raise Refused(text_of(code))
         self._end = weakref.finalize(self, functions.canbusd_free, self._handle.value)
         self._send, self._receive, self._attempt = lib.quick("send"), lib.quick("receive"), lib.quick("attempt")
-        # The arguments of an attempt, as objects of ctypes.
+        # The arguments of the calls for each attempt, stored as ctypes objects.
         self._at, self._tried = ctypes.c_uint64(), ctypes.create_string_buffer(lib.TRIED.size)
         if faults is not None:
             self.inject(faults)
@@ -328,7 +332,7 @@ class LocalBus(NamesWhatThereIs):
         self.close()
 
     def close(self) -> None:
-        """Frees the bus; no call of it or of its sockets is carried out after it."""
+        """Frees the bus. Later calls of the bus or its sockets raise Refused."""
         with self._turn:
             self._handle.value = None
             self._end()
@@ -346,7 +350,8 @@ class LocalBus(NamesWhatThereIs):
         join_filters: bool = False,
         rxqueue: int = 256,
     ) -> LocalSocket:
-        """Opens a raw socket on this interface, with room for `rxqueue` frames; the other options are those of CanbusdBus."""
+        """Opens a raw socket on this interface, with a receive queue for `rxqueue` frames. The other options are the
+        same as for CanbusdBus."""
         number = ctypes.c_uint32()
         with self._turn:
             self._call("open", self._iface(channel), rxqueue, ctypes.addressof(number))
@@ -363,15 +368,18 @@ class LocalBus(NamesWhatThereIs):
         return socket
 
     def attempt(self) -> Optional[Tried]:
-        """Makes the next attempt, at `moment`; returns its outcome, or None if no interface had a frame to send."""
+        """Makes the next attempt at the time `moment`. Returns its outcome, or None if no interface had a frame to
+        send."""
         with self._turn:
             self._attempt_once()
             tried = self._tried.raw
         return Tried(self.names, tried) if tried[OUTCOME_AT] else None
 
     def run(self, seconds: Optional[float] = None) -> int:
-        """Makes all attempts that are due; returns how many. On a bus with bit rates those that begin within these seconds,
-        and the moment is then so much later; without `seconds`, and on any other bus, until no interface has one to send.
+        """Makes all attempts that are due, and returns their number.
+
+        On a bus with bit rates, makes the attempts that begin within these seconds, and advances `moment` by the same
+        time. Without `seconds`, and on a bus without bit rates, makes attempts until no interface has a frame to send.
         """
         with self._turn:
             if seconds is None or not self._is_timed:
@@ -379,14 +387,14 @@ class LocalBus(NamesWhatThereIs):
             made = ctypes.c_uint64()
             self.moment += round(seconds * 1e6)
             code = library().canbusd_run(self._handle, self.moment, ctypes.addressof(made))
-            # The wire is busy for longer than that, so that no attempt begins.
+            # BAD_RUN means that the bus is busy for longer than these seconds, so that no attempt can begin.
             if code not in (lib.OK, BAD_RUN):
                 raise self._refused(code)
             self._news.notify_all()
             return made.value
 
     def inject(self, rules: Script) -> None:
-        """Adds rules of faults after those that there are."""
+        """Adds fault rules after the existing rules."""
         for rule in rules_of(rules):
             self._call("inject", str(rule).encode())
 
@@ -395,25 +403,25 @@ class LocalBus(NamesWhatThereIs):
         self._call("end_rules")
 
     def status(self, channel: str) -> ErrorCounters:
-        """Returns the state of an interface and its error counts."""
+        """Returns the state of an interface and its error counters."""
         state, tec, rec, *_ = self._status(channel)
         return ErrorCounters(STATES[state], tec, rec)
 
     def restart(self, channel: str) -> None:
-        """Brings an interface back from bus off, or up."""
+        """Restarts an interface after bus off, or brings it up if it is down."""
         self._call("restart", self._iface(channel), self.moment)
 
     def down(self, channel: str) -> None:
-        """Takes an interface off the bus; what waits in its transmit queue is lost."""
+        """Takes an interface off the bus. The frames in its transmit queue are lost."""
         self._call("down", self._iface(channel), self.moment)
 
     def load(self) -> Load:
-        """Returns how busy the wire was; without bit rates `Load(0, 0, 0, 0)`."""
+        """Returns the bus load and the bit rates; `Load(0, 0, 0, 0)` without bit rates."""
         permille, rate, fast, _, micros = lib.LOAD.unpack(self._read("get_load", self.moment, lib.LOAD.size))
         return Load(permille, micros, rate, fast)
 
     def record(self) -> bytes:
-        """Returns the text of the record, which `canbusd audit` and `read_record` take."""
+        """Returns the text of the record, which `canbusd audit` and `read_record` can read."""
         with self._turn:
             length = ctypes.c_size_t()
             self._call("record", None, 0, ctypes.addressof(length))
@@ -422,7 +430,7 @@ class LocalBus(NamesWhatThereIs):
             return text.raw[: length.value]
 
     def _attempt_once(self) -> None:
-        """Makes an attempt at the moment of the bus."""
+        """Makes one attempt at the current time of the bus."""
         self._at.value = self.moment
         code = self._attempt(self._handle, self._at, self._tried)
         if code:
@@ -433,7 +441,7 @@ class LocalBus(NamesWhatThereIs):
             self._news.notify_all()
 
     def _settle(self) -> int:
-        """Makes attempts until no interface has a frame to send; returns how many."""
+        """Makes attempts until no interface has a frame to send. Returns the number of attempts."""
         made = 0
         while True:
             self._attempt_once()
@@ -442,29 +450,29 @@ class LocalBus(NamesWhatThereIs):
             made += 1
 
     def _iface(self, channel: str) -> int:
-        """The number of an interface."""
+        """Returns the number of an interface."""
         if channel not in self.names:
             raise Refused(f"no such interface {channel!r}; the bus has {', '.join(self.names)}")
         return self.names.index(channel)
 
     def _status(self, channel: str) -> tuple[int, ...]:
-        """The struct of an interface's counts, without what is unused."""
+        """Returns the fields of an interface's status struct, without the unused field."""
         state, tec, rec, _, *counts = lib.STATUS.unpack(self._read("get_status", self._iface(channel), lib.STATUS.size))
         return (state, tec, rec, *counts)
 
     def _read(self, name: str, of: int, size: int) -> bytes:
-        """The text that a call writes into a buffer."""
+        """Calls a library function that fills a buffer, and returns the bytes of the buffer."""
         room = ctypes.create_string_buffer(size)
         self._call(name, of, ctypes.addressof(room))
         return room.raw
 
     def _call(self, name: str, *arguments: object) -> None:
-        """Makes a call; Refused with its text if it is refused."""
+        """Calls a library function. Raises Refused with the reason if the library refuses the call."""
         with self._turn:
             code = getattr(library(), f"canbusd_{name}")(self._handle, *arguments)
         if code:
             raise self._refused(code)
 
     def _refused(self, code: int) -> Refused:
-        """The exception for a code."""
+        """Returns the exception for an error code of the library."""
         return Refused(text_of(code) if self._handle else "the bus is closed")

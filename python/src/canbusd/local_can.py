@@ -1,4 +1,5 @@
-"""The interface `canbusd` of python-can on a bus inside this process: `can.Bus(interface="canbusd", channel="can0", local=bus)`."""
+"""The python-can interface `canbusd` on a bus inside this process: `can.Bus(interface="canbusd", channel="can0",
+local=bus)`."""
 
 from typing import Any, Optional
 
@@ -16,17 +17,17 @@ from canbusd.local import LocalBus, LocalSocket, Refused
 
 
 class LocalCanbusdBus(BusABC):
-    """A raw socket on an interface of a LocalBus. With ``attempts="sent"`` the bus makes attempts when frames are sent,
-    else ``local.attempt()`` and ``local.run()`` make them.
+    """A raw socket on an interface of a LocalBus. With ``attempts="sent"``, frames are transmitted when they are sent;
+    else by ``local.attempt()`` and ``local.run()``.
 
     :param channel: the name of the interface
-    :param local: the bus
+    :param local: the bus inside this process
     :param can_filters: see :meth:`can.BusABC.set_filters`
     :param kwargs: the other arguments of `LocalBus.open`
     """
 
     def __init__(self, channel: str, can_filters: Optional[Filters] = None, *, local: LocalBus, **kwargs: Any) -> None:
-        # python-can 4.3 warns of a bus without a shutdown, even if its constructor failed.
+        # Since version 4.3, python-can warns about a bus without a shutdown, even if its constructor failed.
         self._is_shutdown = True
         self.channel, self.local = channel, local
         self.channel_info = f"canbusd: channel '{channel}' of a bus in this process"
@@ -38,7 +39,8 @@ class LocalCanbusdBus(BusABC):
         self._is_shutdown = False
 
     def send(self, msg: Message, timeout: Optional[float] = None) -> None:
-        """Puts a message into the transmit queue of the interface; a full queue is an error at once."""
+        """Puts a message into the transmit queue of the interface. If the queue is full, raises CanOperationError at
+        once."""
         try:
             self._socket.send(frame_like(msg))
         except Refused as fault:
@@ -64,7 +66,7 @@ class LocalCanbusdBus(BusABC):
             self.restart()
 
     def restart(self) -> None:
-        """Brings the interface back from bus off, or up."""
+        """Restarts the interface after bus off, or brings it up if it is down."""
         self.local.restart(self.channel)
 
     def down(self) -> None:
@@ -72,19 +74,19 @@ class LocalCanbusdBus(BusABC):
         self.local.down(self.channel)
 
     def error_counters(self) -> ErrorCounters:
-        """Returns the state of the interface and its error counts."""
+        """Returns the state of the interface and its error counters."""
         return self.local.status(self.channel)
 
     def stats(self) -> Stats:
-        """Returns the counts of this socket and of its interface."""
+        """Returns the counts of this socket and its interface."""
         return self._socket.stats()
 
     def load(self) -> Load:
-        """Returns the bus load, and the bit rates of the bus."""
+        """Returns the bus load and the bit rates of the bus."""
         return self.local.load()
 
     def shutdown(self) -> None:
-        """Closes the socket; the bus continues."""
+        """Closes the socket. The bus itself stays open."""
         if not self._is_shutdown:
             self._socket.close()
         super().shutdown()

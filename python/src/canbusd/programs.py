@@ -1,4 +1,4 @@
-"""Programs with CAN sockets on the buses of a server: their command lines, and programs that run during a test."""
+"""Programs whose CAN sockets are on the buses of a server: their command lines, and programs that run during a test."""
 
 import errno
 import os
@@ -19,17 +19,17 @@ from canbusd._session.arguments import check_within
 from canbusd._session.connection import LONGEST_POLL, POLL
 from canbusd._text import seconds_words
 
-#: The words of a program, or a text that is split like in a shell.
+#: A program and its arguments, as a list of words or as a text that is split like in a shell.
 Words = Union[str, Sequence[Union[str, "os.PathLike[str]"]]]
-#: Characters that only a shell interprets.
+#: Characters that only a shell interprets; text with such a character is refused.
 OPERATORS = frozenset("();<>|&")
-#: The number of output lines, the last ones, that a failure shows.
+#: How many of the last output lines a failure shows.
 LAST_LINES = 10
 
 
 def words_of(words: Words) -> list[str]:
-    """Returns the words of a program; splits a str like a shell, and raises ValueError for text that only a shell
-    interprets."""
+    """Returns a program and its arguments as a list. A string is split like in a shell; raises ValueError if the string
+    has characters that only a shell interprets."""
     if isinstance(words, str):
         found = split(words)
     elif isinstance(words, Sequence) and all(isinstance(word, (str, os.PathLike)) for word in words):
@@ -42,8 +42,8 @@ def words_of(words: Words) -> list[str]:
 
 
 def check_no_shell(arguments: dict[str, Any]) -> None:
-    """Raises ValueError if a shell is requested: the shell would be the program, and its CAN sockets would be the
-    server's."""
+    """Raises ValueError if `shell` is true. To use a shell, a test runs it as the program: its CAN sockets are then on
+    the server, too."""
     if arguments.get("shell"):
         raise ValueError("shell=True: a shell is a program, too: ['sh', '-c', 'cangen can0 | ..']")
 
@@ -65,9 +65,9 @@ def split(text: str) -> list[str]:
 def check_program(
     name: str, env: Optional[Mapping[str, str]] = None, cwd: Union[str, "os.PathLike[str]", None] = None
 ) -> None:
-    """Raises the error of subprocess if a program can't be started: FileNotFoundError, or PermissionError.
+    """Raises the same error as subprocess if a program can't be started: FileNotFoundError or PermissionError.
 
-    canbusd-run starts the program, and its status 127 might also come from the program.
+    This check is needed because canbusd-run starts the program, and its status 127 might also be the program's status.
     """
     folder = cwd or ""
     places = [""] if "/" in name else os.get_exec_path(env)
@@ -80,9 +80,10 @@ def check_program(
 
 
 class Program(NamesWhatThereIs):
-    """A program that runs during the test; :meth:`canbusd.Server.start` starts it, and the server ends it.
+    """A program that runs during the test. :meth:`canbusd.Server.start` starts it, and the server ends it.
 
-    `output` has the standard output and standard error written so far; a program may buffer its output and write late.
+    `output` contains everything that the program has written to standard output and standard error so far. A program
+    may buffer its output and write it late.
     """
 
     _INSTEAD = {
@@ -96,7 +97,7 @@ class Program(NamesWhatThereIs):
     ) -> None:
         self._words, self._path, self._output = list(words), output, Output(output)
         self._may_end, self._is_stopped, self._is_off = may_end, False, False
-        # The program is not in the terminal's foreground group, so that Ctrl-C only reaches the test.
+        # The program gets its own session. So Ctrl-C in the terminal only reaches the test.
         how: dict[str, Any] = {"stdin": subprocess.DEVNULL, "start_new_session": True, **kwargs}
         self._command, self._how = [*command, *words], how
         output.write_bytes(b"")
@@ -104,7 +105,7 @@ class Program(NamesWhatThereIs):
         placement.note_program(self._restart)
 
     def _start(self) -> None:
-        """Starts the program; its output is appended to the earlier output."""
+        """Starts the program. Its output is appended to the output of earlier starts."""
         self._guard = Guard()
         child: "Optional[subprocess.Popen[bytes]]" = None
         try:
@@ -119,7 +120,7 @@ class Program(NamesWhatThereIs):
         self._child = child
 
     def _restart(self) -> None:
-        """Kills the program, like a reset, and starts it anew; does nothing if the program has ended."""
+        """Kills the program, like a reset, and starts it again. Does nothing if the program has ended."""
         if self.status is None:
             self._kill()
             self._child.wait()
@@ -127,7 +128,7 @@ class Program(NamesWhatThereIs):
             self._start()
 
     def _power_off(self) -> None:
-        """Kills the running program, like a node that loses its power; this is no fault of the program."""
+        """Kills the program if it is running, like a node that loses its power. This end is not reported as a fault."""
         if self.status is None:
             self._is_off = True
             self._kill()
@@ -135,7 +136,7 @@ class Program(NamesWhatThereIs):
             self._guard.release()
 
     def _power_on(self) -> None:
-        """Starts the program anew, if `_power_off` has killed it."""
+        """Starts the program again if `_power_off` has killed it."""
         if self._is_off:
             self._is_off = False
             self._start()
@@ -147,7 +148,7 @@ class Program(NamesWhatThereIs):
 
     @property
     def status(self) -> Optional[int]:
-        """The status of the program, negative if a signal ended it; None while it runs."""
+        """The exit status of the program, negative if a signal ended it; None while it runs."""
         status = self._child.poll()
         if status is not None:
             self._guard.release()
@@ -160,11 +161,11 @@ class Program(NamesWhatThereIs):
 
     @explained()
     def expect(self, text: str, *, within: float = 10.0) -> str:
-        """Waits until the program's output has this text, and returns the output. AssertionError after these seconds,
-        or if the program ends.
+        """Waits until the program's output contains this text, and returns the output. Raises AssertionError if the
+        text does not appear within these seconds, or if the program ends without it.
 
-        If there is more than a megabyte of output, the result is the last megabyte up to the text, after a line with
-        the number of bytes before.
+        If the output has more than a megabyte, only the last megabyte up to the text is returned. It follows a line
+        that says how many bytes are left out.
         """
         __tracebackhide__ = True
         if not isinstance(text, str):
@@ -173,7 +174,8 @@ class Program(NamesWhatThereIs):
         deadline, pause = time.monotonic() + within, POLL
         with Search(self._path, text) as search:
             while True:
-                # The status is read before the output, so that the last output counts.
+                # The status is read before the output. So the last output of a program that has ended is still
+                # searched.
                 has_ended = self.status is not None
                 is_read = search.goes_on(deadline)
                 if search.is_found:
@@ -187,8 +189,8 @@ class Program(NamesWhatThereIs):
 
     @explained()
     def wait(self, timeout: float) -> int:
-        """Waits until the program ends by itself, which is then allowed, and returns its status; TimeoutError after
-        these seconds."""
+        """Waits until the program ends by itself, and returns its exit status. Its end is then not a fault. Raises
+        TimeoutError after `timeout` seconds."""
         __tracebackhide__ = True
         try:
             status = self._child.wait(timeout)
@@ -199,11 +201,11 @@ class Program(NamesWhatThereIs):
         return status
 
     def stop(self, timeout: float = 5.0) -> int:
-        """Ends the program with SIGTERM, and after these seconds its whole process group with SIGKILL; returns its
-        status.
+        """Ends the program with SIGTERM, or its whole process group with SIGKILL after `timeout` seconds. Returns the
+        exit status.
 
-        If the program has already ended, nothing changes: the test fails at its end, unless `may_end` or `wait`
-        expected this.
+        If the program has already ended by itself, it is still a fault: the test fails at its end, unless `may_end` or
+        `wait` allowed this.
         """
         if self.status is None:
             self._is_stopped = True
@@ -223,13 +225,13 @@ class Program(NamesWhatThereIs):
             pass
 
     def fault(self) -> Optional[str]:
-        """Returns a text if the program has ended by itself against expectation; else None."""
+        """Returns a failure text if the program has ended by itself without being allowed to; else None."""
         if self.status is None or self._may_end or self._is_stopped or self._is_off:
             return None
         return f"{self._name()} ended before the test did; pass may_end=True if it may\n{self.shown()}"
 
     def shown(self) -> str:
-        """Returns the program's words, its status and the end of its output, for a failure."""
+        """Returns the program's command, its status and the end of its output, for a failure text."""
         state = "runs" if self.status is None else f"{'stopped, ' if self._is_stopped else ''}status {self.status}"
         lines = self._output.last_lines(LAST_LINES) or ["and no output"]
         return "\n".join([f"{self._name()}: {state}, {lines[0]}", *lines[1:]])
@@ -239,7 +241,7 @@ class Program(NamesWhatThereIs):
 
 
 class RunsPrograms:
-    """The mixin of a server for programs with CAN sockets."""
+    """The part of a server that runs programs with CAN sockets."""
 
     address: str
     _folder: Path
@@ -247,19 +249,21 @@ class RunsPrograms:
     _programs: list[Program]
 
     def _check_runs(self, what: str) -> None:
-        """Raises ServerError if the server has ended; the text names the impossible action."""
+        """Raises ServerError if the server has ended. `what` is the part of the text that says what is no longer
+        possible."""
         raise NotImplementedError
 
     def run(
         self, words: Words, wait: bool = False, static: bool = False, **kwargs: Any
     ) -> "subprocess.CompletedProcess[Any]":
-        """Runs a program whose CAN sockets are those of this server to its end: ``"cansend can0 123#"``, or a list of
-        words.
+        """Runs a program until it ends; its CAN sockets are on the buses of this server. The program is a string such
+        as ``"cansend can0 123#"``, or a list of words.
 
-        With ``wait`` its writes wait while the transmit queue is full; with ``static`` the program may be statically
-        linked, or written in Go. The other arguments are those of subprocess.run except ``shell``: a str is split into
-        words like in a shell, and text that only a shell interprets raises ValueError. FileNotFoundError if there is no
-        such program; with ``check`` a status other than 0 is an error too.
+        With ``wait``, the program's writes block while the transmit queue is full. With ``static``, the program may be
+        statically linked, or written in Go. The other arguments are those of subprocess.run, except ``shell``. A string
+        is split into words like in a shell; text that only a shell interprets raises ValueError. Raises
+        FileNotFoundError if there is no such program. With ``check``, an exit status other than 0 raises
+        CalledProcessError.
         """
         check_no_shell(kwargs)
         found = words_of(words)
@@ -270,11 +274,11 @@ class RunsPrograms:
     def start(
         self, words: Words, wait: bool = False, may_end: bool = False, static: bool = False, **kwargs: Any
     ) -> Program:
-        """Starts a program that keeps running, such as ``"candump can0"``; the end of the server ends the program.
+        """Starts a program that keeps running, such as ``"candump can0"``. The server ends the program when it stops.
 
         If the program ends by itself before that, :meth:`stop` raises ServerError and the test fails, unless
-        ``may_end`` is true. The other arguments are those of subprocess.Popen, which raises FileNotFoundError if there
-        is no such program. The program's output is :attr:`Program.output`.
+        ``may_end`` is true. The other arguments are those of subprocess.Popen. Raises FileNotFoundError if there is no
+        such program. The program's output is in :attr:`Program.output`.
         """
         check_no_shell(kwargs)
         taken = next((name for name in ("stdout", "stderr", "capture_output") if name in kwargs), None)
@@ -289,10 +293,10 @@ class RunsPrograms:
         return program
 
     def environment(self) -> dict[str, str]:
-        """Returns the environment of this process, with variables that connect a program's CAN sockets to this server.
+        """Returns the environment of this process, plus the variables that connect a program's CAN sockets to this
+        server.
 
-        This is for programs that other code starts: ``subprocess.Popen(["candump", "can0"],
-        env=server.environment())``.
+        Use it for programs that other code starts: ``subprocess.Popen(["candump", "can0"], env=server.environment())``.
         """
         words = [*self._run_words(), "env", "-0"]
         pairs = os.fsdecode(subprocess.run(words, stdout=subprocess.PIPE, check=True).stdout).split("\0")
@@ -303,7 +307,8 @@ class RunsPrograms:
         return [find_program("canbusd-run"), "--address", self.address, *options, "--"]
 
     def _end_programs(self) -> list[str]:
-        """Ends the programs that :meth:`start` has started; returns the faults of those that had ended before."""
+        """Ends the programs that :meth:`start` has started. Returns the failure texts of programs that had already
+        ended."""
         for program in self._programs:
             program.stop()
         return [fault for program in self._programs for fault in [program.fault()] if fault is not None]

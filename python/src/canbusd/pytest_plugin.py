@@ -1,4 +1,4 @@
-"""The pytest plugin: a server or a bench for a test, whose records are audited when the test ends.
+"""The pytest plugin: provides a server or a bench to a test, and audits their records when the test ends.
 
     @pytest.mark.canbusd("can0,can1", auto_restart=100)
     def test_a_node(canbusd):
@@ -38,7 +38,7 @@ if TYPE_CHECKING:
     from canbusd.server import Server
     from canbusd.local import LocalBus
 
-#: The buses of the fixture `canbusd` if no marker names others.
+#: The buses of the fixture `canbusd` for a test whose marker names no buses.
 BUSES = ("can0,can1",)
 FAILED = pytest.StashKey[bool]()
 CALLED = pytest.StashKey[bool]()
@@ -46,7 +46,7 @@ CALLED = pytest.StashKey[bool]()
 USED = pytest.StashKey[bool]()
 FOR_FIXTURES = "the test takes neither the fixture canbusd nor canbusd_bench"
 PROGRAM = pytest.StashKey[bool]()
-#: The facts of the buses of a test, and the paths of their pages.
+#: The facts about the buses of a test, and the paths of the buses' pages.
 TEXT, PAGES = pytest.StashKey[str](), pytest.StashKey[Sequence[str]]()
 
 
@@ -80,7 +80,7 @@ def add_virtual_options(group: Any) -> None:
 
 @pytest.hookimpl(tryfirst=True)  # type: ignore[misc]
 def pytest_cmdline_main(config: pytest.Config) -> None:
-    """Starts pytest anew in virtual time or for a sweep, if an option asks for it."""
+    """Restarts pytest in virtual time or for a sweep, if an option requests this."""
     seed, jitter = config.getoption("--canbusd-seed"), config.getoption("--canbusd-jitter")
     if sweep_options.is_swept(config):
         sweep_options.begin(config)
@@ -116,14 +116,14 @@ def pytest_configure(config: pytest.Config) -> None:
     if "CANBUSD" not in os.environ:
         os.environ["CANBUSD"] = path
         config.stash[PROGRAM] = True
-    # This also holds if the pytest-xdist process that started this one has set the variable.
+    # This comparison also holds if the pytest-xdist process that started this process has set the variable.
     if os.environ["CANBUSD"] == path:
         SET_BY["CANBUSD"] = "canbusd_program in the ini file"
 
 
 @pytest.hookimpl(tryfirst=True)  # type: ignore[misc]
 def pytest_runtestloop(session: pytest.Session) -> Optional[bool]:
-    """Runs a sweep in place of the tests, if an option asks for it."""
+    """Runs a sweep instead of the tests, if an option requests this."""
     config = session.config
     if not sweep_options.is_swept(config) or config.option.collectonly or session.testsfailed:
         return None
@@ -132,7 +132,7 @@ def pytest_runtestloop(session: pytest.Session) -> Optional[bool]:
 
 
 def pytest_unconfigure(config: pytest.Config) -> None:
-    """Forgets the program of the ini file."""
+    """Forgets the program that the ini file names."""
     SET_BY.pop("CANBUSD", None)
     if config.stash.get(PROGRAM, False):
         os.environ.pop("CANBUSD", None)
@@ -140,8 +140,8 @@ def pytest_unconfigure(config: pytest.Config) -> None:
 
 @pytest.hookimpl(hookwrapper=True)  # type: ignore[misc]
 def pytest_runtest_protocol(item: pytest.Item) -> Generator[None, Any, None]:
-    """Notes that the test was interrupted, as by Ctrl-C: the test has no report, and its fixtures end with the
-    session."""
+    """Notes that the test was interrupted, for example by Ctrl-C. Such a test has no report, and its fixtures end with
+    the session."""
     outcome = yield
     if outcome.excinfo is not None:
         item.stash[FAILED] = True
@@ -149,8 +149,8 @@ def pytest_runtest_protocol(item: pytest.Item) -> Generator[None, Any, None]:
 
 @pytest.hookimpl(hookwrapper=True, tryfirst=True)  # type: ignore[misc]
 def pytest_runtest_makereport(item: pytest.Item) -> Generator[None, Any, None]:
-    """Notes whether the test failed, for the end of its fixtures. A test with an expected failure, marked xfail, did
-    not fail."""
+    """Notes whether the test failed, because its fixtures check this when they end. A test that fails as its xfail mark
+    expects does not count as failed."""
     outcome = yield
     report = outcome.get_result()
     if report.when == "teardown":
@@ -165,8 +165,8 @@ def pytest_runtest_makereport(item: pytest.Item) -> Generator[None, Any, None]:
 
 @pytest.hookimpl(tryfirst=True)  # type: ignore[misc]
 def pytest_runtest_setup(item: pytest.Item) -> None:
-    """Checks that a test for virtual time runs in virtual time, whatever its fixtures are. Frames that a shared server
-    received before the test are not for this test's expectations."""
+    """Fails a test for virtual time that does not run in virtual time, whatever its fixtures are. Frames that a shared
+    server received before the test are ignored by this test's expectations."""
     marker = item.get_closest_marker("canbusd")
     if marker is not None and marker.kwargs.get("virtual") and not is_virtual():
         pytest.fail("this test is for virtual time: python3 -m pytest --canbusd-virtual", pytrace=False)
@@ -174,7 +174,7 @@ def pytest_runtest_setup(item: pytest.Item) -> None:
     if is_virtual():
         begin_test(item.nodeid)
     for run in list(RUNNING):
-        # A server that has crashed is a fault of the tests that use it.
+        # If a server has crashed, the tests that use the server report this.
         with contextlib.suppress(Exception):
             if isinstance(run, Expectations) and os.getpid() == run._process:
                 run.expect_from_now()
@@ -182,14 +182,14 @@ def pytest_runtest_setup(item: pytest.Item) -> None:
 
 @pytest.hookimpl(trylast=True)  # type: ignore[misc]
 def pytest_runtest_call(item: pytest.Item) -> None:
-    """Notes that the test was called: a skipped test uses no fixture."""
+    """Notes that the test function was called. A skipped test uses no fixture, so its marker needs no warning."""
     item.stash[CALLED] = True
 
 
 @pytest.hookimpl(trylast=True)  # type: ignore[misc]
 def pytest_runtest_teardown(item: pytest.Item) -> None:
-    """Adds the steps to the test's properties, and warns of a marker of the test itself that no fixture used; a marker
-    of its module or class may be for other tests."""
+    """Adds the steps to the test's properties. Warns if no fixture used the test's own marker; a marker of its module
+    or class may be meant for other tests."""
     if steps.current.done:
         item.user_properties.append(("canbusd_steps", "\n".join(steps.current.lines())))
     marker = next((mark for mark in item.own_markers if mark.name == "canbusd"), None)
@@ -200,13 +200,14 @@ def pytest_runtest_teardown(item: pytest.Item) -> None:
 
 
 def marker_words(marker: pytest.Mark) -> str:
-    """Returns a marker in the spelling of a test's source."""
+    """Returns a marker as it is written in the source of a test."""
     words = [*map(repr, marker.args), *(f"{name}={value!r}" for name, value in marker.kwargs.items())]
     return f"@pytest.mark.canbusd({', '.join(words)})"
 
 
 def new_folder(place: Path, name: str) -> Path:
-    """Makes a folder whose name gets a number, like pytest's folders, but without a link to the last folder."""
+    """Makes a folder with a number at the end of its name, like pytest's folders, but without a link to the last
+    folder."""
     for number in itertools.count():
         with contextlib.suppress(FileExistsError):
             folder = place / f"{name}{number}"
@@ -216,16 +217,17 @@ def new_folder(place: Path, name: str) -> Path:
 
 
 class UnusedRule(pytest.PytestWarning):
-    """A fault rule, such as `next 1 id 7FE lastbit`, gave no verdict in a test: its intended fault never happened."""
+    """A fault rule, such as `next 1 id 7FE lastbit`, was never applied during a test: the intended fault never
+    happened."""
 
 
 class UnusedMarker(pytest.PytestWarning):
-    """A test has a marker `canbusd`, but uses neither the fixture `canbusd` nor `canbusd_bench`: the marker has no
-    effect."""
+    """A test has the marker `canbusd`, but uses neither of the fixtures `canbusd` and `canbusd_bench`. So the marker
+    has no effect."""
 
 
 class StartsServer(Protocol):
-    """The type of the fixture `canbusd_server`, which starts a server with these buses and the options of Server."""
+    """The type of the fixture `canbusd_server`, which starts a server with these buses and with the options of Server."""
 
     def __call__(self, *buses: str, **options: Any) -> "Server":
         """Starts a server."""
@@ -237,12 +239,13 @@ class Runs:
     def __init__(self, request: pytest.FixtureRequest, factory: pytest.TempPathFactory) -> None:
         self._item: pytest.Item = request.node
         self._keep = str(request.config.getoption("--canbusd-keep"))
-        # A placement of a sweep has a result, and no page: benches leave no files, and their records are not audited.
+        # A run of a sweep needs only its result, and no page. So benches write no files, and their records are not
+        # audited.
         self._is_bare = self._keep == "none" and placement.has_faults()
         name = re.sub(r"\W+", "-", self._item.name)[:40]
         self._folder = new_folder(factory.getbasetemp(), f"canbusd-{name}")
         self._runs: list[Union["Server", Bench]] = []
-        #: By the path of each complete record: its run and the names of its interfaces.
+        #: For the path of each complete record: the run, and the names of its interfaces.
         self._records: dict[Path, tuple[Union["Server", Bench], list[str]]] = {}
 
     def server(self, *buses: str, **options: Any) -> "Server":
@@ -265,7 +268,8 @@ class Runs:
 
     @contextlib.contextmanager
     def _below(self) -> Iterator[None]:
-        """Returns the parent folder for the runs' folders; pytest removes them there if it is killed."""
+        """Makes the runs create their folders in the folder of the test, where pytest removes them if the process is
+        killed."""
         before = FOLDERS.set(self._folder)
         try:
             yield
@@ -287,8 +291,8 @@ class Runs:
             self._records[out / f"{names[0]}.rec"] = run, names
 
     def audit(self, text: bytes, name: str) -> None:
-        """Audits the record of a bus inside the process; a wrong record stays in the folder, and the fault fails the
-        test."""
+        """Audits the record of a bus inside the process. If the record is wrong, it stays in the folder and the test
+        fails."""
         path = self._folder / f"{name}.rec"
         path.write_bytes(text)
         said = audited(path)
@@ -297,12 +301,12 @@ class Runs:
         path.unlink()
 
     def end(self) -> None:
-        """Ends the runs and audits their records; a fault of a run fails the test. Warns of rules that gave no
-        verdict."""
+        """Ends the runs and audits their records; a fault of a run fails the test. Warns about rules that were never
+        applied."""
         faults = [*self._stop(), *self._audit()]
         unused = [] if faults else [*self._unused()]
         failed = bool(faults) or self._item.stash.get(FAILED, False)
-        # In a sweep this happens only if the page of the run is wanted.
+        # During a sweep, this is done only if the page of the run was requested.
         if (failed or self._keep == "all") and not (placement.is_there() and self._keep == "none"):
             self._report()
         if self._keep == "none" or (self._keep == "failed" and not failed):
@@ -315,10 +319,11 @@ class Runs:
             self._item.warn(UnusedRule(f"rule not used up: {rule}"))
 
     def _stop(self) -> Iterator[str]:
-        """Ends the runs that still run; yields their faults."""
+        """Ends the runs that have not ended yet, and yields their faults."""
         for run in self._runs:
             if self._was_killed(run):
-                # The test knows of this fault, and that the files have only the data written while the server ran.
+                # The test itself killed the server, so this is no fault. The files contain only the data written while
+                # the server ran.
                 for program in programs_of(run):
                     program.stop()
                 continue
@@ -331,11 +336,11 @@ class Runs:
 
     @staticmethod
     def _was_killed(run: Union["Server", Bench]) -> bool:
-        """Returns whether the test itself has killed the server."""
+        """Returns whether the test itself killed the server."""
         return not isinstance(run, Bench) and run._result is not None and run._result.status < 0
 
     def _audit(self) -> Iterator[str]:
-        """Audits the records; yields their faults. Records of a killed server may end anywhere."""
+        """Audits the records, and yields their faults. The record of a killed server may end at any point."""
         for path, (run, _) in self._records.items():
             if self._is_bare and isinstance(run, Bench):
                 continue
@@ -348,7 +353,7 @@ class Runs:
                 yield f"no record at {path}"
 
     def _unused(self) -> Iterator[Rule]:
-        """Yields the rules that gave no verdict, if a record shows this."""
+        """Yields the rules that were never applied, if a record shows this."""
         for path, (run, names) in self._records.items():
             if isinstance(run, Bench):
                 given = placement.rules_of((run._number, names[0]))
@@ -360,7 +365,7 @@ class Runs:
                 yield from (rule for rule in unused_rules(names, faults) if str(rule) not in given)
 
     def _report(self) -> None:
-        """Adds the facts about each bus and program to the test's report, and to its properties in a JUnit file."""
+        """Adds the facts about each bus and program to the test's report, and to the test's properties in a JUnit file."""
         facts = [self._facts(path, run, names) for path, (run, names) in self._records.items()]
         facts += [{"program": program.shown().splitlines()} for run in self._runs for program in programs_of(run)]
         sections = []
@@ -379,13 +384,13 @@ class Runs:
         self._item.add_report_section("teardown", "canbusd", text)
 
     def _from_junit(self, page: str) -> str:
-        """Returns the path of a page relative to the folder of the JUnit file, so that both can be copied elsewhere."""
+        """Returns the path of a page relative to the folder of the JUnit file, so that the two can be copied together."""
         file = self._item.config.getoption("xmlpath", None)
         return os.path.relpath(page, os.path.dirname(os.path.abspath(file)) if file else None)
 
     def _facts(self, path: Path, run: Union["Server", Bench], names: list[str]) -> dict[str, list[str]]:
-        """Makes the page of a bus; returns its story, the end of its log, states and counts, and the path of the
-        page."""
+        """Makes the page of a bus. Returns the bus's story, the end of its log, its states and counts, and the path of
+        the page."""
         log, left = path.with_suffix(".log"), left_by(path, record_when(run))
         facts: dict[str, list[str]] = {"story": [], "log": summary.end_of_log(log) if log.exists() else []}
         if not left.exists():
@@ -405,12 +410,12 @@ class Runs:
 
 
 def programs_of(run: Union["Server", Bench]) -> Sequence["Program"]:
-    """Returns the programs that the test started on the buses of a run."""
+    """Returns the programs that the test started on the buses of a server; an empty list for a bench."""
     return [] if isinstance(run, Bench) else run._programs
 
 
 def record_when(run: Union["Server", Bench]) -> str:
-    """Returns when the record of a run is written: at the run's `end`, `live`, or `none`."""
+    """Returns when the record of a run is written: at the run's `end`, `live`, or `none` if it is not written."""
     return "end" if isinstance(run, Bench) else run._record_when
 
 
@@ -422,7 +427,7 @@ def _canbusd_runs(request: pytest.FixtureRequest, tmp_path_factory: pytest.TempP
 
 
 def marked(request: pytest.FixtureRequest, kind: Callable[..., object]) -> tuple[tuple[str, ...], dict[str, Any]]:
-    """Returns the buses and the options of the test's marker that apply to this kind of run."""
+    """Returns the buses and the options in the test's marker that apply to a server, a bench or a local bus."""
     request.node.stash[USED] = True
     marker = request.node.get_closest_marker("canbusd")
     if marker is None:
@@ -437,7 +442,7 @@ def marked(request: pytest.FixtureRequest, kind: Callable[..., object]) -> tuple
 
 @contextlib.contextmanager
 def blamed_on_marker(request: pytest.FixtureRequest) -> Iterator[None]:
-    """Fails the test if the arguments of its marker are wrong, without showing this package's source."""
+    """Fails the test if the arguments of its marker are wrong, without showing the source code of this package."""
     try:
         yield
     except ProgramNotFound:
@@ -447,7 +452,7 @@ def blamed_on_marker(request: pytest.FixtureRequest) -> Iterator[None]:
 
 
 def refused(request: pytest.FixtureRequest, fault: str) -> BaseException:
-    """Returns the failure of a test with a wrong marker."""
+    """Returns the exception that fails a test with a wrong marker."""
     marker = request.node.get_closest_marker("canbusd")
     if marker is not None:
         fault = f"{marker_words(marker)}: {fault}"
@@ -456,14 +461,14 @@ def refused(request: pytest.FixtureRequest, fault: str) -> BaseException:
 
 @pytest.fixture
 def canbusd_server(_canbusd_runs: Runs) -> StartsServer:
-    """Starts servers: `canbusd_server("can0,can1", faults=..)`. After the test the servers end and their records are
+    """Starts servers: `canbusd_server("can0,can1", faults=..)`. After the test, the servers end and their records are
     audited."""
     return _canbusd_runs.server
 
 
 @pytest.fixture
 def canbusd(request: pytest.FixtureRequest, _canbusd_runs: Runs) -> "Server":
-    """A server for the test, with the buses of the marker `canbusd`, else with can0 and can1 on one bus."""
+    """A server for the test. Its buses are those of the marker `canbusd`; by default can0 and can1 on one bus."""
     from canbusd.server import Server
 
     buses, options = marked(request, Server)
@@ -473,7 +478,7 @@ def canbusd(request: pytest.FixtureRequest, _canbusd_runs: Runs) -> "Server":
 
 @pytest.fixture
 def canbusd_bench(request: pytest.FixtureRequest, _canbusd_runs: Runs) -> Bench:
-    """A bench for the test, with the bus of the marker `canbusd`, else with can0 and can1."""
+    """A bench for the test. Its bus is that of the marker `canbusd`; by default can0 and can1."""
     buses, options = marked(request, Bench)
     if len(buses) != 1:
         raise refused(request, f"canbusd_bench has one bus, not {len(buses)}")
@@ -483,7 +488,8 @@ def canbusd_bench(request: pytest.FixtureRequest, _canbusd_runs: Runs) -> Bench:
 
 @pytest.fixture
 def canbusd_local(request: pytest.FixtureRequest, _canbusd_runs: Runs) -> Iterator["LocalBus"]:
-    """A bus inside the process, with the interfaces of the marker `canbusd`, else with can0 and can1. Its record is audited."""
+    """A bus inside the process. Its interfaces are those of the marker `canbusd`; by default can0 and can1. After the
+    test, its record is audited."""
     from canbusd.local import LocalBus
 
     buses, options = marked(request, LocalBus)

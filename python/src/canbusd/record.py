@@ -1,9 +1,9 @@
-"""Reads the records of runs, whose text docs/RECORD.md describes, and their attempts and items.
+"""Reads the records of runs, their attempts and their items. docs/RECORD.md describes the text of a record.
 
     record = read_record("can0.rec")
     assert [attempt.outcome for attempt in record.attempts] == ["destroyed", "done"]
 
-The program reports the effects of each entry of a record, and refuses a record that is not legal.
+The program reports the effects of each entry of a record, and refuses a record with an error.
 """
 
 import contextlib
@@ -29,7 +29,7 @@ __all__ = ["Attempt", "BadRecord", "Item", "Record", "audit", "fault_named", "pa
 Path = Union[str, "os.PathLike[str]"]
 Outcome = Literal["done", "lastbit", "destroyed", "noack", "idle"]
 Fate = Literal["taken", "waiting", "unread", "dropped"]
-# The first line of a record, and the number of bytes of another file that the program reads.
+# The pattern of a record's first line, and how many bytes of a file are checked for that line.
 BEGINNING, LINE = re.compile(b"canbus record [1-6]\n"), 256
 
 
@@ -37,17 +37,19 @@ BEGINNING, LINE = re.compile(b"canbus record [1-6]\n"), 256
 class Attempt:
     """An attempt to put the frame that won arbitration on the bus."""
 
-    #: The time of the attempt, in seconds.
+    #: The time of the attempt in seconds.
     timestamp: float
-    #: The interface that won arbitration; the empty text if no frame waited and the attempt only restarted interfaces.
+    #: The interface that won arbitration; the empty string if no frame was queued and the attempt only restarted
+    #: interfaces.
     winner: str
-    #: The number of the frame at the winner, from 0.
+    #: The number of the frame at the winning interface, from 0.
     number: int
     #: The frame in candump's spelling, such as `123#1122`.
     frame: str
-    #: `done`, or `lastbit`, `destroyed` or `noack` if the frame will be sent again; `idle` without a winner.
+    #: `done` if the frame was sent; `lastbit`, `destroyed` or `noack` if it will be sent again; `idle` without a
+    #: winner.
     outcome: Outcome
-    #: The fault of the attempt in the words of a fault script: `good`, `global bit`, `local crc can1`.
+    #: The fault of the attempt, spelled as in a fault script: `good`, `global bit`, `local crc can1`.
     fault: str
     #: The interfaces that accepted the frame.
     accepted: tuple[str, ...]
@@ -59,18 +61,18 @@ class Attempt:
 
 @dataclass(frozen=True)
 class Item:
-    """A frame or an error message frame that an interface handed to a socket, and the outcome."""
+    """A frame or an error message frame that was delivered to a socket or dropped, and what happened to it."""
 
     interface: str
-    #: The number of the socket, from 0 in the order of opening.
+    #: The number of the socket, from 0 in the order in which sockets were opened.
     socket: int
-    #: The interface that sent the frame; for an error message frame, or without a frame, the interface that made the
-    #: item.
+    #: The interface that sent the frame. For an error message frame, or without a frame, the interface that generated
+    #: the item.
     sender: str
-    #: The frame; None for a dropped item that may have been the frame or an error message frame.
+    #: The frame; None for a dropped item that may have been either the frame or an error message frame.
     frame: Optional[Frame]
-    #: The outcome: `taken`, `waiting` at the end of the run, `unread` when the socket was closed, or `dropped` for lack
-    #: of room.
+    #: `taken` if a program read the item, `waiting` if it was unread at the end of the run, `unread` if it was unread
+    #: when the socket was closed, and `dropped` if the receive queue was full.
     fate: Fate
 
 
@@ -78,12 +80,12 @@ class Item:
 class Record(Bus):
     """The record of a run: the configuration of its bus, the lines of its entries, and the names of its interfaces."""
 
-    #: The text of the record, up to its last LF.
+    #: The text of the record, up to the last newline.
     text: bytes = field(repr=False)
-    #: Whether the record ends before its line `end`.
+    #: Whether the record ends before its last line, `end`.
     is_cut: bool
     names: tuple[str, ...]
-    #: The events of the run.
+    #: The events of the run that the record describes.
     replay: Replay = field(repr=False, compare=False)
 
     @functools.cached_property
@@ -93,12 +95,12 @@ class Record(Bus):
 
     @property
     def attempts(self) -> list[Attempt]:
-        """The attempts of the run; of the idle attempts only those that restarted an interface."""
+        """The attempts of the run. Attempts without a frame are included only if they restarted an interface."""
         return attempts_of(self.replay, self.names)
 
     @property
     def items(self) -> list[Item]:
-        """The items that each socket received or lost, by attempt, then by socket."""
+        """The items that each socket received or lost, ordered by attempt and then by socket."""
         items = self.replay.items
         return list(map(self._item, items.sockets, items.steps, items.errors, items.fates()))
 
@@ -112,7 +114,7 @@ class Record(Bus):
 
 
 def attempts_of(run: Replay, names: Sequence[str], first: int = 0) -> list[Attempt]:
-    """Returns the attempts in the steps of a run from this number on, which is the first step of an entry."""
+    """Returns the attempts of a run from step `first` on, which must be the first step of an entry."""
     steps = run.steps
     restarts: dict[int, list[int]] = {}
     for place in steps.places_of(RESTART, first):
@@ -133,7 +135,7 @@ def attempts_of(run: Replay, names: Sequence[str], first: int = 0) -> list[Attem
 
 
 def attempt_at(run: Replay, names: Sequence[str], place: int, restarted: Sequence[int] = ()) -> Attempt:
-    """Returns the attempt at this step of a run, with the interfaces that were restarted at its end."""
+    """Returns the attempt at this step of a run. `restarted` are the interfaces that were restarted after it."""
     steps = run.steps
     return Attempt(
         float(moment_of(steps.moments[place])),
@@ -158,10 +160,11 @@ def read_record(
 ) -> Record:
     """Returns the record in this file.
 
-    `names` names the interfaces, as a list or as `can0,can1`. Without it, interfaces that won an attempt have their
-    names in the log next to the record (can0.log for can0.rec). The others are called `interface 0` and so on. With
-    `cut` a record may end before its last line, as a killed run leaves it. `is_cut` says whether it does, and only
-    entries with complete lines count. With the bit rates of the bus, the steps have their time on the wire.
+    `names` are the names of the interfaces, as a list or as a string like `can0,can1`. Without it, the log next to the
+    record (can0.log for can0.rec) names the interfaces that won an attempt; the other interfaces are called `interface
+    0` and so on. With `cut`, a record may end before its last line, like the record of a killed run. Then only entries
+    with complete lines count, and `is_cut` says whether the record is incomplete. With the bit rates of the bus, the
+    steps have their time on the wire.
     """
     check_no_log(path)
     with open(path, "rb") as file:
@@ -170,8 +173,8 @@ def read_record(
 
 
 def check_no_log(path: Path) -> None:
-    """Raises BadRecord if this is a log, and names the record next to it; a path that is no file is left to the
-    program."""
+    """Raises BadRecord if the file is a log; the error names the record next to it. A path that is no file is left to
+    the program to report."""
     if os.path.isfile(os.fspath(path)):
         with open(path, "rb") as file:
             is_log = file.read(1) == b"("
@@ -188,13 +191,13 @@ def parse_record(
     cut: bool = False,
     rates: Optional[Rates] = None,
 ) -> Record:
-    """Returns the record in these bytes, like read_record; a log may be next to the file `path`."""
+    """Returns the record in these bytes, like read_record. A log with interface names may be next to the file `path`."""
     with Events(cut, rates) as events:
         return record_of(events.texts(data), data[: data.rfind(b"\n") + 1], path, names, rates)
 
 
 def read_run(path: Path, names: Optional[Sequence[str]], cut: bool, rates: Optional[Rates]) -> Record:
-    """Returns the record in this file, like read_record, but without its text, which may be large."""
+    """Returns the record in this file, like read_record, but without the text of the record, which may be large."""
     check_no_log(path)
     with open(path, "rb") as file:
         check_beginning(file)
@@ -203,12 +206,12 @@ def read_run(path: Path, names: Optional[Sequence[str]], cut: bool, rates: Optio
 
 
 def check_beginning(file: BinaryIO) -> None:
-    """Raises BadRecord if the beginning of a file is not that of a record: the program would read all of the file
-    first."""
+    """Raises BadRecord if a file does not begin like a record. Otherwise the program would read the whole file before
+    it reports this."""
     try:
         text = os.pread(file.fileno(), LINE, 0)
     except OSError:
-        # The beginning of a pipe can't be read twice.
+        # A pipe can't be read twice, so its first line is not checked here.
         return
     if not BEGINNING.match(text):
         with Events(cut=True) as events, contextlib.suppress(StopIteration):
@@ -223,7 +226,7 @@ def record_of(
     rates: Optional[Rates],
     take: Callable[[Replay, Iterable[str]], object] = Replay.take_texts,
 ) -> Record:
-    """Returns the record that has these events, of which each text is some lines, and this text; by this a run takes them."""
+    """Returns the record with these events and this text. Each string of `events` has one or more lines of events."""
     run = Replay(rates)
     run.text = text
     take(run, events)
@@ -232,12 +235,13 @@ def record_of(
 
 
 def timed(run: Replay, rates: Rates) -> Replay:
-    """Returns a run whose steps have the time on the wire at these bit rates; reads the record again if needed."""
+    """Returns the same run with the time on the wire at these bit rates. Reads the record again if the bit rates
+    differ."""
     return run if run.rates == rates else parse_record(run.text, cut=not run.is_whole, rates=rates).replay
 
 
 def names_of(run: Replay, path: Optional[Path], given: Optional[Sequence[str]]) -> tuple[str, ...]:
-    """Returns the names of the interfaces: the given ones, else those in the log next to the record, else numbers."""
+    """Returns the names of the interfaces: the given names, else the names in the log next to the record, else numbers."""
     if given is not None:
         names = given.split(",") if isinstance(given, str) else given
         if len(names) != len(run.ifaces):
@@ -253,7 +257,7 @@ def names_of(run: Replay, path: Optional[Path], given: Optional[Sequence[str]]) 
 
 
 def number_named(number: int) -> str:
-    """Returns the name of an interface without one."""
+    """Returns the name that is shown for an interface without a name."""
     return f"interface {number}"
 
 
@@ -263,22 +267,22 @@ def is_named(name: str) -> bool:
 
 
 def members_of(verdict: str, names: Sequence[str]) -> list[str]:
-    """Returns the names of the only interfaces that see the fault of a verdict: can1 for `local-crc:0002`."""
+    """Returns the names of the interfaces that see a local fault: can1 for the verdict `local-crc:0002`."""
     _, _, digits = verdict.partition(":")
     return [name for number, name in enumerate(names) if digits and int(digits, 16) >> number & 1]
 
 
 def fault_named(verdict: str, names: Sequence[str]) -> str:
-    """Returns a verdict of a record in the words of a fault script: `local crc can1` for `local-crc:0002`."""
+    """Returns a verdict of a record as it is spelled in a fault script: `local crc can1` for `local-crc:0002`."""
     kind, colon, _ = verdict.partition(":")
     return " ".join([*kind.split("-"), *([",".join(members_of(verdict, names))] if colon else [])])
 
 
 def audit(data: bytes, cut: bool = False) -> str:
-    """Returns the verdict of `canbusd audit`, or of `canbusd audit --cut` with `cut`, on these bytes.
+    """Returns the result of `canbusd audit` for these bytes; with `cut`, the result of `canbusd audit --cut`.
 
-    The verdict is `ok 7 entries`, perhaps with `, then cut off`, or `canbusd: ` and the fault: `entry 3: wrong`, `line
-    5: bad line`, `bad version`, `read fault`.
+    The result is `ok 7 entries`, with `, then cut off` if the record is incomplete. Otherwise it is `canbusd: ` and the
+    fault: `entry 3: wrong`, `line 5: bad line`, `bad version` or `read fault`.
     """
     try:
         return verdict_of(parse_record(data, cut=cut))
@@ -287,5 +291,5 @@ def audit(data: bytes, cut: bool = False) -> str:
 
 
 def verdict_of(record: Record) -> str:
-    """Returns the verdict of an audit on a record whose entries are right."""
+    """Returns the result of an audit for a record whose entries are correct."""
     return f"ok {record.replay.entries} entries{', then cut off' if record.is_cut else ''}"

@@ -1,8 +1,8 @@
-"""A run: its steps, its items, its interfaces and its sockets, from the lines of its events.
+"""A run with its steps, items, interfaces and sockets, built from lines of events.
 
-The program has the rules, and reports the effects of each entry of a record in these lines. This module stores these
-effects and their consequences: the waiting frames, the participants of arbitration, and the outcome of each item. There
-are millions of lines, so they are taken as columns, which `_run/chunks.py` reads.
+The program implements the rules of the bus, and reports the effects of each entry of a record in these lines. This
+module stores the effects and their consequences: the queued frames, the interfaces that take part in arbitration, and
+what happened to each item. A run may have millions of lines, so `_run/chunks.py` reads them as columns.
 """
 
 from array import array
@@ -17,55 +17,58 @@ from canbusd._run.run_parts import OFF, Bus, Interface, Socket, bus_of, frame_in
 from canbusd._run.steps import DOWN, Items, Places, Steps
 
 FIRST_LINE = "canbus events 1"
-#: The replies to a send that the bus did not accept.
+#: The replies to a send that the interface did not accept.
 REFUSED = ("bus-off", "interface-down", "no-buffers")
-#: The text of an item without room, if no line has its content.
+#: The text of an item that was dropped, if no line shows its content.
 UNKNOWN = "?"
 
 
 class Replay:
-    """A run, up to the last event line that was taken."""
+    """A run, up to the last line of events that was processed."""
 
     def __init__(self, rates: Optional[Rates] = None) -> None:
-        #: The bit rates with which the lines have the time of attempts on the wire; None if the lines don't have it.
+        #: The bit rates for which the lines contain the time of attempts on the wire; None if the lines do not contain
+        #: it.
         self.rates = rates
-        #: The text of the record, if it was read at once.
+        #: The text of the record, if the whole record was read at once.
         self.text = b""
-        #: The configuration of the bus, after its line was taken.
+        #: The configuration of the bus, once its line has been processed.
         self.bus: Optional[Bus] = None
         self.ifaces: list[Interface] = []
         self.sockets: list[Socket] = []
-        #: Frames of steps and error message frames, by their places; the first place means no frame.
+        #: The frames of steps and the error message frames, each with its index. The first index means that there is no
+        #: frame.
         self.texts = Places("")
         self.steps, self.items = Steps(self.texts, self.ifaces), Items(self.sockets)
-        #: By the step, the number and the frame of each frame that bus off or a down removed from a transmit queue.
+        #: For each frame that was removed from a transmit queue by bus off or by `down`: the step, the number and the
+        #: frame.
         self.lost = self.steps.lost
-        #: The last steps before refused sends, by the interface and the reply: one of REFUSED.
+        #: The last steps before refused sends, for each pair of interface and reply. The reply is one of REFUSED.
         self.refused: dict[tuple[int, str], list[int]] = {}
-        #: The verdicts of idle attempts that restarted interfaces, by their entries.
+        #: The verdicts of attempts without a frame that restarted interfaces, by the number of the entry.
         self.idle_verdicts: dict[int, str] = {}
         self.idle = 0
-        #: The number of entries that were taken.
+        #: The number of entries that have been processed.
         self.entries = 0
-        #: Whether the last line was taken.
+        #: Whether the last line of the run has been processed.
         self.is_whole = False
-        # What reads lines, once the bus is known.
+        # The reader of the lines of entries, once the configuration of the bus is known.
         self._reader: Optional[Reader] = None
-        # The number of frames that wait, as one number.
+        # The numbers of queued frames of all interfaces, packed into one integer.
         self._waiting = 0
-        # The interfaces that are down, bit i for interface i.
+        # The interfaces that are down, as a bit mask with bit i for interface i.
         self._down = 0
-        # The number of idle attempts before a step.
+        # For a step, the number of attempts without a frame just before the step.
         self._idle: dict[int, int] = {}
 
     @property
     def attempts(self) -> int:
-        """The number of attempts with a frame."""
+        """The number of attempts that had a frame to send."""
         return self.steps.tried
 
     @property
     def idle_since(self) -> int:
-        """The number of idle attempts since the last step."""
+        """The number of attempts without a frame since the last step."""
         return self._idle.get(len(self.steps), 0)
 
     def socket_ifaces(self) -> list[int]:
@@ -73,16 +76,16 @@ class Replay:
         return [socket.iface for socket in self.sockets]
 
     def take(self, lines: Iterable[str]) -> None:
-        """Takes these lines, which follow the earlier ones."""
+        """Processes these lines, which must follow the earlier lines."""
         self.take_text("\n".join(lines))
 
     def take_texts(self, texts: Iterable[str]) -> None:
-        """Takes these texts of lines, one after the other."""
+        """Processes these texts, each with one or more lines, in order."""
         for text in texts:
             self.take_text(text)
 
     def take_text(self, text: str) -> None:
-        """Takes complete lines, which follow the earlier ones; the last line comes without its LF."""
+        """Processes complete lines, which must follow the earlier lines. The last line is given without its newline."""
         while self.bus is None and text:
             front, _, text = text.partition("\n")
             self._begin(front)
@@ -92,7 +95,7 @@ class Replay:
         self.take_chunk(self._reader.read(text, self.socket_ifaces()))
 
     def take_chunk(self, chunk: Chunk) -> None:
-        """Takes the lines of a chunk, which follow those before."""
+        """Processes the lines of a chunk, which must follow the earlier lines."""
         first = self.entries
         self.entries += chunk.entry_count
         self._take_others(chunk, first)
@@ -103,7 +106,7 @@ class Replay:
         self._take_steps(chunk, first)
 
     def _begin(self, line: str) -> None:
-        """Takes a line before the entries."""
+        """Processes one of the lines before the first entry."""
         if line.startswith("bus "):
             self._make_bus(line)
         elif line != FIRST_LINE:
@@ -116,10 +119,11 @@ class Replay:
         self._waits = Waiting(count)
         self._reader = Reader(self.bus)
 
-    # Rare lines, each with the number of steps before the line and the number of its entry.
+    # Methods for rare lines. Their arguments are the line, the number of steps before the line, and the number of its
+    # entry.
 
     def _take_others(self, chunk: Chunk, first: int) -> None:
-        """Takes the lines of which there are few."""
+        """Processes the rare lines of a chunk."""
         calls: dict[str, Callable[[str, int, int], object]] = {
             "open": self._open_socket,
             "close": self._close_socket,
@@ -135,7 +139,7 @@ class Replay:
                 call(line, len(self.steps) + steps, first + entry)
 
     def _end(self, line: str, __: int, entry: int) -> None:
-        # This line is no entry.
+        # The last line is not an entry.
         self.entries, self.is_whole = entry, line.startswith("end ")
 
     def _open_socket(self, line: str, *__: int) -> None:
@@ -155,7 +159,7 @@ class Replay:
             self.sockets[int(number)].set_errors(steps, int(value, 16) > 0)
 
     def _refuse(self, line: str, steps: int, __: int) -> None:
-        """Notes a send whose reply is not a number."""
+        """Records a send that was refused: its reply is not a number."""
         number, _, _, reply = line.split(" ")[1:]
         if reply in REFUSED:
             iface = self.ifaces[self.sockets[int(number)].iface]
@@ -163,17 +167,17 @@ class Replay:
             self.refused.setdefault((iface.number, reply), []).append(steps - 1)
 
     def _note_idle(self, line: str, steps: int, entry: int) -> None:
-        """Notes an attempt without a frame."""
+        """Records an attempt without a frame."""
         words = line.split(" ")
         self.idle += 1
         self._idle[steps] = self._idle.get(steps, 0) + 1
         if len(words) > 5:
             self.idle_verdicts[entry] = words[2]
 
-    # Frequent lines, of which there are millions.
+    # Methods for frequent lines. A run may have millions of them.
 
     def _take_steps(self, chunk: Chunk, first_entry: int) -> None:
-        """Attempts try frames, interfaces are restarted or go down."""
+        """Adds the steps of a chunk: attempts that try frames, restarts of interfaces, and interfaces that go down."""
         first, first_item = len(self.steps), len(self.items)
         for step in chunk.breaks:
             self._set_down(chunk, step)
@@ -196,7 +200,7 @@ class Replay:
         self._idle = {len(self.steps): self.idle_since}
 
     def _set_down(self, chunk: Chunk, step: int) -> None:
-        """An interface is down from this step on, or is no longer."""
+        """Records that an interface is down from this step on, or is up again."""
         bit = 1 << chunk.ifaces[step]
         down = self._down | bit if chunk.kinds[step] == DOWN else self._down & ~bit
         if down != self._down:
@@ -204,16 +208,17 @@ class Replay:
             self.steps.set_down(len(self.steps) + step, down)
 
     def _hits(self, chunk: Chunk, first: int) -> Iterable[tuple[int, int]]:
-        """Yields the steps with faults that only some see, and those that do: who is bus off or down sees none."""
+        """Yields each step with a local fault, and the interfaces that see the fault. An interface that is bus off or
+        down sees none."""
         for step, members in chunk.local:
             place, sender = first + step, chunk.ifaces[step]
             on = sum(1 << i for i, tec in enumerate(self.steps.counts_before(place)[::2]) if tec < OFF and i != sender)
             yield place, members & on & ~self.steps.down[place]
 
     def _lose(self, chunk: Chunk, loss: Loss, first: int) -> None:
-        """An interface goes down or bus off, and loses all frames in its transmit queue.
+        """Records that an interface goes down or bus off, and loses all frames in its transmit queue.
 
-        At bus off the first of these frames is the step's frame.
+        At bus off, the first lost frame is the frame of the step.
         """
         iface = self.ifaces[chunk.ifaces[loss.step]]
         number = chunk.numbers[loss.step] if loss.gone is None else iface.gone + loss.gone
@@ -223,7 +228,8 @@ class Replay:
         iface.lost += loss.frames
 
     def _drop(self, chunk: Chunk, first: int, first_item: int) -> list[Drop]:
-        """Items find no room at sockets. Returns those that may be error message frames."""
+        """Records the items that sockets dropped because of full queues. Returns the drops that may include error
+        message frames."""
         found: list[Drop] = []
         for drop in chunk.dropped:
             socket = self.sockets[drop.socket]
@@ -234,10 +240,10 @@ class Replay:
         return found
 
     def _place_texts(self, chunk: Chunk, first_item: int, unknown: Sequence[Drop]) -> None:
-        """Gives frames, error message frames and items of which no line says what they were their places among the texts."""
+        """Assigns indexes to the frames and error message frames of a chunk, and to items whose content no line shows."""
         errors, before = self.items.errors, len(chunk.texts)
         if unknown and UNKNOWN not in self.texts:
-            # It comes after the texts of the steps and items up to the first of them.
+            # UNKNOWN gets an index after the texts of all steps and items that come before the first unknown item.
             drop = unknown[0]
             told = (text for item, text in zip(chunk.errors, chunk.error_texts) if item < drop.item)
             before = max([*chunk.frames[: drop.step + 1], *told]) + 1

@@ -1,10 +1,11 @@
-"""The rest bus: all nodes of a database except those under test; each message comes from its sender at its cycle time.
+"""The rest bus: it simulates all nodes of a database except those under test. Each node sends its messages at their
+cycle times.
 
     with server.rest_bus("car.dbc", without=["ECU"], nodes={"Engine": "can0", "Gateway": "can1"}) as rest:
         rest["Engine"]["EngineSpeed"] = 3000
         rest.stop("Gateway")
 
-The rest bus of a server sends from a thread, that of a bench in `run`.
+The rest bus of a server sends from its own thread. The rest bus of a bench sends during `run`.
 """
 
 import contextlib
@@ -29,34 +30,35 @@ from canbusd.signals import Database, frame_of
 
 Self = TypeVar("Self", bound="RestBus")
 
-# At the same time, values are set before frames are sent.
+# The order of calls that are due at the same time: values are set before frames are sent.
 VALUES, FRAMES = -1, 0
 
 
 class Counts(NamedTuple):
-    """The numbers of frames of one or several messages, by outcome."""
+    """The numbers of frames of one or more messages, by outcome."""
 
-    #: Frames that the bus accepted into a transmit queue.
+    #: Frames that the server or bench accepted into a transmit queue.
     accepted: int = 0
-    #: Frames that the bus refused: the queue was full, or the interface bus off or down.
+    #: Frames that the server or bench refused, because the queue was full, or the interface was bus off or down.
     refused: int = 0
-    #: Frames that were skipped, because this process was a whole cycle late.
+    #: Frames that were skipped because this process was at least one cycle late.
     skipped: int = 0
 
     def plus(self, other: "Counts") -> "Counts":
-        """Returns the sums of two counts."""
+        """Returns the sum of both counts for each outcome."""
         return Counts(*(one + its for one, its in zip(self, other)))
 
 
 class Outgoing:
-    """A message about to be sent, which a function given to `on_send` gets: its changes apply only to this frame."""
+    """A message that is about to be sent. It is passed to the function given to `on_send`; changes apply only to this
+    frame."""
 
     def __init__(self, message: MessageFormat, values: Mapping[str, Value], count: int) -> None:
         self._message, self._values = message, dict(values)
         self._data: Optional[bytes] = None
         #: The name of the message.
         self.name = message.name
-        #: The number of its frames sent before, without frames that the bus refused.
+        #: The number of frames of this message that were sent before, without refused frames.
         self.count = count
 
     def __getitem__(self, signal: str) -> Value:
@@ -69,7 +71,7 @@ class Outgoing:
 
     @property
     def data(self) -> bytes:
-        """The present bytes of the message; bytes that are set here override all signals, until a signal is set."""
+        """The current bytes of the message. Setting them overrides all signals, until a signal is set again."""
         return self._message.encode(self._values, is_strict=False) if self._data is None else self._data
 
     @data.setter
@@ -78,8 +80,8 @@ class Outgoing:
 
 
 def checked_row(row: object) -> tuple[int, Value]:
-    """Returns a table row as its time in microseconds and its value; raises ValueError if the row is not such a
-    pair."""
+    """Returns a table row as a time in microseconds and a value. Raises ValueError if the row is not a pair of seconds
+    and a value."""
     if not isinstance(row, (tuple, list)) or len(row) != 2 or not isinstance(row[0], Real) or row[0] < 0:
         raise ValueError(f"a table has pairs of seconds and values, such as [(0.0, 800), (1.5, 3000)], not {row!r}")
     return micros(float(row[0])), row[1]
@@ -92,13 +94,13 @@ def checked_rows(table: object) -> list[tuple[int, Value]]:
 
 
 class Playing:
-    """A shape that a signal follows since this time, in microseconds."""
+    """A shape that a signal follows, and the time in microseconds at which it began."""
 
     def __init__(self, shape: Shape, since: int) -> None:
         self._shape, self._since, self._number = shape, since, -1
 
     def value(self, moment: int) -> Value:
-        """Returns the value for the next frame, which is sent at this time."""
+        """Returns the value for the next frame, which is sent at the time `moment`."""
         self._number += 1
         return self._shape.at((moment - self._since) / MICROS, self._number)
 
@@ -106,7 +108,7 @@ class Playing:
 class RestMessage(NamesWhatThereIs):
     """A message that a rest bus sends."""
 
-    # Slots prevent a signal from being set as an attribute.
+    # Without slots, a mistaken assignment such as `message.EngineSpeed = 800` would create an attribute.
     __slots__ = (
         "_accepted", "_cycle", "_frame", "_function", "_phase", "_protection", "_refused", "_rest", "_run", "_shapes",
         "_skipped", "_tables", "_tick", "_values", "format", "interface", "is_running",
@@ -121,22 +123,22 @@ class RestMessage(NamesWhatThereIs):
         self._function: Optional[Callable[[Outgoing], None]] = None
         self._protection: Optional[Protection] = None
         self._tick: Callable[[int], None] = functools.partial(self._send_due, 0)
-        # The number of the run, which makes calls from earlier runs invalid; and the number for the table of each
-        # signal.
+        # A counter that `stop` increments, so that calls that were scheduled before are ignored; and the number of each
+        # signal's current table.
         self._run, self._tables = 0, dict[str, int]()
-        # By the name of a signal: its shape, and the time when that began.
+        # For each signal that follows a shape: the shape, and the time at which it began.
         self._shapes: dict[str, Playing] = {}
         self._accepted = self._refused = self._skipped = 0
-        #: The description of the message in the file.
+        #: The format of the message in the database.
         self.format = message
         #: The interface that sends the message.
         self.interface = interface
-        #: Whether the message is sent by its cycle time.
+        #: Whether the message is being sent at its cycle time.
         self.is_running = False
 
     @property
     def counts(self) -> Counts:
-        """The numbers of the message's frames, by outcome."""
+        """The numbers of this message's frames, by outcome."""
         return Counts(self._accepted, self._refused, self._skipped)
 
     def __getitem__(self, signal: str) -> Value:
@@ -147,7 +149,7 @@ class RestMessage(NamesWhatThereIs):
 
     @explained("values are a dict, such as {'EngineSpeed': 800}")
     def set(self, values: Mapping[str, Value]) -> None:
-        """Sets signals, from the next frame on; raises DatabaseError if a value is not valid, and then sets none."""
+        """Sets signals from the next frame on. If a value is not valid, raises DatabaseError and sets none of them."""
         if not isinstance(values, Mapping):
             raise ValueError(f"values are a dict of signals, such as {{'EngineSpeed': 800}}, not {values!r}")
         with self._rest.changing():
@@ -158,8 +160,9 @@ class RestMessage(NamesWhatThereIs):
                 self._shapes.pop(signal, None)
 
     def play(self, signal: str, table: Union[Shape, Iterable[tuple[float, Value]]]) -> None:
-        """Makes a signal follow a shape of canbusd.shapes, from now on, or a table: the signal has each value from its
-        time, in seconds from now, until the next. This replaces an earlier shape or table of the signal."""
+        """Makes a signal follow a shape of canbusd.shapes or a table, from now on. In a table, each value applies from
+        its time, in seconds from now, until the time of the next value. An earlier shape or table of the signal ends.
+        """
         if isinstance(table, Shape):
             self._play_shape(signal, table)
             return
@@ -178,35 +181,36 @@ class RestMessage(NamesWhatThereIs):
         for value in shape.ends:
             self._check(signal, value)
         with self._rest.changing():
-            # This ends an earlier table of the signal.
+            # The new number ends an earlier table of the signal.
             self._tables[signal] = self._tables.get(signal, 0) + 1
             self._shapes[signal] = Playing(shape, self._rest.now())
 
     def on_send(self, function: Optional[Callable[[Outgoing], None]]) -> None:
-        """Calls this function before each frame, so that it can set counters and checksums."""
+        """Sets a function that is called before each frame, for example to set counters and checksums."""
         if function is not None and not callable(function):
             raise ValueError(f"a function is called before each frame, or None ends that, not {function!r}")
         with self._rest.changing():
             self._function = function
 
     def protect(self, profile: Optional[Profile] = None) -> Protection:
-        """Adds the counter and the checksum of a profile of canbusd.e2e to each frame, after the values from `on_send`.
-        Without a profile, the attributes in the database define it."""
+        """Adds the counter and the checksum of a profile of canbusd.e2e to each frame, after the values from `on_send`
+        are set. Without a profile, the attributes in the database define it."""
         protection = Protection(profile_of(profile, self.format))
         with self._rest.changing():
             self._protection = protection
         return protection
 
     def send(self, values: Optional[Mapping[str, Value]] = None) -> None:
-        """Sends one frame now, with these values, which stay. Raises the refusal of the bus."""
+        """Sets these values, and sends one frame now. The values remain set. If the bus refuses the frame, raises the
+        error."""
         with self._rest.changing():
             if values:
                 self.set(values)
             self._rest.send_now(self, self._next(self._rest.now()))
 
     def start(self) -> None:
-        """Starts to send the message by its cycle time, after its phase, if it has a cycle time and is not sent
-        already."""
+        """Starts sending the message at its cycle time, beginning after its phase. Does nothing if the message has no
+        cycle time or is already being sent."""
         with self._rest.changing() as schedule:
             if self._cycle and not self.is_running:
                 self.is_running = True
@@ -214,13 +218,13 @@ class RestMessage(NamesWhatThereIs):
                 schedule.add(self._rest.now() + self._phase, self.format.identifier, call)
 
     def stop(self) -> None:
-        """Stops sending the message by its cycle time. Frames in a transmit queue are still sent."""
+        """Stops sending the message at its cycle time. Frames that are already in a transmit queue are still sent."""
         with self._rest.changing():
             self.is_running = False
             self._run += 1
 
     def count(self, answer: str) -> None:
-        """Counts a frame by its answer: the empty text if it was accepted, else the text of the refusal."""
+        """Counts a frame by the reply: the empty string if the frame was accepted, else the reason of the refusal."""
         if answer:
             self._refused += 1
         else:
@@ -235,7 +239,7 @@ class RestMessage(NamesWhatThereIs):
             self.set({signal: value})
 
     def _send_due(self, run: int, due: int) -> None:
-        """Sends the frame that is due, and schedules the next frame a cycle later."""
+        """Sends the frame that is due, and schedules the next frame one cycle later."""
         if run != self._run:
             return
         missed = max(0, self._rest.now() - due) // self._cycle
@@ -244,7 +248,7 @@ class RestMessage(NamesWhatThereIs):
         self._rest.collect(self, self._next(due + missed * self._cycle))
 
     def _next(self, moment: int) -> Frame:
-        """Returns the next frame, which is sent at this time."""
+        """Returns the next frame, which is sent at the time `moment`."""
         if self._shapes:
             self._values = {**self._values, **{name: one.value(moment) for name, one in self._shapes.items()}}
             self._frame = frame_of(self.format, self.format.encode(self._values, is_strict=False))
@@ -259,7 +263,8 @@ class RestMessage(NamesWhatThereIs):
 
 
 class RestNode(NamesWhatThereIs):
-    """A node that a rest bus simulates. A signal of several messages is named as `EngineData.Counter`."""
+    """A node that a rest bus simulates. If several messages have a signal of the same name, write it as
+    `EngineData.Counter`."""
 
     __slots__ = ("messages", "name")
     _INSTEAD = {"*": "a signal is node['EngineSpeed']"}
@@ -276,23 +281,24 @@ class RestNode(NamesWhatThereIs):
         message[name] = value
 
     def play(self, signal: str, table: Union[Shape, Iterable[tuple[float, Value]]]) -> None:
-        """Makes a signal follow a shape of canbusd.shapes, such as ``shapes.ramp(800, 3000, seconds=2)``, from now on,
-        or a table: the signal has each value from its time, in seconds from now, until the next."""
+        """Makes a signal follow a shape of canbusd.shapes, such as ``shapes.ramp(800, 3000, seconds=2)``, or a table,
+        from now on. In a table, each value applies from its time, in seconds from now, until the time of the next
+        value."""
         message, name = self._find(signal)
         message.play(name, table)
 
     def start(self) -> None:
-        """Starts to send the node's messages by their cycle times."""
+        """Starts sending the node's messages at their cycle times."""
         for message in self.messages:
             message.start()
 
     def stop(self) -> None:
-        """Stops sending the node's messages by their cycle times."""
+        """Stops sending the node's messages at their cycle times."""
         for message in self.messages:
             message.stop()
 
     def _find(self, signal: str) -> tuple[RestMessage, str]:
-        """Returns the message that has this signal, and the signal's name there."""
+        """Returns the node's message that has this signal, and the name of the signal without the message's name."""
         title, _, name = signal.rpartition(".")
         found = [
             message for message in self.messages if title in ("", message.format.name) and has(message.format, name)
@@ -307,7 +313,7 @@ class RestNode(NamesWhatThereIs):
 
 
 class RestBus(NamesWhatThereIs):
-    """The common part of rest buses: nodes and messages by name, values, and the due times of calls."""
+    """The base class of rest buses: nodes and messages by name, signal values, and the schedule of calls."""
 
     _INSTEAD = {
         **dict.fromkeys(("set", "get"), "a signal is rest['Engine']['EngineSpeed']"),
@@ -334,7 +340,7 @@ class RestBus(NamesWhatThereIs):
 
     @property
     def messages(self) -> list[RestMessage]:
-        """The messages of these nodes."""
+        """The messages that these nodes send."""
         return list(self._by_name.values())
 
     def __getitem__(self, node: str) -> RestNode:
@@ -350,38 +356,39 @@ class RestBus(NamesWhatThereIs):
         return self._by_name[name]
 
     def on_send(self, message: str, function: Optional[Callable[[Outgoing], None]]) -> None:
-        """Calls a function before each frame of a message: `def f(message): message["Counter"] = message.count % 16`.
+        """Sets a function that is called before each frame of a message: `def f(message): message["Counter"] =
+        message.count % 16`.
 
-        The sending thread, usually that of the rest bus, calls the function, which should return soon.
+        The function runs in the thread that sends, usually the rest bus's own thread. It should return quickly.
         """
         self.message(message).on_send(function)
 
     @explained()
     def protect(self, message: str, profile: Optional[Profile] = None) -> Protection:
         """Adds the counter and the checksum of a profile to each frame of a message: ``rest.protect("EngineData",
-        e2e.Profile1(data_id=0x123))``. Without a profile, the attributes in the database define it. The result has
-        `inject`, for wrong counters and checksums."""
+        e2e.Profile1(data_id=0x123))``. Without a profile, the attributes in the database define it. Call `inject` of
+        the result for wrong counters and checksums."""
         return self.message(message).protect(profile)
 
     @explained("values are a dict, such as {'EngineSpeed': 800}")
     def send(self, message: str, values: Optional[Mapping[str, Value]] = None) -> None:
-        """Sends one frame of a message now, as for an event, with these values, which stay."""
+        """Sets these values, and sends one frame of a message now, as if triggered by an event. The values remain set."""
         self.message(message).send(values)
 
     def start(self, name: Optional[str] = None) -> None:
-        """Starts a node, or a message if no node has this name; without a name, starts all nodes."""
+        """Starts the node with this name, or the message if no node has this name. Without a name, starts all nodes."""
         for one in self._named(name):
             one.start()
 
     def stop(self, name: Optional[str] = None) -> None:
-        """Stops a node, or a message if no node has this name; without a name, stops all nodes. Values stay, and events
-        continue."""
+        """Stops the node with this name, or the message if no node has this name. Without a name, stops all nodes.
+        Signals keep their values, and `send` still works."""
         for one in self._named(name):
             one.stop()
 
     def _silence(self, interface: str) -> list[RestMessage]:
-        """Stops the messages that an interface sends; returns those that were sent by their cycle times, or none if the
-        rest bus has ended."""
+        """Stops the messages that an interface sends. Returns the messages that were being sent at their cycle times;
+        an empty list if the rest bus has ended."""
         with self._lock:
             ceased = [one for one in self.messages if one.interface == interface and one.is_running]
             if self._is_closed:
@@ -397,16 +404,16 @@ class RestBus(NamesWhatThereIs):
                 one.start()
 
     def counts(self, message: Optional[str] = None) -> Counts:
-        """Returns the numbers of frames by outcome, of a message or of all."""
+        """Returns the numbers of frames by outcome, for one message or for all messages together."""
         chosen = self.messages if message is None else [self.message(message)]
         return functools.reduce(Counts.plus, (one.counts for one in chosen), Counts())
 
     def replay(self, path: Union[str, "os.PathLike[str]"]) -> float:
-        """Sends the frames of a log whose messages are in the rest bus, with the log's time distances from the first
-        frame on.
+        """Sends the frames of a log whose messages are in the rest bus, with the same time between frames as in the
+        log.
 
-        The frames go out at the interfaces of their senders, and the cycle times of these messages no longer apply.
-        Returns the duration in seconds; raises ValueError if the log has no such frame.
+        Each frame is sent on the interface of its sender. These messages are no longer sent at their cycle times.
+        Returns the duration in seconds. Raises ValueError if the log has no such frame.
         """
         from canbusd._run.logs import read_entries
 
@@ -428,7 +435,7 @@ class RestBus(NamesWhatThereIs):
         return max(moment - start for moment, _, _ in rows) / MICROS
 
     def close(self) -> None:
-        """Ends the rest bus: it sends no more frames."""
+        """Ends the rest bus, which then sends no more frames."""
         raise NotImplementedError
 
     def __enter__(self: Self) -> Self:
@@ -441,19 +448,19 @@ class RestBus(NamesWhatThereIs):
         close_at_exit(self.close, kind)
 
     def check(self) -> None:
-        """Raises the fault that ended the rest bus, if there was one, such as an error in a function given to
+        """Raises the error that ended the rest bus, if there was one, such as an exception in a function given to
         `on_send`."""
 
-    # Methods that messages call.
+    # Methods that the messages call.
 
     def now(self) -> int:
-        """Returns the time in microseconds."""
+        """Returns the current time in microseconds."""
         raise NotImplementedError
 
     @contextlib.contextmanager
     def changing(self) -> Iterator[Schedule]:
-        """A context for changes to the sent messages; its value is the schedule. Raises ValueError after the rest bus
-        has ended."""
+        """A context for changes to the sent messages; its value is the schedule. Raises ValueError if the rest bus has
+        ended."""
         with self._lock:
             self.check()
             if self._is_closed:
@@ -462,22 +469,23 @@ class RestBus(NamesWhatThereIs):
             self._changed()
 
     def send_now(self, message: RestMessage, frame: Frame) -> None:
-        """Sends a frame outside its cycle; raises a refusal."""
+        """Sends a frame outside its cycle. If the bus refuses the frame, raises the error."""
         raise NotImplementedError
 
     def repeat(self, due: int, order: int, call: Callable[[int], None]) -> None:
-        """Schedules the next call of a function that runs now: no thread must be woken."""
+        """Schedules the next call of the function that is running now. The scheduling thread is awake, so it needs no
+        wake-up."""
         self._schedule.add(due, order, call)
 
     def collect(self, message: RestMessage, frame: Frame) -> None:
-        """Takes a frame that is due; frames of the same time go out together."""
+        """Collects a frame that is due, so that frames with the same due time are sent together."""
         self._collected.append((message, frame))
 
     def _changed(self) -> None:
-        """Handles a schedule change: a call may now be due earlier than before."""
+        """Reacts to a change of the schedule: a call may now be due earlier than before."""
 
     def _due(self, now: int) -> list[tuple[RestMessage, Frame]]:
-        """Returns the frames that are due, after the due calls."""
+        """Makes the calls that are due, and returns the frames that they collected."""
         for due, call in self._schedule.take(now):
             call(due)
         collected, self._collected = self._collected, []

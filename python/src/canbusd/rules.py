@@ -1,10 +1,11 @@
-"""Fault rules: they select failing attempts by sender and frame, in the words of a fault script.
+"""Fault rules: they select attempts by sender and frame, and give them a fault. This is their spelling in a fault
+script:
 
     next 32 from ecu global bit
     next 1 id 123 skip 2 lastbit
     always id 7DF local crc tester
 
-The program applies the rules; this module defines their form.
+The program applies the rules. This module only defines their spelling.
 """
 
 import re
@@ -23,7 +24,7 @@ NUMBER = re.compile("[0-9]{1,8}")
 WORD = re.compile("[0-9A-Fa-f]{1,8}")
 NAMES = f"{NAME.pattern}(?:,{NAME.pattern})*"
 VERDICT = re.compile("|".join(VERDICTS).replace("NAMES", NAMES))
-# The verdicts that an unknown first word may mean.
+# The verdicts that are suggested for an unknown first word.
 MEANT = {
     "bit": "global bit",
     "crc": "local crc NAMES",
@@ -41,17 +42,17 @@ MEANT = {
 
 @dataclass(frozen=True)
 class Rule:
-    """A rule: the attempts that it matches, the number that it takes, and their verdict."""
+    """A rule: which attempts it matches, how many of them it applies to, and their verdict."""
 
-    #: The number of attempts that get the verdict; None for all.
+    #: The number of attempts that get the verdict; None for all matching attempts.
     count: Optional[int]
-    #: The verdict in the words of a fault script.
+    #: The verdict, spelled as in a fault script.
     verdict: str
-    #: The interfaces that win the attempts; empty for any.
+    #: The sending interfaces whose attempts the rule matches; empty for any interface.
     senders: tuple[str, ...] = ()
-    #: The identifier word and the mask that frames must match, like in a filter; None for any frame.
+    #: The identifier word and the mask that frames must match, as in a filter; None for any frame.
     identifier: Optional[tuple[int, int]] = None
-    #: The number of matching attempts that the rule first leaves to later rules.
+    #: The number of matching attempts that the rule leaves to later rules before it applies.
     skip: int = 0
 
     def __str__(self) -> str:
@@ -59,7 +60,7 @@ class Rule:
 
     @property
     def head(self) -> str:
-        """The rule without its verdict."""
+        """The text of the rule without its verdict."""
         parts = ["always" if self.count is None else f"next {self.count}"]
         parts += [f"from {','.join(self.senders)}"] if self.senders else []
         parts += [f"id {identifier_text(*self.identifier)}"] if self.identifier else []
@@ -68,12 +69,12 @@ class Rule:
 
     @property
     def names(self) -> tuple[str, ...]:
-        """The interfaces in the rule: the senders, and those that see its fault."""
+        """The interfaces that the rule names: the senders, and the interfaces that see its fault."""
         return (*self.senders, *seen_by(self.verdict))
 
 
 def identifier_text(word: int, mask: int) -> str:
-    """Returns the shortest text for the identifier of a rule: `123`, `00000123`, or `123:700`."""
+    """Returns the shortest spelling of a rule's identifier and mask: `123`, `00000123`, or `123:700`."""
     if mask == SHORT_MASK and word <= 0x7FF:
         return f"{word:03X}"
     if mask == LONG_MASK and EXTENDED <= word <= LONG_MASK:
@@ -82,7 +83,7 @@ def identifier_text(word: int, mask: int) -> str:
 
 
 def seen_by(verdict: str) -> list[str]:
-    """Returns the interfaces in a verdict."""
+    """Returns the interfaces that a verdict names."""
     return verdict.split(" ")[2].split(",") if verdict.startswith("local ") else []
 
 
@@ -92,7 +93,7 @@ def is_rule(line: str) -> bool:
 
 
 def parse_rule(text: str) -> Rule:
-    """Returns the rule in this text; ValueError names the wrong word."""
+    """Returns the rule in this text. If the rule is wrong, raises ValueError that names the wrong word."""
     words = text.split(" ")
     try:
         count = count_of(words)
@@ -111,7 +112,7 @@ def parse_rule(text: str) -> Rule:
 
 
 def meant_by(words: Sequence[str]) -> str:
-    """Returns the verdict that unknown words may mean, as a question; the empty text if there is none."""
+    """Returns a suggestion for unknown words, such as ` (global bit?)`; the empty string if there is none."""
     if "" in words and len(words) > 1:
         return "; its words are parted by one space"
     found = MEANT.get(words[0]) if words else None
@@ -119,7 +120,7 @@ def meant_by(words: Sequence[str]) -> str:
 
 
 def taken(words: list[str], word: str) -> bool:
-    """Removes the first of the words, if it is this one; returns whether it was."""
+    """Removes the first word if it equals `word`; returns whether it did."""
     if words[:1] != [word]:
         return False
     del words[0]
@@ -127,7 +128,7 @@ def taken(words: list[str], word: str) -> bool:
 
 
 def check_order(words: list[str], given: dict[str, bool]) -> None:
-    """Raises ValueError if the next word begins a part that must come earlier, or that the rule already has."""
+    """Raises ValueError if the next word begins a part that must come earlier, or a part that the rule already has."""
     parts = list(given)
     if words[:1] and words[0] in parts:
         place = parts.index(words[0])
@@ -136,12 +137,13 @@ def check_order(words: list[str], given: dict[str, bool]) -> None:
 
 
 def next_of(words: list[str]) -> str:
-    """Removes and returns the first of the words; returns the empty text if there are no more."""
+    """Removes and returns the first word; returns the empty string if no words are left."""
     return words.pop(0) if words else ""
 
 
 def count_of(words: list[str]) -> Optional[int]:
-    """Returns the number of attempts that the rule takes, from its first words."""
+    """Removes the first words of a rule, and returns the number of attempts that the rule applies to; None for
+    `always`."""
     first = next_of(words)
     if first == "always":
         return None
@@ -154,7 +156,7 @@ def count_of(words: list[str]) -> Optional[int]:
 
 
 def senders_of(words: list[str]) -> tuple[str, ...]:
-    """Returns the interfaces after `from`."""
+    """Removes the word after `from`, and returns the interfaces in it."""
     names = next_of(words)
     if not re.fullmatch(NAMES, names):
         raise ValueError(f"after from are names of interfaces, joined by commas, not {names!r}")
@@ -162,14 +164,14 @@ def senders_of(words: list[str]) -> tuple[str, ...]:
 
 
 def number_of(word: str, after: str) -> int:
-    """Returns a decimal number of the rule."""
+    """Returns a decimal number of a rule as an integer."""
     if not NUMBER.fullmatch(word):
         raise ValueError(f"after {after} is a number of 1 to 8 digits, not {word!r}")
     return int(word)
 
 
 def identifier_of(word: str) -> tuple[int, int]:
-    """Returns the identifier word and the mask for `123`, `00000123` or `123:700`."""
+    """Returns the identifier word and the mask for a text such as `123`, `00000123` or `123:700`."""
     identifier, colon, mask = word.partition(":")
     if not WORD.fullmatch(identifier) or (colon and not WORD.fullmatch(mask)):
         raise ValueError(f"after id are hexadecimal digits, as in 123, 00000123 or 123:700, not {word!r}")
@@ -194,25 +196,25 @@ def check_rules(rules: Iterable[Rule], names: Sequence[str]) -> None:
 
 
 class GivenRules:
-    """The rules that a bus was given, by their numbers in the program, and the remaining rules."""
+    """The rules that were added to a bus, with their numbers in the program, and which of them still apply."""
 
     def __init__(self, rules: Iterable[Rule] = ()) -> None:
         self._rules: list[Rule] = []
-        # By the number of a rule that is not used up: the number of verdicts that it still gives; None without an end.
+        # For each rule that is not used up, by its number: how many more verdicts it gives; None if there is no limit.
         self._left: dict[int, Optional[int]] = {}
         for rule in rules:
             self.add(rule)
 
     def __len__(self) -> int:
-        """The number of remaining rules."""
+        """The number of rules that still apply."""
         return len(self._left)
 
     def among(self, first: int) -> int:
-        """Returns the number of remaining rules among the first ones."""
+        """Returns how many of the first `first` rules still apply."""
         return sum(number <= first for number in self._left)
 
     def add(self, rule: Rule) -> None:
-        """Adds a rule after the others."""
+        """Adds a rule after the existing rules."""
         self._rules.append(rule)
         self._left[len(self._rules)] = rule.count
 
@@ -221,12 +223,13 @@ class GivenRules:
         self._left.clear()
 
     def unused(self) -> list[Rule]:
-        """Returns the rules with a number, `next 1 ..`, that gave no verdict, and that no command ended."""
+        """Returns the rules with a number of attempts, `next 1 ..`, that gave no verdict and were not ended by a
+        command."""
         counted = ((self._rules[number - 1], left) for number, left in self._left.items() if left is not None)
         return [rule for rule, left in counted if rule.count == left]
 
     def gave(self, number: int) -> Rule:
-        """Returns the rule of this number, which gave an attempt its verdict, and counts the verdict."""
+        """Returns the rule with this number, which gave an attempt its verdict, and counts the verdict."""
         left = self._left.get(number)
         if left == 1:
             del self._left[number]

@@ -1,4 +1,4 @@
-"""A server for a test: the test starts, uses and ends the server, which leaves logs and records.
+"""A server for a test: the test starts, uses and ends the server, which writes logs and records.
 
     with Server("can0,can1", faults=Faults().last_bit(0)) as server:
         with server.bus("can0") as can0, server.bus("can1") as can1:
@@ -52,18 +52,19 @@ if TYPE_CHECKING:
     from canbusd.bus import CanbusdBus
     from canbusd.rest_bus import RestBus
 
-#: Time limits in seconds: for the server to listen, and to end. Long records take time.
+#: Time limits in seconds for the server to start listening, and to end. Writing long records takes time.
 START, END = 10.0, 60.0
 ENTRIES = re.compile(r"bus (\S+) entries (\d+)")
-# The server's note about a bus whose record is full.
+# The pattern of the server's message that the record of a bus is full.
 FULL = re.compile(r"bus (\S+): record full")
-#: The calls that end the server, with those that do so only if logs and records are written at the end.
+#: The calls that end the server. The braces are for the calls that do so only if logs and records are written at the
+#: end.
 ENDED_BY = "stop(), {}audit(), report() and its with block end it"
 
 
 def full_record(errors: Path, buses: Mapping[str, Sequence[str]], channel: Optional[str]) -> str:
-    """Returns a note that the record of this interface's bus, or of any bus, is full: no further frame is sent
-    there."""
+    """Returns a note if the record of this interface's bus, or of any bus, is full, because no further frame is sent
+    there; else the empty string."""
     said = errors.read_text(errors="replace") if errors.exists() else ""
     full = [name for name in FULL.findall(said) if channel is None or channel in buses[name][:-1]]
     return f"{full[0]}: {RECORD_FULL}{CURES[RECORD_FULL]}" if full else ""
@@ -72,28 +73,35 @@ def full_record(errors: Path, buses: Mapping[str, Sequence[str]], channel: Optio
 class Result(NamedTuple):
     """The result of a server that has ended."""
 
-    #: The status of the program: 0, or a negative number after :meth:`Server.kill`, for a program killed by a signal.
+    #: The exit status of the program: 0, or a negative number if a signal killed it, as after :meth:`Server.kill`.
     status: int
-    #: The number of entries in the record of each bus, by the name of its first interface.
+    #: The number of entries in the record of each bus, by the name of the bus's first interface.
     entries: dict[str, int]
 
 
 class Server(Expectations, SimulatesNodes, RunsPrograms, HasProgram, Run, NamesWhatThereIs):
-    """`canbusd serve` with these buses, each the names of its interfaces: ``Server("can0,can1", "car0")``.
+    """A running `canbusd serve` with these buses. Each bus is given by the names of its interfaces:
+    ``Server("can0,can1", "car0")``.
 
     The options are those of the program. ``faults`` is a script for the only bus (:class:`canbusd.Faults`, a path or a
-    text), or a dict of scripts by the name of a bus's first interface. ``out`` is a folder for logs and records;
-    without it they are kept as long as the server object. With ``record="live"`` the server writes logs and records
-    while it runs, ``flush`` milliseconds (100) after each call, and :meth:`log`, :meth:`record` and :meth:`attempts`
-    return the data so far. With ``record="none"`` it writes logs in the same way, but no record. A run may then go on
-    for weeks, and ``limit`` (1,000,000 entries) is not given. With a ``bitrate`` attempts take the time of their bits,
-    in place of ``pace_ms``. With a ``data_bitrate``, also called ``dbitrate``, FD frames with ``bitrate_switch`` use
-    that rate for their data. Each rate is a number for all buses, or a dict of numbers by the name of an interface of
-    each bus; the key None is for all other buses. ``observe`` names the interfaces whose frames :meth:`expect` checks:
-    by default all, or the first of each bus if there are more than 8. With ``observe=()`` the record has no entry of
-    such a session. ``database``, a file or the result of load_database, has the names of expected messages and signals.
-    The server runs when the constructor returns, and is ended by :meth:`stop`, by the end of a ``with`` block, and by
-    the end of this process, even by a crash.
+    text), or a dict of scripts by the name of a bus's first interface.
+
+    ``out`` is a folder for logs and records; without it, they are deleted together with the server object. With
+    ``record="live"`` the server writes logs and records while it runs, ``flush`` milliseconds (100) after each call,
+    and :meth:`log`, :meth:`record` and :meth:`attempts` return the data so far. With ``record="none"`` it writes logs
+    in the same way, but no record, so that a run may continue for weeks. Only with the default, ``record="end"``, a
+    ``limit`` may be given (default: 1,000,000 entries).
+
+    With a ``bitrate``, an attempt takes as long as its bits, and ``pace_ms`` is not used. With a ``data_bitrate``, also
+    called ``dbitrate``, FD frames with ``bitrate_switch`` use that rate for their data. Each rate is a number for all
+    buses, or a dict of numbers by the name of one interface of each bus; the key None is for all other buses.
+
+    ``observe`` names the interfaces whose frames :meth:`expect` checks: by default all, or the first of each bus if
+    there are more than 8. With ``observe=()``, the observing sessions add no entries to the record. ``database``, a
+    file or the result of load_database, defines the names of expected messages and signals.
+
+    The server is running when the constructor returns. It is ended by :meth:`stop`, by the end of a ``with`` block, and
+    by the end of this process, even after a crash.
     """
 
     _INSTEAD = {
@@ -154,7 +162,7 @@ class Server(Expectations, SimulatesNodes, RunsPrograms, HasProgram, Run, NamesW
         words = ["--until-eof", "--listen", listen, *options, "--out", str(self._out)]
         self._start(self._folder / "stderr", "serve", *words, "--", *(bus[-1] for bus in self._by_bus.values()))
         RUNNING.add(self)
-        #: The address for clients: HOST:PORT, or a Unix path.
+        #: The address for clients: HOST:PORT, or the path of a Unix socket.
         self.address = self._listening()
         self._sleepers = LiveSleepers(self.address, self._names())
         if self._observed:
@@ -162,7 +170,7 @@ class Server(Expectations, SimulatesNodes, RunsPrograms, HasProgram, Run, NamesW
         placement.note_server(self._names(), self._take_down)
 
     def _take_down(self, names: Sequence[str], moment: float, seconds: float) -> None:
-        """Takes interfaces down at a given time for this many seconds, if the server still runs."""
+        """Takes interfaces down at a given time for this many seconds, if the server is still running."""
         placement.sleep_until(moment)
         try:
             sessions = [RawSession(self.address, name, ["filter 0"], TIMEOUT) for name in names]
@@ -177,15 +185,15 @@ class Server(Expectations, SimulatesNodes, RunsPrograms, HasProgram, Run, NamesW
                 placement.note_failure(reason)
 
     def _prepare(self, record: str) -> None:
-        """Sets the facts about the run before it begins."""
-        # The time when the record is written; and the logs and records that are written while the server runs, by bus.
+        """Initializes the state of the run before the server starts."""
+        # When the record is written, and the logs and records that are written while the server runs, by bus.
         self._record_when = record
         self._logs = {name: LiveLog(self._out / f"{name}.log") for name in self._by_bus}
         self._records = {name: LiveRecord(self._out / f"{name}.rec", bus[:-1]) for name, bus in self._by_bus.items()}
         self._programs: list[Program] = []
         self._rest_buses: "list[RestBus]" = []
         self._nodes: dict[str, Node] = {}
-        # The first interfaces of the buses all of whose rules were ended.
+        # The first interface of each bus for which `end_rules` was called.
         self._rules_ended: set[str] = set()
         self._observer: Optional[Observer] = None
         self._ending = threading.Lock()
@@ -193,17 +201,17 @@ class Server(Expectations, SimulatesNodes, RunsPrograms, HasProgram, Run, NamesW
 
     @property
     def _ends_too(self) -> str:
-        """The calls that end the server if logs and records are written at the end."""
+        """The calls that also end the server if logs and records are written at the end."""
         return "log(), record(), " if self._record_when == "end" else ""
 
     @property
     def interfaces(self) -> list[str]:
-        """The names of all interfaces, in the order of the buses."""
+        """The names of all interfaces, ordered by bus."""
         return [name for bus in self._by_bus.values() for name in bus[:-1]]
 
     @explained()
     def bus(self, channel: str, can_filters: Optional[Filters] = None, **kwargs: Any) -> "CanbusdBus":
-        """Returns a python-can bus on the interface with this name; the arguments are those of CanbusdBus."""
+        """Returns a python-can bus on the interface with this name. The arguments are the same as for CanbusdBus."""
         import canbusd._python_can  # noqa: F401  it says what is missing, so it comes first
         from can.exceptions import CanInitializationError
 
@@ -219,11 +227,12 @@ class Server(Expectations, SimulatesNodes, RunsPrograms, HasProgram, Run, NamesW
 
     @explained()
     def node(self, name: str, *programs: Program) -> Node:
-        """Returns the node of this interface, which can leave the bus and return, with its programs, as :meth:`start`
-        returns them: ``server.node("ecu", server.start("./ecu can0"))``.
+        """Returns the node of this interface, which can leave the bus and return. `programs` are the programs of the
+        node, started by :meth:`start`: ``server.node("ecu", server.start("./ecu can0"))``.
 
-        ``node.power_off()`` and ``power_on()`` kill the programs and start them anew; ``sleep()``, ``wake()`` and
-        ``with node.unplugged():`` let them continue. An interface has one node, to which later calls may add programs.
+        ``node.power_off()`` kills the programs, and ``power_on()`` starts them again. ``sleep()``, ``wake()`` and
+        ``with node.unplugged():`` do not stop the programs. An interface has one node; later calls may add programs to
+        it.
         """
         self._first(str(name))
         node = self._nodes.setdefault(name, Node(self, name))
@@ -232,11 +241,11 @@ class Server(Expectations, SimulatesNodes, RunsPrograms, HasProgram, Run, NamesW
 
     @explained()
     def inject(self, faults: Script, interface: Optional[str] = None) -> None:
-        """Adds these fault rules to a running bus, after its present rules, from the next attempt on.
+        """Adds these fault rules to a running bus after its existing rules. They apply from the next attempt on.
 
-        `faults` are rules of Faults, such as ``Faults().next(32, sender="ecu").destroyed()``, or their text, and
-        `interface` is an interface of the bus; it may be left out if there is one bus. A bus has at most 64 rules: the
-        refusal names the first rule that is too many, and the rules before it are in force.
+        `faults` are rules of Faults, such as ``Faults().next(32, sender="ecu").destroyed()``, or their text.
+        `interface` is an interface of the bus, and may be omitted if there is only one bus. A bus has at most 64 rules.
+        If there are more, the error names the first rule that does not fit; the rules before it have been added.
         """
         rules = rules_of(faults)
         first = self._first(interface, "interface", "inject(faults, {})")
@@ -245,32 +254,32 @@ class Server(Expectations, SimulatesNodes, RunsPrograms, HasProgram, Run, NamesW
             session._give(rules)
 
     def rules_left(self, interface: Optional[str] = None) -> int:
-        """Returns the number of fault rules of a bus that are not used up, including rules without end."""
+        """Returns the number of fault rules of a bus that are not used up. Rules without a limit are included."""
         first = self._first(interface, "interface", "rules_left({})")
         with self._rule_session(first) as session:
             left = session.rules_left()
         return max(0, left - self._planted_left(first)) if left else 0
 
     def _planted_left(self, first: str) -> int:
-        """Returns the number of remaining rules that a sweep's kind `busoff` added: such a rule remains until its
-        sender has lost a frame by it."""
+        """Returns the number of rules that a sweep of kind `busoff` added and that still apply. Such a rule applies
+        until its sender has lost a frame because of it."""
         planted = [] if first in self._rules_ended else map(parse_rule, placement.rules_of((self._number, first)))
         senders = [rule.senders[0] for rule in planted if rule.senders and rule.identifier is None]
         return sum(not self._observing().session(sender).stats().lost for sender in senders)
 
     def end_rules(self, interface: Optional[str] = None) -> None:
-        """Ends all fault rules of a bus. Script lines for numbered attempts stay."""
+        """Ends all fault rules of a bus. Script lines for numbered attempts still apply."""
         first = self._first(interface, "interface", "end_rules({})")
         with self._rule_session(first) as session:
             session.end_rules()
         self._rules_ended.add(first)
 
     def stop(self) -> Result:
-        """Ends the server, after the programs that it started; logs and records are written. A second call returns the
-        same result.
+        """Ends the programs that the server started, and then the server, which writes logs and records. A second call
+        returns the same result.
 
-        :raises ServerError: if the server ended with a fault, or was killed by others, or if a program that
-            :meth:`start` has started had ended by itself
+        :raises ServerError: if the server ended with an error or was killed from outside, or if a program started by
+            :meth:`start` had ended by itself
         """
         self._check_process()
         with self._ending:
@@ -290,10 +299,10 @@ class Server(Expectations, SimulatesNodes, RunsPrograms, HasProgram, Run, NamesW
         return self._result
 
     def kill(self) -> Result:
-        """Ends the server like a crash: logs and records have only the data written while it ran."""
+        """Kills the server as in a crash. Logs and records then contain only the data written before."""
         self._check_process()
         if self._result is None:
-            # This also ends a server that is being stopped.
+            # This signal also kills a server that is just being stopped.
             self._signal()
         with self._ending:
             if self._result is None:
@@ -303,19 +312,19 @@ class Server(Expectations, SimulatesNodes, RunsPrograms, HasProgram, Run, NamesW
             return self._result
 
     def log(self, name: Optional[str] = None) -> list["Message"]:
-        """Returns the frames that were put on the bus of this interface, oldest first; ends the server.
+        """Returns the frames on the bus of this interface, oldest first, after ending the server.
 
-        With ``record="live"`` and ``"none"`` the server continues, and the result has the frames written so far. The
-        channel of each frame is the interface that sent it. A frame that was destroyed or not acknowledged is an error
-        message frame. The name may be left out if there is one bus.
+        With ``record="live"`` and ``"none"`` the server continues, and the result contains the frames written so far.
+        The channel of each frame is the interface that sent it. A frame that was destroyed or not acknowledged is an
+        error message frame. The name may be omitted if there is only one bus.
         """
         first = self._first(name)
         return self._logs[first].messages() if self._record_when != "end" else read_log(self._file(name, "log"))
 
     def record(self, name: Optional[str] = None) -> Record:
-        """Returns the record of the bus of this interface; ends the server.
+        """Returns the record of the bus of this interface, after ending the server.
 
-        With ``record="live"`` the server continues, and the result is the record so far: its `is_cut` is true until the
+        With ``record="live"`` the server continues, and the result is the record so far. Its `is_cut` is true until the
         server has ended.
         """
         first = self._recorded(name)
@@ -324,9 +333,10 @@ class Server(Expectations, SimulatesNodes, RunsPrograms, HasProgram, Run, NamesW
         return read_record(self._file(name, "rec"), self._by_bus[first][:-1], rates=self._rates_by_bus[first])
 
     def attempts(self, name: Optional[str] = None) -> list[Attempt]:
-        """Returns the attempts on the bus of this interface: with ``record="live"`` those that were written so far.
+        """Returns the attempts on the bus of this interface; with ``record="live"``, the attempts written so far.
 
-        Each call reads only the new part. For another server the attempts are known after it has ended.
+        Each call reads only the new part of the record. Without ``record="live"``, the attempts are available only
+        after the server has ended.
         """
         first = self._recorded(name)
         if self._record_when == "live":
@@ -336,9 +346,10 @@ class Server(Expectations, SimulatesNodes, RunsPrograms, HasProgram, Run, NamesW
         return self.record(name).attempts
 
     def audit(self) -> dict[str, str]:
-        """Ends the server, and returns the verdict of `canbusd audit` on each bus's record: `ok 7 entries` or a fault.
+        """Ends the server, and returns the result of `canbusd audit` for the record of each bus: `ok 7 entries` or an
+        error.
 
-        For a killed server with ``record="live"``, the verdict is `ok 7 entries, then cut off`.
+        For a killed server with ``record="live"``, the result is `ok 7 entries, then cut off`.
         """
         return {name: self._audited(self._file(self._recorded(name), "rec")) for name in self._by_bus}
 
@@ -347,12 +358,12 @@ class Server(Expectations, SimulatesNodes, RunsPrograms, HasProgram, Run, NamesW
         return audited(left, cut=left != path)
 
     def report(self, name: Optional[str] = None) -> Path:
-        """Ends the server, and returns the path of a browser page that shows the run of the bus."""
+        """Ends the server, and returns the path of an HTML page that shows the run of the bus."""
         page = self._file(self._recorded(name), "html")
         return self._page(self.record(name), page)
 
     def _page(self, record: Record, path: Path) -> Path:
-        """Writes the page of the bus with this record to a path."""
+        """Writes the page of a bus to this path; `record` is the record of the bus."""
         from canbusd._run.fault_rules_of_run import deciders, faults_beside
         from canbusd._run.summary import write_page
 
@@ -361,7 +372,8 @@ class Server(Expectations, SimulatesNodes, RunsPrograms, HasProgram, Run, NamesW
         return write_page(record, path, rules, self._rates_by_bus[record.names[0]], self.database)
 
     def _check_runs(self, what: str) -> None:
-        """Raises ServerError if the server has ended; the text names the impossible action."""
+        """Raises ServerError if the server has ended. `what` is the part of the text that says what is no longer
+        possible."""
         if self._result is not None:
             by = "" if self._result.status < 0 else f"; {ENDED_BY.format(self._ends_too)}"
             raise ServerError(f"the server {'has ended' if by else 'was killed'}: {what}{by}")
@@ -372,7 +384,7 @@ class Server(Expectations, SimulatesNodes, RunsPrograms, HasProgram, Run, NamesW
             )
 
     def _rule_session(self, first: str) -> RuleSession:
-        """Returns a session for the rules of the bus with this first interface."""
+        """Opens a session that changes the rules of the bus with this first interface."""
         self._check_runs("its rules have ended with it")
         try:
             return RuleSession(self.address, first)
@@ -380,10 +392,11 @@ class Server(Expectations, SimulatesNodes, RunsPrograms, HasProgram, Run, NamesW
             raise ServerError(f"no session on {first}: {reason_of(fault)}") from None
 
     def _observing(self) -> Observer:
-        """Returns the server's own sessions; raises ServerError if the server has ended."""
+        """Returns the observer with the server's own sessions. Raises ServerError if the server has ended."""
         self._check_runs("nothing can be expected of it")
         if self._observer is None:
-            # The observer must not keep the server in memory, because the server's files are deleted with it.
+            # The observer gets no reference to the server, because the server's files are deleted when the server
+            # object is.
             full = functools.partial(full_record, self._folder / "stderr", self._by_bus)
             self._observer = Observer(self.address, self._names(), self._observed, full)
         return self._observer
@@ -414,7 +427,8 @@ class Server(Expectations, SimulatesNodes, RunsPrograms, HasProgram, Run, NamesW
             self._observer.close()
 
     def _first(self, name: Optional[str], what: str = "name", call: str = "{}") -> str:
-        """Returns the first interface of the bus with this interface; an error names the argument and the call."""
+        """Returns the first interface of the bus that has this interface. `what` and `call` are the argument's name and
+        an example call for an error."""
         found = [first for first, names in self._by_bus.items() if name in names[:-1] or name is None]
         if name is None and len(found) > 1:
             example = call.format(repr(found[-1]))
@@ -425,8 +439,8 @@ class Server(Expectations, SimulatesNodes, RunsPrograms, HasProgram, Run, NamesW
         return found[0]
 
     def _recorded(self, name: Optional[str]) -> str:
-        """Returns the first interface of the bus with this interface; raises ServerError if there is no record of the
-        bus."""
+        """Returns the first interface of the bus that has this interface. Raises ServerError if no record of the bus is
+        written."""
         if self._record_when == "none":
             raise ServerError('there is no record: the server has record="none"')
         return self._first(name)
@@ -452,7 +466,8 @@ class Server(Expectations, SimulatesNodes, RunsPrograms, HasProgram, Run, NamesW
         raise ServerError(self.said or f"the server does not listen: {line!r}, status {status}")
 
     def _line(self, deadline: float) -> str:
-        """Returns the first line that the server writes, or a part of it if the server ends or the deadline comes."""
+        """Returns the first line of the server's output; a shorter text if the server ends or the deadline passes
+        before that."""
         assert self._child.stdout is not None
         output = self._child.stdout.fileno()
         line = b""
@@ -468,7 +483,7 @@ class Server(Expectations, SimulatesNodes, RunsPrograms, HasProgram, Run, NamesW
         return line.decode()
 
     def _ended(self) -> tuple[int, str]:
-        """Waits for the end of the server; returns its status, and its output."""
+        """Waits until the server has ended. Returns its exit status and its output."""
         try:
             written, _ = self._child.communicate(timeout=END)
         except subprocess.TimeoutExpired:

@@ -1,9 +1,10 @@
-"""Values over time, for the signals of a rest bus and for expectations: ramps, sines, squares, noise, tables.
+"""Shapes: values over time for the signals of a rest bus and for expectations, such as ramps, sines, noise and tables.
 
     rest["Engine"].play("EngineSpeed", shapes.ramp(800, 3000, seconds=2))
     server.expect_signal("ShownSpeed", shape=shapes.ramp(800, 3000, seconds=2), tolerance=50, within=5)
 
-Time is bus time, counted from the call. Missing ends are the limits of the signal in its database.
+A shape uses the time of the bus, which starts at 0 with the call. If an end is not given, the shape uses the limit of
+the signal in its database.
 """
 
 import bisect
@@ -27,49 +28,50 @@ S = TypeVar("S", bound="Between")
 
 
 class Shape:
-    """Values over time; the functions of this module return shapes."""
+    """The base class of shapes, which give values over time. Use the functions of this module to make shapes."""
 
-    #: Whether a test can expect the shape: its values depend only on the time.
+    #: Whether the values depend only on the time. Only such a shape can be expected by a test.
     is_of_time = True
-    #: The seconds after which the shape is complete: the end of a ramp or of a table, a period.
+    #: The duration of the shape in seconds: the length of a ramp, a table or one period.
     seconds: float
 
     def of(self, signal: "SignalFormat") -> "Shape":
-        """Returns the shape for a signal, with the signal's limits for missing ends; raises ValueError if there are
-        none."""
+        """Returns the shape for a signal, with the signal's limits as the ends that were not given. Raises ValueError
+        if the signal has no limits."""
         return self
 
     @property
     def ends(self) -> "Sequence[Value]":
-        """Returns values that include the minimum and maximum of the shape."""
+        """Values of the shape that include its minimum and its maximum."""
         raise NotImplementedError
 
     def at(self, seconds: float, number: int) -> "Value":
-        """Returns the value after this many seconds, for the frame with this number since the start."""
+        """Returns the value at this time in seconds. `number` is the number of the frame since the start of the shape."""
         raise NotImplementedError
 
     def span(self, first: float, last: float) -> tuple[float, float]:
-        """Returns the minimum and maximum between two times, in seconds."""
+        """Returns the minimum and the maximum of the values between two times in seconds."""
         inner = [moment for moment in self._turns(first, last) if first < moment < last]
         values = [self.at(moment, 0) for moment in (first, *inner, last)]
         numbers = [float(value) for value in values]
         return min(numbers), max(numbers)
 
     def _turns(self, first: float, last: float) -> Iterable[float]:
-        """Returns times between which the shape only rises, falls, or stays."""
+        """Returns the times at which the shape changes direction or jumps. Between them, the shape only rises, falls,
+        or is constant."""
         return ()
 
 
 @dataclass(frozen=True)
 class Between(Shape):
-    """A shape between two ends."""
+    """The base class of shapes whose values are between two ends."""
 
     start: Optional[float]
     end: Optional[float]
     seconds: float
 
     def of(self: S, signal: "SignalFormat") -> S:
-        """Returns the shape with the limits of a signal in place of missing ends."""
+        """Returns the shape for a signal, with the signal's limits as the ends that were not given."""
         ends = {"start": (self.start, signal.least), "end": (self.end, signal.most)}
         for own, limit in ends.values():
             if own is None and not Decimal(limit).is_finite():
@@ -90,7 +92,7 @@ class Between(Shape):
 
 
 class Ramp(Between):
-    """A ramp, which stays at its end."""
+    """A ramp, which keeps its end value afterwards."""
 
     def at(self, seconds: float, number: int) -> float:
         return self._part(min(max(seconds / self.seconds, 0.0), 1.0))
@@ -100,7 +102,7 @@ class Ramp(Between):
 
 
 class Sine(Between):
-    """A sine, which begins in the middle and rises."""
+    """A sine wave, which starts in the middle and rises."""
 
     def at(self, seconds: float, number: int) -> float:
         return self._part(0.5 + 0.5 * math.sin(2 * math.pi * max(seconds, 0.0) / self.seconds))
@@ -112,7 +114,7 @@ class Sine(Between):
 
 @dataclass(frozen=True)
 class Square(Between):
-    """A square wave, which begins with its start value."""
+    """A square wave, which starts with its start value."""
 
     duty: float = 0.5
 
@@ -120,7 +122,7 @@ class Square(Between):
         return self.ends[0 if max(seconds, 0.0) % self.seconds < self.duty * self.seconds else 1]
 
     def _turns(self, first: float, last: float) -> Iterable[float]:
-        # The times just before a jump, and at the jump.
+        # The jumps of the wave, and the times just before them.
         for period in range(int(first // self.seconds), int(last // self.seconds) + 1):
             for jump in (period * self.seconds, (period + self.duty) * self.seconds):
                 yield from (jump - 1e-9, jump)
@@ -128,7 +130,7 @@ class Square(Between):
 
 @dataclass(frozen=True)
 class Noise(Between):
-    """Noise: each frame has another value, and the same seed gives the same values."""
+    """Noise: each frame has a new random value, and the same seed gives the same values."""
 
     seed: int = 0
     is_of_time = False
@@ -139,7 +141,7 @@ class Noise(Between):
 
 @dataclass(frozen=True)
 class Toggle(Shape):
-    """Values in turn, one for each frame, or for each part of a period."""
+    """Values that follow one another: one value for each frame, or equal parts of a period for each value."""
 
     values: "Sequence[Value]"
     seconds: float
@@ -164,7 +166,7 @@ class Toggle(Shape):
 
 @dataclass(frozen=True)
 class Table(Shape):
-    """Values, each from its time on until the next."""
+    """A table of values. Each value applies from its time until the time of the next value."""
 
     rows: "Sequence[tuple[float, Value]]"
 
@@ -192,13 +194,13 @@ class Table(Shape):
 
 @explained()
 def ramp(start: Optional[float] = None, end: Optional[float] = None, *, seconds: float = 1.0) -> Ramp:
-    """Returns a ramp from `start` to `end` in this many seconds; the value then stays at the end."""
+    """Returns a ramp from `start` to `end` that takes this many seconds. Afterwards the value stays at `end`."""
     return Ramp(*_ends(start, end), _seconds("seconds", seconds))
 
 
 @explained()
 def sine(low: Optional[float] = None, high: Optional[float] = None, *, period: float = 1.0) -> Sine:
-    """Returns a sine between `low` and `high`, which begins in the middle and rises."""
+    """Returns a sine wave between `low` and `high`, which starts in the middle and rises."""
     return Sine(*_ends(low, high), _seconds("period", period))
 
 
@@ -206,7 +208,7 @@ def sine(low: Optional[float] = None, high: Optional[float] = None, *, period: f
 def square(
     low: Optional[float] = None, high: Optional[float] = None, *, period: float = 1.0, duty: float = 0.5
 ) -> Square:
-    """Returns a square wave: `low` for the part `duty` of each period, and then `high`."""
+    """Returns a square wave: `low` for the fraction `duty` of each period, and then `high`."""
     if not isinstance(duty, Real) or not 0 < float(duty) < 1:
         raise ValueError(f"duty is the part of a period that is low, above 0 and below 1, not {duty!r}")
     return Square(*_ends(low, high), _seconds("period", period), duty)
@@ -214,20 +216,20 @@ def square(
 
 @explained()
 def noise(low: Optional[float] = None, high: Optional[float] = None, *, seed: int = 0) -> Noise:
-    """Returns noise between `low` and `high`: another value in each frame, and the same values for the same seed."""
+    """Returns noise between `low` and `high`. Each frame has a new value, and the same seed gives the same values."""
     return Noise(*_ends(low, high), 1.0, seed)
 
 
 @explained()
 def toggle(*values: "Value", period: Optional[float] = None) -> Toggle:
-    """Returns these values in turn, by default 0 and 1: another value in each frame, or all values in each period, in
-    seconds."""
+    """Returns a shape that repeats these values in order, by default 0 and 1. Each frame has the next value; with a
+    `period` in seconds, each period contains all values."""
     return Toggle(values or (0, 1), 0.0 if period is None else _seconds("period", period))
 
 
 @explained()
 def table(rows: "Iterable[tuple[float, Value]]") -> Table:
-    """Returns values from their times on, such as ``[(0.0, 800), (1.5, 3000)]``, in seconds."""
+    """Returns a table of values. Each row is a time in seconds and a value: ``[(0.0, 800), (1.5, 3000)]``."""
     known = "pairs of seconds and values, such as [(0.0, 800), (1.5, 3000)]"
     found = list(rows) if isinstance(rows, Iterable) and not isinstance(rows, (str, Mapping)) else []
     for row in found:
@@ -242,10 +244,10 @@ def table(rows: "Iterable[tuple[float, Value]]") -> Table:
 def csv(
     path: "Union[str, os.PathLike[str]]", column: str, *, time: Optional[str] = None, delimiter: str = ","
 ) -> Table:
-    """Returns the values of a column of a CSV file, whose first line has the names of columns.
+    """Returns a table with a column of a CSV file. The first line of the file has the names of the columns.
 
-    The times, in seconds, are in the column `time`, else in the first column; they count from the first row. ValueError
-    names the line of a malformed file.
+    The times in seconds are in the column `time`, or in the first column by default. They are relative to the first
+    row. Raises ValueError with the line number if the file is malformed.
     """
     with open(path, newline="", encoding="utf-8-sig") as file:
         reader = csv_files.reader(file, delimiter=delimiter)
@@ -267,7 +269,7 @@ def csv(
 
 
 def _value(text: str) -> "Value":
-    """Returns a number, or the name of a number."""
+    """Returns a number, or the text if it is the name of a number."""
     stripped = text.strip()
     try:
         return int(stripped)

@@ -1,4 +1,4 @@
-"""Messages and signals by name, as a DBC, an ARXML, a KCD or a SYM file describes them.
+"""Messages and signals by name, as described in a DBC, ARXML, KCD or SYM file.
 
     database = load_database("car.dbc")
     print(database)                # each message: its sender, cycle time and signals
@@ -24,19 +24,19 @@ from canbusd.frames import FD_LENGTHS, BadFrame, Frame, MessageLike
 HOW_TO_GET = "pip install cantools, or apt-get install python3-canmatrix"
 #: A library's function that reads a file.
 Reader = Callable[[str], Iterator[MessageFormat]]
-#: The most values of a multiplexer that cantools lists.
+#: The maximum number of multiplexer values for which cantools may make a list.
 MOST_VALUES = 65_536
-#: The libraries that read files, in the order of search, and the modules that use them.
+#: The libraries that read files, in the order in which they are tried, and the modules that use them.
 READERS = {"cantools": "canbusd._database.from_cantools", "canmatrix": "canbusd._database.from_canmatrix"}
 
 
 class Decoded(NamedTuple):
-    """A frame in the words of a database; `str()` shows it on one line."""
+    """A frame decoded with a database. `str()` shows the message and its signals on one line."""
 
     #: The name of the message.
     message: str
     signals: tuple[Signal, ...]
-    #: The reason why there are no signals: the frame is shorter than the message, or the library can't decode it.
+    #: The reason why there are no signals: the frame is shorter than the message, or decoding failed.
     fault: str = ""
 
     def value(self, name: str) -> Value:
@@ -51,9 +51,9 @@ class Decoded(NamedTuple):
 
 
 class Database(NamesWhatThereIs):
-    """The messages of files, by identifier and name; `str()` shows all of them.
+    """The messages of one or more files, by identifier and name. `str()` shows all messages.
 
-    DatabaseError if two different messages have the same name or the same identifier.
+    Raises DatabaseError if two different messages have the same name or the same identifier.
     """
 
     _INSTEAD = {
@@ -74,8 +74,8 @@ class Database(NamesWhatThereIs):
             self._by_name[one.name] = self._by_frame[frame] = one
 
     def with_more(self, other: "Database") -> "Database":
-        """Returns these messages and those of another database, except messages with a name or an identifier that this
-        one has."""
+        """Returns a database with these messages and those of another database. Messages of the other database whose
+        name or identifier exists here are left out."""
         more = [one for one in other.messages if not self._has(one)]
         return Database([*self.messages, *more]) if more else self
 
@@ -84,12 +84,12 @@ class Database(NamesWhatThereIs):
 
     @property
     def messages(self) -> list[MessageFormat]:
-        """The messages, in the order of the files."""
+        """The messages, in the same order as in the files."""
         return list(self._by_name.values())
 
     @property
     def nodes(self) -> list[str]:
-        """The names of the nodes that send or receive a message, in the order of the files."""
+        """The names of the nodes that send or receive a message, in the same order as in the files."""
         names: dict[str, None] = {}
         for message in self.messages:
             names.update(dict.fromkeys(message.senders))
@@ -97,26 +97,26 @@ class Database(NamesWhatThereIs):
         return list(names)
 
     def message(self, name: str) -> MessageFormat:
-        """Returns the message with this name; raises DatabaseError if there is none."""
+        """Returns the message with this name. Raises DatabaseError if there is no such message."""
         if name not in self._by_name:
             known = ", ".join(sorted(self._by_name)) or "none"
             raise DatabaseError(f"no message {name}; there are {known}", message=name)
         return self._by_name[name]
 
     def message_of(self, frame: MessageLike) -> Optional[MessageFormat]:
-        """Returns the message of a frame; None for unknown identifiers, remote frames and error message frames."""
+        """Returns the message of a frame; None for an unknown identifier, a remote frame or an error message frame."""
         if frame.is_remote_frame or frame.is_error_frame:
             return None
         return self._by_frame.get((frame.arbitration_id, frame.is_extended_id))
 
     def decode(self, frame: MessageLike) -> Optional[Decoded]:
-        """Returns the decoded frame; None for unknown identifiers, remote frames and error message frames."""
+        """Returns the decoded frame; None for an unknown identifier, a remote frame or an error message frame."""
         message = self.message_of(frame)
         if message is None:
             return None
         if len(frame.data) < message.size:
             return Decoded(message.name, (), f"{len(frame.data)} of {times(message.size, 'byte')}")
-        # The libraries raise many kinds of errors.
+        # The libraries raise many kinds of exceptions.
         try:
             return Decoded(message.name, tuple(message.decode(bytes(frame.data[: message.size]))))
         except Exception as fault:
@@ -124,7 +124,7 @@ class Database(NamesWhatThereIs):
 
     @explained("values are a dict, such as {'EngineSpeed': 800}")
     def encode(self, name: str, values: Mapping[str, Value]) -> Frame:
-        """Returns the frame of this message with these values: numbers, their names, or texts of them."""
+        """Returns the frame of this message with these signal values: numbers, names of numbers, or numbers as text."""
         if not isinstance(values, Mapping):
             raise ValueError(f"values are a dict of signals, such as {{'EngineSpeed': 800}}, not {values!r}")
         message = self.message(name)
@@ -140,9 +140,9 @@ def lines_of(message: MessageFormat) -> Iterator[str]:
 
 
 def frame_of(message: MessageFormat, data: bytes) -> Frame:
-    """Returns the frame of a message with this data; an FD frame is filled up to the next valid length.
+    """Returns the frame of a message with this data. The data of an FD frame is padded to the next valid length.
 
-    DatabaseError if no frame has as many bytes.
+    Raises DatabaseError if the data is too long for a frame.
     """
     if message.is_fd:
         data = data.ljust(next((length for length in FD_LENGTHS if length >= len(data)), 0), b"\0")
@@ -153,16 +153,16 @@ def frame_of(message: MessageFormat, data: bytes) -> Frame:
 
 
 def load_database(*paths: Union[str, "os.PathLike[str]"], library: Optional[str] = None) -> Database:
-    """Returns the messages of these files; `library` is cantools or canmatrix, by default the first that is
+    """Loads the messages of these files. `library` is `cantools` or `canmatrix`; the default is the first one that is
     installed."""
     if not paths:
         raise ValueError("load_database needs the path of a file, such as load_database('car.dbc')")
     name, messages_in = installed(library)
     messages: list[MessageFormat] = []
     for path in (os.fspath(path) for path in paths):
-        # A missing file has its own error.
+        # This raises the usual error if the file does not exist.
         open(path, "rb").close()
-        # The libraries raise many kinds of errors.
+        # The libraries raise many kinds of exceptions.
         try:
             if is_dbc(path):
                 check_numbers(path, MOST_VALUES if name == "cantools" else None)
@@ -178,7 +178,8 @@ def load_database(*paths: Union[str, "os.PathLike[str]"], library: Optional[str]
 
 
 def refusal(path: str, library: str, read: Reader, fault: Exception) -> DatabaseError:
-    """Returns the error for a file that can't be read, with the line in a DBC file, which the libraries often omit."""
+    """Returns the error for a file that can't be read. For a DBC file it has the line number, which the libraries often
+    omit."""
     place, said = path, str(fault) or type(fault).__name__
 
     def is_refused(beginning: str) -> bool:
@@ -197,8 +198,8 @@ def refusal(path: str, library: str, read: Reader, fault: Exception) -> Database
 
 
 def installed(library: Optional[str]) -> tuple[str, Reader]:
-    """Returns the library that reads files, and its reading function."""
-    # Otherwise canmatrix prints on standard error which optional formats are missing.
+    """Returns the name of the library that reads files, and its reading function."""
+    # Without a handler, canmatrix prints to standard error which optional formats are missing.
     logging.getLogger("canmatrix").addHandler(logging.NullHandler())
     if library is not None and library not in READERS:
         raise ValueError(f"library is one of {', '.join(READERS)}, not {library!r}")
@@ -213,6 +214,6 @@ def installed(library: Optional[str]) -> tuple[str, Reader]:
 
 
 def how_to_get(library: Optional[str]) -> str:
-    """Returns the way to install this library, or one of them."""
+    """Returns the commands that install this library, or either library if `library` is None."""
     cantools, _, canmatrix = HOW_TO_GET.partition(", or ")
     return {"cantools": cantools, "canmatrix": canmatrix}.get(library or "", HOW_TO_GET)

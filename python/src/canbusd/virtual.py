@@ -1,4 +1,4 @@
-"""Virtual time: whether this process runs in it, and the restart of pytest in virtual time."""
+"""Virtual time: whether this process runs in virtual time, and how pytest restarts itself in virtual time."""
 
 import functools
 import os
@@ -9,12 +9,13 @@ import warnings
 from collections.abc import Iterable, Sequence
 from typing import Optional
 
-#: The variables that canbusd-run sets for programs in virtual time: its memory, and the options that repeat the run.
+#: The variables that canbusd-run sets for programs in virtual time: the path of the run's shared memory, and the
+#: options that repeat the run.
 SETTING, OPTIONS = "CANBUSD_RUN_VIRTUAL", "CANBUSD_RUN_OPTIONS"
 
 
 def is_virtual() -> bool:
-    """Returns whether this process runs in virtual time, from ``canbusd-run --virtual`` or ``--canbusd-virtual``."""
+    """Returns whether this process runs in virtual time, because of ``canbusd-run --virtual`` or ``--canbusd-virtual``."""
     return bool(os.environ.get(SETTING))
 
 
@@ -31,7 +32,7 @@ def note_rates(rates: Iterable[object]) -> None:
 
 
 def virtual_words(words: Sequence[str], seed: Optional[int] = None, jitter: Optional[int] = None) -> list[str]:
-    """Returns the words that run a program in virtual time."""
+    """Returns the command that runs a program in virtual time."""
     from canbusd._process.program import find_program
 
     options = [] if seed is None else ["--seed", str(seed)]
@@ -40,18 +41,19 @@ def virtual_words(words: Sequence[str], seed: Optional[int] = None, jitter: Opti
 
 
 def python_words(words: Sequence[str]) -> list[str]:
-    """Returns the words that started this Python; before Python 3.10, the words of pytest with its arguments
-    ``words``."""
+    """Returns the command that started this Python process. Before Python 3.10, returns a command that runs pytest with
+    the arguments `words`."""
     given: Sequence[str] = getattr(sys, "orig_argv", ())
     return [sys.executable, *given[1:]] if given else [sys.executable, "-m", "pytest", *words]
 
 
 def begin_test(test: str) -> None:
-    """Seeds `random` anew at the start of a pytest test, from the run's seed and this name, like all random sources."""
+    """Seeds `random` at the start of a pytest test from the options of the run and the name of the test, as for all
+    random sources."""
     random.seed(f"{os.environ.get(OPTIONS)} {test}")
 
 
 def repeated_by(test: str) -> str:
-    """Returns the command that repeats a pytest test in this run's virtual time."""
+    """Returns the command that repeats a pytest test with the virtual time of this run."""
     options = os.environ.get(OPTIONS, "").replace("--", "--canbusd-")
     return " ".join(filter(None, ["python3 -m pytest --canbusd-virtual", options, shlex.quote(test)]))

@@ -1,8 +1,8 @@
-"""The messages and signals of a database file, in one form for all libraries.
+"""The messages and signals of a database file, in the same form for all libraries.
 
-A library reads the file and decodes frames to raw numbers. This module computes values, encodes messages, finds the
-signals of multiplexed messages and checks the file. So the results are the same with each library. canmatrix needs 100
-us to encode a message, which is too slow for a rest bus.
+A library reads the file and decodes frames to raw numbers. This module computes values, encodes messages, selects the
+signals of multiplexed messages and checks the file. So the results do not depend on the library. Also, canmatrix takes
+100 us to encode a message, which is too slow for a rest bus.
 """
 
 import struct
@@ -17,19 +17,21 @@ from canbusd.frames import FD_LENGTHS
 
 #: The value of a signal: a number, or the name of a number.
 Value = Union[int, float, str]
-#: The raw number of a signal on the bus.
+#: The raw number of a signal, as it is sent on the bus.
 Raw = Union[int, float]
-#: Parts of a send type's name, in lower case, that mark a message as sent by an event instead of its cycle time.
+#: Parts of a send type's name, in lower case. With one of EVENTS, a message is sent by an event and not at its cycle
+#: time, unless the name also has one of PERIODS.
 EVENTS = ("event", "spontan", "trigger", "change", "write", "ifactive")
 PERIODS = ("cycl", "period")
-#: Above this limit a number has no digits after the decimal point, and is a float.
+#: Numbers from this limit on are converted to float, even if they have no fractional part.
 MOST_WHOLE = Decimal(10) ** 28
-#: The format of a float for the module struct, by its number of bits.
+#: The `struct` format of a float, by its number of bits.
 FLOATS = {16: "<e", 32: "<f", 64: "<d"}
 
 
 class DatabaseError(ValueError):
-    """The file can't be read, or it has no such message or signal. The error carries their names if these are known."""
+    """A file can't be read, or it has no such message or signal. The attributes name the file, the message and the
+    signal, if they are known."""
 
     def __init__(self, text: str, path: str = "", message: str = "", signal: str = "") -> None:
         super().__init__(text)
@@ -40,7 +42,7 @@ class Signal(NamedTuple):
     """A decoded signal of a frame."""
 
     name: str
-    #: A number with factor and offset applied, or the name of the number if the file has one.
+    #: A number after applying factor and offset, or the name of the number if the file defines one.
     value: Value
     unit: str
 
@@ -50,51 +52,52 @@ class Signal(NamedTuple):
 
 @dataclass(frozen=True)
 class SignalFormat:
-    """A signal of a message, as the file describes it."""
+    """The format of a signal in a message, as described in the file."""
 
     name: str
     unit: str = ""
     #: The names of the nodes that receive the signal.
     receivers: tuple[str, ...] = ()
-    #: The value is the number on the bus times `factor`, plus `offset`.
+    #: The value is the raw number times `factor`, plus `offset`.
     factor: Decimal = Decimal(1)
     offset: Decimal = Decimal(0)
-    #: The minimum and maximum of the value; None if the file has no limits.
+    #: The minimum and the maximum of the value; None if the file has no limits.
     minimum: Optional[Decimal] = None
     maximum: Optional[Decimal] = None
-    #: The names of numbers on the bus.
+    #: The names of raw numbers.
     choices: Mapping[int, str] = field(default_factory=dict)
-    #: The number on the bus at the start.
+    #: The initial raw number, before it is limited to the valid range.
     raw_start: Decimal = Decimal(0)
     is_signed: bool = False
     is_float: bool = False
-    #: The bits of the frame that the signal occupies, lowest first: bit 0 is the lowest of byte 0, bit 8 the lowest of
-    #: byte 1.
+    #: The bits of the frame that the signal occupies, lowest bit first. Bit 0 is the lowest bit of byte 0, and bit 8 is
+    #: the lowest bit of byte 1.
     bits: tuple[int, ...] = ()
-    #: Whether the signal is a multiplexer, whose number selects the other signals.
+    #: Whether the signal is a multiplexer, whose raw number selects other signals.
     is_multiplexer: bool = False
-    #: The multiplexer that selects this signal, and its numbers that do, as pairs of the first and the last number.
+    #: The name of the multiplexer that selects this signal, and the raw numbers for which it does, as pairs of a first
+    #: and a last number.
     multiplexer: str = ""
     multiplexer_values: tuple[tuple[int, int], ...] = ()
 
     @property
     def start(self) -> Value:
-        """The value of the signal at the start."""
+        """The initial value of the signal."""
         return self.value(self.raw)
 
     @cached_property
     def raw(self) -> Raw:
-        """The number on the bus at the start, within the signal's limits."""
+        """The initial raw number, within the signal's limits."""
         return self.number(min(max(self.raw_start * self.factor + self.offset, self.least), self.most))
 
     @cached_property
     def least(self) -> Decimal:
-        """The minimum of the value."""
+        """The minimum value of the signal."""
         return self._limit(self.minimum, Decimal("-Infinity"), min)
 
     @cached_property
     def most(self) -> Decimal:
-        """The maximum of the value."""
+        """The maximum value of the signal."""
         return self._limit(self.maximum, Decimal("Infinity"), max)
 
     def _limit(self, given: Optional[Decimal], none: Decimal, choose: "Callable[..., Decimal]") -> Decimal:
@@ -105,12 +108,12 @@ class SignalFormat:
         return choose(raw * self.factor + self.offset for raw in self._raw_limits())
 
     def _raw_limits(self) -> tuple[int, int]:
-        """Returns the least and the greatest number that fit into the signal's bits."""
+        """Returns the smallest and the largest raw number that fit into the signal's bits."""
         size = len(self.bits)
         return (-(1 << size - 1), (1 << size - 1) - 1) if self.is_signed else (0, (1 << size) - 1)
 
     def value(self, raw: Raw) -> Value:
-        """Returns the value of a number on the bus, or the name of that number."""
+        """Returns the value of a raw number, or the name of the number."""
         if raw in self.choices:
             return self.choices[int(raw)]
         if self.is_float and raw - raw:
@@ -118,8 +121,8 @@ class SignalFormat:
         return plain(Decimal(str(raw)) * self.factor + self.offset)
 
     def raw_of(self, value: Value) -> Raw:
-        """Returns the number on the bus for a value, for the text of a value, or for a name; raises DatabaseError if
-        there is none."""
+        """Returns the raw number for a value, for the text of a value, or for a name. Raises DatabaseError if there is
+        no such number."""
         for number_of_name, name in self.choices.items():
             if name == value:
                 return number_of_name
@@ -132,12 +135,13 @@ class SignalFormat:
         return raw
 
     def number(self, value: Decimal) -> Raw:
-        """Returns the number on the bus for a value."""
+        """Returns the raw number for a value."""
         raw = (value - self.offset) / self.factor
         return float(raw) if self.is_float else int(raw.to_integral_value())
 
     def placed(self, raw: Raw) -> int:
-        """Returns a frame's bits that hold this number; byte 0 of the frame is the lowest."""
+        """Returns the bits of a frame that are set by this raw number, as an integer whose lowest byte is byte 0 of the
+        frame."""
         size = len(self.bits)
         number = int.from_bytes(struct.pack(FLOATS[size], raw), "little") if self.is_float else int(raw)
         return sum(1 << bit for place, bit in enumerate(self.bits) if number >> place & 1)
@@ -175,44 +179,44 @@ class SignalFormat:
 
 @dataclass(frozen=True)
 class MessageFormat:
-    """A message, as the file describes it; `str()` shows it on one line."""
+    """The format of a message, as described in the file. `str()` shows it on one line."""
 
     name: str
     identifier: int
     is_extended: bool
-    #: The number of data bytes of the message.
+    #: The length of the message in bytes.
     size: int
     signals: tuple[SignalFormat, ...]
-    #: A function of the library that decodes the numbers of the present signals.
+    #: The library's function that decodes the raw numbers of the signals in a frame.
     unpack: Callable[[bytes], Mapping[str, Raw]] = field(repr=False, compare=False)
     is_fd: bool = False
-    #: The nodes that send the message, the main sender first.
+    #: The names of the nodes that send the message, beginning with the main sender.
     senders: tuple[str, ...] = ()
-    #: The cycle time in seconds; 0 if the file has none.
+    #: The cycle time in seconds; 0 if the file defines none.
     cycle_time: float = 0.0
-    #: The delay of the first message after the start, in seconds; 0 if the file has none.
+    #: The delay in seconds before the first frame after the start; 0 if the file defines none.
     start_delay: float = 0.0
-    #: The name of the message's send type in the file.
+    #: The send type of the message, as named in the file.
     send_type: str = ""
-    #: The attributes of the message in a DBC file, as texts by name.
+    #: The attributes of the message in a DBC file: their texts, by name.
     attributes: Mapping[str, str] = field(default_factory=dict, repr=False, compare=False)
-    #: The path of the file.
+    #: The path of the database file.
     path: str = field(default="", compare=False)
 
     def place(self, signal: str = "") -> str:
-        """Returns the file of the message, and in a DBC file the line of the message or of its signal."""
+        """Returns the path of the message's file; for a DBC file also the line of the message or of its signal."""
         line = line_of(self.path, self.identifier, self.name, signal) if is_dbc(self.path) else 0
         return f"{self.path}:{line}" if line else self.path
 
     @property
     def is_cyclic(self) -> bool:
-        """Whether the message is sent by its cycle time: it has a cycle time, and its send type names no event."""
+        """Whether the message is sent at its cycle time: it has a cycle time, and its send type does not name an event."""
         kind = self.send_type.lower()
         is_event = any(word in kind for word in EVENTS) and not any(word in kind for word in PERIODS)
         return self.cycle_time > 0 and not is_event
 
     def signal(self, name: str) -> SignalFormat:
-        """Returns the signal with this name; raises DatabaseError if there is none."""
+        """Returns the signal with this name. Raises DatabaseError if the message has no such signal."""
         for signal in self.signals:
             if signal.name == name:
                 return signal
@@ -220,16 +224,17 @@ class MessageFormat:
         raise DatabaseError(f"no signal {self.name}.{name}; there are {known}", self.path, self.name, name)
 
     def decode(self, data: bytes) -> Iterator[Signal]:
-        """Yields the signals of a frame with this length; of the multiplexed signals only those that are present."""
+        """Yields the decoded signals of a frame that is as long as the message. Multiplexed signals that are not
+        present are skipped."""
         raw = self.unpack(data)
         for signal in self.present(raw):
             if signal.name in raw:
                 yield Signal(signal.name, signal.value(raw[signal.name]), signal.unit)
 
     def encode(self, values: Mapping[str, Value], is_strict: bool = True) -> bytes:
-        """Returns the bytes of the message with these values; all other signals have their start values.
+        """Returns the bytes of the message with these values; all other signals have their initial values.
 
-        With `is_strict` each given signal must be present, as the multiplexers select it.
+        If `is_strict` is true, each given signal must be selected by its multiplexers.
         """
         try:
             raw = {signal.name: signal.raw for signal in self.signals}
@@ -247,11 +252,11 @@ class MessageFormat:
             bits = sum(signal.placed(raw[signal.name]) for signal in self.signals if signal.name in there)
             return bits.to_bytes(self.size, "little")
         except OverflowError as fault:
-            # The float is too large for its bits.
+            # The float is too large for the number of bits.
             raise DatabaseError(f"{self.place()}: message {self.name}: {fault}", self.path, self.name) from None
 
     def present(self, raw: Mapping[str, Raw]) -> list[SignalFormat]:
-        """Returns the signals that are present if the multiplexers have these numbers."""
+        """Returns the signals that are present when the multiplexers have these raw numbers."""
         if not self._is_multiplexed:
             return list(self.signals)
         by_name = {signal.name: signal for signal in self.signals}
@@ -279,8 +284,8 @@ class MessageFormat:
         return len(bits) > len(set(bits))
 
     def check(self) -> None:
-        """Raises DatabaseError if the file contradicts itself in this message; the text names the file, message and
-        signal."""
+        """Raises DatabaseError if the file contradicts itself in this message. The error names the file, the message
+        and the signal."""
         seen: set[str] = set()
         for signal in self.signals:
             past = [bit for bit in signal.bits if not 0 <= bit < self.size * 8]
@@ -300,7 +305,8 @@ class MessageFormat:
             seen.add(signal.name)
 
     def _check_bits(self, there: Sequence[str]) -> None:
-        """Raises DatabaseError if two of these signals share a bit, because the bit's owner is then unknown."""
+        """Raises DatabaseError if two of these signals share a bit, because the bit could only have the value of one of
+        them."""
         owners: dict[int, str] = {}
         for signal in self.signals if self._has_common_bits else ():
             if signal.name in there:
@@ -325,8 +331,8 @@ class MessageFormat:
 
 
 def bits_of(start: int, size: int, is_little_endian: bool) -> tuple[int, ...]:
-    """Returns the bits of a signal, lowest first; `start` is the lowest bit of a little-endian signal, else the
-    highest."""
+    """Returns the bits of a signal, lowest bit first. `start` is the lowest bit of a little-endian signal, or the
+    highest bit of a big-endian signal."""
     if is_little_endian:
         return tuple(range(start, start + size))
     highest = start // 8 * 8 + 7 - start % 8
@@ -334,24 +340,25 @@ def bits_of(start: int, size: int, is_little_endian: bool) -> tuple[int, ...]:
 
 
 def limits(least: object, most: object) -> tuple[Optional[Decimal], Optional[Decimal]]:
-    """Returns the limits of a signal; None if the file has [0|0], which means no limits."""
+    """Returns the minimum and maximum of a signal; None for both if the file has [0|0], which means that there are no
+    limits."""
     first, last = (None if limit is None else Decimal(str(limit)) for limit in (least, most))
     return (None, None) if first is not None and last is not None and first >= last else (first, last)
 
 
 def named(nodes: Optional[Sequence[object]]) -> tuple[str, ...]:
-    """Returns the names of nodes; Vector__XXX in a DBC file means no node."""
+    """Returns the names of nodes without Vector__XXX, which means no node in a DBC file."""
     names = [str(node).strip() for node in nodes or ()]
     return tuple(name for name in dict.fromkeys(names) if name and name != "Vector__XXX")
 
 
 def plain(value: Union[int, float, Decimal]) -> Union[int, float]:
-    """Returns a number as a number of Python, as an int if it is whole."""
+    """Returns a number as an int if it is whole, and as a float otherwise."""
     if isinstance(value, Decimal):
         return int(value) if abs(value) < MOST_WHOLE and value == value.to_integral_value() else float(value)
     return int(value) if value == value // 1 else float(value)
 
 
 def shown(value: Decimal) -> str:
-    """Returns a limit as text; a float without limits has infinite ones."""
+    """Returns a limit as text. The limit may be infinite if a float signal has no limits."""
     return f"{plain(value)}" if value.is_finite() else f"{value}"

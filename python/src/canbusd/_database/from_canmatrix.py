@@ -14,22 +14,22 @@ from canbusd._database.dbc_lines import LineFault, lines_of
 from canbusd._database.formats import DatabaseError, MessageFormat, Raw, SignalFormat, bits_of, limits, named
 from canbusd._text import shown
 
-# canmatrix notes with this text that it ignores a line of a DBC file.
+# canmatrix prints a text of this form when it ignores a line of a DBC file.
 LEFT_OUT = re.compile(r"^error with line no: [0-9]+\n(b.*)$", re.M)
 
-# The endings of files that canmatrix reads with lxml; without lxml it rejects them.
+# The extensions of files that canmatrix reads with lxml. Without lxml, canmatrix rejects such files.
 OF_LXML = (".arxml", ".kcd", ".xml")
 
 
 def messages_in(path: str) -> Iterator[MessageFormat]:
-    """Yields the messages of a file."""
+    """Yields the messages of a database file."""
     formats: Any = importlib.import_module("canmatrix.formats")
     printed = io.StringIO()
     with contextlib.redirect_stdout(printed):
         matrices = formats.loadp(path)
     left_out = LEFT_OUT.search(printed.getvalue())
     if left_out:
-        # A line of values can make canmatrix read the wrong number.
+        # The line number that canmatrix prints may be wrong because of a line of values, so this searches for the line.
         number = next((number for number, line in lines_of(path) if repr(line) == left_out[1]), 0)
         raise LineFault(number, shown(ast.literal_eval(left_out[1]).decode("latin-1").strip()))
     if not matrices:
@@ -41,8 +41,8 @@ def messages_in(path: str) -> Iterator[MessageFormat]:
 
 
 def message_of(frame: Any, matrix: Any, path: str) -> MessageFormat:
-    """Returns the message of a frame from canmatrix."""
-    # The signals of a container are in PDUs, whose places each frame defines anew.
+    """Returns the message format for a canmatrix frame."""
+    # The signals of a container are in PDUs, and each frame determines where its PDUs are.
     signals = [] if frame.is_pdu_container else frame.signals
     multiplexers = [signal.name for signal in signals if signal.is_multiplexer]
 
@@ -67,7 +67,7 @@ def message_of(frame: Any, matrix: Any, path: str) -> MessageFormat:
 
 
 def signal_of(signal: Any, multiplexers: list[str], matrix: Any) -> SignalFormat:
-    """Returns the signal of a frame that has these multiplexers."""
+    """Returns the signal format for a canmatrix signal in a frame with these multiplexers."""
     above, ranges = signal.muxer_for_signal or "", tuple((int(first), int(last)) for first, last in signal.mux_val_grp)
     if not above and signal.mux_val is not None and multiplexers:
         above = multiplexers[0]
@@ -89,7 +89,7 @@ def signal_of(signal: Any, multiplexers: list[str], matrix: Any) -> SignalFormat
         raw_start=Decimal(str(start or 0)),
         is_signed=bool(signal.is_signed),
         is_float=bool(signal.is_float),
-        # The start bit of a big-endian signal counts from the highest bit of byte 0.
+        # For a big-endian signal, the start bit is counted from the highest bit of byte 0.
         bits=bits_of(signal.get_startbit(bit_numbering=1), signal.size, signal.is_little_endian),
         is_multiplexer=bool(signal.is_multiplexer),
         multiplexer=above,
@@ -98,5 +98,5 @@ def signal_of(signal: Any, multiplexers: list[str], matrix: Any) -> SignalFormat
 
 
 def seconds(milliseconds: Any) -> float:
-    """Returns a time in seconds, which the file has in milliseconds."""
+    """Converts a time from milliseconds, as in the file, to seconds."""
     return float(milliseconds or 0) / 1000

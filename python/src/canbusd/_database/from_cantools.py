@@ -9,15 +9,15 @@ from canbusd._database.formats import MessageFormat, Raw, SignalFormat, bits_of,
 
 
 def messages_in(path: str) -> Iterator[MessageFormat]:
-    """Yields the messages of a file."""
+    """Yields the messages of a database file."""
     cantools: Any = importlib.import_module("cantools")
     for message in cantools.database.load_file(path).messages:
         yield message_of(message, path)
 
 
 def message_of(message: Any, path: str) -> MessageFormat:
-    """Returns the message for a message of cantools."""
-    # The signals of a container are in PDUs, whose places each frame defines anew.
+    """Returns the message format for a cantools message."""
+    # The signals of a container are in PDUs, and each frame determines where its PDUs are.
     signals = [] if getattr(message, "is_container", False) else message.signals
 
     def unpack(data: bytes) -> dict[str, Raw]:
@@ -41,13 +41,14 @@ def message_of(message: Any, path: str) -> MessageFormat:
 
 
 def attribute(message: Any, name: str) -> Any:
-    """Returns the value of a message's attribute in a DBC file; None in other files, or if the attribute is missing."""
+    """Returns the value of a message's attribute in a DBC file; None for other files, or if the message has no such
+    attribute."""
     attributes = getattr(message.dbc, "attributes", None) or {}
     return attributes[name].value if name in attributes else None
 
 
 def signal_of(signal: Any) -> SignalFormat:
-    """Returns the signal for a signal of cantools."""
+    """Returns the signal format for a cantools signal."""
     least, most = limits(signal.minimum, signal.maximum)
     return SignalFormat(
         name=signal.name,

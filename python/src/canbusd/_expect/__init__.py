@@ -1,2 +1,2 @@
-"""Expectations: the frames and states that sessions of a server or a fixture received, compared with a test's
-wishes."""
+"""Expectations: they compare the frames and states that sessions of a server or a bench received with what a test
+expects."""

@@ -1,4 +1,5 @@
-"""The observer of a bench: sessions on its interfaces. The bench's time advances while a test waits."""
+"""The observer of a bench, which has a session on each interface. While a test waits, the time of the bench advances.
+"""
 
 from collections.abc import Callable, Sequence
 from typing import Optional, Protocol, TypeVar
@@ -12,13 +13,13 @@ T = TypeVar("T")
 
 
 class Waits(Protocol):
-    """The part of a bench that an observer uses."""
+    """The methods of a bench that an observer uses."""
 
     def open(self, channel: str, *, fd: bool = False) -> Session:
         """Opens a session."""
 
     def pass_time(self, look: Callable[[], Optional[T]], seconds: float) -> Optional[T]:
-        """Lets time pass until a function finds something."""
+        """Advances the time of the bench until `look` returns a result."""
 
 
 class Watch:
@@ -27,23 +28,23 @@ class Watch:
     def __init__(self, session: Session) -> None:
         self._session, self.channel = session, session.channel
         session.call("origin 1")
-        #: The first known state of the interface, and its error counts.
+        #: The state and the error counters of the interface when the session was opened.
         self.first = session.status()
 
     def error_counters(self) -> ErrorCounters:
-        """Returns the state of the interface, and its error counts."""
+        """Returns the state of the interface and its error counters."""
         return self._session.status()
 
     def stats(self) -> Stats:
-        """Returns the counts of the session and of its interface."""
+        """Returns the counts of the session and its interface."""
         return self._session.stats()
 
     def rules_left(self) -> int:
-        """Returns the number of the bus's rules that are not used up."""
+        """Returns the number of fault rules of the bus that are not used up."""
         return self._session.rules_left()
 
     def end_rules(self) -> None:
-        """Ends all rules of the bus."""
+        """Ends all fault rules of the bus."""
         self._session.end_rules()
 
     def down(self) -> None:
@@ -55,21 +56,22 @@ class Watch:
         self._session.up(self._moment())
 
     def _moment(self) -> Optional[float]:
-        """Returns the time that the bench has reached; on a bench with a bit rate this function also sets it."""
+        """Returns the current time of a bench without a bit rate. For a bench with a bit rate, returns None, because
+        the bench has set its own time."""
         bench = self._session._bench
         return bench.now if bench._rates is None else None
 
     def hand_on(self, add: Callable[[str, str], None]) -> None:
-        """Hands on the received frames, as messages of the protocol."""
+        """Passes the received frames to the function `add`, as messages of the protocol."""
         for message in self._session.handed_over():
             add(self.channel, f"< {message}")
 
     def close(self) -> None:
-        """Does nothing: the bench ends its sessions."""
+        """Does nothing, because the bench ends its own sessions."""
 
 
 class BenchObserver(Observer):
-    """The observer's sessions on a bench; the bench's time advances while a test waits."""
+    """An observer whose sessions are on a bench. While a test waits, the time of the bench advances."""
 
     owner = "bench"
 
@@ -81,7 +83,7 @@ class BenchObserver(Observer):
         return Watch(self._bench.open(name, fd=True))
 
     def _begin_reading(self) -> None:
-        """Starts no thread: a bench delivers frames only when it is asked."""
+        """Starts no thread, because a bench delivers frames only when the session asks for them."""
 
     def settle(self) -> None:
         self._gather()

@@ -21,24 +21,24 @@ if TYPE_CHECKING:
 
 T = TypeVar("T")
 MICROS = 1_000_000
-#: A waiting frame begins within this many bits after an attempt. Every frame has more bits, so only one begins.
+#: After an attempt, a queued frame begins within this many bits. Every frame is longer, so only one frame begins.
 SOON = 30
-#: After this many attempts at one time, on a bench without a bit rate, frames will evidently wait for ever.
+#: If a bench without a bit rate has made this many attempts at one time, frames are assumed to remain queued forever.
 MOST_AT_ONCE = 100_000
 
 
 class Due(Protocol):
-    """A sender whose frames are due at certain times, in microseconds."""
+    """A sender whose frames are due at certain times. The times are in microseconds."""
 
     def first_due(self) -> Optional[int]:
-        """Returns the time of the next frame that is due."""
+        """Returns the time at which the next frame is due; None if no frame is due."""
 
     def put_due(self, moment: int) -> None:
         """Sends the frames that are due at this time."""
 
 
 class PassesTime(Expectations):
-    """The expectations of a bench, and its buses for python-can, as a server has them."""
+    """The expectations of a bench and the sessions that they use, like those of a server."""
 
     names: tuple[str, ...]
     _rates: Optional[Rates]
@@ -49,9 +49,10 @@ class PassesTime(Expectations):
     def __init__(self, observe: Union[str, Sequence[str], None]) -> None:
         self._observed = observed_of(observe, [self.names], lambda name: self._named(name, "observe"))
         self._observer: Optional[BenchObserver] = None
-        #: The number of the package's own sessions, if they were opened first.
+        #: The number of the package's own sessions, if they were opened before all others.
         self._own_sessions = 0
-        # The senders with due times, and the time that waiting calls have reached, in microseconds.
+        # The senders whose frames are due at certain times, and the time in microseconds that waiting calls have
+        # reached.
         self._due: list[Due] = []
         self._reached = 0
 
@@ -64,12 +65,13 @@ class PassesTime(Expectations):
         raise NotImplementedError
 
     def run(self, *, until: float) -> list[Attempt]:
-        """Makes the attempts that begin before a given time."""
+        """Makes the attempts that begin before the time `until`."""
         raise NotImplementedError
 
     @property
     def now(self) -> float:
-        """The time in seconds: the time of the last attempt, or a later time that a wait has reached."""
+        """The current time in seconds: the time of the last attempt, or the time that a wait has reached if that is
+        later."""
         return self._now / MICROS
 
     @property
@@ -77,8 +79,8 @@ class PassesTime(Expectations):
         return max(self._reached, round(float(self._moment) * MICROS))
 
     def pass_time(self, look: Callable[[], Optional[T]], seconds: Optional[float]) -> Optional[T]:
-        """Advances time until `look` finds something, and returns the finding. Returns None after these seconds, or,
-        without a limit, when no frame can come any more."""
+        """Advances time until `look` returns a result, and returns the result. Returns None after `seconds`. If
+        `seconds` is None, returns None when no more frames can be sent."""
         if seconds is not None:
             check_within(seconds, "timeout")
         with self._turn:
@@ -98,8 +100,8 @@ class PassesTime(Expectations):
                 raise RuntimeError(f"frames still wait after {MOST_AT_ONCE} attempts at one moment")
 
     def _step(self, end: Optional[int]) -> bool:
-        """Makes the next attempt, or advances to the next due time, but not past this limit; returns whether either
-        existed."""
+        """Makes the next attempt, or advances to the next time at which frames are due, but not beyond `end`. Returns
+        whether there was either."""
         moments = [(moment, one) for one in self._due for moment in [one.first_due()] if moment is not None]
         first = min((moment for moment, _ in moments), default=None)
         if first is not None and first <= self._now and (end is None or first < end):
@@ -116,7 +118,7 @@ class PassesTime(Expectations):
         return True
 
     def _was_tried(self, limit: Optional[int]) -> bool:
-        """Makes the attempt that begins now, if a frame waits; returns whether one did."""
+        """Makes the attempt that begins now, if a frame is queued. Returns whether an attempt was made."""
         if self._rates is None:
             return self._attempt_now() is not None
         soon = self._now + -(-SOON * MICROS // self._rates.bitrate)
@@ -124,7 +126,7 @@ class PassesTime(Expectations):
         return bool(attempts)
 
     def _attempt_now(self) -> Optional[Attempt]:
-        """Makes an attempt at this time, on a bench without a bit rate."""
+        """Makes an attempt at the current time, on a bench without a bit rate."""
         raise NotImplementedError
 
     def _go_to(self, moment: int) -> None:
@@ -134,7 +136,7 @@ class PassesTime(Expectations):
             self._run_to(moment)
 
     def _run_to(self, moment: int) -> list[Attempt]:
-        """Makes the attempts that begin before a given time."""
+        """Makes the attempts that begin before this time."""
         if moment <= self._now and moment <= self._reached:
             return []
         attempts = self.run(until=moment / MICROS)
@@ -143,7 +145,8 @@ class PassesTime(Expectations):
         return attempts
 
     def wait(self, seconds: float) -> None:
-        """Lets this many seconds pass on the bus: the bench makes attempts, and senders send frames that are due."""
+        """Lets this many seconds pass on the bus. Meanwhile, the bench makes attempts, and senders send the frames that
+        are due."""
         check_within(seconds, "seconds")
         self.pass_time(lambda: None, seconds)
 
@@ -151,7 +154,7 @@ class PassesTime(Expectations):
         return self.pass_time(lambda: predicate() or None, timeout)
 
     def _observing(self) -> BenchObserver:
-        """The bench's own sessions."""
+        """Returns the observer with the bench's own sessions, which are opened at the first call."""
         if self._observer is None:
             is_first = self._sessions == 1
             self._observer = BenchObserver(self, self.names, self._observed)
@@ -159,7 +162,7 @@ class PassesTime(Expectations):
         return self._observer
 
     def step(self, title: str) -> "contextlib.AbstractContextManager[None]":
-        """Names a step of the test for its report, with the time of the bench."""
+        """Marks a step of the test for the test's report. The step has the time of the bench."""
         return step(title, now=lambda: self.now)
 
     def expect_from_now(self) -> None:
@@ -171,15 +174,15 @@ class PassesTime(Expectations):
         raise NotImplementedError
 
     def rules_left(self, interface: Optional[str] = None) -> int:
-        """Returns the number of fault rules of the bus that are not used up, including rules without end."""
+        """Returns the number of fault rules of the bus that are not used up. Rules without a limit are included."""
         return self._observing().session(self._named(interface)).rules_left()
 
     def end_rules(self, interface: Optional[str] = None) -> None:
-        """Ends all rules of the bus. Script lines for numbered attempts stay."""
+        """Ends all fault rules of the bus. Script lines for numbered attempts still apply."""
         self._observing().session(self._named(interface)).end_rules()
 
     def _named(self, interface: Optional[str], what: str = "interface") -> str:
-        """Returns the named interface, or the first; raises ValueError if the bus has no such interface."""
+        """Returns the given interface; the first interface if None. Raises ValueError if the bus has no such interface."""
         if interface is not None and interface not in self.names:
             raise ValueError(f"{what} is an interface of the bench, one of {', '.join(self.names)}, not {interface!r}")
         return interface or self.names[0]

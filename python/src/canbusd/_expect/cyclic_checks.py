@@ -1,4 +1,4 @@
-"""Checks of received frames: their timing, their order, and unchanged values. Times are in microseconds."""
+"""Checks of received frames: their timing, their order, and whether values change. Times are in microseconds."""
 
 from collections.abc import Callable, Iterable, Sequence
 from typing import NamedTuple, Optional
@@ -8,7 +8,7 @@ from canbusd._expect.received_frames import Seen
 
 
 class Gap(NamedTuple):
-    """The time between two frames of a cyclic message; `number` is the number of the second frame."""
+    """The time between two successive frames of a cyclic message. `number` is the number of the second frame."""
 
     number: int
     begin: int
@@ -16,12 +16,12 @@ class Gap(NamedTuple):
 
     @property
     def length(self) -> int:
-        """The length of the gap."""
+        """The length of the gap in microseconds."""
         return self.end - self.begin
 
 
 def gaps_of(moments: Sequence[int]) -> list[Gap]:
-    """Returns the gaps between these times; the first gap has the number 1."""
+    """Returns the gaps between successive times. The first gap has the number 1."""
     return [Gap(number, *pair) for number, pair in enumerate(zip(moments, moments[1:]), 1)]
 
 
@@ -31,36 +31,36 @@ def wrong_gaps(gaps: Iterable[Gap], period: int, tolerance: int) -> list[Gap]:
 
 
 def gap_words(gap: Gap, period: int) -> str:
-    """Returns the error of a gap in words: `gap 3: 0.152000 s, 0.052000 too long, from (..) to (..)`."""
+    """Returns a text that says how wrong a gap is: `gap 3: 0.152000 s, 0.052000 too long, from (..) to (..)`."""
     wrong = gap.length - period
     kind = "long" if wrong > 0 else "short"
     return f"gap {gap.number}: {seconds(gap.length)} s, {seconds(abs(wrong))} too {kind}, {span(gap.begin, gap.end)}"
 
 
 def span(begin: int, end: int) -> str:
-    """Returns the times of a start and an end, in the spelling of a log."""
+    """Returns a start and an end time as text, with the timestamps spelled as in a log."""
     return f"from ({begin / 1e6:017.6f}) to ({end / 1e6:017.6f})"
 
 
 def seconds(micros: int) -> str:
-    """Returns microseconds as seconds."""
+    """Returns a number of microseconds as text in seconds."""
     return f"{micros // 1_000_000}.{micros % 1_000_000:06}"
 
 
 class Followed(NamedTuple):
-    """The part of a sequence that was found."""
+    """The part of an expected sequence that was found."""
 
-    #: The frames of the sequence's first steps.
+    #: The frames that were found for the first steps of the sequence.
     found: list[Seen]
-    #: The next frame, which is not allowed between the steps.
+    #: The first frame that is not allowed between the steps; None if there is none.
     intruder: Optional[Seen] = None
 
 
 def follow(frames: Iterable[Seen], steps: Sequence[Wanted], between: Optional[Sequence[Wanted]]) -> Followed:
-    """Finds the frames of these steps, one after another, up to the first frame that is not allowed between them.
+    """Finds a frame for each step in order, up to the first frame that is not allowed between the steps.
 
-    Before the first step any frame is allowed. After it only frames in `between` are, or all if `between` is None.
-    Error message frames are always allowed.
+    Before the first step, any frame is allowed. After the first step, only frames in `between` are allowed, or all
+    frames if `between` is None. Error message frames are always allowed.
     """
     found: list[Seen] = []
     for seen in frames:
@@ -75,7 +75,7 @@ def follow(frames: Iterable[Seen], steps: Sequence[Wanted], between: Optional[Se
 
 
 class Change(NamedTuple):
-    """The values of a frame that differ from the values of the frame before."""
+    """A change of values: the values of the previous frame, and the different values of this frame."""
 
     before: object
     after: object
@@ -85,7 +85,8 @@ class Change(NamedTuple):
 def first_change(
     before: Optional[object], frames: Iterable[Seen], content: Callable[[Seen], Optional[object]]
 ) -> Optional[Change]:
-    """Returns the first change of the values in frames, compared with earlier values; None means no value."""
+    """Returns the first change of the values in these frames. `before` are the values of an earlier frame; None means
+    no values."""
     for seen in frames:
         now = content(seen)
         if now is not None and before is not None and now != before:
@@ -95,8 +96,8 @@ def first_change(
 
 
 def may_change(before: Optional[object], content: Callable[[Seen], Optional[object]]) -> Callable[[Seen], bool]:
-    """Returns a function that, called with one frame after another, reports whether a frame may be a change: it has a
-    value that differs from the first value."""
+    """Returns a function that is called with one frame after another. It reports whether the frame may be a change,
+    which is true if its value differs from the first value."""
     first = [] if before is None else [before]
 
     def may_be(seen: Seen) -> bool:

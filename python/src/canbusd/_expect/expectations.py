@@ -1,12 +1,12 @@
-"""A running server seen from inside a test: the states of its interfaces, and the frames that they see.
+"""Expectations of a running server: the states of its interfaces, and the frames that they receive.
 
     with Server("ecu,tester") as server:
         ...
         server.expect(id=0x123, within=1.0)
         server.expect_state("ecu", "off")
 
-Expectations see only messages that sessions received since the last expectation; they poll nothing. The record has each
-attempt and the reason why it failed: `Server.attempts`.
+An expectation checks only messages that sessions have received since the last expectation; it does not poll.
+`Server.attempts` returns each attempt, also failed attempts and why they failed.
 """
 
 import contextlib
@@ -32,14 +32,15 @@ if TYPE_CHECKING:
 
     from canbusd._expect.observer import Observer, Watching
 
-#: The transmit error count from which an interface is bus off, and the increment for a destroyed frame.
+#: An interface is bus off from a transmit error count of OFF on. Each destroyed frame adds DESTROYED to the count.
 OFF, DESTROYED = 256, 8
 
 T = TypeVar("T")
 
 
 def wait_for(predicate: Callable[[], T], timeout: float) -> Optional[T]:
-    """Returns the first true result of the predicate; None if there is none within these seconds."""
+    """Calls the predicate until its result is true, and returns the result; None if it is not true within `timeout`
+    seconds."""
     if not callable(predicate):
         raise ValueError(f"predicate is a function that is called until it is true, as lambda: .., not {predicate!r}")
     check_within(timeout, "timeout")
@@ -56,10 +57,10 @@ def wait_for(predicate: Callable[[], T], timeout: float) -> Optional[T]:
 
 
 class Expectations(Supervision):
-    """Expectations of a running server; the mixin of Server."""
+    """The base class of Server for expectations."""
 
     def _observing(self) -> "Observer":
-        """The observer of the server."""
+        """Returns the observer of the server."""
         raise NotImplementedError
 
     def inject(self, faults: Script, interface: Optional[str] = None) -> None:
@@ -67,15 +68,16 @@ class Expectations(Supervision):
         raise NotImplementedError
 
     def _shown(self, signals: Sequence[str] = ()) -> str:
-        """Returns the last frames that the test saw, for the end of a failure's text."""
+        """Returns the last frames that the test received, as the last part of an error text."""
         return self._observing().shown(self.database, signals)
 
     def _wait(self, predicate: Callable[[], T], timeout: float) -> Optional[T]:
-        """Returns the first true result of the predicate; None if there is none within these seconds."""
+        """Calls the predicate until its result is true, and returns the result; None if it is not true within `timeout`
+        seconds."""
         return wait_for(predicate, timeout)
 
     def step(self, title: str) -> "contextlib.AbstractContextManager[None]":
-        """Names a step of the test for its report: ``with server.step("the ECU wakes"): ..``."""
+        """Marks a step of the test for the test's report: ``with server.step("the ECU wakes"): ..``."""
         return step(title)
 
     @explained("values are a dict, such as frame('EngineData', {'EngineSpeed': 800})")
@@ -87,8 +89,8 @@ class Expectations(Supervision):
         is_extended_id: Optional[bool] = None,
         is_fd: bool = False,
     ) -> Frame:
-        """Returns a frame to send: of an identifier and bytes, or of a message of the database by its name and the values of its
-        signals. An identifier above 7FF has 29 bits unless `is_extended_id` says otherwise."""
+        """Returns a frame to send. The arguments are an identifier and data bytes, or the name of a message in the
+        database and its signal values. An identifier above 7FF has 29 bits; `is_extended_id` overrides this."""
         if isinstance(id, str):
             message, _ = identifier(id, self.database)
             assert message is not None and self.database is not None
@@ -103,40 +105,42 @@ class Expectations(Supervision):
 
     @explained()
     def error_counters(self, name: str) -> ErrorCounters:
-        """Returns the state of an interface and its error counts, while the server runs."""
+        """Returns the state of an interface and its error counters. The server must be running."""
         return self._observing().session(name).error_counters()
 
     @explained()
     def state(self, name: str) -> State:
-        """Returns the state of an interface, while the server runs: `active`, `warning`, `passive`, `off` or `down`."""
+        """Returns the state of an interface: `active`, `warning`, `passive`, `off` or `down`. The server must be
+        running."""
         return self.error_counters(name).state
 
     @explained()
     def down(self, name: str) -> None:
-        """Takes an interface off the bus, as `ip link set can0 down` does; the frames in its transmit queue are lost.
+        """Takes an interface off the bus, as `ip link set can0 down` does. The frames in its transmit queue are lost.
 
-        The interface sends, accepts and acknowledges nothing until `up`, and a send is refused as `interface down`. Its
-        sockets stay open. The interface may already be down. The next `expect_state` ignores earlier states.
+        Until `up` is called, the interface sends, accepts and acknowledges nothing, and a send is refused with
+        `interface down`. Its sockets stay open. If the interface is already down, nothing changes. The next
+        `expect_state` ignores earlier states.
         """
         observer = self._observing()
         observer.session(name).down()
-        # No error message frame reports this state.
+        # No error message frame reports that an interface is down.
         observer.came_into(name, "down")
 
     @explained()
     def up(self, name: str) -> None:
-        """Brings an interface up, or back from bus off. Both error counts are then 0. The interface may already be
-        up."""
+        """Brings an interface up, or restarts it after bus off. Both error counters are then 0. The interface may
+        already be up."""
         self._observing().session(name).up()
 
     @explained()
     def bus_off(self, name: str, timeout: float = 5.0) -> ErrorCounters:
-        """Drives an interface bus off, whatever the others send, and returns once the interface is bus off.
+        """Drives an interface bus off, whatever other interfaces send. Returns when the interface is bus off.
 
-        An injected rule destroys the next attempts of the interface, 32 if it had no errors, so the interface must
-        send. AssertionError if it is not bus off after these seconds; the text says if the interface sent nothing. This
-        call then ends the rule. If the bus has other rules, which would end too, the rule stays, and the text reports
-        this.
+        This call injects a rule that destroys the next attempts of the interface, 32 if it had no errors before. So the
+        interface must send frames. Raises AssertionError if the interface is not bus off after `timeout` seconds, and
+        then ends the rule. If the bus has other rules, which would end too, the rule is kept, and the error says so.
+        The error also says if the interface sent nothing.
         """
         __tracebackhide__ = True
         check_within(timeout, "timeout")
@@ -146,7 +150,7 @@ class Expectations(Supervision):
             counters = self._wait(drive.off, timeout)
             if counters is None:
                 raise AssertionError(f"{drive.failure(timeout)}{self._shown()}")
-            # An interface that restarts by itself may be active again.
+            # An interface that restarts automatically may be active again.
             was = observer.skip_to_state(name, "off")
             return was.counters if was is not None and counters.state != "off" else counters
         finally:
@@ -154,7 +158,7 @@ class Expectations(Supervision):
 
     @explained()
     def wait_for(self, predicate: Callable[[], T], timeout: float = 1.0) -> T:
-        """Calls the predicate until its result is true, and returns the result; raises TimeoutError after these
+        """Calls the predicate until its result is true, and returns the result. Raises TimeoutError after `timeout`
         seconds."""
         __tracebackhide__ = True
         found = self._wait(predicate, timeout)
@@ -169,8 +173,8 @@ class Expectations(Supervision):
         time.sleep(seconds)
 
     def expect_from_now(self) -> None:
-        """Makes expectations ignore all earlier frames and states. The pytest plugin calls this at the start of each
-        test."""
+        """Makes later expectations ignore all earlier frames and states. The pytest plugin calls this at the start of
+        each test."""
         self._observing().forget()
 
     @explained()
@@ -189,14 +193,15 @@ class Expectations(Supervision):
         is_extended_id: Optional[bool] = None,
         is_error_frame: bool = False,
     ) -> "Message":
-        """Returns the first frame with this identifier and data that was seen already, or comes within these seconds.
+        """Returns the first frame with this identifier and data. The frame may have been received since the last
+        expectation, or may arrive within `within` seconds.
 
-        `id` may be the name of a message of the server's database. A `signal`, `EngineSpeed` or `Engine.EngineSpeed`,
-        must be present, and its value must meet the limits `above`, `below`, `equals` or `between`, which has two ends.
-        All frames count that came after the frame of the last expectation; with a `channel` only frames that this
-        interface received. A frame that several interfaces received counts once. AssertionError after these seconds;
-        its text ends with the frames that were seen. An identifier above 7FF has 29 bits unless `is_extended_id` says
-        otherwise.
+        `id` may be the name of a message in the server's database. `signal` is the name of a signal, `EngineSpeed` or
+        `Engine.EngineSpeed`. The frame must contain this signal, and its value must meet the limits `above`, `below`,
+        `equals` and `between` (a range). All frames after the frame of the last expectation are checked; with a
+        `channel`, only the frames that this interface received. A frame that several interfaces received counts once.
+        An identifier above 7FF has 29 bits; `is_extended_id` overrides this. Raises AssertionError if no such frame
+        arrives in time; its text ends with the received frames.
         """
         __tracebackhide__ = True
         wanted = self._wanted(
@@ -228,9 +233,9 @@ class Expectations(Supervision):
         is_extended_id: Optional[bool] = None,
         is_error_frame: bool = False,
     ) -> None:
-        """Fails if such a frame was seen since the last expectation, or comes within these seconds.
+        """Fails if such a frame was received since the last expectation, or arrives within `within` seconds.
 
-        The expectation also fails if frames were lost since then, because a lost frame may be such a frame.
+        Also fails if frames were lost since the last expectation, because a lost frame may be such a frame.
         """
         __tracebackhide__ = True
         wanted = self._wanted(
@@ -252,13 +257,14 @@ class Expectations(Supervision):
 
     @explained()
     def expect_state(self, name: str, state: State, *, within: float = 1.0) -> ErrorCounters:
-        """Returns once an interface is in this state, or has been in it, however briefly, since the last expected
+        """Returns when an interface is in this state, or if it was in this state at any time since the last expected
         state.
 
-        The error message frames that the interface received show its states. No such frame reports `down`, so the
-        interface must be down when this call polls it. AssertionError if the interface does not reach the state within
-        these seconds; the text lists its states. Returns the present error counts if the interface is still in this
-        state, else the counts when it entered the state. The receive count at bus off is then unknown, and given as 0.
+        The states come from the error message frames that the interface received. No such frame reports `down`, so the
+        interface must be down while this call is polling. Raises AssertionError if the interface does not reach the
+        state within `within` seconds; the error lists its states. Returns the current error counters if the interface
+        is still in this state, else the counters when it entered the state. In this case the receive counter at bus off
+        is not known, and is given as 0.
         """
         __tracebackhide__ = True
         if state not in STATES:
@@ -279,33 +285,34 @@ class Expectations(Supervision):
 
 
 class Drive:
-    """Destroys the next frames of an interface until it is bus off, and no later frame."""
+    """Destroys the next frames of an interface until it is bus off, but no frames after that."""
 
     def __init__(self, bus: "Watching", name: str, inject: Callable[[Faults, str], None]) -> None:
         self._bus, self._name, self._inject = bus, name, inject
         self._counters, self._stats = bus.error_counters(), bus.stats()
-        # When the last rule was injected: the number of other rules, and the number of frames that the interface had
-        # sent.
+        # The number of other rules, and how many frames the interface had sent, when the last rule was injected; else
+        # None.
         self._injected: Optional[tuple[int, int]] = None
 
     def off(self) -> Optional[ErrorCounters]:
-        """Returns the interface's error counts once it is bus off, or has been if it restarts by itself."""
+        """Returns the error counters of the interface when it is bus off, or was bus off and has restarted
+        automatically; else None."""
         left = self._bus.rules_left()
         counters, stats = self._bus.error_counters(), self._bus.stats()
         if counters.state == "off":
             return counters
         if stats.lost > self._stats.lost and counters.state != "down":
-            # The interface went bus off after the request for its counts.
+            # The interface went bus off after `counters` was read.
             return self._bus.error_counters()
         if self._injected is None or (left <= self._injected[0] and stats.done > self._injected[1]):
-            # The first rule, or a further rule because frames that passed earlier have lowered the error count.
+            # Injects the first rule, or another rule if frames that were not destroyed have lowered the error count.
             missing = -(-(OFF - counters.tec) // DESTROYED)
             self._inject(Faults().next(missing, sender=self._name).destroyed(), self._name)
             self._injected = left, stats.done
         return None
 
     def failure(self, timeout: float) -> str:
-        """Returns the reason why the interface is not bus off after these seconds."""
+        """Returns a text that says why the interface is not bus off after `timeout` seconds."""
         counters, stats = self._bus.error_counters(), self._bus.stats()
         now, left = in_words(self._name, counters), self._bus.rules_left()
         is_kept = left and not self._is_only(left)
@@ -313,12 +320,12 @@ class Drive:
         return f"{now}, and did not go bus off within {seconds_words(timeout)}: {self._reason(counters, stats)}{others}"
 
     def end_rule(self) -> None:
-        """Ends the rest of this rule if the bus has no other rule: a bus ends all its rules or none."""
+        """Ends the injected rule if it is the only rule of the bus, because a bus can only end all its rules together."""
         if self._is_only(self._bus.rules_left()):
             self._bus.end_rules()
 
     def _is_only(self, left: int) -> bool:
-        """Returns whether the bus has only this rule, if it has this many left."""
+        """Returns whether the injected rule is the only rule of the bus. `left` is the number of rules of the bus."""
         return left == 1 and self._injected is not None and self._injected[0] == 0
 
     def _reason(self, counters: ErrorCounters, stats: Stats) -> str:

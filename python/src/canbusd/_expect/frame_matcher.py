@@ -1,4 +1,4 @@
-"""The frame that a test expects: its fields, the name of its message or a signal, and its description in words."""
+"""The frame that a test expects, given by its fields, its message's name or a signal, and its description in words."""
 
 import difflib
 import functools
@@ -13,12 +13,12 @@ from canbusd._text import times
 from canbusd.frames import FD_LENGTHS, Frame, data_bytes
 from canbusd.signals import Database, DatabaseError, Value
 
-#: The arguments that describe the frame of a sequence's step.
+#: The arguments that describe a frame in a step of a sequence.
 OF_STEP = ("id", "data", "signal", "above", "below", "equals", "between", "is_extended_id", "is_error_frame")
-#: An expected frame: its identifier, the name of its message, or a dict of the arguments of `expect`.
+#: An expected frame in a sequence: an identifier, the name of a message, or a dict with the arguments of `expect`.
 Step = Union[int, str, Mapping[str, Any]]
 
-# Identifiers below this limit have 11 bits, unless the caller says otherwise.
+# Identifiers below this number have 11 bits by default.
 LEAST_EXTENDED = 0x800
 MOST_IDENTIFIER = 0x1FFFFFFF
 NO_DATABASE = "names of messages and signals need a database: give the server database='car.dbc', or a rest bus"
@@ -27,12 +27,13 @@ MOST_NAMED = 12
 
 
 class Wanted:
-    """An expected frame: `matches` tests a frame, and `str()` describes it in words, `frame 123 with data 11 22`.
+    """An expected frame. `matches` checks a frame, and `str()` describes the expected frame in words: `frame 123 with
+    data 11 22`.
 
-    An argument of None matches anything. `id` is an identifier or the name of a message; an identifier above 7FF has 29
-    bits unless `is_extended_id` says otherwise. A `signal` is named as `EngineSpeed`, or as `Engine.EngineSpeed` with
-    its message. Its value must meet each given limit: `above`, `below`, `equals`, and `between` with two ends.
-    `channel` only appears in the description. ValueError if no frame can match.
+    If an argument is None, it matches anything. `id` is an identifier or the name of a message. An identifier above 7FF
+    has 29 bits; `is_extended_id` overrides this. A `signal` is named `EngineSpeed`, or `Engine.EngineSpeed` with its
+    message. Its value must meet each given limit: `above`, `below`, `equals` and `between` (a range). `channel` only
+    appears in the description. Raises ValueError if no frame can match.
     """
 
     def __init__(
@@ -54,7 +55,7 @@ class Wanted:
         self._is_error, self._channel, self._asked_extended = is_error_frame, channel, is_extended_id
         self._id, is_extended = identifier(id, database)
         check_identifier(self._id, is_extended if self._name else None, is_extended_id, is_error_frame)
-        # The number of an error class has neither 11 nor 29 bits.
+        # For an error message frame, `id` is an error class, which has neither 11 nor 29 bits.
         has_bits = not is_error_frame or bool(self._name)
         self._is_extended = is_extended if is_extended_id is None and has_bits else is_extended_id
         self._data = None if data is None else checked_data(data)
@@ -67,7 +68,7 @@ class Wanted:
             raise ValueError(f"{next(iter(self._conditions))} is of a signal: give signal='EngineSpeed' too")
 
     def matches(self, frame: Frame) -> bool:
-        """Returns whether a frame is the expected one."""
+        """Returns whether a frame matches all arguments."""
         if not self.is_of(frame) or (self._data is not None and frame.data != self._data):
             return False
         if self._signal is None:
@@ -76,7 +77,7 @@ class Wanted:
         return value is not None and all(CONDITIONS[name](value, limit) for name, limit in self._conditions.items())
 
     def is_of(self, frame: Frame) -> bool:
-        """Returns whether a frame has the expected identifier, whatever its data is."""
+        """Returns whether a frame has the expected identifier. Its data is not checked."""
         return self._is_same_number(frame) and (self._is_extended is None or frame.is_extended_id == self._is_extended)
 
     def _is_same_number(self, frame: Frame) -> bool:
@@ -84,17 +85,17 @@ class Wanted:
 
     @property
     def signals(self) -> tuple[str, ...]:
-        """The names of the expected signals, without their messages."""
+        """The names of the expected signals, without the names of their messages."""
         return () if self._signal is None else (self._signal.own_name,)
 
     @property
     def has_content(self) -> bool:
-        """Whether an identifier or a signal is expected, so that the content of frames counts."""
+        """Whether a signal is expected, or an identifier with certain data, so that the content of frames matters."""
         return self._signal is not None or (self._id is not None and self._data is not None)
 
     def content(self, frame: Frame) -> Optional[object]:
-        """Returns the expected content of a frame: the value of the signal, else its data; None if the frame has no
-        such content."""
+        """Returns the part of a frame that is compared: the value of the signal if a signal is expected, else the data.
+        Returns None if the frame is a different one."""
         if not self.is_of(frame):
             return None
         if self._signal is not None:
@@ -102,12 +103,12 @@ class Wanted:
         return f"#R{frame.dlc}" if frame.is_remote_frame else frame.data.hex(" ").upper() or "no byte"
 
     def hint(self, frame: Frame) -> str:
-        """Returns a note if a frame has the expected number in an identifier of the other length; else the empty
-        text."""
+        """Returns a hint if a frame has the expected number, but 29 instead of 11 identifier bits or vice versa; else
+        the empty string."""
         if self._id is None or self.is_of(frame) or not self._is_same_number(frame):
             return ""
         digits, bits = (f"{self._id:08X}", 29) if frame.is_extended_id else (f"{self._id:03X}", 11)
-        # For a message that is given by name, the database defines the length of the identifier.
+        # If the message is given by name, the database determines whether its identifier has 11 or 29 bits.
         expected = "" if self._name else f", or expect is_extended_id={frame.is_extended_id}"
         return f"{digits} with {bits} bits came: give can.Message is_extended_id={not frame.is_extended_id}{expected}"
 
@@ -132,7 +133,7 @@ class Wanted:
 
 
 def checked_data(data: object) -> bytes:
-    """Returns the bytes that a frame must have; raises ValueError if no frame can have them."""
+    """Returns the expected data of a frame as bytes. Raises ValueError if no frame can have this data."""
     found = data_bytes(data)
     if len(found) not in FD_LENGTHS:
         raise ValueError(
@@ -142,8 +143,8 @@ def checked_data(data: object) -> bytes:
 
 
 def identifier(id: Union[int, str, None], database: Optional[Database]) -> tuple[Optional[int], Optional[bool]]:
-    """Returns the identifier, or that of the message with this name, and whether it has 29 bits; raises ValueError for
-    others."""
+    """Returns the given identifier, or the identifier of the message with this name and whether it has 29 bits. Raises
+    ValueError if `id` is neither."""
     if id is None:
         return None, None
     if isinstance(id, str):
@@ -160,7 +161,8 @@ def identifier(id: Union[int, str, None], database: Optional[Database]) -> tuple
 
 
 def check_identifier(id: Optional[int], has: Optional[bool], is_extended_id: Optional[bool], is_error: bool) -> None:
-    """Raises ValueError if no frame has this identifier; `has` says whether the message with this name has 29 bits."""
+    """Raises ValueError if no frame has this identifier. `has` says whether the identifier of the named message has 29
+    bits."""
     if id is None:
         return
     if not 0 <= id <= MOST_IDENTIFIER:
@@ -172,15 +174,15 @@ def check_identifier(id: Optional[int], has: Optional[bool], is_extended_id: Opt
 
 
 def digits_in(text: str) -> str:
-    """Returns the hexadecimal digits of a number in the spelling of identifiers, 101 or 0x101; the empty text for other
-    texts."""
+    """Returns the hexadecimal digits of a text that is spelled like an identifier, 101 or 0x101; the empty string for
+    any other text."""
     found = re.fullmatch("(?:0[xX])?([0-9A-Fa-f]+)", text)
     return found[1] if found else ""
 
 
 class SignalOf:
-    """A signal by its name, `EngineSpeed` or `Engine.EngineSpeed`, as a database describes it; in messages with this
-    identifier, if one is given."""
+    """A signal of a database, named `EngineSpeed` or `Engine.EngineSpeed`. If an identifier is given, the signal is in
+    messages with this identifier."""
 
     def __init__(
         self, name: str, database: Optional[Database], id: Optional[int] = None, is_extended: Optional[bool] = None
@@ -196,14 +198,14 @@ class SignalOf:
         if not found:
             where = f"message {self._message}" if self._message else "any message"
             raise DatabaseError(f"{id:X} is not the identifier of {where} of the database", signal=name)
-        #: The signal's descriptions in the database, one for each message that has the signal.
+        #: The formats of the signal, one for each message of the database that has the signal.
         self.formats = formats_of(self.own_name, found, is_bare=not self._message and id is None)
         self._id = found[0].identifier if self._message else None
-        # Cyclic messages often repeat the same data, and the libraries are slow.
+        # Cyclic messages often have the same data as before, and the decoding libraries are slow.
         self._decoded = functools.lru_cache(maxsize=4096)(database.decode)
 
     def value(self, frame: Frame) -> Optional[Value]:
-        """Returns the value of the signal in a frame; None if the frame has no such signal."""
+        """Returns the value of the signal in a frame; None if the frame does not contain the signal."""
         if self._id is not None and frame.arbitration_id != self._id:
             return None
         decoded = self._decoded(frame)
@@ -213,10 +215,10 @@ class SignalOf:
 
 
 def formats_of(name: str, messages: Sequence[MessageFormat], is_bare: bool) -> list[SignalFormat]:
-    """Returns the descriptions of a signal in these messages; DatabaseError lists the existing signals, similar names
-    first.
+    """Returns the formats of a signal in these messages. Raises DatabaseError with a list of the existing signals,
+    beginning with similar names.
 
-    The name has no message if nothing determines the message.
+    `is_bare` is true if neither the name nor an identifier determines the message.
     """
     if not is_bare:
         return [message.signal(name) for message in messages]
@@ -232,7 +234,7 @@ def formats_of(name: str, messages: Sequence[MessageFormat], is_bare: bool) -> l
 
 
 def wanted_of(step: Step, database: Optional[Database]) -> Wanted:
-    """Returns the expected frame of a sequence's step."""
+    """Returns the expected frame for a step of a sequence."""
     if isinstance(step, (list, tuple)):
         given = ", ".join(map(repr, step))
         raise ValueError(f"steps are given one by one, as expect_sequence({given}), not as {step!r}")

@@ -1,4 +1,4 @@
-"""The sessions by which a test observes a server: see canbusd.expectations."""
+"""The sessions that receive frames and states from a server for a test's expectations; see canbusd.expectations."""
 
 import contextlib
 import threading
@@ -21,16 +21,17 @@ from canbusd.signals import Database
 
 T = TypeVar("T")
 
-# If `observe` names nothing, all interfaces of a server with at most this many are observed. Of a server with more, the
-# first interface of each bus is, because each observed interface adds an entry to the record for each frame.
+# If `observe` is None and a server has at most this many interfaces, all are observed. If it has more, only the first
+# interface of each bus is observed, because each observed interface adds an entry to the record for each frame.
 MOST_OBSERVED = 8
-# Up to this many interfaces have a session from the start, at least to receive their states. A server has 64 sessions.
+# If a server has at most this many interfaces, each has a session from the start, at least to receive its states. A
+# server can have 64 sessions.
 MOST_WITH_STATES = 16
-# A session keeps this many frames unread while nobody expects anything. If there are more, the reader hands on this
-# many at once, and then lets other threads, such as the thread of a rest bus, run for these seconds.
+# While no expectation is waiting, a session keeps up to this many frames unread. If there are more, the reader
+# processes FRAMES_AT_ONCE of them, and then pauses so that other threads can run, such as the thread of a rest bus.
 MOST_UNREAD_FRAMES, FRAMES_AT_ONCE, PAUSE_SECONDS = 20_000, 16, 0.0001
 
-#: The number of earlier frames in which an expected frame is searched.
+#: How many earlier frames are searched to find out whether a missing frame has arrived before.
 MOST_TAKEN = 10_000
 IN_ORDER = (
     "expectations look after the frame that the last one returned: expect frames in their order, or by expect_sequence"
@@ -38,7 +39,8 @@ IN_ORDER = (
 
 
 def decoded_words(frame: Frame, database: Optional[Database], signals: Sequence[str]) -> str:
-    """Returns the words after a frame that the database knows: the name of its message, and these of its signals."""
+    """Returns the name of a frame's message and the values of these signals, as text; the empty string if the database
+    does not know the frame."""
     decoded = None if database is None else database.decode(frame)
     if decoded is None:
         return ""
@@ -47,7 +49,7 @@ def decoded_words(frame: Frame, database: Optional[Database], signals: Sequence[
 
 
 def observed_by_default(buses: Sequence[Sequence[str]]) -> list[str]:
-    """Returns the interfaces that are observed if the caller names none."""
+    """Returns the interfaces that are observed by default."""
     names = [name for bus in buses for name in bus]
     return names if len(names) <= MOST_OBSERVED else [bus[0] for bus in buses]
 
@@ -55,7 +57,8 @@ def observed_by_default(buses: Sequence[Sequence[str]]) -> list[str]:
 def observed_of(
     observe: Union[str, Sequence[str], None], buses: Sequence[Sequence[str]], check: Callable[[str], object]
 ) -> list[str]:
-    """Returns the interfaces whose frames count, from an argument; `check` raises ValueError for an unknown name."""
+    """Returns the interfaces in the argument `observe`; by default those of `observed_by_default`. `check` raises
+    ValueError for an unknown interface."""
     if observe is None:
         return observed_by_default(buses)
     if not isinstance(observe, Iterable):
@@ -67,22 +70,22 @@ def observed_of(
 
 
 class Watching(Protocol):
-    """A session on an interface of a server or a bench that receives what the interface receives."""
+    """A session on an interface of a server or a bench that receives the frames and states of the interface."""
 
     channel: str
     first: ErrorCounters
 
     def error_counters(self) -> ErrorCounters:
-        """Returns the state of the interface, and its error counts."""
+        """Returns the state of the interface and its error counters."""
 
     def stats(self) -> Stats:
-        """Returns the counts of the session and of its interface."""
+        """Returns the counts of the session and its interface."""
 
     def rules_left(self) -> int:
-        """Returns the number of the bus's rules that are not used up."""
+        """Returns the number of fault rules of the bus that are not used up."""
 
     def end_rules(self) -> None:
-        """Ends all rules of the bus."""
+        """Ends all fault rules of the bus."""
 
     def down(self) -> None:
         """Takes the interface off the bus."""
@@ -91,21 +94,21 @@ class Watching(Protocol):
         """Brings the interface up."""
 
     def hand_on(self, add: Callable[[str, str], None]) -> None:
-        """Hands on the received messages."""
+        """Passes the received messages to the function `add`."""
 
     def close(self) -> None:
         """Ends the session."""
 
 
 class Observer:
-    """A server's own sessions: one on each interface. If no interface is observed, each gets its session when a test
-    asks for its state.
+    """The sessions that observe a server, one on each interface. If no interface is observed, a session is opened only
+    when a test asks for the state of its interface.
 
-    A call that expects something reads the sessions, and checks all received messages. Between such calls a thread
-    reads the sessions, so that nothing is dropped while the test does something else.
+    A call that waits for an expectation reads the sessions, and checks all received messages. Between such calls, a
+    thread reads the sessions, so that no message is dropped while the test does something else.
     """
 
-    #: The server or bench that has the interfaces.
+    #: What the interfaces belong to, `server` or `bench`, for error texts.
     owner = "server"
 
     def __init__(
@@ -116,29 +119,28 @@ class Observer:
         full: Callable[[Optional[str]], str] = lambda channel: "",
     ) -> None:
         self._address = address
-        # Returns a text that a record is full, if one is full.
+        # A function that returns a note if the record of a bus is full, else the empty string.
         self._full = full
         self.received = Received(buses, observed)
         self._sessions: dict[str, Watching] = {}
-        # By the name of each observed interface: the number of frames that its socket had dropped at the last
-        # expectation.
+        # For each observed interface, the number of frames that its socket had dropped at the last expectation.
         self._dropped: dict[str, int] = {}
         self._lock = threading.RLock()
-        #: The time of the last frame that came before all expected frames.
+        #: The timestamp up to which frames are ignored by all expectations, because of `forget`.
         self._forgotten = -1
-        # The number of threads that wait for frames, and read the sessions.
+        # The number of threads that wait for frames and read the sessions themselves.
         self._waiting = 0
         self._reader: Optional[Reader] = None
         names = [name for bus in buses for name in bus]
         self._all = names
         if observed:
-            # Of many interfaces only those whose frames count have a session from the start.
+            # If there are many interfaces, only the observed ones have a session from the start.
             for name in names if len(names) <= MOST_WITH_STATES else observed:
                 self.session(name)
             self._begin_reading()
 
     def _begin_reading(self) -> None:
-        """Starts a thread that reads messages while nobody expects anything."""
+        """Starts a thread that reads messages while no expectation is waiting."""
         self._reader = Reader(self._live(), self._read_along)
 
     def _open(self, name: str) -> Watching:
@@ -146,11 +148,11 @@ class Observer:
         return ObservingSession(self._address, name, name in self.received.observed)
 
     def _live(self) -> list[ObservingSession]:
-        """The sessions of a server."""
+        """Returns the sessions on the interfaces of a server."""
         return [session for session in self._sessions.values() if isinstance(session, ObservingSession)]
 
     def session(self, name: str) -> Watching:
-        """Returns the session on an interface; opens one if there is none."""
+        """Returns the session on an interface, and opens it if necessary."""
         with self._lock:
             found = self._sessions.get(name)
             if found is None:
@@ -163,7 +165,7 @@ class Observer:
             return found
 
     def settle(self) -> None:
-        """Takes all messages that the interfaces have received up to now."""
+        """Processes all messages that the interfaces have received so far."""
         with self._lock:
             sessions = self._live()
         deadline = time.monotonic() + TIMEOUT
@@ -180,9 +182,10 @@ class Observer:
                 wait_for_input([session], left)
 
     def wait(self, look: Callable[[], Optional[T]], may_be: Callable[[Seen], bool], within: float) -> Optional[T]:
-        """Returns the finding of `look` in the received messages; None if it finds nothing within these seconds.
+        """Calls `look` until it finds a result in the received messages, and returns the result; None after `within`
+        seconds.
 
-        `look` is called at once, then after each arrival that may match, and at the end.
+        `look` is called immediately, then after each new frame for which `may_be` is true, and at the end.
         """
         deadline = time.monotonic() + within
         with self._waits():
@@ -195,7 +198,8 @@ class Observer:
                 self._await(may_be, arrived, deadline)
 
     def _await(self, may_be: Callable[[Seen], bool], arrived: int, deadline: float) -> None:
-        """Waits for an arrival that may match, after this many arrivals."""
+        """Waits until a new frame arrives for which `may_be` is true. `arrived` is the number of frames that arrived
+        before."""
         while True:
             with self._lock:
                 if any(may_be(seen) for seen in self.received.arrived_since(arrived)):
@@ -208,7 +212,7 @@ class Observer:
             self._gather()
 
     def find(self, matches: Callable[[Frame], bool], channel: Optional[str], within: float) -> Optional[Seen]:
-        """Takes the first matching frame that came after the last taken frame, or comes within these seconds."""
+        """Takes the first matching frame after the last taken frame, and waits for it for `within` seconds."""
         self.received.channels(channel)
 
         def look() -> Optional[Seen]:
@@ -220,7 +224,7 @@ class Observer:
         return found
 
     def take(self, seen: Seen, channel: Optional[str]) -> None:
-        """Takes a frame and all frames before it: the next search begins after this frame."""
+        """Takes a frame and all frames before it. The next search begins after this frame."""
         with self._lock:
             self.received.take(seen, channel)
         self._note_dropped()
@@ -228,8 +232,8 @@ class Observer:
     def collect(
         self, matches: Callable[[Frame], bool], channel: Optional[str], count: int, within: float
     ) -> list[Seen]:
-        """Returns the first matching frames, up to this number, of the frames not taken yet, each once; fewer after
-        these seconds."""
+        """Returns the first `count` matching frames that have not been taken yet, without second copies of a frame.
+        Returns fewer frames if not enough arrive within `within` seconds."""
         self.received.channels(channel)
         left = count
 
@@ -253,47 +257,50 @@ class Observer:
             return found() if frames is None else frames
 
     def untaken(self, channel: Optional[str]) -> list[Seen]:
-        """Returns the frames that were not taken yet."""
+        """Returns the frames that have not been taken yet."""
         with self._lock:
             return list(self.received.untaken(channel))
 
     def contents(self, wanted: Wanted, channel: Optional[str]) -> list[object]:
-        """Returns the expected content of the frames since the last expectation, without repetitions in a row."""
+        """Returns the content of the frames since the last expectation, without successive repetitions. `wanted`
+        determines the content."""
         said = (wanted.content(seen.frame) for seen in self.untaken(channel))
         return [content for content, _ in groupby(content for content in said if content is not None)]
 
     def last_content(self, wanted: Wanted, channel: Optional[str]) -> Optional[object]:
-        """Returns the last expected content, of the frames up to the last expectation."""
+        """Returns the last content among the frames up to the last expectation. `wanted` determines the content."""
         self.settle()
         with self._lock:
             said = (wanted.content(seen.frame) for seen in self.received.taken(channel))
             return next((content for content in said if content is not None), None)
 
     def last_taken(self, matches: Callable[[Frame], bool], channel: Optional[str]) -> Optional[Seen]:
-        """Returns the last matching frame, of the frames up to the last expectation."""
+        """Returns the last matching frame among the frames up to the last expectation."""
         self.settle()
         with self._lock:
             return next((seen for seen in self.received.taken(channel) if matches(seen.frame)), None)
 
     def is_forgotten(self, seen: Seen) -> bool:
-        """Returns whether a frame came before the last `forget`."""
+        """Returns whether a frame arrived before the last call of `forget`."""
         return seen.moment <= self._forgotten
 
     def said_instead(self, wanted: Wanted, channel: Optional[str]) -> str:
-        """Returns a note for a failure on the content that came in place of the expected content; else the empty
-        text."""
+        """Returns a note for an error text that lists the content that arrived instead of the expected content; else
+        the empty string."""
         contents = [str(content) for content in self.contents(wanted, channel)]
         if not contents or not wanted.has_content:
             return ""
         return f": it was {', '.join(['..'] * (len(contents) > MOST_SHOWN) + contents[-MOST_SHOWN:])}"
 
     def hint(self, wanted: Wanted, channel: Optional[str]) -> str:
-        """Returns a note if the expected number came in an identifier of the other length; else the empty text."""
+        """Returns a hint if a frame arrived with the expected number, but with the other identifier length; else the
+        empty string."""
         hints = (wanted.hint(seen.frame) for seen in self.untaken(channel))
         return next((f"\n{hint}" for hint in hints if hint), "")
 
     def came_before(self, wanted: Wanted, channel: Optional[str]) -> str:
-        """Returns a note for a failure if the expected frame came before the last expectation; else the empty text."""
+        """Returns a note for an error text if the expected frame arrived before the last expectation; else the empty
+        string."""
         with self._lock:
             taken = islice(self.received.taken(channel), MOST_TAKEN)
             before = next((seen for seen in taken if wanted.matches(seen.frame)), None)
@@ -302,8 +309,8 @@ class Observer:
         return f"\nit came earlier: {self.line(before, channel)}\n{IN_ORDER}"
 
     def find_state(self, name: str, state: str, within: float) -> Optional[StateSeen]:
-        """Returns the first entry of an interface into a state, after the last expected state or within these
-        seconds."""
+        """Returns the first time that an interface entered a state after the last expected state, or enters it within
+        `within` seconds; else None."""
         self.session(name)
 
         def may_be(seen: Seen) -> bool:
@@ -313,19 +320,19 @@ class Observer:
         return self.wait(lambda: self.came_into(name, state, is_settled=True), may_be, within)
 
     def came_into(self, name: str, state: str, is_settled: bool = False) -> Optional[StateSeen]:
-        """Returns the first entry of an interface into a state after the last expected state; None if there is none."""
+        """Returns the first time that an interface entered a state after the last expected state; None if it did not."""
         if not is_settled:
             self.settle()
         counters = self.session(name).error_counters()
         with self._lock:
-            # No error message frame reports that the interface went down.
+            # No error message frame reports that an interface is down.
             if counters.state == "down":
                 self.received.note_down(name, counters)
             return self.received.expected_state(name, state)
 
     def skip_to_state(self, name: str, state: str) -> Optional[StateSeen]:
-        """Returns the last entry of an interface into this state after the last expected state, if there is one. The
-        next expected state comes after this entry."""
+        """Returns the last time that an interface entered this state after the last expected state; None if it did not.
+        The next expected state must come after it."""
         self.settle()
         with self._lock:
             found = None
@@ -334,12 +341,12 @@ class Observer:
             return found
 
     def states_since(self, name: str) -> list[str]:
-        """Returns the states of an interface from the last expected state on, including that state."""
+        """Returns the states of an interface since the last expected state, including that state."""
         with self._lock:
             return self.received.states_since(name)
 
     def forget(self) -> None:
-        """Makes later expectations ignore all messages that were received up to now."""
+        """Makes later expectations ignore all messages that have been received so far."""
         self.settle()
         with self._lock:
             self.received.take_all()
@@ -347,8 +354,8 @@ class Observer:
         self._note_dropped()
 
     def missed(self, channel: Optional[str]) -> str:
-        """Returns a note for a failure on the number of lost frames, of those not taken; the empty text if none was
-        lost."""
+        """Returns a note for an error text with the number of lost frames since the last expectation; the empty string
+        if no frames were lost."""
         texts = []
         for name in self.received.channels(channel):
             dropped = self._sessions[name].stats().dropped - self._dropped.get(name, 0)
@@ -362,14 +369,14 @@ class Observer:
         return f": {', and '.join(texts)}" if texts else ""
 
     def _note_dropped(self) -> None:
-        """Makes the next expectation ignore the items that were dropped up to now."""
+        """Makes the next expectation ignore the frames that were dropped so far."""
         for name in self.received.observed:
             self._dropped[name] = self._sessions[name].stats().dropped
 
     def shown(self, database: Optional[Database] = None, signals: Sequence[str] = ()) -> str:
-        """Returns the last seen frames, as lines of a log, and the states of the interfaces, for a failure.
+        """Returns the last received frames, as lines of a log, and the states of the interfaces, for an error text.
 
-        With a database each line has the name of the frame's message, and its values of these signals.
+        If a database is given, each line also has the name of the frame's message and the values of these signals.
         """
         observed = self.received.observed
         if not observed:
@@ -389,11 +396,13 @@ class Observer:
         return "\n".join([*shown, *self._states()])
 
     def channel(self, seen: Seen) -> str:
-        """Returns the first interface that received a frame from another interface, else its sender."""
+        """Returns the first interface that received a frame from another interface; the frame's sender if there is
+        none."""
         return seen.channel(self.received.names_of(seen))
 
     def line(self, seen: Seen, channel: Optional[str] = None) -> str:
-        """Returns the log line of a frame, as this interface saw the frame, or the first interface that did."""
+        """Returns the log line of a frame as `channel` received it; without `channel`, as the first receiving interface
+        did."""
         return described_line(channel or self.channel(seen), seen.frame)
 
     def close(self) -> None:
@@ -404,7 +413,7 @@ class Observer:
             session.close()
 
     def _states(self) -> Iterator[str]:
-        """Yields the state of each interface that had an error, or has frames that were not put on the bus."""
+        """Yields the state and the counts of each interface that has had errors, or has queued or lost frames."""
         for name in self._all:
             try:
                 session = self.session(name)
@@ -417,7 +426,7 @@ class Observer:
 
     @contextlib.contextmanager
     def _waits(self) -> Iterator[None]:
-        """Marks that the caller waits and reads by itself, so that the thread does not read."""
+        """Marks that the calling thread waits and reads the sessions itself, so that the reader thread pauses."""
         with self._lock:
             self._waiting += 1
         try:
@@ -427,14 +436,14 @@ class Observer:
                 self._waiting -= 1
 
     def _gather(self) -> None:
-        """Takes the received messages."""
+        """Processes the received messages."""
         with self._lock:
             for session in self._sessions.values():
                 session.hand_on(self.received.add)
 
     def _read_along(self) -> None:
-        """Reads the received messages, unless somebody waits for them. They are checked when somebody waits, or when
-        there are many."""
+        """Reads the received messages into the sessions, unless a thread waits for an expectation. They are processed
+        when a thread waits, or when there are many."""
         with self._lock:
             if self._waiting:
                 return
@@ -444,8 +453,8 @@ class Observer:
             time.sleep(PAUSE_SECONDS)
 
     def _hand_some_on(self) -> bool:
-        """Hands on some of the oldest frames of each session that has too many; returns whether there was such a
-        session."""
+        """Processes some of the oldest frames of each session that has too many unread frames. Returns whether there
+        was such a session."""
         with self._lock:
             full = [session for session in self._live() if session.unread > MOST_UNREAD_FRAMES]
             for session in full:

@@ -1,8 +1,8 @@
-"""The frames of each bus that a server's own sessions received, in bus order and each once, and the states.
+"""The frames and states that a server's own sessions received. The frames of each bus are in bus order, each once.
 
-Sessions on several interfaces of a bus receive the same frame at different times. This module keeps the frame once: it
-recognises the frame by its timestamp, its text and its number at its sender, and sorts by timestamp. So frames are in
-the order of the bus, whichever session was read first.
+Sessions on several interfaces of a bus receive the same frame at different times. This module stores such a frame once.
+It identifies the frame by its timestamp, its text and its number at its sender, and sorts frames by timestamp. So the
+frames are in bus order, whichever session was read first.
 """
 
 from bisect import bisect_left, bisect_right
@@ -14,50 +14,52 @@ from typing import NamedTuple, Optional
 from canbusd._session.protocol import ErrorCounters, State
 from canbusd.frames import Frame, frame_of_message
 
-# The most frames kept for each bus, and the most state changes kept for each interface.
+# The maximum number of frames stored for each bus, and the maximum number of states stored for each interface.
 MOST_KEPT, MOST_STATES = 200_000, 20_000
-# The most frames that the text of a failure shows.
+# The maximum number of frames in an error text.
 MOST_SHOWN = 10
-# The classes of error message frames, and the bits of byte 1 in class 004 (linux/can/error.h).
+# The classes of error message frames, and the bits of data byte 1 for class 004 (linux/can/error.h).
 CONTROLLER, BUS_OFF, RESTARTED = 0x004, 0x040, 0x100
 PASSIVE_BITS, WARNING_BITS = 0x30, 0x0C
-# The transmit error count from which an interface is bus off. The error message frame for bus off has no counts.
+# An interface is bus off from this transmit error count on. The error message frame for bus off contains no error
+# counters.
 OFF = 256
 
 
 class Seen:
-    """A frame or an error message frame on a bus, and the interfaces that saw the frame."""
+    """A frame or an error message frame on a bus, and the interfaces that received it."""
 
     __slots__ = ("moment", "number", "key", "words", "channels", "_frame")
 
     def __init__(self, moment: int, number: str, key: tuple[object, ...], words: list[str]) -> None:
-        #: The timestamp in microseconds.
+        #: The timestamp of the frame in microseconds.
         self.moment = moment
-        #: The number of the frame at its sender; empty if this is not known.
+        #: The number of the frame at its sender; the empty string if the number is not known.
         self.number = number
         self.key, self.words = key, words
-        #: By the name of each interface that received the frame: whether this interface also sent it.
+        #: For each interface that received the frame: whether that interface also sent it.
         self.channels: dict[str, bool] = {}
         self._frame: Optional[Frame] = None
 
     @property
     def frame(self) -> Frame:
-        """The frame as an object."""
+        """The frame as an object of the class Frame."""
         if self._frame is None:
             self._frame = frame_of_message(Frame, *self.words)
         return self._frame
 
     def channel(self, names: Sequence[str]) -> str:
-        """The first of these interfaces that received the frame from another interface, else its sender."""
+        """Returns the first of these interfaces that received the frame from another interface; the sender if there is
+        none."""
         seen = [name for name in names if name in self.channels]
         return next((name for name in seen if not self.channels[name]), seen[0])
 
 
 def without_copies(frames: Iterable[Seen]) -> Iterator[Seen]:
-    """Yields frames without second copies, which receivers get after a fault in the last bit of end of frame.
+    """Yields frames without the second copies that receivers get after a fault in the last bit of the end of frame.
 
-    Such a copy is the next frame of its sender, and has the same number as before. So no frame with the same identifier
-    and data comes between.
+    A second copy is the next frame of its sender, and has the same number as the first copy. So no other frame with the
+    same identifier and data is between the two copies.
     """
     numbers: dict[tuple[str, ...], str] = {}
     for seen in frames:
@@ -69,20 +71,20 @@ def without_copies(frames: Iterable[Seen]) -> Iterator[Seen]:
 
 
 class StateSeen(NamedTuple):
-    """A state of an interface, and the error counts when the interface entered the state."""
+    """A state of an interface, and its error counters when it entered the state."""
 
-    #: The time in microseconds; None for the state at the start of the observation.
+    #: The time in microseconds at which the interface entered the state; None for the state when the observation began.
     moment: Optional[int]
     counters: ErrorCounters
 
 
 def micros(moment: str) -> int:
-    """Returns the time of a message, `1.000002`, in microseconds."""
+    """Returns the timestamp in a message, such as `1.000002`, in microseconds."""
     return int(moment.replace(".", ""))
 
 
 def state_in(words: Sequence[str]) -> Optional[ErrorCounters]:
-    """Returns the state that an error message frame reports; None if it reports no state."""
+    """Returns the state that a message with an error message frame reports; None if it reports no state."""
     if words[0] != "error" or len(words) < 4:
         return None
     number, data = int(words[1], 16), bytes.fromhex(words[3]).ljust(8, b"\0")
@@ -97,24 +99,25 @@ def state_in(words: Sequence[str]) -> Optional[ErrorCounters]:
 
 
 class SeenBus:
-    """The frames that were seen on a bus, oldest first."""
+    """The frames that were received on a bus, oldest first."""
 
     def __init__(self, names: Sequence[str]) -> None:
         self.names = tuple(names)
         self.frames: list[Seen] = []
         self._moments: list[int] = []
-        #: The number of forgotten frames, which came before the first one in the list.
+        #: The number of deleted frames, which were before the first frame in the list.
         self.forgotten = 0
-        # For each session, the last message that it received, and the number of times in a row.
+        # For each session, the last message that it received, and how many times in succession it received this message
+        # before.
         self._last: dict[str, tuple[tuple[object, ...], int]] = {}
 
     def add(self, name: str, moment: int, words: list[str], number: str, is_own: bool) -> Optional[Seen]:
-        """Adds a message that a session on this interface received; returns the frame if no other session had seen
-        it."""
+        """Adds a message that a session on this interface received. Returns the frame if no other session had received
+        it before."""
         owner = name if words[0] == "error" else ""
         key = moment, owner, number, *words
         last, times = self._last.get(name, (None, 0))
-        # The session received the same frame again, in the same microsecond.
+        # This counts equal frames that the session received in the same microsecond.
         times = times + 1 if last == key else 0
         self._last[name] = key, times
         seen = self._known((*key, times), moment)
@@ -125,8 +128,7 @@ class SeenBus:
         return seen if is_new else None
 
     def place(self, after: int) -> int:
-        """Returns the place in `frames` of the frame with this number, counted from 0 at the start, or of the first
-        kept frame."""
+        """Returns the index in `frames` of the frame with this number, counted from 0; 0 if that frame was deleted."""
         return max(0, after - self.forgotten)
 
     def _known(self, key: tuple[object, ...], moment: int) -> Optional[Seen]:
@@ -142,7 +144,7 @@ class SeenBus:
         self.frames.insert(place, seen)
         self._moments.insert(place, seen.moment)
         if len(self.frames) > MOST_KEPT:
-            # Several are deleted at once, because each deletion moves all the others.
+            # Many frames are deleted at once, because each deletion moves all other frames in the list.
             some = MOST_KEPT // 10
             del self.frames[:some], self._moments[:some]
             self.forgotten += some
@@ -150,32 +152,33 @@ class SeenBus:
 
 
 class Received:
-    """The frames that came on the buses of a server, and the place that the expectations have reached.
+    """The frames that arrived on the buses of a server, and which of them the expectations have taken.
 
-    `observed` are the interfaces whose frames count; other interfaces only have error message frames, which report
-    their states.
+    `observed` are the interfaces whose frames are checked. The other interfaces receive only error message frames,
+    which report their states.
     """
 
     def __init__(self, buses: Sequence[Sequence[str]], observed: Sequence[str]) -> None:
         self.observed = tuple(observed)
         self.buses = [SeenBus(names) for names in buses]
         self._bus_of = {name: bus for bus in self.buses for name in bus.names}
-        #: The frames that came, in order, and the number of forgotten frames.
+        #: The frames in the order in which they arrived, and the number of all frames that have arrived.
         self.arrivals: deque[Seen] = deque(maxlen=MOST_KEPT)
         self.arrived = 0
-        #: By the name of an interface: the states that the interface had, oldest first.
+        #: For each interface, the states that it was in, oldest first.
         self.states: dict[str, list[StateSeen]] = {}
-        # The number of the first frame that was not taken, by the name of an interface, and by the bus for all its
-        # interfaces.
+        # The number of the first frame that was not taken: for each interface, and for each bus if all its interfaces
+        # count.
         self._untaken: dict[str, int] = {}
         self._untaken_of_bus = [0 for _ in self.buses]
-        # By the name of an interface: the place of the last expected state.
+        # For each interface, the index of the last expected state.
         self._expected: dict[str, int] = {}
 
-    # Arriving frames and states.
+    # Methods for frames and states that arrive.
 
     def add(self, name: str, text: str) -> None:
-        """Adds a message that hands over a frame, `< frame 123 1.000002 11 other 17`, to a session on this interface."""
+        """Adds a message that delivers a frame to a session on this interface, such as `< frame 123 1.000002 11 other
+        17`."""
         words = text.split()[1:]
         number, is_own = "", False
         if words[-2] in ("same", "other"):
@@ -192,11 +195,11 @@ class Received:
                 self.arrived += 1
 
     def begin(self, name: str, counters: ErrorCounters) -> None:
-        """Notes the first known state of an interface, unless an error message frame has already reported a state."""
+        """Adds the first known state of an interface before the states that error message frames have already reported."""
         self.states.setdefault(name, []).insert(0, StateSeen(None, counters))
 
     def note_down(self, name: str, counters: ErrorCounters) -> None:
-        """Notes that an interface is down, unless that was its last state."""
+        """Adds the state `down` of an interface, unless this was its last state."""
         if self.states[name][-1].counters.state != counters.state:
             self._note(name, StateSeen(None, counters))
 
@@ -209,14 +212,14 @@ class Received:
             self._expected[name] = max(0, self._expected.get(name, 0) - some)
 
     def arrived_since(self, number: int) -> Iterator[Seen]:
-        """Yields the arrivals after the first `number`."""
+        """Yields the frames that arrived after the first `number` frames."""
         return islice(self.arrivals, max(0, len(self.arrivals) - (self.arrived - number)), None)
 
     # Expected frames.
 
     def channels(self, channel: Optional[str]) -> Sequence[str]:
-        """Returns the observed interfaces that may have seen a frame; raises ValueError if there is none, or if the
-        channel is not observed."""
+        """Returns the observed interfaces that may have received a frame. Raises ValueError if no interface is
+        observed, or if `channel` is not observed."""
         if not self.observed:
             raise ValueError("no interface of the server is observed: it was given observe=()")
         if channel is not None and channel not in self.observed:
@@ -224,17 +227,18 @@ class Received:
         return self.observed if channel is None else (channel,)
 
     def untaken(self, channel: Optional[str] = None) -> Iterator[Seen]:
-        """Yields the frames that were not taken yet, at this interface or at any, by their timestamps."""
+        """Yields the frames that have not been taken yet, ordered by timestamp; with `channel`, only the frames at this
+        interface."""
         names = self.channels(channel)
         found: list[Seen] = []
         for number, bus in self._buses_of(channel):
             frames = bus.frames[bus.place(self._first(number, channel)) :]
             found += [seen for seen in frames if any(name in seen.channels for name in names)]
-        # The frames of a bus are in order, and no bus comes before another.
+        # The frames of each bus are already in order. The frames of several buses must be sorted.
         return iter(sorted(found, key=lambda seen: seen.moment) if len(self.buses) > 1 else found)
 
     def taken(self, channel: Optional[str] = None) -> Iterator[Seen]:
-        """Yields the taken frames, at this interface or at any, latest first."""
+        """Yields the frames that have been taken, latest first; with `channel`, only the frames at this interface."""
         names = self.channels(channel)
         found: list[Seen] = []
         for number, bus in self._buses_of(channel):
@@ -243,15 +247,15 @@ class Received:
         return iter(sorted(found, key=lambda seen: -seen.moment) if len(self.buses) > 1 else found[::-1])
 
     def _buses_of(self, channel: Optional[str]) -> list[tuple[int, SeenBus]]:
-        """Returns the numbers of the buses with this interface, or of all."""
+        """Returns the bus of this interface and its number; without `channel`, all buses and their numbers."""
         return [(number, bus) for number, bus in enumerate(self.buses) if channel is None or channel in bus.names]
 
     def _first(self, number: int, channel: Optional[str]) -> int:
-        """Returns the number of the first frame of a bus that was not taken, at this interface or at any."""
+        """Returns the number of the first frame of a bus that has not been taken; with `channel`, at this interface."""
         return self._untaken_of_bus[number] if channel is None else self._untaken.get(channel, 0)
 
     def take(self, seen: Seen, channel: Optional[str] = None) -> None:
-        """Takes a frame and all earlier frames of its bus, or of this interface."""
+        """Takes a frame and all earlier frames of its bus; with `channel`, the earlier frames at this interface."""
         for number, bus in enumerate(self.buses):
             if not any(name in bus.names for name in seen.channels):
                 continue
@@ -261,7 +265,7 @@ class Received:
                 self._untaken[name] = max(self._untaken.get(name, 0), place)
 
     def take_all(self) -> None:
-        """Takes all frames that came, and all states before the last."""
+        """Takes all frames that have arrived, and all states before the last state of each interface."""
         for number, bus in enumerate(self.buses):
             self._untaken_of_bus[number] = bus.forgotten + len(bus.frames)
             for name in bus.names:
@@ -270,24 +274,24 @@ class Received:
             self._expected[name] = len(states) - 1
 
     def missed(self, channel: Optional[str]) -> int:
-        """Returns the number of frames that were forgotten before they were taken."""
+        """Returns the number of frames that were deleted before they could be taken."""
         return sum(max(0, bus.forgotten - self._first(number, channel)) for number, bus in self._buses_of(channel))
 
     def last(self) -> list[Seen]:
-        """Returns the last frames that were seen, in order."""
+        """Returns the last frames that were received, ordered by timestamp."""
         return sorted((seen for bus in self.buses for seen in bus.frames[-MOST_SHOWN:]), key=lambda seen: seen.moment)[
             -MOST_SHOWN:
         ]
 
     def names_of(self, seen: Seen) -> Sequence[str]:
-        """Returns the interfaces of the bus that carried a frame."""
+        """Returns the interfaces of the bus on which a frame was received."""
         return self._bus_of[next(iter(seen.channels))].names
 
     # Expected states.
 
     def expected_state(self, name: str, state: str) -> Optional[StateSeen]:
-        """Returns the first entry of an interface into this state after the last expected state; else the present
-        state, if this is the expected one. The next search begins there."""
+        """Returns the first time that an interface entered this state after the last expected state; else the current
+        state, if the interface is in this state; else None. The next search begins there."""
         states = self.states[name]
         last = len(states) - 1
         for place in [*range(self._expected.get(name, 0) + 1, last), last]:
@@ -302,8 +306,8 @@ class Received:
         return any(seen.counters.state == state for seen in self.states[name][self._expected.get(name, 0) + 1 :])
 
     def states_since(self, name: str) -> list[str]:
-        """Returns the states of an interface from the last expected state on, but only the last ones if there are many.
-        Returns none if no state followed."""
+        """Returns the states of an interface since the last expected state, but only the last ones if there are many.
+        Returns an empty list if the state has not changed."""
         was = [seen.counters.state for seen in self.states[name][self._expected.get(name, 0) :]]
         shown = [".."] * (len(was) > MOST_SHOWN) + was[-MOST_SHOWN:]
         return shown if len(was) > 1 else []

@@ -1,4 +1,4 @@
-"""Expectations of a signal over time: the signal follows a shape, or stays between two values."""
+"""Checks of a signal over time: whether the signal follows a shape, or stays between two values."""
 
 from collections.abc import Sequence
 from decimal import Decimal
@@ -11,35 +11,35 @@ from canbusd.shapes import Shape
 
 
 class Sample(NamedTuple):
-    """A value of a signal, and the time of its frame on the bus, in seconds."""
+    """A value of a signal, and the time in seconds at which its frame was on the bus."""
 
     moment: float
     value: Value
-    #: The number of the value, or of its name.
+    #: The value as a number, or the number that a name stands for; None for an unknown name.
     number: Optional[Decimal]
     seen: Seen
 
 
 class Follower:
-    """Looks for a shape in the successive values of a signal.
+    """Checks whether successive values of a signal follow a shape.
 
-    The shape may begin at each value, or at any time since the value before. Each value may also be late. So a value
-    must be within the tolerance of the values that the shape has in that span of time.
+    The shape may begin at any value, or at any time between a value and the previous value. Each value may also be
+    late. So a value must be within the tolerance of the values that the shape has in this span of time.
     """
 
     def __init__(self, shape: Shape, tolerance: float, late: float, before: Optional[float] = None) -> None:
         self._shape, self._tolerance, self._late = shape, tolerance, late
-        # The time of the value before the first one, if it is known.
+        # The time of the value before the first one, or None if it is not known.
         self._before = before
         self._samples: list[Sample] = []
-        # The places of the values at which the shape may have begun.
+        # The indexes of the values at which the shape may have begun.
         self._begun: list[int] = []
-        #: Of the starts that failed, the start after which the signal followed the shape longest, and the place where
-        #: it left the shape.
+        #: The best failed start of the shape: the index of the value at which the shape began, and the index of the
+        #: first value that did not follow it.
         self._best: Optional[tuple[int, int]] = None
 
     def add(self, sample: Sample) -> Optional[list[Sample]]:
-        """Takes the next value; returns the values of the shape when the shape is complete."""
+        """Adds the next value. Returns the values that follow the shape when the shape is complete, else None."""
         place = len(self._samples)
         self._samples.append(sample)
         still = []
@@ -55,7 +55,8 @@ class Follower:
         return None
 
     def _span(self, begun: int, place: int) -> tuple[float, float]:
-        """Returns the range of the shape at a place, if the shape began at another place, or since the value before."""
+        """Returns the minimum and maximum that the shape can have at the value with index `place`, if the shape began
+        at the value with index `begun` or since the previous value."""
         since = self._samples[place].moment - self._samples[begun].moment
         before = self._samples[begun - 1].moment if begun else self._before
         gap = 0.0 if before is None else self._samples[begun].moment - before
@@ -83,14 +84,15 @@ class Follower:
 
 
 def limits_of(formats: Sequence[SignalFormat], between: Optional[Sequence[float]]) -> tuple[Decimal, Decimal]:
-    """Returns the values between which a signal must stay: the given ones, else the limits of the database."""
+    """Returns the two values between which a signal must stay: the given values, or the limits in the database by
+    default."""
     if between is not None:
         return Decimal(str(between[0])), Decimal(str(between[1]))
     return max(one.least for one in formats), min(one.most for one in formats)
 
 
 def number_of(value: Value, formats: Sequence[SignalFormat]) -> Optional[Decimal]:
-    """Returns the number of a value or of its name; None for an unknown name."""
+    """Returns a value as a number. For a name, returns the number that it stands for, or None if the name is unknown."""
     if not isinstance(value, str):
         return Decimal(str(value))
     for one in formats:
@@ -101,6 +103,6 @@ def number_of(value: Value, formats: Sequence[SignalFormat]) -> Optional[Decimal
 
 
 def is_between(value: Value, formats: Sequence[SignalFormat], least: Decimal, most: Decimal) -> bool:
-    """Returns whether a value is between these two; a name counts as its number."""
+    """Returns whether a value is within this range. For a name, the number that it stands for is compared."""
     number = number_of(value, formats)
     return number is not None and least <= number <= most

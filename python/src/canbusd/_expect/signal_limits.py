@@ -1,4 +1,4 @@
-"""The limits of a signal's value, `above`, `below`, `equals` and `between`, and checks for limits that no value can
+"""Limits for the value of a signal (`above`, `below`, `equals` and `between`), and errors for limits that no value can
 meet."""
 
 import math
@@ -12,7 +12,8 @@ from canbusd.signals import Value
 
 
 def check_conditions(name: str, formats: Sequence[SignalFormat], conditions: Mapping[str, Any]) -> None:
-    """Raises ValueError if no value can meet one of these limits; `formats` are the signals that the name may mean."""
+    """Raises ValueError if no value can meet one of these limits. `formats` are the formats of all signals with this
+    name."""
     for kind in ("above", "below"):
         if kind in conditions:
             check_number(kind, conditions[kind])
@@ -29,7 +30,7 @@ def check_number(kind: str, limit: object) -> None:
 
 
 def check_ends(ends: object) -> None:
-    """Raises ValueError if these are not the two ends of a range, the lower end first."""
+    """Raises ValueError if `ends` is not a range: two numbers with the lower one first."""
     if not isinstance(ends, (tuple, list)) or len(ends) != 2:
         raise ValueError(f"between has two ends, such as (0, 100), not {ends!r}")
     for one in ends:
@@ -39,7 +40,8 @@ def check_ends(ends: object) -> None:
 
 
 def check_value(name: str, formats: Sequence[SignalFormat], value: Value) -> None:
-    """Raises ValueError if this is neither a number nor a name of the signal, or if it is a number that has a name."""
+    """Raises ValueError if the value is neither a number nor a name of the signal, or if it is a number that has a
+    name."""
     if any(value in one.choices.values() for one in formats):
         return
     names = list(dict.fromkeys(name for one in formats for name in one.choices.values()))
@@ -52,7 +54,7 @@ def check_value(name: str, formats: Sequence[SignalFormat], value: Value) -> Non
 
 
 def is_number(value: Value) -> bool:
-    """Returns whether this is a number other than NaN, or the text of such a number."""
+    """Returns whether a value is a number or the text of a number, and not NaN."""
     try:
         return not math.isnan(float(value))
     except (TypeError, ValueError):
@@ -60,14 +62,14 @@ def is_number(value: Value) -> bool:
 
 
 def name_of(signal: SignalFormat, value: Value) -> str:
-    """Returns the signal's name for a number; the empty text if the number has no name."""
+    """Returns the name that a signal has for this number; the empty string if the number has no name."""
     numbers_of_names = {name: float(raw * signal.factor + signal.offset) for raw, name in signal.choices.items()}
     return next((name for name, number in numbers_of_names.items() if is_near(number, value)), "")
 
 
 def is_near(value: Value, wanted: Value) -> bool:
-    """Returns whether two values are equal: names must be the same, and numbers may differ in the last digits because
-    of a factor."""
+    """Returns whether two values are equal. Names must be identical. Numbers may differ in the last digits, because
+    multiplying by a factor rounds."""
     if isinstance(value, str):
         return value == str(wanted)
     return is_number(wanted) and math.isclose(value, float(wanted), rel_tol=1e-9, abs_tol=1e-12)
@@ -84,7 +86,7 @@ def is_below(value: Value, limit: float) -> bool:
 
 
 def is_between(value: Value, ends: Sequence[float]) -> bool:
-    """Returns whether a value is a number in this range."""
+    """Returns whether a value is a number within this range."""
     return not isinstance(value, str) and ends[0] <= value <= ends[1]
 
 
@@ -97,5 +99,5 @@ CONDITIONS: dict[str, Callable[[Value, Any], bool]] = {
 
 
 def limit_words(limit: object) -> str:
-    """Returns the limit of a signal in words: a value, or the two ends of a range."""
+    """Returns the text for a limit of a signal: a value, or both ends of a range."""
     return " and ".join(map(str, limit)) if isinstance(limit, (tuple, list)) else str(limit)

@@ -1,4 +1,5 @@
-"""Expectations of several frames of a running server: cyclic frames, frames in order, and unchanged frames.
+"""Expectations for several frames of a running server: cyclic frames, sequences of frames, and frames that do not
+change.
 
     server.expect_cyclic(0x100, period=0.1, tolerance=0.01, count=10)
     server.expect_sequence("Request", "Response", within=0.5)
@@ -36,30 +37,30 @@ if TYPE_CHECKING:
 
     from canbusd._expect.observer import Observer
 
-#: Additional seconds for cyclic frames that begin late or are late.
+#: How many seconds longer to wait for cyclic frames, because the first frame or others may be late.
 SLACK = 1.0
-# The number of wrong gaps that a failure's text shows.
+# The maximum number of wrong gaps in an error text.
 MOST_GAPS = 100
 
 
 def check_count(count: object, what: str) -> None:
-    """Raises ValueError if this is not a valid count."""
+    """Raises ValueError if a count is not an integer of at least 1."""
     if isinstance(count, bool) or not isinstance(count, int) or count < 1:
         raise ValueError(f"count is a number of {what}, 1 or more, not {count!r}")
 
 
 class Supervision:
-    """Expectations of several frames; a part of Expectations."""
+    """The expectations for several frames. Expectations is derived from this class."""
 
-    #: The database of names of messages and signals.
+    #: The database that defines the names of messages and signals; None without names.
     database: Optional[Database] = None
 
     def _observing(self) -> "Observer":
-        """The observer of the server."""
+        """Returns the observer of the server."""
         raise NotImplementedError
 
     def _shown(self, signals: Sequence[str] = ()) -> str:
-        """Returns the last frames that the test saw, for the end of a failure's text."""
+        """Returns the last frames that the test received, as the last part of an error text."""
         raise NotImplementedError
 
     @explained()
@@ -74,12 +75,14 @@ class Supervision:
         channel: Optional[str] = None,
         is_extended_id: Optional[bool] = None,
     ) -> list[float]:
-        """Returns the times between so many frames of this identifier, or of the message with this name, in seconds.
+        """Returns the gaps between successive frames with this identifier, or of the message with this name, in
+        seconds.
 
-        `count` is the number of these gaps. Each must be a `period` long within the `tolerance`, which is a tenth of
-        the period by default. The frames are those since the last expectation, with their times on the bus, however
-        late the test calls this. AssertionError shows each wrong gap. It is also raised if fewer frames come `within`
-        seconds, by default the time of the periods and one second more.
+        `count` is the number of gaps. Each gap must be as long as the `period`, within the `tolerance`, which is a
+        tenth of the period by default. The frames are those since the last expectation. Their timestamps on the bus are
+        compared, so it does not matter how late the test calls this method. Raises AssertionError if gaps are wrong;
+        the error shows each wrong gap. Also raises it if not enough frames arrive within `within` seconds; the default
+        is the time of the periods plus one second.
         """
         __tracebackhide__ = True
         check_within(period, "period")
@@ -120,13 +123,14 @@ class Supervision:
         channel: Optional[str] = None,
         is_extended_id: Optional[bool] = None,
     ) -> "list[Message]":
-        """Returns so many frames of this identifier, or of the message with this name, whose counters and checksums are
-        right.
+        """Returns `count` frames with this identifier, or of the message with this name. Their counters and checksums
+        must be correct.
 
-        `profile` is a profile of canbusd.e2e, such as ``e2e.Profile1(data_id=0x123)``; by default the attributes of the
-        message in the database define it. The frames are those since the last expectation and within these seconds. The
-        first frame's counter continues from the frame before, if that was expected. AssertionError shows each wrong
-        frame and its fault.
+        `profile` is a profile of canbusd.e2e, such as ``e2e.Profile1(data_id=0x123)``. By default, the attributes of
+        the message in the database define it. The frames are those since the last expectation, and those that arrive
+        within `within` seconds. The counter of the first frame must follow the counter of the previous frame if that
+        frame was expected. Raises AssertionError if frames are wrong; the error shows each wrong frame and what is
+        wrong with it.
         """
         __tracebackhide__ = True
         check_within(within)
@@ -167,14 +171,15 @@ class Supervision:
         id: Union[int, str, None] = None,
         channel: Optional[str] = None,
     ) -> list[tuple[float, Value]]:
-        """Returns the values of a signal that follow a shape of canbusd.shapes, each with its moment in seconds from
-        the first.
+        """Checks that a signal follows a shape of canbusd.shapes. Returns the values that follow it, each with its time
+        in seconds since the first value.
 
-        The shape must be complete within these seconds, a ramp to its end and a sine for a period. Values before the
-        shape do not count. The `tolerance` is in units of the signal, and by default a hundredth of the distance
-        between the shape's ends. A value may be `late` by this many seconds. Without a shape the values of all these
-        seconds are returned. They must be `between` two values, else within the limits of the database. AssertionError
-        says how far the signal followed the shape, or which value is outside the limits.
+        The shape must be complete within `within` seconds: a ramp up to its end, a sine wave for one period. Values
+        before the shape are ignored. The `tolerance` is in units of the signal; the default is a hundredth of the
+        difference between the shape's ends. A value may be up to `late` seconds late. Without a shape, all values in
+        these seconds are returned. They must be `between` two values, by default within the limits of the database.
+        Otherwise raises AssertionError; the error says how far the signal followed the shape, or which value is outside
+        the limits.
         """
         __tracebackhide__ = True
         check_within(within)
@@ -266,7 +271,7 @@ class Supervision:
         return [((moment - began) / 1e6, value) for moment, value in values]
 
     def _message_of(self, id: Union[int, str]) -> Optional[MessageFormat]:
-        """Returns the message with this name or identifier in the database; None if there is none."""
+        """Returns the message of the database with this name or identifier; None if there is none."""
         if self.database is None:
             return None
         if isinstance(id, str):
@@ -281,13 +286,13 @@ class Supervision:
         between: Optional[Sequence[Step]] = None,
         channel: Optional[str] = None,
     ) -> "list[Message]":
-        """Returns the first frames that match these steps in order, since the last expectation and within these
-        seconds.
+        """Returns the first frames that match these steps in order. They may have been received since the last
+        expectation, or may arrive within `within` seconds.
 
-        A step is an identifier, the name of a message, or a dict of the arguments of `expect`, such as ``{"id": 0x123,
-        "data": b"\\\\x01"}``. Between the first and the last frame any other frame may come, or only the frames in
-        `between`. Error message frames may always come. AssertionError names the missing step, or the frame that came
-        between.
+        A step is an identifier, the name of a message, or a dict with arguments of `expect`, such as ``{"id": 0x123,
+        "data": b"\\\\x01"}``. Between the first and the last step, any other frame is allowed; if `between` is given,
+        only the frames in it. Error message frames are always allowed. Otherwise raises AssertionError; the error names
+        the missing step, or the frame that is not allowed.
         """
         __tracebackhide__ = True
         if not steps:
@@ -317,7 +322,7 @@ class Supervision:
     def _missing(
         self, wanted: Sequence[Wanted], followed: Optional[Followed], within: float, channel: Optional[str]
     ) -> str:
-        """Returns a text that says which part of the sequence is missing, and which part came."""
+        """Returns an error text that says which step of the sequence is missing, and which steps were found."""
         observer = self._observing()
         frames = observer.untaken(channel)
         found, intruder = followed or follow(frames, wanted, None)
@@ -328,7 +333,7 @@ class Supervision:
             after = f" after {wanted[len(found) - 1]}" if found else ""
             at = "" if channel is None else f" at {channel}"
             text = f"no {step}{after}{at} within {seconds_words(within)}{observer.missed(channel)}"
-            # The frame may have come in another order.
+            # The frame may have arrived before the frame of an earlier step.
             early = next((seen for seen in frames if found and step.matches(seen.frame)), None)
             text += f": it came before, {observer.line(early, channel)}" if early else observer.hint(step, channel)
         lines = [f"  {observer.line(seen, channel)}" for seen in found]
@@ -344,10 +349,11 @@ class Supervision:
         channel: Optional[str] = None,
         is_extended_id: Optional[bool] = None,
     ) -> None:
-        """Fails if the data of frames with this identifier, or the value of this signal, changes within these seconds.
+        """Fails if the data of frames with this identifier, or the value of this signal, changes within `within`
+        seconds.
 
-        The content must stay as at the last expectation, or as in the first frame after it. The expectation also fails
-        if no such frame was ever seen, or if frames were lost, because a lost frame may have changed.
+        The content must be the same as at the last expectation, or as in the first frame after it. Also fails if no
+        such frame was ever received, or if frames were lost, because a lost frame may have had other content.
         """
         __tracebackhide__ = True
         if id is None and signal is None:

@@ -1,1 +1,1 @@
-"""ISO-TP in Python, with faults for segments: the segments of a message, the options of an end, and the end itself."""
+"""ISO-TP in Python with segment faults: the segments of a message, the options of a connection, and its ends."""

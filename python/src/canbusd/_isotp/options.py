@@ -1,35 +1,35 @@
-"""The options of an end of ISO-TP, as its sockets and can-isotp expect them."""
+"""The options of an ISO-TP end, in the form that its sockets and can-isotp expect."""
 
 from dataclasses import dataclass
 from typing import Optional, Union
 
-#: The valid maximum sizes of a sent frame, in bytes.
+#: The valid values for the maximum length of sent frames, in bytes.
 FRAME_LENGTHS = (8, 12, 16, 20, 24, 32, 48, 64)
 
 
 @dataclass(frozen=True)
 class Options:
-    """The identifiers of an end, and its options for sending and receiving."""
+    """The identifiers of an ISO-TP end, and its options for sending and receiving."""
 
     tx: int
     rx: int
-    #: The byte that fills frames up to 8 bytes; None for frames that are as short as possible.
+    #: The byte that pads frames to 8 bytes; None if frames are as short as possible.
     padding: Optional[int] = None
     fd: bool = False
-    #: The most bytes of a sent frame.
+    #: The maximum length of a sent frame in bytes.
     tx_dl: int = 8
-    #: The flow control of this end: the byte for the time between consecutive frames, and the number of frames in a
-    #: block.
+    #: The flow control that this end sends: the byte for the minimum time between consecutive frames, and the number of
+    #: frames in a block.
     stmin: int = 0
     block_size: int = 0
-    #: The first byte of sent frames, and of received frames.
+    #: The address byte of sent frames, and the address byte of received frames; None without addresses.
     addresses: Optional[tuple[int, int]] = None
-    #: The identifier of requests to all nodes, in single frames.
+    #: The identifier of functional requests, which go to all nodes in single frames; None without such requests.
     functional: Optional[int] = None
 
     @property
     def has_29_bits(self) -> bool:
-        """Whether the end's identifiers have 29 bits."""
+        """Whether the identifiers of this end have 29 bits."""
         return self.tx > 0x7FF
 
 
@@ -44,7 +44,7 @@ def options_of(
     extended: Union[int, tuple[int, int], None],
     functional: Optional[int],
 ) -> Options:
-    """Returns the options for these arguments of `isotp`; raises ValueError if an argument is wrong."""
+    """Returns the options for these arguments of `isotp`. Raises ValueError if an argument is wrong."""
     identifiers = {"tx": tx, "rx": rx, **({} if functional is None else {"functional": functional})}
     for name, identifier in identifiers.items():
         if isinstance(identifier, bool) or not isinstance(identifier, int) or not 0 <= identifier <= 0x1FFFFFFF:
@@ -78,7 +78,7 @@ def options_of(
 
 
 def _addresses(extended: object) -> Optional[tuple[int, int]]:
-    """Returns the address bytes of sent and received frames; None for no address."""
+    """Returns the address bytes of sent and received frames; None if frames have no address."""
     if extended is None:
         return None
     meaning = (

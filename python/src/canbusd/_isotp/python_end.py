@@ -1,7 +1,7 @@
-"""An end of ISO-TP in this process, by ISO 15765-2, with faults for its segments.
+"""An ISO-TP end in this process that follows ISO 15765-2, with segment faults.
 
-A thread reads incoming frames and answers first frames. A call that sends a message waits for flow controls, and until
-each of its frames is on the bus, when the session gets the frame back.
+A thread reads received frames and answers first frames. `send` waits for flow controls, and for each of its frames
+until the frame was on the bus. It knows this because the session receives its own frames.
 """
 
 import errno
@@ -40,36 +40,35 @@ if TYPE_CHECKING:
 
     from canbusd.bus import CanbusdBus
 
-#: Time limits in seconds, N_As, N_Bs and N_Cr: for a frame to reach the bus, for a flow control, and for a consecutive
-#: frame.
+#: Time limits in seconds: N_As for a frame to reach the bus, N_Bs for a flow control, and N_Cr for a consecutive frame.
 LONGEST_FRAME, LONGEST_CONTROL, LONGEST_GAP = 1.0, 1.0, 1.0
 
 
 class Incoming:
-    """A message that is not complete yet."""
+    """A received message that is not complete yet."""
 
     def __init__(self, size: int, data: bytes) -> None:
         self.size, self.data = size, bytearray(data)
-        #: The number of bytes in each consecutive frame except the last: one more than in the first frame.
+        #: The number of data bytes in each consecutive frame but the last, which is one more than in the first frame.
         self.longest = len(data) + 1
-        #: The number of the next consecutive frame, and the number of frames before the next flow control.
+        #: The expected number of the next consecutive frame, and how many frames are left before the next flow control.
         self.number, self.left = 1, 0
-        #: The time limit for the next frame.
+        #: The latest time at which the next frame may arrive.
         self.deadline = time.monotonic() + LONGEST_GAP
 
 
 class Faults:
-    """The faults of future segments."""
+    """The faults that will be applied to the next segments."""
 
     def __init__(self) -> None:
         self._left: list[tuple[SegmentFault, int]] = []
 
     def add(self, fault: SegmentFault) -> None:
-        """Adds a fault, for the number of messages that the fault names."""
+        """Adds a fault, which applies to as many messages as its `count` says."""
         self._left.append((fault, fault.count))
 
     def take(self, name: str) -> Optional[SegmentFault]:
-        """Returns the first added fault that a segment has; a message uses the fault up once."""
+        """Returns the first added fault for this segment. Each message uses up one of the fault's `count`."""
         for place, (fault, count) in enumerate(self._left):
             if fault.segment == name:
                 self._left[place : place + 1] = [(fault, count - 1)] if count > 1 else []
@@ -78,7 +77,7 @@ class Faults:
 
 
 class PythonIsoTp(IsoTp):
-    """An end over a bus of python-can, which `opened` opens on this interface."""
+    """An ISO-TP end that uses a python-can bus. `opened` opens the bus on this interface."""
 
     library = "canbusd"
 
@@ -89,15 +88,16 @@ class PythonIsoTp(IsoTp):
         filters = [{"can_id": one, "can_mask": 0x1FFFFFFF, "extended": one > 0x7FF} for one in sorted(received)]
         self._bus = opened(channel, can_filters=filters, error_frames=False, fd=options.fd, receive_own_messages=True)
         self._sending, self._news, self._faults = threading.Lock(), threading.Condition(), Faults()
-        #: The received messages, each with whether it was for all nodes, and the errno of each failed message.
+        #: The received messages, each with a flag that is true for a functional request, and the errno of each failed
+        #: message.
         self._received: deque[Union[tuple[bytes, bool], int]] = deque()
         self._controls: deque[Received] = deque()
-        # The number of frames that were given to the bus, and the number that the bus has carried.
+        # The number of frames that were sent to the bus, and how many of them the bus has transmitted.
         self._given = self._carried = 0
         self._incoming: Optional[Incoming] = None
-        # Late flow controls, and the times when they are due.
+        # The delayed flow controls, and the times at which they are due.
         self._late: list[tuple[float, Segment]] = []
-        # The reason why the thread has ended.
+        # The exception that ended the thread, or None.
         self._end: Optional[BaseException] = None
         self._thread = threading.Thread(target=self._read, name="canbusd ISO-TP", daemon=True)
         self._thread.start()
@@ -136,7 +136,7 @@ class PythonIsoTp(IsoTp):
         return None if found is None else found[0]
 
     def recv_request(self, timeout: Optional[float] = None) -> Optional[tuple[bytes, bool]]:
-        """Returns the next message, as `recv` does, and whether it was for all nodes."""
+        """Returns the next message, as `recv` does, and whether it was a functional request."""
         with self._news:
             self._news.wait_for(lambda: self._received or self._end, timeout)
             if self._received:
@@ -150,12 +150,12 @@ class PythonIsoTp(IsoTp):
 
     @property
     def is_over(self) -> bool:
-        """Whether the end was closed, or its server has ended."""
+        """Whether this end was closed, or the server has ended."""
         return self._end is not None
 
     @property
     def is_receiving(self) -> bool:
-        """Whether a message has begun to arrive, but is not complete."""
+        """Whether a message has been received in part."""
         return self._incoming is not None
 
     def close(self) -> None:
@@ -165,7 +165,7 @@ class PythonIsoTp(IsoTp):
     # Methods that send.
 
     def _with_faults(self, segment: Segment) -> Iterator[Segment]:
-        """Yields the segments to send in place of a segment, because of faults."""
+        """Yields the segments that replace a segment because of a fault; without a fault, the segment itself."""
         with self._news:
             fault = self._faults.take(segment.name)
         if fault is None:
@@ -174,10 +174,10 @@ class PythonIsoTp(IsoTp):
             yield from with_fault(segment, fault.kind, fault.delay)
 
     def _give(self, segment: Segment, identifier: int) -> int:
-        """Gives a segment to the bus; returns the number of its frame."""
+        """Sends a segment on the bus, and returns the number of its frame."""
         data = filled(segment.data, self._options.padding)
         frame = Frame(identifier, data, identifier > 0x7FF, is_fd=self._options.fd)
-        # Frames are counted in the order in which the bus gets them.
+        # The lock makes sure that frames are counted in the order in which they are sent.
         with self._news:
             try:
                 self._bus.send(frame.message(), LONGEST_FRAME)
@@ -187,7 +187,7 @@ class PythonIsoTp(IsoTp):
             return self._given
 
     def _error(self, fault: BaseException) -> IsoTpError:
-        """Returns the error of a transfer for a fault of the bus."""
+        """Returns the error of a transfer for an exception of the bus."""
         code = getattr(fault, "error_code", None)
         if code == errno.ENETDOWN:
             is_down = str(fault).startswith(INTERFACE_DOWN)
@@ -195,13 +195,14 @@ class PythonIsoTp(IsoTp):
         return IsoTpError(f"this end was closed: {fault}" if code is None else f"{fault}", code)
 
     def _await_carried(self, number: int, deadline: float) -> None:
-        """Waits until the bus has carried a frame."""
+        """Waits until the bus has transmitted the frame with this number."""
         with self._news:
             is_over = min(deadline, time.monotonic() + LONGEST_FRAME)
             self._news.wait_for(lambda: self._carried >= number or self._end, seconds_until(is_over))
             if self._carried >= number:
                 return
-            # A frame that was lost at bus off, or when the interface went down, never comes.
+            # A frame that was lost at bus off, or when the interface went down, is never transmitted. So it is not
+            # waited for again.
             self._carried = self._given
             end = self._end
         if end is not None:
@@ -212,8 +213,8 @@ class PythonIsoTp(IsoTp):
         raise IsoTpError(ERRORS[errno.ECOMM], errno.ECOMM)
 
     def _await_control(self, deadline: float) -> tuple[int, float]:
-        """Waits for a flow control; returns the number of frames that may follow, 0 for all, and the seconds between
-        them."""
+        """Waits for a flow control. Returns the number of frames in the next block, 0 for all, and the minimum time
+        between frames in seconds."""
         while True:
             with self._news:
                 is_over = min(deadline, time.monotonic() + LONGEST_CONTROL)
@@ -228,7 +229,7 @@ class PythonIsoTp(IsoTp):
             if control.number == GO_ON:
                 return control.data[0], distance(control.data[1])
 
-    # Methods that receive, in the thread.
+    # Methods that receive frames, called by the thread.
 
     def _read(self) -> None:
         try:
@@ -247,7 +248,7 @@ class PythonIsoTp(IsoTp):
                 self._news.notify_all()
 
     def _seconds_left(self) -> Optional[float]:
-        """Returns the seconds until the next event is due; None if there is none."""
+        """Returns the number of seconds until the next deadline or delayed frame; None if there is none."""
         deadlines = [moment for moment, _ in self._late]
         deadlines += [self._incoming.deadline] if self._incoming else []
         return seconds_until(min(deadlines)) if deadlines else None
@@ -262,12 +263,12 @@ class PythonIsoTp(IsoTp):
             self._fail(errno.ETIMEDOUT)
 
     def _fail(self, number: int) -> None:
-        """Gives up the incomplete message."""
+        """Discards the incomplete message, and makes `recv` raise an error with this errno."""
         self._incoming = None
         self._received.append(number)
 
     def _take(self, message: "Message") -> None:
-        """Handles a frame from another node."""
+        """Processes a frame from another node."""
         is_functional = message.arbitration_id == self._options.functional
         data, address = bytes(message.data), self._addresses[1]
         if not (is_functional or message.arbitration_id == self._options.rx) or data[: len(address)] != address:
@@ -275,7 +276,7 @@ class PythonIsoTp(IsoTp):
         try:
             segment = read_segment(data, len(address))
         except ValueError:
-            # A socket ignores frames that are no segments, and so does this end.
+            # Frames that are not segments are ignored, as by a socket.
             return
         if segment.name == SINGLE:
             self._received.append((segment.data, is_functional))
@@ -285,7 +286,7 @@ class PythonIsoTp(IsoTp):
         elif segment.name == FLOW_CONTROL:
             self._controls.append(segment)
         elif segment.name == FIRST and segment.number == 0:
-            # The length is in the next bytes, and is above 4,095.
+            # The length is above 4,095 and is in the following bytes, so the message is too long.
             self._reply(self._control(OVERFLOW))
         elif segment.name == FIRST:
             self._incoming = Incoming(segment.number, segment.data)
@@ -311,7 +312,7 @@ class PythonIsoTp(IsoTp):
                 self._send_control(incoming)
 
     def _send_control(self, incoming: Incoming) -> None:
-        """Answers a first frame, or the end of a block, with a flow control."""
+        """Answers a first frame, or the last frame of a block, with a flow control."""
         fault = self._faults.take(FLOW_CONTROL)
         incoming.left = self._options.block_size
         go_on = self._control(GO_ON)
@@ -332,8 +333,8 @@ class PythonIsoTp(IsoTp):
             self._incoming = None
 
     def _reply(self, segment: Segment) -> None:
-        """Gives a flow control to the bus. If the bus refuses it, as at bus off, the message fails, and the thread
-        continues."""
+        """Sends a flow control. If the bus refuses it, for example at bus off, the incomplete message fails and the
+        thread continues."""
         try:
             self._give(segment, self._options.tx)
         except IsoTpError as fault:

@@ -1,4 +1,4 @@
-"""The segments of an ISO-TP message by ISO 15765-2, their names, and the faults that each may have."""
+"""The segments of an ISO-TP message (ISO 15765-2), their names, and their possible faults."""
 
 from collections.abc import Iterator, Sequence
 from dataclasses import dataclass, replace
@@ -10,36 +10,36 @@ from canbusd.frames import FD_LENGTHS
 Kind = Literal["lost", "twice", "late", "short", "wrong number", "wait", "overflow"]
 KINDS: tuple[Kind, ...] = get_args(Kind)
 SINGLE, FIRST, CONSECUTIVE, FLOW_CONTROL = "single frame", "first frame", "consecutive frame", "flow control"
-#: The first four bits of a segment, by its kind.
+#: The kinds of segments, by the first four bits of a segment.
 CODES = {0: SINGLE, 1: FIRST, 2: CONSECUTIVE, 3: FLOW_CONTROL}
-#: The states of a flow control: continue, wait, and message too long.
+#: The status values of a flow control: continue, wait, and message too long.
 GO_ON, WAIT, OVERFLOW = range(3)
-#: The byte that fills frames up if no padding is given: this byte needs no stuff bits.
+#: The byte that pads frames if no padding is given. It needs no stuff bits.
 FILLER = 0xCC
-#: The possible faults of each kind of segment.
+#: The faults that are possible for one kind of segment only.
 ONLY_FOR: dict[str, str] = {"wrong number": CONSECUTIVE, "wait": FLOW_CONTROL, "overflow": FLOW_CONTROL}
 
 
 @dataclass(frozen=True)
 class SegmentFault:
-    """A fault of a segment, in the next messages that have the segment; uds.fault creates the fault."""
+    """A fault that is applied to a segment in each of the next messages with that segment. Use uds.fault to create one."""
 
     segment: str
     kind: Kind
-    #: The number of messages that have the fault.
+    #: The number of messages to which the fault is applied.
     count: int = 1
-    #: The delay of a late segment, in seconds.
+    #: The delay of a late segment in seconds.
     delay: float = 1.5
 
 
 def fault(segment: str, kind: Kind, *, count: int = 1, delay: float = 1.5) -> SegmentFault:
-    """Returns a fault of a segment, such as ``fault("consecutive frame 3", "lost")``, for `inject` of an end, an Ecu or
-    a Client.
+    """Returns a fault of a segment, such as ``fault("consecutive frame 3", "lost")``. Pass it to `inject` of an ISO-TP
+    end, an Ecu or a Client.
 
-    Segments are `single frame`, `first frame`, `consecutive frame N`, counted from 1, and `flow control`, and each may
-    be `lost`, come `twice`, be `late` by `delay` seconds, or too `short` by a byte. A consecutive frame may have the
-    `wrong number`; a flow control may say `wait`, and go on after the delay, or `overflow`. The fault affects the next
-    `count` messages that have this segment.
+    A segment is a `single frame`, `first frame`, `consecutive frame N` with N from 1, or `flow control`. It can be
+    `lost`, sent `twice`, `late` by `delay` seconds, or too `short` by one byte. A consecutive frame can also have the
+    `wrong number`. A flow control can also say `wait`, and continue after the delay, or say `overflow`. The fault is
+    applied to the next `count` messages that have this segment.
     """
     name, _, number = str(segment).partition(f"{CONSECUTIVE} ")
     if segment not in (SINGLE, FIRST, FLOW_CONTROL) and not (not name and number.isdecimal() and int(number) > 0):
@@ -62,12 +62,12 @@ class Segment:
 
     name: str
     data: bytes
-    #: Seconds to wait before this segment is sent.
+    #: How many seconds to wait before this segment is sent.
     delay: float = 0.0
 
 
 class Received(NamedTuple):
-    """The segment in a frame: its kind, the number in its first byte or the length of the message, and the remaining
+    """A segment in a received frame: its kind, the number in its first byte or the length of the message, and the data
     bytes."""
 
     name: str
@@ -76,7 +76,8 @@ class Received(NamedTuple):
 
 
 def segments_of(data: bytes, tx_dl: int, address: bytes) -> Iterator[Segment]:
-    """Yields the segments of a message, each with at most `tx_dl` bytes; the first byte may be an address."""
+    """Yields the segments of a message. Each segment has at most `tx_dl` bytes, and begins with the address byte if
+    there is one."""
     head = len(address)
     if len(data) <= 7 - head:
         yield Segment(SINGLE, address + bytes([len(data)]) + data)
@@ -92,20 +93,19 @@ def segments_of(data: bytes, tx_dl: int, address: bytes) -> Iterator[Segment]:
 
 
 def flow_control(status: int, block_size: int, stmin: int, address: bytes) -> Segment:
-    """Returns a flow control."""
+    """Returns a flow control segment."""
     return Segment(FLOW_CONTROL, address + bytes([0x30 | status, block_size, stmin]))
 
 
 def read_segment(data: bytes, head: int) -> Received:
-    """Returns the segment in a frame, after an address of `head` bytes; raises ValueError if the frame has no
-    segment."""
+    """Returns the segment in a frame after `head` address bytes. Raises ValueError if the frame contains no segment."""
     content = data[head:]
     name = CODES.get(content[0] >> 4) if content else None
     if name is None:
         raise ValueError(f"no segment: {data.hex(' ')}")
     number, rest = content[0] & 15, content[1:]
     if name == SINGLE and number == 0 and rest:
-        # A single frame in an FD frame has a separate byte for its length.
+        # In an FD frame, the length of a longer single frame is in a separate byte.
         number, rest = rest[0], rest[1:]
     if name == SINGLE:
         if not 0 < number <= len(rest):
@@ -117,7 +117,8 @@ def read_segment(data: bytes, head: int) -> Received:
 
 
 def filled(data: bytes, padding: Optional[int]) -> bytes:
-    """Returns the bytes of a frame, filled up to 8 bytes if there is a padding, and to a valid length for FD frames."""
+    """Returns the data of a frame, padded to at least 8 bytes if there is a padding, and to a valid length for FD
+    frames."""
     size = next(length for length in FD_LENGTHS if length >= len(data))
     if padding is not None:
         size = max(size, 8)
@@ -125,7 +126,7 @@ def filled(data: bytes, padding: Optional[int]) -> bytes:
 
 
 def with_fault(segment: Segment, kind: Kind, delay: float) -> Sequence[Segment]:
-    """Returns the segments to send in place of a segment with a fault."""
+    """Returns the segments that are sent instead of a segment with a fault."""
     if kind == "lost":
         return []
     if kind == "twice":
@@ -139,15 +140,15 @@ def with_fault(segment: Segment, kind: Kind, delay: float) -> Sequence[Segment]:
 
 
 def _renumbered(data: bytes) -> bytes:
-    """Returns the bytes of a consecutive frame with the next number in place of its own."""
+    """Returns the bytes of a consecutive frame whose sequence number is one too high."""
     place = 0 if data[0] >> 4 == 2 else 1
     return data[:place] + bytes([0x20 | (data[place] + 1) % 16]) + data[place + 1 :]
 
 
 def distance(stmin: int) -> float:
-    """Returns the minimum time between two consecutive frames in seconds, from the byte of a flow control.
+    """Returns the minimum time between two consecutive frames in seconds. `stmin` is the byte of the flow control.
 
-    A reserved byte means the longest time, as in the standard.
+    For a reserved value, returns the longest possible time, as the standard requires.
     """
     if 0xF1 <= stmin <= 0xF9:
         return (stmin - 0xF0) / 10_000

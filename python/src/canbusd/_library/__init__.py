@@ -1,1 +1,1 @@
-"""libcanbusd: the library, its structs, and a socket of it."""
+"""libcanbusd: loading the library, its structs, and a bench that uses it."""

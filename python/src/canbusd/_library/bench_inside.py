@@ -1,4 +1,5 @@
-"""A bench inside this process, by libcanbusd: it takes the lines that the program's takes, and writes what that writes."""
+"""A bench inside this process, simulated by libcanbusd. Its input and output have the same format as those of the
+program."""
 
 import ctypes
 import functools
@@ -10,13 +11,13 @@ from typing import NoReturn, Optional
 from canbusd._library.library import LibraryNotFound, library, text_of
 from canbusd._process.program import BenchError
 
-#: The bytes of output for which there is room at first.
+#: The initial size of the output buffer in bytes.
 ROOM = 4096
 
 
 def is_used() -> bool:
-    """Whether benches are inside this process: if the library is there. An empty `$CANBUSD_LIBRARY` keeps them out, as does
-    `$CANBUSD` without it, which names a program that is to be the bench."""
+    """Returns whether benches run inside this process, which requires the library. They run as a separate process if
+    `$CANBUSD_LIBRARY` is empty, or if `$CANBUSD` names a program and `$CANBUSD_LIBRARY` is not set."""
     given = os.environ.get("CANBUSD_LIBRARY")
     if given is None and os.environ.get("CANBUSD"):
         return False
@@ -25,7 +26,8 @@ def is_used() -> bool:
 
 @functools.lru_cache(maxsize=None)
 def has_benches(given: Optional[str]) -> bool:
-    """Whether there is a library with benches; LibraryNotFound if it was given and is not there."""
+    """Returns whether there is a library that supports benches. Raises LibraryNotFound if `$CANBUSD_LIBRARY` names a
+    library that does not exist."""
     try:
         return hasattr(library(), "canbusd_bench_new")
     except LibraryNotFound:
@@ -35,17 +37,18 @@ def has_benches(given: Optional[str]) -> bool:
 
 
 class BenchRefused(RuntimeError):
-    """The library makes no such bench; the text is that of its code."""
+    """The library refused to create a bench. The text is the library's text for the error code."""
 
 
 class BenchInside:
-    """The bench of the library."""
+    """A bench of the library."""
 
     def __init__(
         self, names: Sequence[str], config: bytes, capacity: int, faults: bytes, why: Callable[[bytes], str]
     ) -> None:
-        """Makes one with these names, the struct of its bus, the capacity of sockets and the text of a script; BenchRefused if
-        there is none. `why` returns the program's text for the fault of an input."""
+        """Creates a bench with these interface names, the struct of its bus, the capacity of receive queues and the
+        text of a fault script. Raises BenchRefused if the library refuses them. `why` returns the program's error text
+        for an input."""
         self._why = why
         self._input: list[bytes] = []
         self._handle = ctypes.c_void_p()
@@ -61,7 +64,7 @@ class BenchInside:
         self._written = memoryview(self._room)
         self._arguments = self._room, ROOM, ctypes.byref(self._length), None
         self._rest = b""
-        #: Whether it has ended; and why, if by a fault.
+        #: Whether the bench has ended, and the error that ended it.
         self.is_over = False
         self.said = ""
 
@@ -75,7 +78,7 @@ class BenchInside:
             self._fail(code)
 
     def read_line(self) -> str:
-        """Returns the next line that it writes, without its end."""
+        """Returns the next line of the bench's output, without the newline."""
         line, end, self._rest = self._rest.partition(b"\n")
         if not end:
             raise BenchError("the bench said nothing")
@@ -86,14 +89,14 @@ class BenchInside:
         self.is_over = True
 
     def forget(self) -> None:
-        """Does nothing: a process that was forked has a copy."""
+        """Does nothing, because a forked process has its own copy of the bench."""
 
     def left(self, ending: str) -> Optional[bytes]:
-        """Returns the record, or the log; None after a fault."""
+        """Returns the record or the log of the bench; None after an error."""
         return None if self.said else self._text("record" if ending == "rec" else ending)
 
     def _text(self, name: str) -> bytes:
-        """The text that a call writes into a buffer."""
+        """Calls a library function that writes a text into a buffer, and returns the text."""
         call, length = getattr(self._functions, f"canbusd_bench_{name}"), ctypes.c_size_t()
         code = call(self._handle, None, 0, ctypes.byref(length))
         room = ctypes.create_string_buffer(max(length.value, 1))
@@ -103,7 +106,7 @@ class BenchInside:
         return room.raw[: length.value]
 
     def _fail(self, code: int) -> NoReturn:
-        """Ends it with a fault."""
+        """Ends the bench with the error for this code."""
         self.is_over = True
         self.said = self._why(b"".join(self._input)) or f"canbusd: {text_of(code)}"
         raise BenchError(self.said)

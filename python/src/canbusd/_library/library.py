@@ -1,5 +1,5 @@
-"""libcanbusd, and its functions as ctypes has them. The structs are packed and unpacked as bytes, which is quicker
-than by the fields of a ctypes.Structure."""
+"""Loads libcanbusd, and declares its functions for ctypes. Structs are packed and unpacked as bytes, which is faster
+than setting the fields of a ctypes.Structure."""
 
 import ctypes
 import ctypes.util
@@ -14,14 +14,14 @@ from typing import Optional
 from canbusd._process.program import SET_BY
 from canbusd._process.rates import Rates
 
-#: The version of the functions and structs that this module calls by, and the name of the library that has it.
+#: The version of the library's interface that this module uses, and the file name of the library with this version.
 ABI = 0
 SONAME = f"libcanbusd.so.{ABI}"
 
-# The codes of canbusd.h that are no refusals of a bus.
+# The codes of canbusd.h that do not mean a refusal.
 OK, NOTHING = 0, 12
 
-# The structs of canbusd.h. In results a frame is its head, which is identifier word, length and flags, and its data.
+# The structs of canbusd.h. In results, a frame consists of its head (identifier word, length and flags) and its data.
 CONFIG = struct.Struct("=7I")
 FRAME = struct.Struct("=IBBxx64s")
 HEAD = struct.Struct("=IBB")
@@ -53,7 +53,7 @@ _CALLS = {
     "get_load": [_POINTER, _U64, _POINTER],
     "record": _TEXT,
 }
-#: Those of a bench, which an older library has not.
+#: The functions for benches, which an older library does not have.
 _BENCH_CALLS = {
     "bench_new": [ctypes.c_char_p, _POINTER, _U32, _U32, ctypes.c_char_p, _SIZE, _POINTER, _POINTER],
     "bench_take": [_POINTER, ctypes.c_char_p, _SIZE, _POINTER, _SIZE, _POINTER, _POINTER],
@@ -64,11 +64,12 @@ _BENCH_CALLS = {
 
 
 class LibraryNotFound(FileNotFoundError):
-    """There is no libcanbusd where it is looked for."""
+    """No libcanbusd was found at the expected paths."""
 
 
 def find_library() -> str:
-    """Returns the path of libcanbusd: `$CANBUSD_LIBRARY`, else that of the package, of its clone, or of the system."""
+    """Returns the path of libcanbusd: `$CANBUSD_LIBRARY`, else the library in the package, in the package's clone, or
+    in the system."""
     given = os.environ.get("CANBUSD_LIBRARY")
     if given:
         if not os.path.isfile(given):
@@ -93,15 +94,15 @@ def find_library() -> str:
 
 @functools.lru_cache(maxsize=None)
 def quick(name: str) -> Callable[..., int]:
-    """Returns a function of the library that is called with ctypes's own objects, which are passed as they are. It keeps the
-    interpreter's lock, as none waits."""
+    """Returns a library function that must be called with ctypes objects, because arguments are not converted. The
+    function does not release the interpreter's lock, because no call of it blocks."""
     function: Callable[..., int] = ctypes.PyDLL(find_library())[f"canbusd_{name}"]
     return function
 
 
 @functools.lru_cache(maxsize=None)
 def library() -> ctypes.CDLL:
-    """Returns the library, loaded once."""
+    """Returns the library, which is loaded at the first call."""
     loaded = ctypes.CDLL(find_library())
     has_benches = hasattr(loaded, "canbusd_bench_new")
     for name, arguments in {**_CALLS, **(_BENCH_CALLS if has_benches else {})}.items():
@@ -116,13 +117,13 @@ def library() -> ctypes.CDLL:
 def config_of(
     ifaces: int, ack: str, report: bool, auto_restart: int, txqueue: int, limit: int, rates: Optional[Rates]
 ) -> bytes:
-    """Returns the struct of a bus of so many interfaces with these options, which are right."""
+    """Returns the struct of a bus with this many interfaces and with these options, which must be valid."""
     nominal, fast = (rates.bitrate, rates.dbitrate or 0) if rates else (0, 0)
     reporting = (1 << ifaces) - 1 if report else 0
     return CONFIG.pack(int(ack == "peers"), reporting, txqueue, limit, auto_restart, nominal, fast)
 
 
 def text_of(code: int) -> str:
-    """Returns the text of a code."""
+    """Returns the library's text for an error code."""
     text: bytes = library().canbusd_strerror(code)
     return text.decode()

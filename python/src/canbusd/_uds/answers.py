@@ -1,4 +1,4 @@
-"""The answers of a simulated ECU to the requests of each service, from its data and functions."""
+"""The responses of a simulated ECU to requests of each service, based on the ECU's data and functions."""
 
 import inspect
 import time
@@ -11,12 +11,12 @@ from canbusd._uds.codes import NegativeResponse, check_length
 from canbusd._uds.memory import Memory
 from canbusd.frames import data_bytes
 
-#: After this many wrong keys in a row, the ECU gives no seed for this many seconds.
+#: After this many wrong keys in succession, the ECU refuses to send a seed for this many seconds.
 MOST_KEYS, KEY_DELAY = 3, 10.0
 
 
 def bytes_of_did(number: int, data: object) -> bytes:
-    """Returns the bytes of a DID; ValueError names a DID whose value is not bytes."""
+    """Returns the bytes of a DID. If the value is not bytes, raises ValueError with the number of the DID."""
     try:
         return data_bytes(data)
     except ValueError as fault:
@@ -25,8 +25,8 @@ def bytes_of_did(number: int, data: object) -> bytes:
 
 @dataclass
 class Guarded:
-    """A function of a DID or of a routine, with the sessions that allow calls, and the security level that must be
-    unlocked. An empty list of sessions allows all, and level 0 needs no unlocking."""
+    """A function for a DID or a routine, the sessions in which it may be called, and the security level that must be
+    unlocked. An empty list of sessions allows all sessions, and level 0 needs no unlocking."""
 
     function: Callable[..., Optional[bytes]]
     sessions: Sequence[int]
@@ -35,38 +35,41 @@ class Guarded:
 
 @dataclass
 class Lock:
-    """A security level: its seed, the function that computes the key for a seed, and its present state."""
+    """A security level: its seed, the function that computes the key for a seed, and the current state of the level."""
 
     seed: Union[bytes, Callable[[], bytes]]
     key: Callable[[bytes], bytes]
-    #: The last seed, and the number of wrong keys.
+    #: The last seed that was sent, and the number of wrong keys in succession.
     given: Optional[bytes] = None
     wrong: int = 0
     closed_until: float = 0.0
 
 
 class Answers:
-    """The data of an ECU, and its answers."""
+    """The data of an ECU, and the methods that answer requests."""
 
     def __init__(self, p2: float, p2_star: float) -> None:
         self._p2, self._p2_star = p2, p2_star
-        #: The present session: 1 default, 2 programming, 3 extended, or another; and the sessions that exist.
+        #: The current session (1 default, 2 programming, 3 extended, or another number), and the sessions that the ECU
+        #: supports.
         self.session, self.sessions = 1, {1, 2, 3}
-        #: The unlocked security level; 0 for none.
+        #: The security level that is unlocked; 0 if none is.
         self.level = 0
-        #: Bytes by DID: ``ecu.dids[0xF190] = b"WVW.."``. The decorator `did` sets a function instead of bytes.
+        #: The bytes of each DID: ``ecu.dids[0xF190] = b"WVW.."``. For a function instead of bytes, use the decorator
+        #: `did`.
         self.dids: dict[int, bytes] = {}
-        #: The DIDs that may be written; the decorator `write` sets a function for written bytes.
+        #: The DIDs that may be written. To call a function with the written bytes, use the decorator `write`.
         self.writable: set[int] = set()
-        #: The status of each trouble code, by its number: ``ecu.dtcs[0x123456] = 0x09``; and the status bits that the
+        #: The status of each trouble code: ``ecu.dtcs[0x123456] = 0x09``. `status_mask` has the status bits that the
         #: ECU supports.
         self.dtcs: dict[int, int] = {}
         self.status_mask = 0xFF
-        #: Whether the ECU records trouble codes, and the last communication control, 0 for all messages.
+        #: Whether the ECU records trouble codes, and the last communication control; 0 means that all messages are
+        #: enabled.
         self.sets_dtcs, self.communication = True, 0
-        #: The security level for downloads and uploads; 0 for none.
+        #: The security level that downloads and uploads need; 0 if none.
         self.load_level = 0
-        #: The services that the default session does not offer.
+        #: The services that are not available in the default session.
         self.not_in_default = {codes.SECURITY, codes.COMMUNICATION, codes.DTC_SETTING} | set(range(0x34, 0x38))
         self._memory = Memory()
         self._readers: dict[int, Guarded] = {}
@@ -84,7 +87,7 @@ class Answers:
 
     @property
     def memory(self) -> dict[int, bytearray]:
-        """Memory for downloads and uploads, by first addresses: ``ecu.memory[0x1000] = bytearray(256)``."""
+        """The memory for downloads and uploads, as a dict by start address: ``ecu.memory[0x1000] = bytearray(256)``."""
         return self._memory.regions
 
     def _carry_out(self, service: int, request: bytes) -> Optional[bytes]:
@@ -102,7 +105,7 @@ class Answers:
         return function(request)
 
     def _enter(self, session: int) -> None:
-        """Enters a session: locks security and ends a transfer."""
+        """Changes the session, which locks all security levels and ends a transfer."""
         self.session, self.level = session, 0
         self._memory.forget()
         if session == 1:
@@ -114,7 +117,7 @@ class Answers:
         return not one.sessions or self.session in one.sessions
 
     def _check_level(self, level: int) -> None:
-        """Refuses a request while its security level is locked."""
+        """Refuses a request if it needs a security level that is locked."""
         if level and self.level != level:
             raise NegativeResponse(0x33)
 
@@ -123,7 +126,7 @@ class Answers:
         if request[1] not in self.sessions:
             raise NegativeResponse(0x12)
         self._enter(request[1])
-        # The times are in milliseconds, and in units of 10 milliseconds.
+        # P2 is sent in milliseconds, and P2* in units of 10 milliseconds.
         times = [min(round(self._p2 * 1000), 0xFFFF), min(round(self._p2_star * 100), 0xFFFF)]
         return bytes([0x50, request[1]]) + b"".join(one.to_bytes(2, "big") for one in times)
 
@@ -156,7 +159,7 @@ class Answers:
         ]
         head = bytes([0x59, kind, self.status_mask])
         if kind == codes.COUNT_DTCS:
-            # The format is that of ISO 14229-1.
+            # The byte 01 is the DTC format identifier of ISO 14229-1.
             return head + b"\x01" + len(found).to_bytes(2, "big")
         return head + b"".join(code.to_bytes(3, "big") + bytes([status]) for code, status in found)
 

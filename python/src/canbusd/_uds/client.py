@@ -1,4 +1,4 @@
-"""A UDS client for tests: requests, their answers, and a method for each usual service."""
+"""A UDS client for tests: requests, their responses, and a method for each common service."""
 
 import importlib
 import time
@@ -22,11 +22,11 @@ if TYPE_CHECKING:
 
 
 class Client(NamesWhatThereIs):
-    """A tester on an interface of a server, which asks an ECU by UDS (ISO 14229-1) over ISO-TP.
+    """A tester on an interface of a server. It sends UDS requests (ISO 14229-1) to an ECU over ISO-TP.
 
-    The arguments are those of Server.isotp. An answer must begin within `p2` seconds, and after a pending response
-    within `p2_star` seconds. A negative response raises NegativeResponse, a missing one TimeoutError, and a failed
-    transfer IsoTpError.
+    The arguments are the same as for Server.isotp. A response must begin within `p2` seconds, or within `p2_star`
+    seconds after a pending response. Methods raise NegativeResponse for a negative response, TimeoutError for a missing
+    response, and IsoTpError for a failed transfer.
     """
 
     _INSTEAD = {
@@ -57,18 +57,19 @@ class Client(NamesWhatThereIs):
         for name, seconds in (("p2", p2), ("p2_star", p2_star)):
             check_within(seconds, name)
         self._p2, self._p2_star = p2, p2_star
-        #: The client's end of ISO-TP, which `connection` accepts for udsoncan.
+        #: The client's ISO-TP end. It can be passed to `connection` for use with udsoncan.
         self.end = server.isotp(channel, tx=tx, rx=rx, functional=functional, library="canbusd", **options)
         self._python_end = cast(PythonIsoTp, self.end)
-        #: The number of pending responses before the last answer.
+        #: The number of pending responses before the last response.
         self.pending = 0
 
     @explained()
     def request(self, data: bytes, *, functional: bool = False) -> bytes:
         """Sends a request, and returns all bytes of the positive response.
 
-        With `functional` the request goes to all ECUs, and the first answer counts. NegativeResponse if the request is
-        refused, TimeoutError if no answer comes within P2, or P2* after a pending response.
+        If `functional` is true, the request is sent to all ECUs, and the first response counts. Raises NegativeResponse
+        if the request is refused. Raises TimeoutError if no response begins within P2, or within P2* after a pending
+        response.
         """
         __tracebackhide__ = True
         request = data_bytes(data)
@@ -79,7 +80,7 @@ class Client(NamesWhatThereIs):
         while True:
             answer = self.end.recv(seconds_until(deadline))
             while answer is None and self._python_end.is_receiving:
-                # P2 is the limit for the beginning of the answer.
+                # P2 is the time limit for the beginning of the response, not for its end.
                 answer = self.end.recv(LONGEST_GAP)
             if answer is None:
                 after = " after the last pending response" if self.pending else ""
@@ -95,49 +96,49 @@ class Client(NamesWhatThereIs):
                 deadline = time.monotonic() + seconds
 
     def session(self, kind: Union[int, str]) -> None:
-        """Changes the session: 1 or ``"default"``, 2 or ``"programming"``, 3 or ``"extended"``, or another number."""
+        """Changes the session to 1 or ``"default"``, 2 or ``"programming"``, 3 or ``"extended"``, or another number."""
         self.request(bytes([codes.SESSION, session_of(kind)]))
 
     def reset(self, kind: int = 1) -> None:
-        """Resets the ECU: 1 hard reset, 2 key off and on, 3 soft reset."""
+        """Resets the ECU. `kind` is 1 for a hard reset, 2 for key off and on, and 3 for a soft reset."""
         self.request(bytes([codes.RESET, byte_of("kind", kind)]))
 
     def read(self, did: int) -> bytes:
-        """Returns the bytes of a DID."""
+        """Reads a DID, and returns its bytes."""
         return self.request(bytes([codes.READ]) + _number("did", did))[3:]
 
     def write(self, did: int, data: bytes) -> None:
-        """Writes the bytes of a DID."""
+        """Writes these bytes to a DID."""
         self.request(bytes([codes.WRITE]) + _number("did", did) + data_bytes(data))
 
     def unlock(self, level: int, key: Callable[[bytes], bytes]) -> None:
-        """Unlocks a security level: requests its seed, and sends the result of `key` for the seed."""
+        """Unlocks a security level: requests a seed, and sends the key that the function `key` returns for the seed."""
         seed = self.request(bytes([codes.SECURITY, byte_of("level", level)]))[2:]
         if any(seed):
             self.request(bytes([codes.SECURITY, level + 1]) + data_bytes(key(seed)))
 
     def routine(self, number: int, data: bytes = b"", kind: int = 1) -> bytes:
-        """Starts a routine (1), stops it (2) or requests its results (3); returns the bytes after the routine's number
-        in the answer."""
+        """Starts a routine (1), stops it (2) or requests its results (3). Returns the bytes after the routine's number
+        in the response."""
         request = bytes([codes.ROUTINE, byte_of("kind", kind)]) + _number("number", number) + data_bytes(data)
         return self.request(request)[4:]
 
     def dtcs(self, mask: int = 0xFF) -> dict[int, int]:
-        """Returns the status of each trouble code whose status has a bit of this mask."""
+        """Returns a dict with the status of each trouble code whose status has at least one bit of this mask."""
         found = self.request(bytes([codes.READ_DTCS, codes.DTCS_BY_STATUS, byte_of("mask", mask)]))[3:]
         rows = [found[place : place + 4] for place in range(0, len(found) - 3, 4)]
         return {int.from_bytes(row[:3], "big"): row[3] for row in rows}
 
     def clear_dtcs(self, group: int = codes.ALL_DTCS) -> None:
-        """Clears the trouble codes of a group, or all."""
+        """Clears the trouble codes of a group; by default all trouble codes."""
         self.request(bytes([codes.CLEAR_DTCS]) + group.to_bytes(3, "big"))
 
     def tester_present(self, *, functional: bool = False) -> None:
-        """Keeps the session open, without an answer."""
+        """Sends TesterPresent, which keeps the session open, without requesting a response."""
         self.end.send(bytes([codes.TESTER_PRESENT, codes.SUPPRESSED]), functional=functional)
 
     def download(self, address: int, data: bytes) -> None:
-        """Loads bytes into memory: RequestDownload, TransferData for all bytes, RequestTransferExit."""
+        """Downloads bytes to the ECU's memory: RequestDownload, TransferData for each block, RequestTransferExit."""
         content = data_bytes(data)
         size = self._begin(codes.DOWNLOAD, address, len(content))
         for number, start in enumerate(range(0, len(content), size), 1):
@@ -145,7 +146,7 @@ class Client(NamesWhatThereIs):
         self.request(bytes([codes.TRANSFER_EXIT]))
 
     def upload(self, address: int, size: int) -> bytes:
-        """Returns bytes of memory: RequestUpload, TransferData for all bytes, RequestTransferExit."""
+        """Uploads bytes from the ECU's memory: RequestUpload, TransferData for each block, RequestTransferExit."""
         self._begin(codes.UPLOAD, address, size)
         content, number = b"", 1
         while len(content) < size:
@@ -163,7 +164,7 @@ class Client(NamesWhatThereIs):
         self.end.close()
 
     def _begin(self, service: int, address: int, size: int) -> int:
-        """Begins a download or an upload; returns the most data bytes of a TransferData."""
+        """Begins a download or an upload. Returns the maximum number of data bytes in a TransferData request."""
         numbers = address.to_bytes(4, "big") + size.to_bytes(4, "big")
         answer = self.request(bytes([service, 0x00, 0x44]) + numbers)
         return int.from_bytes(answer[2 : 2 + (answer[1] >> 4)], "big") - 2
@@ -178,16 +179,16 @@ class Client(NamesWhatThereIs):
 
 
 def _number(what: str, number: object) -> bytes:
-    """Returns the two bytes of the number of a DID or a routine."""
+    """Returns the number of a DID or a routine as two bytes."""
     if isinstance(number, bool) or not isinstance(number, int) or not 0 <= number <= 0xFFFF:
         raise ValueError(f"{what} is a number from 0 to 0xFFFF, not {number!r}")
     return number.to_bytes(2, "big")
 
 
 def connection(end: IsoTp) -> Any:
-    """Returns a connection of udsoncan over an end of ISO-TP, for ``udsoncan.client.Client(uds.connection(end))``.
+    """Returns a udsoncan connection over an ISO-TP end: ``udsoncan.client.Client(uds.connection(end))``.
 
-    ImportError if udsoncan is not installed.
+    Raises ImportError if udsoncan is not installed.
     """
     try:
         base: Any = importlib.import_module("udsoncan.connections").BaseConnection
@@ -196,7 +197,7 @@ def connection(end: IsoTp) -> Any:
         raise ImportError("connection needs udsoncan, which is not installed: `pip install udsoncan`") from None
 
     class Connection(base):  # type: ignore[misc]
-        """An end of ISO-TP as a connection of udsoncan; the end's owner closes the end."""
+        """A udsoncan connection over an ISO-TP end. Closing the connection does not close the end."""
 
         _is_open = False
 

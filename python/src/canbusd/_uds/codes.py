@@ -1,4 +1,4 @@
-"""The services of ISO 14229-1 by their numbers, and the codes of its negative responses."""
+"""The numbers of the services of ISO 14229-1, and the codes of negative responses."""
 
 from typing import Union
 
@@ -7,11 +7,11 @@ from canbusd._calls import meant
 SESSION, RESET, CLEAR_DTCS, READ_DTCS, READ, SECURITY = 0x10, 0x11, 0x14, 0x19, 0x22, 0x27
 COMMUNICATION, WRITE, ROUTINE, DOWNLOAD, UPLOAD = 0x28, 0x2E, 0x31, 0x34, 0x35
 TRANSFER, TRANSFER_EXIT, TESTER_PRESENT, DTC_SETTING = 0x36, 0x37, 0x3E, 0x85
-#: A positive response adds this number to its service; a negative response begins with this byte.
+#: The number that is added to the service in a positive response, and the first byte of a negative response.
 POSITIVE, NEGATIVE = 0x40, 0x7F
 #: The services whose second byte is a subfunction.
 WITH_SUBFUNCTION = (SESSION, RESET, READ_DTCS, SECURITY, COMMUNICATION, ROUTINE, TESTER_PRESENT, DTC_SETTING)
-#: The subfunctions of READ_DTCS, and the group of CLEAR_DTCS that means all trouble codes.
+#: The subfunctions of READ_DTCS, and the group number that makes CLEAR_DTCS clear all trouble codes.
 COUNT_DTCS, DTCS_BY_STATUS, SUPPORTED_DTCS, ALL_DTCS = 0x01, 0x02, 0x0A, 0xFFFFFF
 #: The bit of a subfunction that suppresses the positive response.
 SUPPRESSED = 0x80
@@ -51,12 +51,12 @@ CODES = {
     0x93: "voltageTooLow",
 }
 GENERAL_REJECT, PENDING = 0x10, 0x78
-#: The codes that are never sent in answer to a request to all ECUs.
+#: The codes that are never sent in response to a functional request.
 SILENT_TO_ALL = (0x11, 0x12, 0x31, 0x7E, 0x7F)
 
 
 def code_of(code: Union[int, str]) -> int:
-    """Returns the number of a code, which the caller may give by name; raises ValueError for an unknown one."""
+    """Returns the number of a code, which may be given as a name. Raises ValueError for an unknown name or number."""
     if isinstance(code, str):
         for number, name in CODES.items():
             if name.lower() == code.lower():
@@ -68,7 +68,7 @@ def code_of(code: Union[int, str]) -> int:
 
 
 def session_of(session: Union[int, str]) -> int:
-    """Returns the number of a session, which the caller may give by name."""
+    """Returns the number of a session, which may be given as a name."""
     if isinstance(session, str):
         if session not in SESSIONS:
             raise ValueError(f"session is a number, or one of {', '.join(SESSIONS)}, not {session!r}")
@@ -77,30 +77,31 @@ def session_of(session: Union[int, str]) -> int:
 
 
 def byte_of(what: str, number: object) -> int:
-    """Returns a number of one byte; raises ValueError for any other value."""
+    """Returns a number if it fits into one byte; else raises ValueError."""
     if isinstance(number, bool) or not isinstance(number, int) or not 0 <= number <= 0xFF:
         raise ValueError(f"{what} is a number from 0 to 0xFF, not {number!r}")
     return number
 
 
 class NegativeResponse(Exception):
-    """A negative response: a client raises it if it received one, and a function of an ECU raises it to send one."""
+    """A negative response. A client raises this exception when it receives one; a function of an ECU raises it to send
+    one."""
 
     def __init__(self, code: Union[int, str], service: int = 0) -> None:
-        #: The number of the code, and the service that was refused.
+        #: The number of the response code, and the service that was refused.
         self.code, self.service = code_of(code), service
-        #: The name of the code in ISO 14229-1.
+        #: The name of the response code in ISO 14229-1.
         self.name = CODES.get(self.code, f"code {self.code:02X}")
         super().__init__(f"{self.name} ({self.code:02X})" + (f" to service {service:02X}" if service else ""))
 
 
 def is_suppressed(request: bytes, answer: bytes) -> bool:
-    """Returns whether a request suppresses the positive response, and the answer is such a response."""
+    """Returns whether an answer is a positive response that its request suppresses."""
     has_bit = request[0] in WITH_SUBFUNCTION and len(request) > 1 and bool(request[1] & SUPPRESSED)
     return has_bit and answer[0] != NEGATIVE
 
 
 def check_length(request: bytes, least: int, most: int = 4095) -> None:
-    """Refuses a request that is too short or too long."""
+    """Refuses a request that is shorter or longer than this."""
     if not least <= len(request) <= most:
         raise NegativeResponse(0x13)

@@ -1,4 +1,4 @@
-"""A simulated ECU: its data, and its answers to requests."""
+"""A simulated ECU: its data, and how it responds to requests."""
 
 import contextlib
 import threading
@@ -23,16 +23,16 @@ if TYPE_CHECKING:
     from canbusd.server import Server
 
 F = TypeVar("F", bound=Callable[..., Any])
-#: The fraction of P2* after which the next pending response is sent.
+#: The next pending response is sent after this fraction of P2*.
 PART = 0.9
 
 
-#: The sessions that offer a function: one or several, by number or name; all sessions if none is given.
+#: The sessions in which a function is available: one or more numbers or names; all sessions if empty.
 Sessions = Union[int, str, Iterable[Union[int, str]]]
 
 
 def _keeper(table: dict[int, Guarded], number: int, sessions: Sessions, level: int) -> Callable[[F], F]:
-    """Returns the decorator that stores a function under this number."""
+    """Returns a decorator that stores a function in a table under this number."""
     if isinstance(number, bool) or not isinstance(number, int) or not 0 <= number <= 0xFFFF:
         raise ValueError(f"number is one from 0 to 0xFFFF, not {number!r}")
     allowed = tuple(map(session_of, [sessions] if isinstance(sessions, (int, str)) else sessions))
@@ -45,19 +45,20 @@ def _keeper(table: dict[int, Guarded], number: int, sessions: Sessions, level: i
 
 
 class OnDemand:
-    """Changes to the answers of services, each for a number of requests."""
+    """Changes that are applied to the responses of services, each for a number of requests."""
 
     def __init__(self) -> None:
         self._left: dict[int, list[list[Any]]] = {}
 
     def add(self, service: int, what: Any, count: int) -> None:
-        """Adds a change for the next `count` requests, after the earlier changes."""
+        """Adds a change for the next `count` requests of a service. It is applied after the changes that were added
+        earlier."""
         if isinstance(count, bool) or not isinstance(count, int) or count < 1:
             raise ValueError(f"count is a number of requests, 1 or more, not {count!r}")
         self._left.setdefault(byte_of("service", service), []).append([what, count])
 
     def take(self, service: int) -> Any:
-        """Returns the change for this request; None if there is none."""
+        """Returns the change for the current request of a service; None if there is none."""
         there = self._left.get(service)
         if not there:
             return None
@@ -66,13 +67,13 @@ class OnDemand:
 
 
 class Ecu(Answers, NamesWhatThereIs):
-    """A simulated ECU on an interface of a server, which answers requests of UDS (ISO 14229-1) over ISO-TP in a thread.
+    """A simulated ECU on an interface of a server. A thread answers UDS requests (ISO 14229-1) over ISO-TP.
 
-    The arguments are those of Server.isotp. The ECU answers within `p2` seconds, and after a pending response within
-    `p2_star` seconds. After `s3` seconds it returns to the default session. Its data are in `dids`, `dtcs` and
-    `memory`, and its behaviour is in functions with the decorators `did`, `write`, `routine`, `security` and `service`.
-    If a function takes longer than P2, the ECU sends pending responses (78) meanwhile. If a function raises
-    NegativeResponse, the ECU sends that response.
+    The arguments are the same as for Server.isotp. The ECU responds within `p2` seconds, and within `p2_star` seconds
+    after a pending response. It returns to the default session after `s3` seconds without a request. Its data are in
+    `dids`, `dtcs` and `memory`. Its behaviour is defined by functions with the decorators `did`, `write`, `routine`,
+    `security` and `service`. While a function takes longer than P2, the ECU sends pending responses (78). If a function
+    raises NegativeResponse, the ECU sends that response.
     """
 
     _INSTEAD = {
@@ -101,7 +102,7 @@ class Ecu(Answers, NamesWhatThereIs):
             raise ValueError(f"p2_star is a number of seconds above 0, not {p2_star!r}")
         super().__init__(p2, p2_star)
         self._s3 = s3
-        #: The received requests, oldest first.
+        #: The requests that the ECU has received, oldest first.
         self.requests: list[bytes] = []
         self._refused, self._delayed = OnDemand(), OnDemand()
         self._last = time.monotonic()
@@ -112,30 +113,31 @@ class Ecu(Answers, NamesWhatThereIs):
         self._thread = threading.Thread(target=self._serve, name="canbusd ECU", daemon=True)
         self._thread.start()
 
-    # The ECU's data and services.
+    # Methods that define the ECU's data and services.
 
     @explained("bytes are ecu.dids[0xF190] = b'..', and a function has the decorator @ecu.did(0xF190)")
     def did(self, number: int, *, sessions: Sessions = (), level: int = 0) -> Callable[[F], F]:
-        """Makes a function, ``def f()``, return the bytes of a DID. With `sessions` only these sessions allow reads;
-        with a `level` reads need this security level."""
+        """Decorates a function ``def f()`` that returns the bytes of a DID. If `sessions` are given, the DID can only
+        be read in these sessions. If a `level` is given, reads need this security level."""
         return _keeper(self._readers, number, sessions, level)
 
     @explained("a function that takes what is written has the decorator @ecu.write(0xF190)")
     def write(self, number: int, *, sessions: Sessions = (), level: int = 0) -> Callable[[F], F]:
-        """Makes a function receive the bytes that are written to a DID, ``def f(data)``."""
+        """Decorates a function ``def f(data)`` that is called with the bytes that are written to a DID."""
         return _keeper(self._writers, number, sessions, level)
 
     @explained("a function has the decorator @ecu.routine(0x0203)")
     def routine(self, number: int, *, sessions: Sessions = (), level: int = 0) -> Callable[[F], F]:
-        """Makes a function carry out a routine, ``def f(data)``; the returned bytes follow in the answer.
+        """Decorates a function ``def f(data)`` that runs a routine. The bytes that it returns are part of the response.
 
-        A function with a second parameter is also called to stop the routine (2) and for its results (3): ``def f(data,
-        kind)``.
+        A function with a second parameter, ``def f(data, kind)``, is also called to stop the routine (2) and to get its
+        results (3).
         """
         return _keeper(self._routines, number, sessions, level)
 
     def security(self, level: int, *, seed: Union[bytes, Callable[[], bytes]]) -> Callable[[F], F]:
-        """Makes a function return the key for a seed, ``def f(seed)``, of this security level, which is odd."""
+        """Decorates a function ``def f(seed)`` that returns the key for a seed. The number of the security level is
+        odd."""
         if isinstance(level, bool) or not isinstance(level, int) or not 0 < level < 0x7F or level % 2 == 0:
             raise ValueError(f"level is odd, from 1 to 0x7D, as a request for its seed has it, not {level!r}")
 
@@ -146,8 +148,8 @@ class Ecu(Answers, NamesWhatThereIs):
         return taken
 
     def service(self, number: int) -> Callable[[F], F]:
-        """Makes a function answer a service, ``def f(request)``; it returns the bytes of the answer, or None for no
-        answer."""
+        """Decorates a function ``def f(request)`` that answers a service. It returns the bytes of the response, or None
+        to send no response."""
         byte_of("service", number)
 
         def taken(function: F) -> F:
@@ -157,22 +159,23 @@ class Ecu(Answers, NamesWhatThereIs):
         return taken
 
     def refuse(self, service: int, code: Union[int, str], count: int = 1) -> None:
-        """Refuses the next `count` requests of a service with this code, a number or a name."""
+        """Refuses the next `count` requests of a service with this response code, which is a number or a name."""
         self._refused.add(service, code_of(code), count)
 
     def delay(self, service: int, seconds: float, count: int = 1) -> None:
-        """Delays the answers to the next `count` requests of a service by these seconds, with pending responses from P2
-        on."""
+        """Delays the responses to the next `count` requests of a service by this many seconds. After P2, the ECU sends
+        pending responses meanwhile."""
         check_within(seconds, "seconds")
         self._delayed.add(service, seconds, count)
 
     def inject(self, fault: SegmentFault) -> None:
-        """Adds a fault to a segment of an answer, or to a flow control: ``ecu.inject(uds.fault("consecutive frame 3",
+        """Adds a fault to a segment of a response, or to a flow control: ``ecu.inject(uds.fault("consecutive frame 3",
         "lost"))``."""
         self._end.inject(fault)
 
     def close(self) -> None:
-        """Closes the ECU; raises the exception of one of its functions, if it is not NegativeResponse."""
+        """Closes the ECU. If one of its functions raised an exception other than NegativeResponse, raises that
+        exception."""
         self._end.close()
         self._thread.join()
         self._worker.shutdown()
@@ -197,7 +200,7 @@ class Ecu(Answers, NamesWhatThereIs):
             except IsoTpError:
                 if self._end.is_over:
                     return
-                # A request with a missing segment does not count as a request.
+                # A request with a missing segment is ignored.
                 continue
             if found is None:
                 self._enter(1)
@@ -207,11 +210,12 @@ class Ecu(Answers, NamesWhatThereIs):
                 self._last = time.monotonic()
 
     def _until_default(self) -> Optional[float]:
-        """Returns the seconds until the return to the default session; None if this is the present session."""
+        """Returns the number of seconds until the ECU returns to the default session; None if it is in the default
+        session."""
         return None if self.session == 1 else seconds_until(self._last + self._s3)
 
     def _handle(self, request: bytes, is_to_all: bool) -> None:
-        """Answers a request, with pending responses if the answer takes longer than P2."""
+        """Responds to a request. Sends pending responses while the response takes longer than P2."""
         future = self._worker.submit(self._answer, request, is_to_all)
         seconds, is_pending = self._p2, False
         while True:
@@ -221,17 +225,17 @@ class Ecu(Answers, NamesWhatThereIs):
             except NotYet:
                 self._send(bytes([codes.NEGATIVE, request[0], codes.PENDING]))
                 seconds, is_pending = self._p2_star * PART, True
-        # After one pending response, further ones follow in any case.
+        # After a pending response, the final response is always sent.
         if answer and (is_pending or not codes.is_suppressed(request, answer)):
             self._send(answer)
 
     def _send(self, answer: bytes) -> None:
-        # If the other end has given up, or the interface is bus off, the test notices it at the other end.
+        # If the other end has given up, or the interface is bus off, the test sees this at the other end.
         with contextlib.suppress(IsoTpError):
             self._end.send(answer)
 
     def _answer(self, request: bytes, is_to_all: bool) -> Optional[bytes]:
-        """Returns the answer to a request; None if there is no answer."""
+        """Returns the response to a request; None if no response is sent."""
         service = request[0]
         time.sleep(self._delayed.take(service) or 0.0)
         try:

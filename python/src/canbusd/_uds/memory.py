@@ -1,36 +1,36 @@
-"""The memory of a simulated ECU, with downloads and uploads: RequestDownload, RequestUpload, TransferData."""
+"""The memory of a simulated ECU, for downloads and uploads: RequestDownload, RequestUpload and TransferData."""
 
 from dataclasses import dataclass
 from typing import Optional
 
 from canbusd._uds.codes import DOWNLOAD, TRANSFER, TRANSFER_EXIT, NegativeResponse, check_length
 
-#: The most bytes of a TransferData: its service, its counter and data.
+#: The maximum length of a TransferData message in bytes: the service, the block counter and the data.
 BLOCK = 0x402
 
 
 @dataclass
 class Transfer:
-    """A download or an upload that has not ended."""
+    """A download or an upload that is in progress."""
 
     region: bytearray
     start: int
     size: int
     is_download: bool
-    #: The number of bytes transferred, and the number of the next block.
+    #: The number of bytes that were transferred, and the number of the next block.
     done: int = 0
     counter: int = 1
 
 
 class Memory:
-    """Memory by address: the first address of each region, and its bytes."""
+    """The ECU's memory: a dict with the bytes of each region, by the region's start address."""
 
     def __init__(self) -> None:
         self.regions: dict[int, bytearray] = {}
         self._transfer: Optional[Transfer] = None
 
     def request(self, request: bytes) -> bytes:
-        """Begins a download or an upload; returns the positive response."""
+        """Begins a download or an upload, and returns the positive response."""
         check_length(request, 5)
         sizes = request[2]
         address_size, size_size = sizes & 15, sizes >> 4
@@ -50,11 +50,12 @@ class Memory:
         return bytes([request[0] + 0x40, 0x20]) + BLOCK.to_bytes(2, "big")
 
     def transfer(self, request: bytes) -> bytes:
-        """Transfers a block of data; returns the positive response."""
+        """Transfers a block of data, and returns the positive response."""
         check_length(request, 2, BLOCK)
         going = self._going()
         if going.is_download and going.done and request[1] == (going.counter - 1) % 256:
-            # The client repeats a block if the answer was lost: the block is answered again, but not written again.
+            # The client repeats a block if it has not received the response. Then the response is sent again, but the
+            # block is not written twice.
             return bytes([TRANSFER + 0x40, request[1]])
         if request[1] != going.counter % 256:
             raise NegativeResponse(0x73)
@@ -75,7 +76,7 @@ class Memory:
         return bytes([TRANSFER + 0x40, request[1]]) + content
 
     def end(self, request: bytes) -> bytes:
-        """Ends a download or an upload; returns the positive response."""
+        """Ends a download or an upload, and returns the positive response."""
         going = self._going()
         if going.done < going.size:
             raise NegativeResponse(0x24)
@@ -83,7 +84,7 @@ class Memory:
         return bytes([TRANSFER_EXIT + 0x40])
 
     def forget(self) -> None:
-        """Ends the present transfer, for example at a change of session."""
+        """Ends the current transfer, for example when the session changes."""
         self._transfer = None
 
     def _going(self) -> Transfer:
