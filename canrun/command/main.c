@@ -48,7 +48,7 @@ static const char HELP[] =
     "  --date D              the date at the start: 2026-01-31, 2026-01-31T12:00:00 (UTC), seconds since 1970, or now\n"
     "                        (default: 2026-01-01)\n"
     "  --until S             end PROGRAM after so many seconds of its clock (SIGTERM)\n"
-    "  --stall S             give up, with status 125, where nothing goes on for so many seconds of real time\n"
+    "  --stall S             give up, with status 125, if nothing goes on for this many seconds of real time\n"
     "                        (default: 30; 0: never)\n"
     "  --seed N              another order of those that are due at one moment, the same for each N (default: 0, by age)\n"
     "  --jitter MICROS       each timed wait is longer by up to so many microseconds, which N determines (default: 0); to\n"

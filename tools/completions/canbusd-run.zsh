@@ -9,7 +9,7 @@ local -a options=(
     '--virtual[simulate the clock of PROGRAM and of all that it starts]'
     '--date=[the date at the start: 2026-01-31, 2026-01-31T12:00:00 (UTC), seconds since 1970, or now]:D:'
     '--until=[end PROGRAM after so many seconds of its clock (SIGTERM)]:S:'
-    '--stall=[give up, with status 125, where nothing goes on for so many seconds of real time]:S:'
+    '--stall=[give up, with status 125, if nothing goes on for this many seconds of real time]:S:'
     '--seed=[another order of those that are due at one moment, the same for each N]:N:'
     '--jitter=[each timed wait is longer by up to so many microseconds, which N determines]:MICROS:'
     # end of words

@@ -23,12 +23,12 @@ _canbusd() {
         'restart:bring interfaces back from bus off'
         'down:take interfaces off the bus'
         'up:bring interfaces up'
-        'restbus:send what the other nodes of a DBC file send'
+        'restbus:send the messages of the other nodes of a DBC file'
         'convert:make an ASC, BLF, pcapng or candump log of another'
         'extcap:show the interfaces of a server in Wireshark'
         'sweep:run a command with a fault at each attempt'
         'report:show the run of a record as a page, or as text'
-        'replay:replay a record, and list what happened in it'
+        'replay:replay a record, and list its events'
         # end of words
         'help:show the help of a command'
     )
@@ -38,7 +38,7 @@ _canbusd() {
     case $line[1] in
     # words: zsh
     serve) _arguments '(- *)--help[show the help]' \
-        '--ack=[Who acknowledges: a silent node (always), or only the other interfaces (peers)]:MODE:(always peers)' \
+        '--ack=[Frames are acknowledged by a silent node (always), or only by the other interfaces (peers)]:MODE:(always peers)' \
         '--report[Make error message frames of each fault too, not only of changes of state]' \
         '--txqueue=[Frames that an interface keeps to be sent, 1 to 1024]:N:' \
         '--rxqueue=[Frames that a socket keeps to be received, 1 to 65536]:N:' \
@@ -52,13 +52,13 @@ _canbusd() {
         '--write=[Most bytes of frames in one write to a client, 256 to 65536]:BYTES:' \
         '--out=[Write the log and the record of each bus into DIR]:DIR:_files -/' \
         '--record=[When records are written: at the end, live, or none]:WHEN:(end live none)' \
-        '--flush=[Milliseconds that what is written live may wait, 0 to 60000]:MS:' \
-        '--sync[Wait each time until the disk has what is written live]' \
-        '--until-eof[End the run where standard input ends]' \
+        '--flush=[Milliseconds that live output may wait, 0 to 60000]:MS:' \
+        '--sync[Wait each time until live output is on the disk]' \
+        '--until-eof[End the run when standard input ends]' \
         '--verbose[Report each client and each bus off in a line on standard error]' \
         '*:bus:_canbusd_bus' ;;
     bench) _arguments '(- *)--help[show the help]' \
-        '--ack=[Who acknowledges: a silent node (always), or only the other interfaces (peers)]:MODE:(always peers)' \
+        '--ack=[Frames are acknowledged by a silent node (always), or only by the other interfaces (peers)]:MODE:(always peers)' \
         '--report[Make error message frames of each fault too, not only of changes of state]' \
         '--txqueue=[Frames that an interface keeps to be sent, 1 to 1024]:N:' \
         '--rxqueue=[Frames that a socket keeps to be received, 1 to 65536]:N:' \
@@ -75,7 +75,7 @@ _canbusd() {
         '*--bitrate=[Bits a second, 5000 to 1000000: write how long each attempt is on the wire]:[NAME=]N:' \
         '*--dbitrate=[Bits a second of the data phase of FD frames, to 20000000]:[NAME=]M:' \
         '--cut[Audit a record that is cut off, as far as it reaches]' \
-        '--events[Write each legal entry with what it brought about]' \
+        '--events[Write each legal entry with its effects]' \
         '--faults=[Names and script of faults of the run: write which rule gave each attempt its verdict]:NAMES@FILE:_canbusd_bus' \
         '*:file:_files' ;;
     bits) _arguments '(- *)--help[show the help]' \

@@ -167,7 +167,7 @@ fn events_option<'a>(alloc: Global) -> Arg<'a>
     Arg::new(alloc, EVENTS)
         .long(EVENTS)
         .action(ArgAction::SetTrue)
-        .help("Write each legal entry with what it brought about")
+        .help("Write each legal entry with its effects")
 }
 
 fn files_argument<'a>(alloc: Global) -> Arg<'a>

@@ -292,7 +292,7 @@ fn ack_option<'a>(alloc: Global) -> Arg<'a>
         .long(ACK)
         .value_name("MODE")
         .default_value(ALWAYS)
-        .help("Who acknowledges: a silent node (always), or only the other interfaces (peers)")
+        .help("Frames are acknowledged by a silent node (always), or only by the other interfaces (peers)")
 }
 
 fn report_option<'a>(alloc: Global) -> Arg<'a>

@@ -16,9 +16,9 @@ pub const BENCH_HELP: &str = "Lines of standard input, carried out one after the
   at SECONDS.MICROS  Set the moment, at first 0.000000: 1 to 10 digits, a point, 6 digits
   session S          Start session S, 1 to 64
   feed S BYTES       Feed session S bytes of its client: messages, in one piece or cut anywhere
-  drain S            Write what the socket of session S received
+  drain S            Write the items that the socket of session S received
   end S              End session S
-  attempt            Put the frame that wins arbitration on the bus, and write what became of it
+  attempt            Put the frame that wins arbitration on the bus, and write the result
   fault RULE         Add a rule of faults, as in a script, from here on
   down NAME          Take this interface down, at the moment set
   up NAME            Bring this interface up, or back from bus off, at the moment set
@@ -33,8 +33,8 @@ Messages of a session (socketcand's raw mode), in the order of a first run:
   < sendfd ID LEN BYTE .. >  Send an FD frame of 0 to 8, 12, 16, 20, 24, 32, 48 or 64 bytes; needs < fdframes 1 >
   < sendfdx FLAGS ID LEN BYTE .. >
                              The same with flags: 1 is BRS, the bit rate switch, 2 is ESI, 3 both
-  < filter N ID MASK .. >    Receive what matches one of N filters, in words of linux/can.h; at first everything
-  < join 0|1 >               Receive what matches all filters, not one of them (0)
+  < filter N ID MASK .. >    Receive frames that match one of N filters, in words of linux/can.h; at first all frames
+  < join 0|1 >               Receive only frames that match all filters (1), or one of them (0)
   < loopback 0|1 >           Give frames to other sockets of the interface too (1)
   < recvown 0|1 >            Receive own frames too (0)
   < fdframes 0|1 >           Send and receive FD frames too (0)
@@ -46,7 +46,8 @@ Messages of a session (socketcand's raw mode), in the order of a first run:
   < status >                 Write < status STATE TEC REC >, from the error counters of the interface
   < load >                   Write < load PERMILLE MICROS BITRATE DBITRATE >: how busy a bus of a server was in the last
                              whole second and in microseconds since its start, and its --bitrate and --dbitrate; else 0
-  < restart >                Bring the interface back that is bus off, before --auto-restart does, or up where it is down
+  < restart >                Restart an interface that is bus off, before --auto-restart does, or bring one up that is
+                             down
   < down >                   Take the interface down: until < restart > it takes no part
   < close >                  Close the socket, and write < closed UNREAD DROPPED >
 Once an interface is taken, with a socket or without:

@@ -213,7 +213,7 @@ pub fn serve_command<'a>(alloc: Global) -> Result<Command<'a>, AllocError>
     let sessions_help = "Sessions to serve [default, and the most: 4000, in long runs 4294967295]";
     let pace_help = "Milliseconds after each attempt of a bus without --bitrate, 0 to 60000";
     let write_help = "Most bytes of frames in one write to a client, 256 to 65536";
-    let flush_help = "Milliseconds that what is written live may wait, 0 to 60000 [default: 100]";
+    let flush_help = "Milliseconds that live output may wait, 0 to 60000 [default: 100]";
     let command = Command::new(alloc, "serve")
         .about("Serve clients on buses")
         .after_help(SERVE_HELP);
@@ -277,7 +277,7 @@ fn sync_option<'a>(alloc: Global) -> Arg<'a>
     Arg::new(alloc, SYNC)
         .long(SYNC)
         .action(ArgAction::SetTrue)
-        .help("Wait each time until the disk has what is written live")
+        .help("Wait each time until live output is on the disk")
 }
 
 fn until_eof_option<'a>(alloc: Global) -> Arg<'a>
@@ -287,7 +287,7 @@ fn until_eof_option<'a>(alloc: Global) -> Arg<'a>
     Arg::new(alloc, UNTIL_EOF)
         .long(UNTIL_EOF)
         .action(ArgAction::SetTrue)
-        .help("End the run where standard input ends")
+        .help("End the run when standard input ends")
 }
 
 fn verbose_option<'a>(alloc: Global) -> Arg<'a>

@@ -85,11 +85,11 @@ COMMANDS = {
     "restart": "bring interfaces back from bus off",
     "down": "take interfaces off the bus",
     "up": "bring interfaces up",
-    "restbus": "send what the other nodes of a DBC file send",
+    "restbus": "send the messages of the other nodes of a DBC file",
     "convert": "make an ASC, BLF, pcapng or candump log of another",
     "extcap": "show the interfaces of a server in Wireshark",
     "sweep": "run a command with a fault at each attempt",
     "report": "show the run of a record as a page, or as text",
-    "replay": "replay a record, and list what happened in it",
+    "replay": "replay a record, and list its events",
 }
 # end of words
