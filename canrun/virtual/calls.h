@@ -96,7 +96,7 @@ long look_at(struct pollfd *fds, nfds_t count);
  * if the descriptor does not block. `deadline` is 0 at first. */
 bool await_later(int fd, short events, uint64_t *deadline);
 /* Waits until a blocking call on a descriptor can be made. Returns false and sets errno if the timeout or a signal
-   came. */
+ * came. */
 bool await_ready(int fd, short events, int flags);
 /* Waits until a blocking call on a descriptor can be made, or until this deadline. */
 bool await_until(int fd, short events, uint64_t deadline);
@@ -126,7 +126,7 @@ uint64_t key_of_any(const volatile void *at, uint64_t salt);
 /* ---- signals.c ---- */
 
 /* The state that set_mask saves when it replaces the signal mask for a wait; put_mask_back restores the mask. `handled`
-   is the value of my.handled before the wait. */
+ * is the value of my.handled before the wait. */
 struct masked {
     sigset_t before;
     uint32_t handled;
@@ -142,12 +142,12 @@ void signal_sent(pid_t pid, int number);
 /* ---- signalfds.c ---- */
 
 /* has_signalfds returns whether this process may have a signalfd, and signalfds_note notes that it has one. is_signalfd
-   returns whether this descriptor is a signalfd. */
+ * returns whether this descriptor is a signalfd. */
 bool has_signalfds(void);
 void signalfds_note(void);
 bool is_signalfd(int fd);
 /* Adds this process's signalfds to an epoll again, because another process may have polled the epoll and found no
-   signal. */
+ * signal. */
 void signalfds_look(int epoll);
 
 /* ---- timerfds.c ---- */
@@ -176,7 +176,7 @@ long futex(long word, long operation, long value, long fourth, long fifth, long 
 /* ---- threads.c, processes.c ---- */
 
 /* Waits for a child as the C library does. The C library's own wait is in the kernel, where this library does not see
-   it. */
+ * it. */
 long wait_for_child(int number, long pid, int *status, int options, void *usage);
 /* Prepares the first thread of a program in the same way as later threads. */
 void begin_first_thread(void);

@@ -113,7 +113,7 @@ EXPORT int cnd_broadcast(cnd_t *condition) {
 /* ---- semaphores of one process or of several processes ---- */
 
 /* CPython reads the clock for each lock that it takes, even if the lock is free. The number of reads depends on its
-   version. */
+ * version. */
 EXPORT int sem_trywait(sem_t *semaphore) {
     REAL(sem_trywait);
     int result = real(semaphore);

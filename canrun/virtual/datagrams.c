@@ -1,5 +1,5 @@
 /* Datagrams to programs outside the run. Time does not stop for those programs, so the run ends if a datagram is sent
-   to one of them. */
+ * to one of them. */
 #define _GNU_SOURCE
 #include "calls.h"
 #include "peers.h"

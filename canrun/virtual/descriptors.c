@@ -182,7 +182,7 @@ long look_at(struct pollfd *fds, nfds_t count) {
 }
 
 /* Waits until one of these descriptors is ready, and returns the result of poll. After a signal handler it does not
-   poll again. */
+ * poll again. */
 static int poll_until(struct pollfd *fds, nfds_t count, uint64_t deadline) {
     uint32_t flags = 0;
     /* A bridge spends most of its time waiting, so it only polls if a descriptor may be ready. */

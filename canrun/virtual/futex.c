@@ -77,7 +77,7 @@ static struct slot *first_of(uint64_t key, uint32_t bits) {
 }
 
 /* Wakes up to `most` threads that wait in this library, and makes up to `most_moved` others wait for another key.
-   Returns the number of woken threads; `counts_moved` adds the moved ones. */
+ * Returns the number of woken threads; `counts_moved` adds the moved ones. */
 static long wake_and_move(uint64_t key, uint32_t bits, long most, uint64_t to, long most_moved, bool counts_moved) {
     long woken = 0, moved = 0;
     struct slot *slot;

@@ -41,7 +41,7 @@ struct mapped {
 };
 
 /* Reads the mappings of a process. The list of a process that is ending may be cut off; it is complete if it contains
-   the stack, which comes after the libraries. */
+ * the stack, which comes after the libraries. */
 static struct mapped mapped_by(uint32_t pid) {
     char path[32], line[PATH_MAX + 200];
     struct mapped mapped = {false, false, false, false, false};
@@ -99,7 +99,7 @@ static void say_foreign(uint32_t pid, const char *obstacle) {
 }
 
 /* Reports a program without the library after it has run or slept for a long time, because it may then have read the
-   real clock. */
+ * real clock. */
 static void note_foreign(uint32_t index) {
     static struct {
         uint32_t pid;
@@ -232,7 +232,7 @@ static uint64_t times_run(uint32_t pid, uint32_t tid) {
 }
 
 /* Checks whether all threads of a process sleep, or only the thread `tid`. Adds the number of times they ran to
-   `times`. */
+ * `times`. */
 static bool all_sleep(uint32_t pid, uint32_t tid, uint64_t *times) {
     char path[40];
     bool do_sleep = true;
@@ -316,7 +316,7 @@ static void take_back(uint64_t turn, bool is_stopped) {
 }
 
 /* Whether the thread has slept in this turn for several checks in a row. A thread that waits for a disk or for memory
-   runs again soon. */
+ * runs again soon. */
 static bool is_asleep_for_long(uint64_t turn, char state, uint64_t times) {
     static struct {
         uint64_t turn, times;

@@ -36,7 +36,7 @@ void fail_outside(const char *does, const char *kind, const struct sockaddr *to)
 }
 
 /* Whether a process belongs to the run, which is so if it is a descendant of the coordinator. Returns true if the
-   process has ended. */
+ * process has ended. */
 static bool is_of_run(uint32_t pid) {
     return proc_is_below(pid, (uint32_t)coordinator_pid) || !proc_parent(pid);
 }
@@ -73,7 +73,7 @@ EXPORT int listen(int fd, int backlog) {
 }
 
 /* Ends the run if the other end of a connection is outside the run. Services that resolve user and host names may be
-   outside. */
+ * outside. */
 static void check_peer(int fd, const struct sockaddr *to) {
     char text[160];
     int type = 0;
@@ -127,7 +127,7 @@ static long connect_unix(int fd, const struct sockaddr *to, socklen_t length) {
 }
 
 /* The kernel's CAN sockets use the real clock. A canbusd-run inside the run provides its own CAN sockets, and sets this
-   variable. */
+ * variable. */
 #define HAS_INTERFACES "CANBUSD_INTERFACES"
 
 EXPORT int socket(int domain, int type, int protocol) {

@@ -27,7 +27,7 @@ struct usage {
 struct usage proc_usage(uint32_t pid, uint32_t tid);
 
 /* proc_tracer returns the tracer of this process, or 0. proc_is_of_user returns whether a process has the rights of
-   this user. */
+ * this user. */
 uint32_t proc_tracer(uint32_t pid);
 bool proc_is_of_user(uint32_t pid, uint32_t user);
 

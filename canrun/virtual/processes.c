@@ -164,7 +164,7 @@ EXPORT int posix_spawnp(pid_t *restrict pid, const char *restrict file, const po
 }
 
 /* For canbusd-run's library when it starts a bridge. canbusd_virtual_bear takes a slot for the bridge, and
-   canbusd_virtual_born stores its process number. */
+ * canbusd_virtual_born stores its process number. */
 EXPORT uint32_t canbusd_virtual_bear(void);
 uint32_t canbusd_virtual_bear(void) {
     return run ? bear() : NOBODY;

@@ -74,7 +74,7 @@ ALSO(__pthread_rwlock_unlock, pthread_rwlock_unlock)
 /* ---- barriers ---- */
 
 /* The layout of the C library's barrier. A barrier without waiting threads is in its initial state, so it may be
-   destroyed. */
+ * destroyed. */
 struct barrier {
     uint32_t in, round, count;
     int is_shared;

@@ -18,7 +18,7 @@
 #include <unistd.h>
 
 /* The lowest number of the run's descriptor in a program, so that the program's own descriptors keep their usual
-   numbers. */
+ * numbers. */
 #define HIGH_DESCRIPTOR 900
 
 /* Receives the descriptor in the coordinator's reply. Returns -1 if there is none. */
@@ -154,7 +154,7 @@ static void recognize(void) {
 
 #ifndef FOR_BRIDGE
 /* Ends the run if this process is traced: the tracer stops the process at its calls, and the tracer itself waits for
-   turns. */
+ * turns. */
 static void end_traced(void) {
     char test[TEST_ROOM];
     if (proc_tracer((uint32_t)RAW(SYS_getpid, 0))) {

@@ -295,7 +295,7 @@ ssize_t __recvfrom_chk(int fd, void *data, size_t length, size_t room, int flags
 /* ---- writing ---- */
 
 /* Writes data in pieces if there is more than a pipe takes at once. A single call would make the kernel wait for the
-   reader. */
+ * reader. */
 static ssize_t write_pieces(int fd, const char *data, size_t length) {
     size_t done = 0;
     while (done < length) {

@@ -46,7 +46,7 @@ struct my {
 extern __thread struct my my __attribute__((tls_model("initial-exec")));
 
 /* The rank of a thread: a program's, a bridge's, a server's that uses sockets, or a server's that only drives a bus.
-   The lowest rank goes first. */
+ * The lowest rank goes first. */
 enum { RANK_PROGRAM, RANK_BRIDGE, RANK_SESSION, RANK_DRIVER };
 extern bool is_server, is_bridge;
 
@@ -100,7 +100,7 @@ uint64_t after(uint64_t nanoseconds);
 uint32_t turn_owner(void);
 
 /* Gives the turn to another slot, or marks it with DECIDING, if the turn still is `turn`. Returns false if the turn has
-   changed. */
+ * changed. */
 bool turn_change(uint64_t turn, uint32_t to);
 
 /* Makes the owner of the turn begin to choose the next one. Returns false if the turn was taken back. */
@@ -128,7 +128,7 @@ uint64_t key_of_children(uint32_t pid);
 uint64_t key_of_signals(uint32_t pid);
 
 /* Handles the signals that came while this thread chose the next turn. The pointer is NULL if no program has signal
-   handlers. */
+ * handlers. */
 extern void (*handle_deferred)(void);
 /* Asks the coordinator for the epoll. Returns false if there is no coordinator. */
 bool register_process(void);
