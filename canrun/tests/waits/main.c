@@ -1,5 +1,5 @@
-/* waits [NAME ..]: makes these waits, or all, at once. Prints `NAME MILLISECONDS MICROSECONDS RESULT` for each: the
- * expected length, the length by its own clock, and the result. */
+/* waits [NAME ..]: makes these waits, or all waits, at the same time. Prints `NAME MILLISECONDS MICROSECONDS RESULT`
+ * for each: the expected duration, the measured duration, and the result. */
 #include "waits.h"
 
 #include <pthread.h>
