@@ -1,16 +1,16 @@
 /* The speed limit that `canbusd serve` is measured against: a plain, single-threaded
- * server of socketcand's raw mode, over epoll.
+ * server of socketcand's raw mode, with epoll.
  *
- * It has one bus without faults, mode always, at pace 0.  A turn of its loop reads what
- * has come from each session, lets the bus run until no frame waits, and gives each
- * session what is queued to it in one write.  A receive queue is text that is not written
- * yet and a count; it grows only while its session's socket takes nothing.
+ * It has one bus without faults, with mode always and pace 0.  Each turn of its loop reads
+ * the input of each session, runs the bus until no frame waits, and then writes to each
+ * session everything that is queued for it, in one call.  A receive queue is a text that
+ * is not written yet, and a count.  It grows only while the session's socket is full.
  *
- * Commands: echo, open, rawmode, send, filter, recvown, loopback, stats, close.  All else
- * is an unknown command.
+ * Commands: echo, open, rawmode, send, filter, recvown, loopback, stats, close.  All others
+ * are unknown commands.
  *
- * Built with -DWRONG, `--wrong KIND` makes it do one thing wrong now and then, so that
- * tests can see whether a client notices.
+ * If it is built with -DWRONG, `--wrong KIND` makes it do one thing wrong now and then, so
+ * that tests can check whether a client notices.
  */
 #define _GNU_SOURCE
 #include <arpa/inet.h>
@@ -56,7 +56,7 @@ static void die(const char *text) {
     exit(1);
 }
 
-/* ---------------------------------------------------------------- wrong on purpose */
+/* ---------------------------------------------------------------- deliberate faults */
 
 enum wrong { RIGHT, OWNED, DROP, SWAP, DOUBLE, DATA, REFUSE, FORGET, COUNT, MUTE, WRONGS };
 
@@ -149,7 +149,7 @@ static void watch(const session_t *s, int op) {
     epoll_ctl(epoll_fd, op, s->fd, &e);
 }
 
-/* A place for n more bytes after what is there. */
+/* Returns a place for n more bytes after the queued output, which grows if necessary. */
 static char *place(session_t *s, size_t n) {
     if (UNLIKELY(s->size - s->to < n)) {
         if (s->from > s->size / 2) {
@@ -176,7 +176,7 @@ static void answer(session_t *s, const char *text) {
     }
 }
 
-/* Takes and writes what is queued, as far as the socket takes it. */
+/* Writes the queued output, as far as the socket accepts it. */
 static void flush(session_t *s) {
     while (s->mode != GONE) {
         if (s->from == s->cut) {
@@ -208,7 +208,7 @@ static void flush(session_t *s) {
 
 /* ---------------------------------------------------------------- the bus */
 
-/* The lesser key goes before. */
+/* The frame with the lower key wins arbitration. */
 static inline u32 arbitration_key(u32 word) {
     if (!(word & EXT_BIT))
         return (word & 0x7FF) << 21;
@@ -294,7 +294,7 @@ static void wrong_post(session_t *s, char *text, u32 len, u32 word) {
     }
 }
 
-/* Attempts until no frame waits. */
+/* Runs attempts until no frame waits. */
 static void run_bus(void) {
     while (with_head) {
         u64 best = UINT64_MAX;
@@ -475,7 +475,7 @@ static const char *close_words(session_t *s) {
 
 enum { IN_NO_BUS = 1 << NO_BUS, IN_OPENED = 1 << OPENED, IN_RAW = 1 << RAW };
 
-/* One whole message: the text of its answer. */
+/* Handles one whole message, and returns the text of the answer. */
 static const char *message(session_t *s, const char *p, const char *end) {
     static const struct {
         char text[10];
@@ -541,9 +541,8 @@ static const char *message(session_t *s, const char *p, const char *end) {
     return "< echo >";
 }
 
-/* A `send` in its plainest spelling, from the byte after `<`: answers the byte
- * after `>`, or NULL for everything else.  A byte that is no digit, no space and
- * no `>` is at the end of what can be read. */
+/* Handles a `send` in its simplest form, from the byte after `<`.  Returns a pointer to the byte after `>`, or NULL for
+ * any other form. The text must end with a byte that is no digit, no space and no `>`. */
 static inline const char *plain_send(session_t *s, const char *p) {
     if (memcmp(p, " send ", 6) != 0)
         return NULL;
@@ -586,7 +585,7 @@ static inline const char *plain_send(session_t *s, const char *p) {
     return p + 1;
 }
 
-/* The byte at end is LF, as is the one after what is kept. */
+/* Handles input of a session. The byte at `end` is LF, and so is the byte after a message that is kept. */
 static void feed(session_t *s, const char *p, const char *end) {
     while (s->mode != ENDED && s->mode != GONE) {
         if (!s->inside) {
