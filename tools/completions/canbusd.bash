@@ -16,7 +16,8 @@ _canbusd() {
     1,*) _canbusd_offer "$commands help --help --version" && return ;;
     *,help) _canbusd_offer "$commands" && return ;;
     esac
-    # Depending on the command, the option before this word, and the word, offers the option's values, the file after a bus, or options.
+    # Offers an option's values, the file after a bus, or options: this depends on the command, the option before this
+    # word, and the word.
     case ${COMP_WORDS[1]},$before,$text in
     *,*,*@*) _canbusd_files -f default ;;
     # words: bash
