@@ -80,7 +80,7 @@ static char *make_room(char *o) /* at the start of a line or an item */
 #define LIT(o, s) (memcpy((o), (s), sizeof(s) - 1), (o) + sizeof(s) - 1)
 
 static char hex_pair[256][2], dec_pair[100][2];
-static u8 hex_value[256]; /* 255: no digit */
+static u8 hex_value[256]; /* 255: not a digit */
 
 static void make_tables(void) {
     static const char digits[] = "0123456789ABCDEF";
@@ -225,7 +225,7 @@ typedef struct {
 typedef struct {
     u32 word;       /* identifier word; bit 29 marks an FD frame */
     u32 number_len; /* number << 8 | length */
-    u8 data[8];     /* in steps of 8 bytes */
+    u8 data[8];     /* its size is a multiple of 8 bytes */
 } frame;
 
 #define FD_BIT 0x20000000u
@@ -453,13 +453,13 @@ static char *put_entry(char *o, const entry *e) {
 enum { HASH = 1024 };
 
 typedef struct {
-    u32 count, masked, inverted, singles; /* singles: 29-bit ones */
+    u32 count, masked, inverted, singles; /* singles: single 29-bit identifiers */
     bool all_or, all_and;
     bool join_never, inverted_always;
-    u32 join_mask, join_id;         /* all not inverted ones, joined */
-    u32 inverted_mask, inverted_id; /* all inverted ones, joined */
+    u32 join_mask, join_id;         /* all filters that are not inverted, joined */
+    u32 inverted_mask, inverted_id; /* all inverted filters, joined */
     u64 marks[2048 / 64];
-    u32 hash[HASH]; /* 0: nothing */
+    u32 hash[HASH]; /* 0: an empty place */
     _Alignas(32) u32 masked_id[MAX_FILTERS];
     _Alignas(32) u32 masked_mask[MAX_FILTERS];
     _Alignas(32) u32 inverted_ids[MAX_FILTERS];
@@ -556,7 +556,7 @@ typedef struct {
     item *ring;
     u32 ring_mask, capacity, head, len, dropped, taken;
     u32 number, err_mask;
-    u8 iface, place; /* place: in its interface's list */
+    u8 iface, place; /* place: the index in its interface's list */
     bool loopback, recv_own, join, fd, all, own_list;
     filter_set *filters;
 } socket_t;
@@ -570,7 +570,7 @@ typedef struct {
     u32 head, len;
     u16 tec, rec;
     u8 state, sockets;
-    u32 err_mask; /* of all its sockets, joined by OR */
+    u32 err_mask; /* the masks of all its sockets, joined by OR */
     u32 sent, done, lost, refused, since_off;
     socket_t *socket[MAX_OPEN];
 } iface_t;
@@ -582,7 +582,7 @@ static struct {
     bool peers;
 } config;
 static u64 heads[MAX_IFACES]; /* key << 4 | interface */
-static u32 with_head;         /* the interfaces that have a head */
+static u32 with_head;         /* the interfaces whose queue has a head */
 static iface_t iface[MAX_IFACES];
 static _Alignas(64) socket_t slots[MAX_OPEN];
 static u32 ring_size[MAX_OPEN];
@@ -1211,7 +1211,7 @@ typedef struct {
 
 static session_t session[MAX_SESSION + 1];
 static u32 rx_capacity = 256;
-static u32 now; /* place of the moment that was set */
+static u32 now; /* the index of the present timestamp */
 
 static char *put_error(char *o, const char *text) {
     size_t n = strlen(text);
@@ -1950,7 +1950,7 @@ static bool take_number(cursor *c, u64 most, u64 *v) {
     return c->p > start && !(*start == '0' && c->p - start > 1) && x <= most;
 }
 
-static bool take_hex(cursor *c, u32 digits, u32 *v) /* upper case alone */
+static bool take_hex(cursor *c, u32 digits, u32 *v) /* upper case only */
 {
     u32 x = 0;
     if ((size_t)(c->end - c->p) < digits)

@@ -75,7 +75,7 @@ int main(int words, char **word) {
     while (read(ends[0], &asked, 1) == 1) {
         struct can_frame frame = {.can_id = 0x123, .can_dlc = 8};
         uint64_t moment;
-        usleep(50); /* So that the receiver waits. */
+        usleep(50); /* By then the receiver waits. */
         moment = now();
         memcpy(frame.data, &moment, sizeof moment);
         check(write(fd, &frame, sizeof frame) == sizeof frame, "write");

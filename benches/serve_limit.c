@@ -66,7 +66,7 @@ static const char *const wrong_text[WRONGS] = {"right", "owned",  "drop",   "swa
                                                "data",  "refuse", "forget", "count", "mute"};
 static u32 wrong, wrong_turns, wrong_every = 1000;
 
-static bool turn(u32 kind) /* true each 1000th time */
+static bool turn(u32 kind) /* true every 1000th time */
 {
     return wrong == kind && ++wrong_turns % wrong_every == 0;
 }
@@ -100,9 +100,9 @@ typedef struct {
     bool inside, recv_own, loopback, all, blocked;
     u32 number, filters;
     u32 (*filter)[2];
-    char *text; /* from..cut: being written; cut..to: not taken yet */
+    char *text; /* from..cut is being written; cut..to is not taken yet */
     size_t from, cut, to, size;
-    u32 waiting; /* frames in cut..to */
+    u32 waiting; /* how many frames cut..to has */
     u64 taken, dropped;
     u32 kept_len, held_len, held_word;
     char kept[MAX_INSIDE + 16], held[ITEM];
@@ -112,7 +112,7 @@ static char name[MAX_IFACES][16];
 static u32 name_len[MAX_IFACES], ifaces;
 static iface_t iface[MAX_IFACES];
 static u64 heads[MAX_IFACES]; /* key << 4 | interface */
-static u32 with_head;         /* the interfaces that have a head */
+static u32 with_head;         /* the interfaces whose queue has a head */
 static u32 tx_capacity = 10, rx_capacity = 256, tx_mask;
 static session_t session[MAX_SESSIONS];
 static session_t *raw[MAX_SESSIONS];
@@ -122,7 +122,7 @@ static bool echo_only;
 static int epoll_fd, listen_fd;
 static char block[BLOCK + 64];
 static char hex_pair[256][2], dec_pair[100][2];
-static u8 hex_value[256]; /* 255: no digit */
+static u8 hex_value[256]; /* 255: not a digit */
 
 static void make_tables(void) {
     static const char digits[] = "0123456789ABCDEF";
@@ -664,7 +664,7 @@ static void accept_all(void) {
         }
         accepted++;
         int one = 1;
-        setsockopt(fd, IPPROTO_TCP, TCP_NODELAY, &one, sizeof one); /* a Unix socket says no */
+        setsockopt(fd, IPPROTO_TCP, TCP_NODELAY, &one, sizeof one); /* this fails on a Unix socket */
         session_t *s = session;
         while (s < session + MAX_SESSIONS && s->mode != NOT_USED)
             s++;

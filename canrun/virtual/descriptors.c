@@ -160,7 +160,7 @@ static uint32_t wait_with_key(const struct pollfd *fds, nfds_t count, uint64_t d
 }
 
 uint32_t wait_for(const struct pollfd *fds, nfds_t count, uint64_t deadline) {
-    /* No thread reports signals that the kernel itself sends. */
+    /* A signalfd needs another poll, because no thread reports signals that the kernel itself sends. */
     return wait_with_key(fds, count, deadline, 0, has_signalfds());
 }
 

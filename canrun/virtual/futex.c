@@ -125,7 +125,7 @@ static bool change_word(long word, uint32_t encoded) {
     }
 }
 
-/* ---- words with an owner ---- */
+/* ---- words that contain their owner (FUTEX_LOCK_PI) ---- */
 
 struct owned {
     long word;

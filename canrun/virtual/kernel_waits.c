@@ -88,7 +88,7 @@ EXPORT int lockf(int fd, int operation, off_t length) {
 }
 ALSO(lockf64, lockf)
 
-/* ---- System V ---- */
+/* ---- System V queues and semaphores ---- */
 
 struct message_of_queue {
     int queue, flags;

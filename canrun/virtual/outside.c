@@ -30,7 +30,7 @@
 #define FOREIGN_LOOKS 4
 /* After this many more checks a sleeping thread that has the turn counts as asleep. */
 #define SLEEP_LOOKS 4
-/* The parent of a process for which no thread has taken a slot. */
+/* The value of a slot's `parent` if no thread took the slot for the process. */
 #define STRANGER UINT32_MAX
 
 /* ---- programs that do not load the library ---- */

@@ -1,4 +1,4 @@
-/* Servers outside the run. */
+/* Connections to servers outside the run, which end the run. */
 #define _GNU_SOURCE
 #include "calls.h"
 #include "peers.h"

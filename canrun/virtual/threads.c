@@ -63,7 +63,7 @@ static void thread_ends(void *count) {
     } while (!begin_deciding());
     leave_mutexes();
     wake(key_of((void *)(uintptr_t)pthread_self(), OF_END), INT_MAX);
-    /* The first thread exists as long as its process. */
+    /* No thread waits for the end of a first thread, because it exists as long as its process. */
     run->ending = slot->tid != slot->pid ? (uint64_t)slot->pid << 32 | slot->tid : 0;
     free_slot(slot);
     uint32_t next = next_turn(false);

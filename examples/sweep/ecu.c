@@ -44,7 +44,7 @@ int main(int count, char **words) {
         if (now() >= due) {
             due += 20;
             write(node, &cyclic, sizeof cyclic);
-            cyclic.data[0]++; /* also when the write was refused */
+            cyclic.data[0]++; /* even if the write was refused */
         }
     }
 }

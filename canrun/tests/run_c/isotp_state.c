@@ -168,7 +168,7 @@ static void signals(void) {
     FAILS(write(fd, "0123456789", 10), EINTR);
     SEES("\x10\x0A"
          "012345");
-    SAYS("\x30\0\0"); /* The message was given up. */
+    SAYS("\x30\0\0"); /* The message has been aborted. */
     CHECK(!comes(peer, QUIET));
     CHECK(close(fd) == 0);
 }

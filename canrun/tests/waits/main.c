@@ -78,7 +78,7 @@ void later(int ms, void (*call)(void *), void *of) {
     sigset_t all, before;
     pthread_t thread;
     *it = (struct late){ms, call, of};
-    sigfillset(&all); /* Signals are for the thread that waits. */
+    sigfillset(&all); /* Only the waiting thread gets signals. */
     pthread_sigmask(SIG_SETMASK, &all, &before);
     CHECK(!pthread_create(&thread, NULL, be_late, it));
     pthread_sigmask(SIG_SETMASK, &before, NULL);

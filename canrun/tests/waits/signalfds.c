@@ -19,7 +19,7 @@ static void come_in(int ms) {
     setitimer(ITIMER_REAL, &(struct itimerval){{0, 0}, {0, ms * 1000}}, NULL);
 }
 
-/* Starts another process that sleeps again and again, so that it polls the run's descriptors for the run. */
+/* Starts another process that sleeps again and again. At each sleep it polls the epoll of the run. */
 static void other_process(void) {
     if (fork() == 0) {
         for (int i = 0; i < 20; i++) {
