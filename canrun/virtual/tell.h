@@ -1,5 +1,5 @@
-/* Messages that a program asks the coordinator to print, because the program's own standard error may be captured, as
- * pytest does. */
+/* Messages that a program asks the coordinator to print, because the program's own standard error may be captured, for
+ * example by pytest. */
 #ifndef TELL_H
 #define TELL_H
 
