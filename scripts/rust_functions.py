@@ -52,8 +52,7 @@ def text_of(path: str) -> str:
 
 
 def types_of(folder: str) -> Types:
-    """Returns the module of each type in the crate, because the names of the type's functions begin with that module.
-    """
+    """Returns the module of each type in the crate, because the names of the type's functions begin with that module."""
     pattern = re.compile(r"(?m)^\s*(?:pub(?:\([^)]*\))?\s+)?(?:struct|enum|union)\s+(\w+)")
     found = {}
     for path in sources_of(folder):
