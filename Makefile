@@ -1,25 +1,25 @@
-# make              proves and builds the program, and builds canbusd-run where there is a gcc
+# make              proves and builds the program, and builds canbusd-run if there is a gcc
 # make run          builds canbusd-run only (canrun/)
-# make library       proves and builds libcanbusd: libcanbusd/out/
-# make check        all that needs no kit: tests of the program, of canbusd-run and of the Python package, examples, types, form
-#                   and linters. Slow tests are left out, and what else is skipped is listed with what it lacks. PART=bench runs
-#                   one part of it; `scripts/outside --list` prints them
-# make test         the test command: all of that, and each proof, edit and test of Rattle. PART=unproved runs what a change of
-#                   Rattle needs in between, scripts/test says which parts there are; `scripts/setup` installs what it needs
-# make dist         puts the proved program into dist/, with what it was built from
-# make dist-run     puts canbusd-run into dist/, with what it was built from
-# make dist-library puts the proved libcanbusd into dist/, with what it was built from
-# make verify-dist  proves and builds it again from scratch, and compares it with dist/ byte for byte
-# make install      puts the program with its launcher, the Python package, tools, manual page, completions, unit of systemd,
-#                   documents and examples under PREFIX (after DESTDIR); PYTHONDIR is where the package goes, as it is the
-#                   folder below PREFIX in which python3 looks for packages
-# make uninstall    removes them
-# make deb          makes a package for Debian of what make install installs
-# make wheel        makes a wheel of the Python package with the programs that make install takes, for pip
+# make library      proves and builds libcanbusd: libcanbusd/out/
+# make check        runs everything that needs no kit: tests of the program, of canbusd-run and of the Python package, examples,
+#                   types, formatting and linters. Slow tests are left out. Skipped tests are listed with what they lack.
+#                   PART=bench runs one part; `scripts/outside --list` prints the parts
+# make test         runs the test command: all of `make check`, and each proof, edit and test of Rattle. PART=unproved runs what
+#                   is needed while Rattle code changes. scripts/test lists the parts; `scripts/setup` installs what it needs
+# make dist         puts the proved program into dist/, with a file that names the sources it was built from
+# make dist-run     puts canbusd-run into dist/, with such a file
+# make dist-library puts the proved libcanbusd into dist/, with such a file
+# make verify-dist  proves and builds the program again from scratch, and compares it with dist/ byte for byte
+# make install      installs the program with its launcher, the Python package, tools, manual page, completions, systemd unit,
+#                   documents and examples under PREFIX (after DESTDIR). The package goes to PYTHONDIR, by default the folder
+#                   below PREFIX in which python3 looks for packages
+# make uninstall    removes the installed files
+# make deb          makes a Debian package of what make install installs
+# make wheel        makes a wheel for pip, of the Python package with the programs that make install takes
 # make clean        removes what was built here
 
 PREFIX ?= /usr/local
-# Some shells leave ~ in PREFIX=~/inst as it is.
+# In PREFIX=~/inst some shells do not replace ~ with the home folder.
 ifneq ($(filter ~/%,$(PREFIX)),)
 override PREFIX := $(patsubst ~/%,$(HOME)/%,$(PREFIX))
 endif
@@ -30,11 +30,11 @@ MANDIR = $(DESTDIR)$(PREFIX)/share/man/man1
 COMPLETIONS = $(DESTDIR)$(PREFIX)/share/bash-completion/completions
 ZSH = $(DESTDIR)$(PREFIX)/share/zsh/site-functions
 FISH = $(DESTDIR)$(PREFIX)/share/fish/vendor_completions.d
-# Where python3 looks for packages, below PREFIX.
+# The folder below PREFIX in which python3 looks for packages.
 PYTHONDIR ?= $(shell ./scripts/python-package place "$(PREFIX)")
-# Tools that need python3 and the package: in bin/ each is a link.
+# Tools that need python3 and the package. Each is a link in bin/.
 TOOLS = candump2bench
-# Where Wireshark looks for programs that capture, if it is below this PREFIX.
+# The folder in which Wireshark looks for capture programs, if it is below this PREFIX.
 EXTCAPDIR = $(DESTDIR)$(PREFIX)/lib/x86_64-linux-gnu/wireshark/extcap
 
 # The compiler of canbusd-run.
@@ -51,7 +51,7 @@ run:
 test:
 	./scripts/test $(if $(PART),"$(PART)")
 
-# Debian's python3 where there is one, since python-can is installed there.
+# Uses Debian's python3 if there is one, because python-can is installed there.
 PYTHON ?= $(shell command -v /usr/bin/python3 || command -v python3)
 
 check:
@@ -102,7 +102,8 @@ uninstall:
 	rm -rf "$(LIBEXECDIR)"
 	rmdir "$(DESTDIR)$(PREFIX)/libexec" 2>/dev/null || true
 
-# Completions of the tools are those of canbusd's files; the unit of systemd; documents and examples.
+# Further files of the installation: the tools' completions, which are links to canbusd's, the systemd unit, documents
+# and examples.
 TOOL_COMPLETIONS = $(foreach tool,$(TOOLS),"$(COMPLETIONS)/$(tool)" "$(FISH)/$(tool).fish")
 UNITS = $(DESTDIR)$(PREFIX)/lib/systemd/system
 DOCDIR = $(DESTDIR)$(PREFIX)/share/doc/canbusd
@@ -124,7 +125,8 @@ uninstall-extras:
 	rm -f $(TOOL_COMPLETIONS) "$(UNITS)/canbusd.service"
 	rm -rf "$(DOCDIR)"
 
-# canbusd-run, where there is one that fits the sources or a gcc to build it: the command finds libraries and bridge beside it.
+# Installs canbusd-run if one fits the sources or a gcc can build it. The command finds its libraries and the bridge in
+# its own folder.
 install: install-run
 install-run:
 	install -d "$(BINDIR)" "$(LIBEXECDIR)" "$(MANDIR)" "$(COMPLETIONS)" "$(ZSH)" "$(FISH)"
@@ -142,7 +144,7 @@ uninstall-run:
 	rm -f "$(BINDIR)/canbusd-run" "$(MANDIR)/canbusd-run.1" "$(COMPLETIONS)/canbusd-run" "$(ZSH)/_canbusd-run" \
 		"$(FISH)/canbusd-run.fish"
 
-# libcanbusd, where there is one that fits the sources, built here or of dist/.
+# Installs libcanbusd if one fits the sources, built here or in dist/.
 LIBDIR ?= $(PREFIX)/lib
 install: install-library
 install-library:

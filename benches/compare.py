@@ -5,17 +5,18 @@
                        [--runs 5] [--modes bench,record,audit] [--instructions] [--json FILE]
 
 For each workload and mode (bench; bench with --record; audit of that record) both
-programs run in turn, --runs times each; standard output, exit status and record must be
-the same.  Printed: user+sys CPU seconds (least of the runs), events per second, the ratio
-canbusd / other, peak memory (ru_maxrss), and `growth`: the cost at N over the cost at
-N/4, where 4 is in proportion.  The time of an empty run is taken off both for growth.
+programs run in turn, --runs times each.  Standard output, exit status and record must be
+the same.  The table has user+sys CPU seconds (the minimum of the runs), events per second,
+the ratio canbusd / other, peak memory (ru_maxrss), and `growth`: the cost at N divided by
+the cost at N/4, which is 4 if the cost is proportional.  For growth, the time of an empty
+run is subtracted from both.
 
-`record - bench` in the ratio of a mode `record` is the cost of writing the record alone.
---instructions adds callgrind's count at a small size (N/16) and its growth from N/64
-(of `limit`, not of `limit-native`: valgrind knows no AVX-512).
+In the ratio of the mode `record`, `record - bench` is the cost of only writing the record.
+--instructions adds callgrind's instruction count at a small size (N/16) and its growth
+from N/64 (for `limit`, not for `limit-native`, because valgrind does not support AVX-512).
 
-CMD is like a shell's; words that name files are made absolute.  Status 0 where all
-outputs were the same, else 1.
+CMD is split as in a shell; words that name files are made absolute.  The status is 0 if
+all outputs were the same, and otherwise 1.
 """
 
 import argparse
@@ -40,7 +41,7 @@ def split_command(text):
 
 
 class Run:
-    """A finished run of a program."""
+    """The result of one run of a program."""
 
     def __init__(self, status, cpu, rss):
         self.status, self.cpu, self.rss = status, cpu, rss
@@ -79,7 +80,7 @@ def read(path):
 
 
 def masked_reporting(text):
-    """Returns REPORTING without the bits of missing interfaces, which --report may set or not."""
+    """Returns REPORTING without the bits of interfaces that do not exist, because --report may set these bits or not."""
     first, bus, rest = text.split(b"\n", 2)
     words = bus.split(b" ")
     words[3] = b"%04X" % (int(words[3], 16) & (1 << int(words[1])) - 1)
@@ -91,7 +92,7 @@ def events_of(record):
 
 
 class Workload:
-    """The files of one workload at one size, and the runs on them."""
+    """One workload at one size: its files, and the runs on them."""
 
     def __init__(self, name, n, folder, programs, words):
         self.name, self.n, self.words = name, n, words
@@ -138,7 +139,7 @@ class Workload:
         os.replace(self.path("other.rec"), self.path(f"{self.name}.rec"))
 
     def measure(self, runs):
-        """Returns {mode: {who: Run with the least cost and the greatest peak}}."""
+        """Returns {mode: {who: Run with the lowest cost and the highest peak memory of its runs}}."""
         answers = {}
         if "record" not in self.words.modes:
             self.call("record", "other")
@@ -156,7 +157,7 @@ class Workload:
         return answers
 
     def instructions(self, mode, who):
-        """Returns callgrind's count of instructions, or None."""
+        """Returns callgrind's instruction count, or None."""
         command = self.programs[who]
         if mode == "audit":
             args, stdin = ["audit", f"{self.name}.rec"], "/dev/null"
@@ -201,7 +202,7 @@ def growth(small, large, empty):
 
 
 def figures_of(name, n, folder, programs, empty, words):
-    """Returns the rows of one workload."""
+    """Returns the table rows of one workload."""
     part = max(1, n // 4)
     n = 4 * part
     quarter = Workload(name, part, folder, programs, words)
@@ -249,7 +250,7 @@ def instruction_rows(name, n, folder, programs, words):
             large, small = counts[0][mode, who], counts[1][mode, who]
             row[who] = large
             row[f"{who}_growth"] = large / small if large and small else None
-            # the additional cost of an event: start and end of the program cancel out
+            # the additional cost of an event, in which the start and the end of the program cancel out
             row[f"{who}_each"] = (large - small) / (sizes[0].events - sizes[1].events) if large and small else None
         rows.append(row)
     for one in sizes:

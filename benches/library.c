@@ -1,4 +1,4 @@
-/* What calls of libcanbusd cost, in nanoseconds of processor time: the least of five rounds.
+/* Measures what calls of libcanbusd cost, in nanoseconds of processor time: the minimum of five rounds.
  *
  *     cc -O2 -I../libcanbusd library.c ../libcanbusd/out/libcanbusd.a -o library && ./library */
 #include <canbusd.h>

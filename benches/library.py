@@ -1,7 +1,7 @@
 #!/usr/bin/env python3
-"""Measures a frame sent, put on the bus and received: by LocalBus, by it under python-can, by python-can's own `virtual`, and by a
-Bench inside the process and as another; and a dialogue of 20 attempts with a bench of its own. Microseconds of wall time, the least
-of five rounds; with `--cpu` those of this thread."""
+"""Measures how long it takes to send a frame, put it on the bus and receive it: with LocalBus, with LocalBus under python-can, with
+python-can's own `virtual`, and with a Bench in this process and in another one. Also measures a dialogue of 20 attempts with a new
+bench. Prints microseconds of wall time, the minimum of five rounds; with `--cpu` processor time of this thread."""
 
 import os
 import sys

@@ -1,12 +1,12 @@
 /* The speed limit that canbusd is measured against: `bench` and `audit` as one
- * plain, single-threaded C program, written for speed.  It proves nothing, and has no
- * `serve`: that is serve_limit.c.
+ * plain, single-threaded C program, written for speed.  Nothing in it is proved, and it
+ * has no `serve`, which is in serve_limit.c.
  *
- * The record stays in memory as 16 bytes an event.  Frames, moments and filter
- * lists are in areas of their own; a send names its frame, an attempt the
- * frame it tried, a receive (and a queued item) the attempt or restart that
- * posted it.  Nothing is allocated after the start but the ring of an opened
- * socket.
+ * The record stays in memory, with 16 bytes for each event.  Frames, timestamps and
+ * filter lists are in separate areas.  A send refers to its frame, and an attempt to
+ * the frame that it tried.  A receive (and a queued item) refers to the attempt or
+ * restart that posted it.  After the start nothing is allocated except the ring
+ * buffer of each opened socket.
  */
 #define _POSIX_C_SOURCE 200809L
 #include <fcntl.h>
@@ -80,7 +80,7 @@ static char *make_room(char *o) /* at the start of a line or an item */
 #define LIT(o, s) (memcpy((o), (s), sizeof(s) - 1), (o) + sizeof(s) - 1)
 
 static char hex_pair[256][2], dec_pair[100][2];
-static u8 hex_value[256]; /* 255: no digit */
+static u8 hex_value[256]; /* 255: not a digit */
 
 static void make_tables(void) {
     static const char digits[] = "0123456789ABCDEF";
@@ -225,7 +225,7 @@ typedef struct {
 typedef struct {
     u32 word;       /* identifier word; bit 29 marks an FD frame */
     u32 number_len; /* number << 8 | length */
-    u8 data[8];     /* in steps of 8 bytes */
+    u8 data[8];     /* its size is a multiple of 8 bytes */
 } frame;
 
 #define FD_BIT 0x20000000u
@@ -260,7 +260,7 @@ static inline u32 moment_place(u64 m) {
     return moment_count - 1;
 }
 
-/* The text of the moment that was put last is kept. */
+/* Caches the text of the last timestamp that was printed. */
 static u32 text_of = UINT32_MAX, text_len;
 static char moment_text[32];
 
@@ -297,7 +297,7 @@ static inline char *put_frame(char *o, const frame *f) {
     return put_bytes(o, f->data, len);
 }
 
-/* An error item: code << 28 | interface << 24 | three bytes. */
+/* An error item has the form code << 28 | interface << 24 | three bytes. */
 enum { E_OFF = 1, E_RESTART, E_STATE, E_FAULT, E_ACK };
 static const char error_class[6][4] = {"", "040", "100", "204", "088", "0A0"};
 
@@ -453,13 +453,13 @@ static char *put_entry(char *o, const entry *e) {
 enum { HASH = 1024 };
 
 typedef struct {
-    u32 count, masked, inverted, singles; /* singles: 29-bit ones */
+    u32 count, masked, inverted, singles; /* singles: single 29-bit identifiers */
     bool all_or, all_and;
     bool join_never, inverted_always;
-    u32 join_mask, join_id;         /* all not inverted ones, joined */
-    u32 inverted_mask, inverted_id; /* all inverted ones, joined */
+    u32 join_mask, join_id;         /* all filters that are not inverted, joined */
+    u32 inverted_mask, inverted_id; /* all inverted filters, joined */
     u64 marks[2048 / 64];
-    u32 hash[HASH]; /* 0: nothing */
+    u32 hash[HASH]; /* 0: an empty place */
     _Alignas(32) u32 masked_id[MAX_FILTERS];
     _Alignas(32) u32 masked_mask[MAX_FILTERS];
     _Alignas(32) u32 inverted_ids[MAX_FILTERS];
@@ -556,7 +556,7 @@ typedef struct {
     item *ring;
     u32 ring_mask, capacity, head, len, dropped, taken;
     u32 number, err_mask;
-    u8 iface, place; /* place: in its interface's list */
+    u8 iface, place; /* place: the index in its interface's list */
     bool loopback, recv_own, join, fd, all, own_list;
     filter_set *filters;
 } socket_t;
@@ -570,7 +570,7 @@ typedef struct {
     u32 head, len;
     u16 tec, rec;
     u8 state, sockets;
-    u32 err_mask; /* of all its sockets, joined by OR */
+    u32 err_mask; /* the masks of all its sockets, joined by OR */
     u32 sent, done, lost, refused, since_off;
     socket_t *socket[MAX_OPEN];
 } iface_t;
@@ -582,7 +582,7 @@ static struct {
     bool peers;
 } config;
 static u64 heads[MAX_IFACES]; /* key << 4 | interface */
-static u32 with_head;         /* the interfaces that have a head */
+static u32 with_head;         /* the interfaces whose queue has a head */
 static iface_t iface[MAX_IFACES];
 static _Alignas(64) socket_t slots[MAX_OPEN];
 static u32 ring_size[MAX_OPEN];
@@ -680,7 +680,7 @@ static inline void settle_all(socket_t *s) {
     s->all = !s->filters || (s->join ? s->filters->all_and : s->filters->all_or);
 }
 
-/* The list is at filter_list + filter_end already. */
+/* Sets a filter list, which is already at filter_list + filter_end. */
 static entry *do_filters(u32 number, socket_t *s, u32 count) {
     entry *e = new_entry(FILTERS, 0, FINE, number, filter_end, count);
     if (!s)
@@ -716,7 +716,7 @@ static entry *do_option(u32 number, socket_t *s, u32 which, u32 value) {
     return e;
 }
 
-/* The lesser key goes before. */
+/* The frame with the lower key wins arbitration. */
 static inline u32 arbitration_key(u32 word) {
     u32 rtr = word >> 30 & 1;
     if (!(word & EXT_BIT))
@@ -732,7 +732,7 @@ static inline void set_head(u32 i) {
         with_head &= ~(1u << i);
 }
 
-/* The frame's data is at frames + frame_end already. */
+/* Sends a frame whose data are already at frames + frame_end. */
 static inline entry *do_send(u32 number, socket_t *s, u32 word, u32 len) {
     u32 place = frame_end;
     frame *f = (frame *)(frames + place);
@@ -814,7 +814,7 @@ static inline u32 side(u32 count) {
     return count >= 128 ? PASSIVE : count >= 96 ? WARNING : ACTIVE;
 }
 
-/* Takes the new counts in; answers whether the state differs. */
+/* Updates the state of an interface after its error counters have changed; returns whether the state has changed. */
 static inline bool settle_state(u32 i) {
     iface_t *f = iface + i;
     u32 state = f->tec >= 256 ? OFF : side(f->tec > f->rec ? f->tec : f->rec), bit = 1u << i;
@@ -870,8 +870,8 @@ static void post_faults(u32 i, u32 ref, u32 w, u32 cls, u32 verdict, u32 hit) {
         post_error(i, ref, E_ACK, 0x8019);
 }
 
-/* Each socket's own items come in this order: the data frame, then the
- * error message frames of its interface, a fault's before a state's. */
+/* Runs an attempt. Each socket gets its items in this order: the data frame, then the error message frames of its
+ * interface. Those about the fault come before those about the state. */
 static entry *do_attempt(u32 moment, u32 verdict, u32 set) {
     u32 due = 0, ref = entries;
     entry *e = new_entry(ATTEMPT | verdict << 3, IDLE, set, 0, moment, 0);
@@ -1046,7 +1046,7 @@ static bool is_utf8(const u8 *p, size_t n) {
     return true;
 }
 
-/* The whole file, with room after it that may be read. */
+/* Reads a whole file. After the text there is room that may be read. */
 enum { AFTER = 16 * 1024 };
 
 static char *read_file(const char *path, size_t *size) {
@@ -1093,7 +1093,7 @@ static void script_fault(u32 line, const char *text) {
     exit(1);
 }
 
-/* 0 fine, 1 bad line, 2 unknown interface */
+/* Returns 0 for a good line, 1 for a bad line, and 2 for an unknown interface. */
 static int read_script_line(const char *p, const char *end, scripted *s) {
     const char *start = p;
     u32 number = 0;
@@ -1211,7 +1211,7 @@ typedef struct {
 
 static session_t session[MAX_SESSION + 1];
 static u32 rx_capacity = 256;
-static u32 now; /* place of the moment that was set */
+static u32 now; /* the index of the present timestamp */
 
 static char *put_error(char *o, const char *text) {
     size_t n = strlen(text);
@@ -1225,7 +1225,7 @@ static inline char *put_refusal(char *o, u32 refusal) {
     return refusal ? put_error(o, refusal_text[refusal]) : LIT(o, "< ok >");
 }
 
-/* -1 for BadId; else the identifier word. */
+/* Reads an identifier and stores the identifier word. Returns false if the identifier is bad. */
 static bool read_id(const char *p, u32 n, u32 *word) {
     u32 v = 0;
     if (n > 8)
@@ -1324,7 +1324,7 @@ static char *put_stats(char *o, const session_t *s) {
     return o;
 }
 
-/* `send` and `sendfd` after their checks of words */
+/* Handles `send` and `sendfd`, whose word checks the caller has done. */
 static char *send_words(session_t *s, char *o, const word_t *w, u32 n, bool fd) {
     u32 word, len;
     if (n < 3)
@@ -1380,7 +1380,7 @@ static char *filter_words(session_t *s, char *o, const word_t *w, u32 n) {
     return put_refusal(o, do_filters(s->socket->number, s->socket, count)->s);
 }
 
-/* One whole message; the byte at end can be read. */
+/* Handles one whole message. The byte at `end` may be read. */
 static char *message(session_t *s, const char *p, const char *end, char *o) {
     word_t w[MAX_INSIDE / 2 + 1];
     u32 n = 0, c, word;
@@ -1499,9 +1499,8 @@ static char *message(session_t *s, const char *p, const char *end, char *o) {
     return LIT(put_u32(o, e->z), " >");
 }
 
-/* A `send` in its plainest spelling, from the byte after `<`: answers the byte
- * after `>`, or NULL for everything else.  A byte that is no digit, no space and
- * no `>` is at the end of what can be read. */
+/* Handles a `send` in its simplest form, from the byte after `<`.  Returns a pointer to the byte after `>`, or NULL for
+ * any other form. The text must end with a byte that is no digit, no space and no `>`. */
 static inline const char *plain_send(session_t *s, const char *p, char **o) {
     if (memcmp(p, " send ", 6) != 0)
         return NULL;
@@ -1551,7 +1550,7 @@ static inline const char *plain_send(session_t *s, const char *p, char **o) {
     return p + 1;
 }
 
-/* The next `<` or `>`, or the end. */
+/* Returns the position of the next `<` or `>`, or the end. */
 static inline const char *next_mark(const char *p, const char *end) {
     while (end - p >= 8) {
         u64 x;
@@ -1567,7 +1566,7 @@ static inline const char *next_mark(const char *p, const char *end) {
     return p;
 }
 
-/* The byte at end is the line's LF. */
+/* Handles input of a session. The byte at `end` is the line's LF. */
 static char *feed(session_t *s, const char *p, const char *end, char *o) {
     while (s->mode != ENDED) {
         if (!s->inside) {
@@ -1672,7 +1671,7 @@ static char *drain(session_t *s, char *o) {
 
 /* ---------------------------------------------------------------- bench */
 
-/* Names of a set joined by commas; the last text for each winner is kept. */
+/* Caches the names of a set of interfaces, joined by commas: the last text for each winner. */
 static struct {
     u32 set, len;
     char text[256 + 16];
@@ -1749,7 +1748,7 @@ static bool read_moment(const char *p, const char *end, u64 *m) {
     return true;
 }
 
-/* A session number at p; the byte after it, or NULL. */
+/* Reads a session number at p. Returns a pointer to the byte after it, or NULL. */
 static inline const char *read_session(const char *p, const char *end, u32 *s) {
     if (p == end || *p < '1' || *p > '9')
         return NULL;
@@ -1766,7 +1765,7 @@ static inline char *put_number(char *o, u32 s) {
     return o;
 }
 
-/* One line; the byte at end can be read and is LF.  False for a bad line. */
+/* Handles one line. The byte at `end` may be read and is LF.  Returns false for a bad line. */
 static inline bool line(const char *p, const char *end, char **at) {
     size_t n = (size_t)(end - p);
     char *o = *at, *from;
@@ -1918,8 +1917,8 @@ static void write_record(const char *path) {
 
 /* ---------------------------------------------------------------- audit */
 
-/* A line is right if what the replay gives has exactly its text.  Only a line
- * that differs is read by the strict rules below, to know `bad line` from `wrong`. */
+/* A line is correct if it is exactly the text that the replay gives.  Only a line that differs is parsed by the strict
+ * rules below, to distinguish `bad line` from `wrong`. */
 
 static inline socket_t *socket_of(u64 number) {
     return number < sockets_ever && slot_of[number] ? slots + slot_of[number] - 1 : NULL;
@@ -1951,7 +1950,7 @@ static bool take_number(cursor *c, u64 most, u64 *v) {
     return c->p > start && !(*start == '0' && c->p - start > 1) && x <= most;
 }
 
-static bool take_hex(cursor *c, u32 digits, u32 *v) /* upper case alone */
+static bool take_hex(cursor *c, u32 digits, u32 *v) /* upper case only */
 {
     u32 x = 0;
     if ((size_t)(c->end - c->p) < digits)
@@ -1981,8 +1980,7 @@ static bool take_moment(cursor *c, u64 *m) {
     return true;
 }
 
-/* A data, remote or FD frame in its written spelling; the data goes to the end
- * of the frames. */
+/* Parses a data, remote or FD frame. Its data are appended to the frames. */
 static bool take_frame(cursor *c, u32 *word, u32 *len) {
     const char *mark = c->p;
     while (mark < c->end && hex_value[(u8)*mark] < 16)
@@ -2019,8 +2017,8 @@ static bool take_frame(cursor *c, u32 *word, u32 *len) {
     return is_fd_length(*len);
 }
 
-/* The event at c; carried out where `run` is set and its spelling is right so
- * far.  Answers its kind, or -1. */
+/* Parses the event at c. If `run` is set, it also executes the event as far as its text is correct. Returns the event's
+ * kind, or -1. */
 static int take_event(cursor *c, bool run, bool *fd, entry **done) {
     u64 i, n, m;
     u32 v, len;

@@ -1,15 +1,18 @@
 #!/usr/bin/env python3
-"""How long `python3 -m canbusd report`, its text and `replay` take, and their memory, of four kinds of run.
+"""Measures how long `python3 -m canbusd report`, its text form and `replay` take for four kinds of run, and their memory.
 
     benches/pages.py --canbusd PROGRAM [--attempts N,..] [--runs N] [--folder DIR] [--source DIR,..]
 
-The kinds are `random`, in which each attempt sends a frame of 8 random bytes that another interface receives; `hundred`, the
-same with 100 frames; `contend`, in which four interfaces have frames in their queues and three receive each; and `faults`,
-which is that with a script of faults on a bus that reports them, with interfaces that go bus off and come back. Records are
-made in the folder, the same at each run, and kept there. With several sources of the package they take turns, and what
-they write has to be the same. The bytecode of the package is kept in the folder too, as an installed package has it. A line has the
-least of the runs: processor time of the command and the program that it calls, the time of the clock, and the memory of the
-larger of both.
+The four kinds of run are:
+- `random`: each attempt sends a frame of 8 random bytes, which another interface receives;
+- `hundred`: the same with only 100 different frames;
+- `contend`: four interfaces have frames in their queues, and three interfaces receive each frame;
+- `faults`: the same with a script of faults on a bus that reports them; interfaces go bus off and restart.
+
+The records are made in the folder, are the same in each run, and are kept there. If there are several sources of the
+package, they are measured in turn, and their output has to be identical. The folder also keeps the package's bytecode,
+which an installed package has too. Each line has the minimum of the runs: processor time of the command and of the program
+that it calls, wall time, and the memory of the larger of the two.
 """
 
 import argparse
@@ -23,9 +26,9 @@ import time
 
 ROOT = os.path.dirname(os.path.dirname(os.path.abspath(__file__)))
 COMMANDS = {"page": ["report"], "story": ["report", "--text", "--last", "0"], "replay": ["replay"]}
-# The number of frames in the queue of an interface.
+# The number of frames in each interface's queue.
 QUEUE = 100
-# The error message frames that each socket of `faults` asks for.
+# For each socket of `faults`, the mask of the error message frames that it receives.
 ERRORS = ("1FFFFFFF", "140", "88", "0")
 FAULTS = ("global bit", "global form", "lastbit", "local crc can1", "local stuff can2,can3")
 
@@ -39,7 +42,7 @@ def moment(micros):
 
 
 class Run:
-    """The record of a run in which each frame is sent successfully, by interfaces with one socket each."""
+    """Builds the record of a run in which each frame is sent successfully, by interfaces with one socket each."""
 
     def __init__(self, ifaces):
         self.entries = [f"open {number} 65535 = socket {number}" for number in range(ifaces)]
@@ -73,7 +76,7 @@ def calm(attempts, frames, rng):
 
 
 def contend(attempts, rng):
-    """Makes rounds of four full queues. Identifiers name the sender, so no two are equal."""
+    """Makes a run in rounds of four full queues. The identifiers contain the sender, so no two senders' are equal."""
     run = Run(4)
     for _ in range(attempts // (4 * QUEUE)):
         queues = [
@@ -88,8 +91,8 @@ def contend(attempts, rng):
 
 
 def faults(attempts, rng, program, folder):
-    """Makes a run with a bench whose queues hold 100 frames of each interface. A tenth of the attempts have faults,
-    some in a row."""
+    """Makes a run with a bench in which each interface queues 100 frames. A tenth of the attempts have faults, some of
+    them in a row."""
     lines, bus = [], ",".join(f"can{number}" for number in range(4))
     for number in range(4):
         lines += [
@@ -130,10 +133,11 @@ KINDS = {
 
 
 def record_of(kind, attempts, program, folder):
-    """Returns the path of the record of such a run; makes the record if it is missing."""
+    """Returns the path of the record of this kind of run. Makes the record if it is missing."""
     path = os.path.join(folder, f"{kind}-{attempts}.rec")
     if not os.path.exists(path):
-        # Another process makes it, because the measured command would otherwise seem to need this process's memory.
+        # A separate process makes the record. Otherwise the memory of this process would count for the measured
+        # command.
         maker = multiprocessing.Process(target=make_record, args=(path, kind, attempts, program, folder))
         maker.start()
         maker.join()
@@ -143,14 +147,14 @@ def record_of(kind, attempts, program, folder):
 
 
 def make_record(path, kind, attempts, program, folder):
-    """Writes the record of such a run."""
+    """Writes the record of this kind of run."""
     text = KINDS[kind](attempts, random.Random(kind), program, folder)
     with open(path, "wb") as file:
         file.write(text)
 
 
 def measured(words, folder, **variables):
-    """Returns seconds of processor and clock, megabytes, and a hash of the output."""
+    """Runs a command. Returns processor seconds, wall time, megabytes, and a hash of the output."""
     variables = {**os.environ, **variables, "PYTHONPYCACHEPREFIX": os.path.join(folder, "bytecode")}
     variables.pop("PYTHONDONTWRITEBYTECODE", None)
     begin = time.monotonic()

@@ -1,8 +1,8 @@
-/* How long a frame takes from one program with a CAN socket to another, in microseconds: run_latency SENDER RECEIVER
- * COUNT.
+/* Measures how long a frame takes from one program with a CAN socket to another, in microseconds: run_latency SENDER
+ * RECEIVER COUNT.
  *
- * The frame has the moment of its write; the receiver, a process of its own, asks for the next. Prints the median and
- * the 99th percentile. */
+ * The frame contains the time of its write. The receiver is a separate process, and asks for the next frame. Prints the
+ * median and the 99th percentile. */
 #include <linux/can.h>
 #include <net/if.h>
 #include <stdint.h>
@@ -75,7 +75,7 @@ int main(int words, char **word) {
     while (read(ends[0], &asked, 1) == 1) {
         struct can_frame frame = {.can_id = 0x123, .can_dlc = 8};
         uint64_t moment;
-        usleep(50); /* So that the receiver waits. */
+        usleep(50); /* By then the receiver waits. */
         moment = now();
         memcpy(frame.data, &moment, sizeof moment);
         check(write(fd, &frame, sizeof frame) == sizeof frame, "write");

@@ -1,15 +1,15 @@
 #!/usr/bin/env python3
-"""Measures servers that write their record at the end, while they run, or not at all, side by side.
+"""Compares servers that write their record at the end, while they run, or not at all.
 
     make -C benches
     benches/run_long.py --program dist/canbusd --folder /var/tmp --frames 1000000 --rounds 3
 
-Each is put under the load of serve_load, in turn and in an order that changes from round to round: one sender and
---receivers, with --window frames under way. The table has medians: entries a second, until the last receiver has the
-last frame; seconds from the end of the input to that of the server; its memory before its end, in megabytes; bytes on
-the disk for an entry. Then there is one frame under way at a time: the median and the 99th percentile of the time from
-its send to its receive, in microseconds, while the sender does nothing else. Log and record are in a folder below
---folder, which is to be on a disk.
+serve_load puts each server under load: one sender and --receivers, with --window frames in transit. The servers run in
+turn, in an order that changes from round to round. The table has medians: entries a second, until the last receiver has
+the last frame; seconds from the end of the input to the end of the server; its memory before the end, in megabytes; and
+bytes on the disk for an entry. Then only one frame is in transit at a time: the table has the median and the 99th
+percentile of the time from its send to its receive, in microseconds, while the sender does nothing else. Log and record
+are in a folder below --folder, which has to be on a disk.
 """
 
 import argparse
@@ -35,7 +35,7 @@ WORDS = [
     "--write",
     "16384",
 ]
-#: The words of each server; the servers of `end` have the largest limit on entries.
+#: The options of each kind of server. The servers `end` have the largest limit on entries.
 KINDS = {
     "end": ["--limit", "16777216", "--out", "."],
     "live": ["--record", "live", "--out", "."],
@@ -57,19 +57,20 @@ class Server:
         assert self.child.stdout.readline().startswith("listening "), "the server does not listen"
 
     def load(self, *words):
-        """Returns the figures of serve_load; each frame came once, and in order."""
+        """Returns the figures of serve_load, which checks that each frame came once and in order."""
         where = ["--unix", os.path.join(self.folder.name, "socket"), "--pid", str(self.child.pid)]
         line = [LOAD, *where, "--names", "can0,can1", "--seconds", "3600", *words]
         words = subprocess.run(line, stdout=subprocess.PIPE, text=True, check=True).stdout.split()
         return dict(zip(words[::2], words[1::2]))
 
     def memory(self):
-        """Returns the resident megabytes."""
+        """Returns the resident memory in megabytes."""
         with open(f"/proc/{self.child.pid}/status", encoding="ascii") as status:
             return int(re.search(r"^VmRSS:\s+(\d+) kB", status.read(), re.M)[1]) / 1000
 
     def end(self):
-        """Returns the number of entries, the seconds that the end took, and the number of bytes written."""
+        """Ends the server. Returns the number of entries, the seconds that the end took, and the number of bytes
+        written."""
         begin = time.monotonic()
         written = self.child.communicate(timeout=3600)[0]
         took = time.monotonic() - begin
@@ -87,8 +88,8 @@ class Server:
 
 
 def measured(options, words):
-    """Returns entries a second, seconds of the end, megabytes and bytes for an entry; then the median and the 99th
-    percentile of the time from send to receive."""
+    """Returns entries a second, the seconds that the end took, megabytes, and bytes for an entry; then the median and
+    the 99th percentile of the time from send to receive."""
     sessions = ["--sessions", str(1 + options.receivers), "--senders", "1"]
     with Server(options.program, options.folder, words) as server:
         found = server.load(*sessions, "--window", str(options.window), "--frames", str(options.frames))

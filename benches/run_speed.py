@@ -1,11 +1,12 @@
 #!/usr/bin/env python3
-"""Measures programs with CAN sockets that run by canbusd-run, on a server at a Unix path and one at a TCP port.
+"""Measures programs with CAN sockets that canbusd-run runs, on a server at a Unix path and on a server at a TCP port.
 
     benches/run_speed.py --program dist/canbusd --run dist/canbusd-run
 
-Latency: from the write of a frame in one process to its read in another, the median and the 99th percentile. Frames a
-second: `cangen -g 0 -p 10` to `candump`, which has to get all of them once and in order. Each is the median of five runs;
-those of several canbusd-run (`--run` again) take turns, so that a machine that does other work is as fast to all.
+Latency: the median and the 99th percentile of the time from the write of a frame in one process to its read in another.
+Frames a second: from `cangen -g 0 -p 10` to `candump`, which has to get all frames once and in order. Each figure is the
+median of five runs. If there are several canbusd-run (`--run` again), they are measured in turn, so that other work on
+the machine slows all of them equally.
 """
 
 import argparse
@@ -20,7 +21,7 @@ RUNS = 5
 
 
 class Setting:
-    """A server in its own folder, and programs on it."""
+    """A server in its own folder, with programs that use it."""
 
     def __init__(self, program, run, listen):
         self.folder = tempfile.mkdtemp(prefix="canbusd-speed-")
@@ -37,12 +38,12 @@ class Setting:
         return [self.run, "--address", self.address, "--", *words]
 
     def latency(self, count):
-        """Returns the median and the 99th percentile, in microseconds."""
+        """Returns the median and the 99th percentile of the latency, in microseconds."""
         words = self.words(os.path.join(self.folder, "run_latency"), "can0", "can1", str(count))
         return tuple(map(float, subprocess.run(words, stdout=subprocess.PIPE, text=True, check=True).stdout.split()))
 
     def rate(self, count):
-        """Returns the frames a second from cangen to candump; raises AssertionError if a frame is lost."""
+        """Returns the frames a second from cangen to candump. Raises AssertionError if a frame is lost."""
         path = os.path.join(self.folder, "dump")
         with open(path, "w+", encoding="utf-8") as dump:
             receiver = subprocess.Popen(self.words("candump", "-L", "-n", str(count), "can1"), stdout=dump)
@@ -63,7 +64,7 @@ class Setting:
 
 
 def measure(options, listen):
-    """Returns for each canbusd-run the latencies, each with its 99th percentile, and the rates."""
+    """Returns the latencies, each with its 99th percentile, and the rates of each canbusd-run."""
     results = [([], [], []) for _ in options.run]
     for _ in range(RUNS):
         for run, (latencies, worst, rates) in zip(options.run, results):

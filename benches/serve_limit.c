@@ -1,16 +1,16 @@
 /* The speed limit that `canbusd serve` is measured against: a plain, single-threaded
- * server of socketcand's raw mode, over epoll.
+ * server of socketcand's raw mode, with epoll.
  *
- * It has one bus without faults, mode always, at pace 0.  A turn of its loop reads what
- * has come from each session, lets the bus run until no frame waits, and gives each
- * session what is queued to it in one write.  A receive queue is text that is not written
- * yet and a count; it grows only while its session's socket takes nothing.
+ * It has one bus without faults, with mode always and pace 0.  Each turn of its loop reads
+ * the input of each session, runs the bus until no frame waits, and then writes to each
+ * session everything that is queued for it, in one call.  A receive queue is a text that
+ * is not written yet, and a count.  It grows only while the session's socket is full.
  *
- * Commands: echo, open, rawmode, send, filter, recvown, loopback, stats, close.  All else
- * is an unknown command.
+ * Commands: echo, open, rawmode, send, filter, recvown, loopback, stats, close.  All others
+ * are unknown commands.
  *
- * Built with -DWRONG, `--wrong KIND` makes it do one thing wrong now and then, so that
- * tests can see whether a client notices.
+ * If it is built with -DWRONG, `--wrong KIND` makes it do one thing wrong now and then, so
+ * that tests can check whether a client notices.
  */
 #define _GNU_SOURCE
 #include <arpa/inet.h>
@@ -56,7 +56,7 @@ static void die(const char *text) {
     exit(1);
 }
 
-/* ---------------------------------------------------------------- wrong on purpose */
+/* ---------------------------------------------------------------- deliberate faults */
 
 enum wrong { RIGHT, OWNED, DROP, SWAP, DOUBLE, DATA, REFUSE, FORGET, COUNT, MUTE, WRONGS };
 
@@ -66,7 +66,7 @@ static const char *const wrong_text[WRONGS] = {"right", "owned",  "drop",   "swa
                                                "data",  "refuse", "forget", "count", "mute"};
 static u32 wrong, wrong_turns, wrong_every = 1000;
 
-static bool turn(u32 kind) /* true each 1000th time */
+static bool turn(u32 kind) /* true every 1000th time */
 {
     return wrong == kind && ++wrong_turns % wrong_every == 0;
 }
@@ -100,9 +100,9 @@ typedef struct {
     bool inside, recv_own, loopback, all, blocked;
     u32 number, filters;
     u32 (*filter)[2];
-    char *text; /* from..cut: being written; cut..to: not taken yet */
+    char *text; /* from..cut is being written; cut..to is not taken yet */
     size_t from, cut, to, size;
-    u32 waiting; /* frames in cut..to */
+    u32 waiting; /* how many frames cut..to has */
     u64 taken, dropped;
     u32 kept_len, held_len, held_word;
     char kept[MAX_INSIDE + 16], held[ITEM];
@@ -112,7 +112,7 @@ static char name[MAX_IFACES][16];
 static u32 name_len[MAX_IFACES], ifaces;
 static iface_t iface[MAX_IFACES];
 static u64 heads[MAX_IFACES]; /* key << 4 | interface */
-static u32 with_head;         /* the interfaces that have a head */
+static u32 with_head;         /* the interfaces whose queue has a head */
 static u32 tx_capacity = 10, rx_capacity = 256, tx_mask;
 static session_t session[MAX_SESSIONS];
 static session_t *raw[MAX_SESSIONS];
@@ -122,7 +122,7 @@ static bool echo_only;
 static int epoll_fd, listen_fd;
 static char block[BLOCK + 64];
 static char hex_pair[256][2], dec_pair[100][2];
-static u8 hex_value[256]; /* 255: no digit */
+static u8 hex_value[256]; /* 255: not a digit */
 
 static void make_tables(void) {
     static const char digits[] = "0123456789ABCDEF";
@@ -149,7 +149,7 @@ static void watch(const session_t *s, int op) {
     epoll_ctl(epoll_fd, op, s->fd, &e);
 }
 
-/* A place for n more bytes after what is there. */
+/* Returns a place for n more bytes after the queued output, which grows if necessary. */
 static char *place(session_t *s, size_t n) {
     if (UNLIKELY(s->size - s->to < n)) {
         if (s->from > s->size / 2) {
@@ -176,7 +176,7 @@ static void answer(session_t *s, const char *text) {
     }
 }
 
-/* Takes and writes what is queued, as far as the socket takes it. */
+/* Writes the queued output, as far as the socket accepts it. */
 static void flush(session_t *s) {
     while (s->mode != GONE) {
         if (s->from == s->cut) {
@@ -208,7 +208,7 @@ static void flush(session_t *s) {
 
 /* ---------------------------------------------------------------- the bus */
 
-/* The lesser key goes before. */
+/* The frame with the lower key wins arbitration. */
 static inline u32 arbitration_key(u32 word) {
     if (!(word & EXT_BIT))
         return (word & 0x7FF) << 21;
@@ -294,7 +294,7 @@ static void wrong_post(session_t *s, char *text, u32 len, u32 word) {
     }
 }
 
-/* Attempts until no frame waits. */
+/* Runs attempts until no frame waits. */
 static void run_bus(void) {
     while (with_head) {
         u64 best = UINT64_MAX;
@@ -475,7 +475,7 @@ static const char *close_words(session_t *s) {
 
 enum { IN_NO_BUS = 1 << NO_BUS, IN_OPENED = 1 << OPENED, IN_RAW = 1 << RAW };
 
-/* One whole message: the text of its answer. */
+/* Handles one whole message, and returns the text of the answer. */
 static const char *message(session_t *s, const char *p, const char *end) {
     static const struct {
         char text[10];
@@ -541,9 +541,8 @@ static const char *message(session_t *s, const char *p, const char *end) {
     return "< echo >";
 }
 
-/* A `send` in its plainest spelling, from the byte after `<`: answers the byte
- * after `>`, or NULL for everything else.  A byte that is no digit, no space and
- * no `>` is at the end of what can be read. */
+/* Handles a `send` in its simplest form, from the byte after `<`.  Returns a pointer to the byte after `>`, or NULL for
+ * any other form. The text must end with a byte that is no digit, no space and no `>`. */
 static inline const char *plain_send(session_t *s, const char *p) {
     if (memcmp(p, " send ", 6) != 0)
         return NULL;
@@ -586,7 +585,7 @@ static inline const char *plain_send(session_t *s, const char *p) {
     return p + 1;
 }
 
-/* The byte at end is LF, as is the one after what is kept. */
+/* Handles input of a session. The byte at `end` is LF, and so is the byte after a message that is kept. */
 static void feed(session_t *s, const char *p, const char *end) {
     while (s->mode != ENDED && s->mode != GONE) {
         if (!s->inside) {
@@ -665,7 +664,7 @@ static void accept_all(void) {
         }
         accepted++;
         int one = 1;
-        setsockopt(fd, IPPROTO_TCP, TCP_NODELAY, &one, sizeof one); /* a Unix socket says no */
+        setsockopt(fd, IPPROTO_TCP, TCP_NODELAY, &one, sizeof one); /* this fails on a Unix socket */
         session_t *s = session;
         while (s < session + MAX_SESSIONS && s->mode != NOT_USED)
             s++;

@@ -1,16 +1,17 @@
 #!/usr/bin/env python3
-"""Tests of serve_load, serve_limit and serve_wrong against each other (half a minute).
+"""Tests serve_load, serve_limit and serve_wrong against each other (half a minute).
 
     python3 serve_test.py [--cpus 2,3] [--only WORD]
 
-1. serve_limit's answers, text by text, as the manual page has them, whole and cut.
-2. Runs that have to be without a fault: numbers of sessions, names, windows, lengths; bytes
-   cut by serve_load both ways; full transmit queues; receive queues that overflow because
-   the client reads slowly.
-3. Runs in which serve_wrong does one thing wrong now and then, or the server ends, is mute,
-   or is none: serve_load has to answer 1 and to count what it was.
+1. serve_limit's answers are, word for word, those of the manual page, for whole messages
+   and for messages in pieces.
+2. Runs that must have no fault: several numbers of sessions, names, windows, lengths;
+   bytes that serve_load splits in both directions; full transmit queues; receive queues
+   that overflow because the client reads slowly.
+3. Runs in which serve_wrong does one thing wrong now and then, or the server ends, does
+   not answer, or is missing: serve_load has to end with status 1 and count the right fault.
 
-Status 0 where all of it held, else 1.
+The status is 0 if all tests passed, and otherwise 1.
 """
 
 import argparse
@@ -49,7 +50,7 @@ def connect(server):
 
 
 def read_until(one, wanted):
-    """Reads until the input is as long as the expected text, or nothing more comes."""
+    """Reads until the input is as long as the expected text, or until nothing more comes."""
     got = b""
     try:
         while len(got) < len(wanted):
@@ -63,7 +64,7 @@ def read_until(one, wanted):
 
 
 def without_moments(text):
-    """Replaces the time of each frame, which must be near the clock, with T."""
+    """Replaces the timestamp of each frame with T. The timestamp must be near the present time."""
     words = text.split(b" ")
     for i, word in enumerate(words):
         if word.count(b".") == 1 and len(word) >= 8:
@@ -308,7 +309,7 @@ def silent(path):
 
 def test_wrong(folder):
     wrong = f"{HERE}/serve_wrong --port {{port}} --txqueue 1024 --rxqueue 65536 --wrong"
-    # 10,000 frames to 3 sessions each: one in 1,000 is 30 posts or 10 sends
+    # 10,000 frames go to 3 sessions each. One in 1,000 is then 30 receives or 10 sends.
     for kind, every, words, key, count in (
         ("drop", 1000, "", "lost", "30"),
         ("drop", 25001, "", "lost", "1"),

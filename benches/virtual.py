@@ -1,10 +1,10 @@
 #!/usr/bin/env python3
-"""How fast virtual time is: a start, an idle hour, nodes in C that read nothing or all, and tests of pytest.
+"""Measures how fast virtual time is: a start, an idle hour, nodes in C that read nothing or everything, and pytest tests.
 
-    benches/virtual.py [SECONDS]    so many seconds of bus time (20), from which the rest is computed
+    benches/virtual.py [SECONDS]    this many seconds of bus time (20); all other sizes depend on it
 
-CANBUSD and CANBUSD_RUN name the programs. A turn is one handing on to a thread; time of a processor is that of all programs
-of the run, the server's too."""
+CANBUSD and CANBUSD_RUN name the programs. A turn counts each time a thread gets the turn. Processor time is that of all
+programs of the run, including the server."""
 
 import os
 import re
@@ -31,15 +31,15 @@ TEN = SERVER + (
 )
 START = '. "$CASES/server.sh"; start can0,can1; inside "$NODES/cyclic" can0 100 10000 1; stop'
 STARTS = 20
-#: The seconds until all queues are full.
+#: The seconds until all queues are full, which are not measured.
 FIRST = 10
-#: The name of the program, its source and a flag.
+#: The name of each program, its source and a compiler flag.
 NODES = (
     *(("cyclic", "cyclic", "-g0"), ("respond", "respond", "-g0")),
     *(("sender", "cyclic", "-DSENDS_ONLY"), ("reader", "cyclic", "-DREADS")),
 )
 SENDERS, READERS = TEN.replace("cyclic", "sender"), TEN.replace("cyclic", "reader")
-#: Two nodes at 10 ms that answer each other: in C, as programs of the test, and in Python.
+#: Tests with two nodes that answer each other every 10 ms: once as C programs that the test starts, and once in Python.
 TESTS = """
 import os, threading, time
 import can, pytest
@@ -73,7 +73,7 @@ PYTEST = 'mkdir "$OUT"; cd "$OUT"; "$PYTHON" -m pytest -q -p canbusd.pytest_plug
 
 
 def run(name, script, seconds, folder):
-    """Runs a script for this many seconds; returns the processor time and the number of turns."""
+    """Runs a script for this many seconds. Returns the processor time and the number of turns."""
     env = {**os.environ, "RUN": RUN, "CASES": CASES, "NODES": folder, "FRAMES": str(seconds * 100)}
     env.setdefault("CANBUSD", os.path.join(ROOT, "dist", "canbusd"))
     env.update(PYTHON=sys.executable, PYTHONPATH=os.path.join(ROOT, "python", "src"), CANBUSD_RUN=RUN)
@@ -88,8 +88,8 @@ def run(name, script, seconds, folder):
 
 
 def measure(name, script, seconds, frames, whole, folder):
-    """Prints the cost of this many seconds of a script after its first ones, in which queues fill, and the output of
-    `whole`. A second has this many frames; without frames the whole run is measured."""
+    """Prints the cost of this many seconds of a script, without its first seconds, in which queues fill. A second has
+    this many frames. If `frames` is 0, measures the whole run of `whole` seconds."""
     first, turns = run(name, script, FIRST if frames else whole, folder)
     if not frames:
         print(f"{name}: {first:.1f} s of a processor for {whole} s of bus time", flush=True)

@@ -1,9 +1,9 @@
 #!/bin/sh
-# A scenario for virtual time: a server, candump, and a node that sends a frame each second. It prints the same at each run.
+# A scenario for virtual time: a server, candump, and a node that sends a frame every second. The output is the same in each run.
 #
 #     ./canbusd-run --virtual examples/scenario.sh
 #
-# CANBUSD and CANBUSD_RUN name the programs, if not those of this clone; candump and cangen are those of can-utils.
+# CANBUSD and CANBUSD_RUN name the programs; by default they are those of this clone. candump and cangen are from can-utils.
 set -eu
 clone=$(dirname -- "$0")/..
 canbusd=${CANBUSD:-$clone/canbusd}

@@ -1,6 +1,7 @@
-"""The common part of the gate's scripts: the kit's view of the crates, the results of earlier runs, and lanes of work.
+"""The common part of the gate's scripts: the kit's view of the crates, the results of earlier runs, and parallel lanes of
+work.
 
-`rt` and its library are the kit's commands, so they are loaded from the folder that the command rt is in."""
+`rt` and its library belong to the kit, so they are loaded from the folder that contains the command rt."""
 
 import hashlib
 import importlib.util
@@ -13,7 +14,7 @@ from concurrent.futures import ThreadPoolExecutor
 from typing import Any, Callable, Dict, Iterable, List, Optional, Sequence, Tuple
 
 TOP = os.path.dirname(os.path.dirname(os.path.realpath(__file__)))
-# The most memory of a check, in bytes, which limits the number of parallel checks.
+# The maximum memory of a check in bytes. It limits the number of parallel checks.
 CHECK_MEMORY = 4 << 30
 
 
@@ -58,8 +59,8 @@ def kit_sum(rtlib: Any) -> str:
 
 
 class Kept:
-    """Results of earlier runs on this machine, each under the hash of its parts. A missing verdict is computed anew;
-    with `anew` all are."""
+    """Results of earlier runs on this machine, each stored under the hash of its inputs. A missing result is computed
+    again, and with `anew` all results are."""
 
     def __init__(self, kind: str, anew: bool):
         home = os.environ.get("CANBUSD_KEPT") or os.path.join(
@@ -88,7 +89,7 @@ class Kept:
 
 
 def lanes(wanted: Optional[int] = None) -> int:
-    """Returns the number of parallel checks: one for each processor, within the free memory."""
+    """Returns the number of parallel checks: one for each processor, as far as the free memory allows."""
     processors = wanted or len(os.sched_getaffinity(0))
     return max(1, min(processors, free_memory() // CHECK_MEMORY))
 
@@ -100,7 +101,7 @@ def free_memory() -> int:
 
 
 def in_lanes(work: Callable[[str], Tuple[int, int]], names: Sequence[str], count: int) -> Tuple[int, int]:
-    """Does the work of each name in order, and returns the sums of the counts: good, bad."""
+    """Calls `work` for each name, beginning in this order. Returns the sums of its two counts: good and bad."""
     with ThreadPoolExecutor(count) as pool:
         counts = list(pool.map(work, names))
     return sum(good for good, _ in counts), sum(bad for _, bad in counts)

@@ -1,14 +1,15 @@
-"""The functions of a formatted .rt file: their places, and their names in the check.
+"""Finds the functions of a formatted .rt file: their places, and the names that the check has for them.
 
-It goes by the layout of `rt fmt`: an item ends with the first closing brace at its own indent. What it can't name, the check names
-otherwise, and scripts/edits finds that out before it relies on it."""
+This relies on the layout of `rt fmt`: an item ends with the first closing brace at its own indent. If the check has
+another name for a function, scripts/edits notices that before it relies on the name.
+"""
 
 import os
 import re
 from dataclasses import dataclass
 from typing import Dict, Iterator, List, Optional, Tuple
 
-# The module of each struct and enum, and the number of its parameters.
+# The module of each struct and enum, and the number of its type parameters.
 Types = Dict[str, Tuple[str, int]]
 
 
@@ -25,7 +26,7 @@ class Function:
 
 @dataclass(frozen=True)
 class Owner:
-    """An impl or a trait. An impl without a name has functions that a check does not name."""
+    """An impl or a trait. If its name is empty, the check does not name its functions."""
 
     start: int
     end: int
@@ -40,7 +41,7 @@ def module_of(path: str) -> str:
 
 
 def sources_of(folder: str) -> Iterator[str]:
-    """Returns the paths of the crate's sources, from its folder."""
+    """Yields the paths of the crate's sources, relative to its folder."""
     for at, _, names in sorted(os.walk(f"{folder}/src")):
         yield from (os.path.relpath(f"{at}/{name}", folder) for name in sorted(names) if name.endswith(".rt"))
 
@@ -51,7 +52,7 @@ def text_of(path: str) -> str:
 
 
 def types_of(folder: str) -> Types:
-    """Returns the module of each type in the crate: the names of the type's functions begin with the module."""
+    """Returns the module of each type in the crate, because the names of the type's functions begin with that module."""
     pattern = re.compile(r"(?m)^\s*(?:pub(?:\([^)]*\))?\s+)?(?:struct|enum|union)\s+(\w+)")
     found = {}
     for path in sources_of(folder):
@@ -62,7 +63,8 @@ def types_of(folder: str) -> Types:
 
 
 def parameters_of(text: str) -> Tuple[List[str], str]:
-    """Returns the parameters in the <> at the beginning of a text, without lifetimes, and the rest of the text."""
+    """Splits a text after the <> at its beginning. Returns the parameters in the <> without lifetimes, and the rest of
+    the text."""
     if not text.startswith("<"):
         return [], text
     depth = end = 0
@@ -83,14 +85,14 @@ def parameters_of(text: str) -> Tuple[List[str], str]:
 
 
 def short(name: str) -> str:
-    """Returns the last word of a path, without its arguments."""
+    """Returns the last word of a path, without its type arguments."""
     while re.search(r"<[^<>]*>", name):
         name = re.sub(r"<[^<>]*>", "", name)
     return re.sub(r"\W", "", name.strip().split("::")[-1])
 
 
 def arguments_of(name: str, parameters: List[str]) -> str:
-    """Returns the part that the trait of an impl adds to its name: From<AllocError> is FromAllocError."""
+    """Returns what the trait's arguments add to the name of an impl: From<AllocError> becomes FromAllocError."""
     inside = re.search(r"<(.*)>\s*$", name.strip())
     words = re.split(r",\s*(?![^<]*>)", inside[1]) if inside else []
     words = [short(word) for word in words if not word.strip().startswith("'")]
@@ -98,7 +100,7 @@ def arguments_of(name: str, parameters: List[str]) -> str:
 
 
 def end_of(text: str, at: int, indent: str) -> int:
-    """Returns the place where an item ends: after the first closing brace at its indent."""
+    """Returns the position after the end of an item, which is the first closing brace at its indent."""
     match = re.compile(rf"(?m)^{indent}\}}").search(text, at)
     return match.end() if match else len(text)
 
@@ -117,7 +119,7 @@ def owners_of(text: str, module: str, types: Types) -> List[Owner]:
 
 
 def owner_name(is_trait: bool, head: str, parameters: List[str], module: str, types: Types) -> Tuple[str, str]:
-    """Returns the name of an impl or a trait, and the module that its functions are named by."""
+    """Returns the name of an impl or a trait, and the module in the names of its functions."""
     if is_trait:
         return short(re.match(r"\w+", head)[0]), module  # type: ignore[index]
     what, _, of = head.partition(" for ")
@@ -135,8 +137,8 @@ def owner_name(is_trait: bool, head: str, parameters: List[str], module: str, ty
 
 
 def body_of(text: str, at: int, indent: str) -> Optional[int]:
-    """Returns where the body of the function at this line begins: the brace that is the last of its head, after its clauses. None if there is
-    no body, or one on the head's own line."""
+    """Returns the position of the opening brace of the body of the function at this line, which comes after the
+    function's clauses. Returns None if there is no body, or if it begins on the function's first line."""
     depth = 0
     for number, line in enumerate(text[at:].split("\n")):
         code = re.sub(r"\s*//.*", "", line).rstrip()

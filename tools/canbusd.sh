@@ -1,16 +1,16 @@
 #!/bin/sh
-# Runs canbusd where it is installed: the program in ../libexec/canbusd, `serve` and the commands of the Python
-# package by the scripts beside it.
+# Runs an installed canbusd: the program in ../libexec/canbusd, or for `serve` and the commands of the Python package
+# the scripts in the same folder.
 set -eu
-# A file that would pass `ulimit -f` is a write fault, which is reported, and no end by a signal.
+# A write beyond `ulimit -f` fails and is reported; without this line SIGXFSZ would end the program.
 trap '' XFSZ
 case $0 in */*) script=$0 ;; *) script=./$0 ;; esac
 [ ! -h "$script" ] || script=$(readlink -f -- "$script")
 place=${script%/*}/../libexec/canbusd
-# Where the Python package is, which `make install` writes here.
+# The path of the Python package. `make install` writes the installed path here.
 # shellcheck disable=SC2034
 package=$place/../python/src
-# The program for commands of the package, also where this is not on the PATH.
+# The program that commands of the package run. It need not be in PATH.
 : "${CANBUSD:=$place/canbusd}"
 export CANBUSD
 # shellcheck source=tools/commands

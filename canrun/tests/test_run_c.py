@@ -28,7 +28,7 @@ pytestmark = needs_gcc
 
 ATTACK = f"can0,can1@{ROOT}/examples/bus_off_attack.script"
 SIXTEEN = ",".join(f"node{number}" for number in range(16))
-#: The programs that only need can0 and can1 on one bus.
+#: The programs that need only can0 and can1 on one bus.
 PLAIN = (
     "calls",
     "faults",
@@ -56,7 +56,7 @@ PLAIN = (
 
 @pytest.fixture(params=["", pytest.param("sanitized", marks=pytest.mark.sanitized)], ids=["plain", "sanitized"])
 def build(request, tmp_path):
-    """Compiles a program, and runs it by canbusd-run: both unchanged, and both with sanitizers."""
+    """Compiles a program and runs it by canbusd-run: once as usual, and once with sanitizers in both."""
     return Build(request, str(tmp_path))
 
 
@@ -82,7 +82,7 @@ class Build:
 
 @pytest.mark.parametrize("name", PLAIN)
 def test_program(build, name):
-    """its checks are true, no bridge is left, and the record is legal"""
+    """the program's checks pass, no bridge is left, and the record is legal"""
     with serving(*FAST, "can0,can1") as server:
         build.passes(server, name)
         server.end()
@@ -91,14 +91,14 @@ def test_program(build, name):
 
 @pytest.mark.parametrize("name", PLAIN)
 def test_program_at_unix_path(build, name):
-    """the same at a Unix path"""
+    """the programs pass with a server at a Unix path"""
     with serving(*FAST, "can0,can1", address="./run.socket") as server:
         build.passes(server, name)
         server.end()
 
 
 def test_stamps(build):
-    """the timestamps are those of the log"""
+    """a program reads the same timestamps as the server's log has"""
     with serving(*FAST, "can0,can1") as server:
         stamps = build.passes(server, "stamps").split()
         server.end()
@@ -108,21 +108,21 @@ def test_stamps(build):
 
 
 def test_any(build):
-    """a socket on all interfaces receives from two buses"""
+    """a socket on all interfaces receives frames from two buses"""
     with serving(*FAST, "can0,can1", "car0") as server:
         build.passes(server, "any")
         server.end()
 
 
 def test_any_order(build):
-    """a socket receives frames of two buses in their order, from the first on"""
+    """a socket receives the frames of two buses in order, from the first frame on"""
     with serving(*FAST, "can0,can1", "car0,car1") as server:
         assert build.passes(server, "any_order") == "600 and 600\n"
         server.end()
 
 
 def test_small_stack(build):
-    """threads with the smallest stack work, and a program that clears its environment works"""
+    """sockets work in threads with the smallest stack, and after a program clears its environment"""
     with serving(*FAST, "can0,can1") as server:
         build.passes(server, "small_stack")
         server.end()
@@ -130,7 +130,7 @@ def test_small_stack(build):
 
 @pytest.mark.parametrize("compiler", ["gcc", "clang"])
 def test_thread_sanitizer(tmp_path, compiler):
-    """a program with the thread sanitizer continues after it has made sockets"""
+    """a program with the thread sanitizer works with CAN sockets"""
     path = str(tmp_path / "threads")
     words = ["-g", "-O1", "-pthread", "-fsanitize=thread", "-o", path, f"{ROOT}/canrun/tests/run_c/threads.c"]
     if not shutil.which(compiler) or subprocess.run([compiler, *words], capture_output=True, check=False).returncode:
@@ -141,14 +141,14 @@ def test_thread_sanitizer(tmp_path, compiler):
 
 
 def test_interfaces_16(build):
-    """a socket works on each interface of a bus of 16"""
+    """sockets work on each interface of a bus with 16 interfaces"""
     with serving(*FAST, SIXTEEN) as server:
         build.passes(server, "interfaces_16")
         server.end()
 
 
 def test_full(build):
-    """a full queue returns ENOBUFS, and with --wait each write waits for room"""
+    """a write to a full queue fails with ENOBUFS, and with --wait each write waits for room"""
     with serving("--pace", "1000", "can0,can1") as server:
         build.passes(server, "full")
         server.end()
@@ -158,7 +158,8 @@ def test_full(build):
 
 
 def test_waiting_signal():
-    """a signal ends a write that waits for room: EINTR without SA_RESTART; a killed program has not sent the frame"""
+    """a signal ends a write that waits for room, with EINTR if the handler lacks SA_RESTART; if the writing program is
+    killed, the frame is not sent"""
     with serving("--pace", "60000", "--txqueue", "1", "can0,can1") as server, tempfile.TemporaryDirectory() as folder:
         assert passes(server, compiled("waiting", folder), options=["--wait"]) == "2 accepted\n"
         server.end()
@@ -167,10 +168,10 @@ def test_waiting_signal():
 @pytest.mark.parametrize("number", [signal.SIGINT, signal.SIGTERM, signal.SIGHUP])
 @pytest.mark.parametrize("lots", [1, pytest.param(20, marks=pytest.mark.slow)])
 def test_stopped(number, lots, tmp_path):
-    """with --wait a signal that ends programs ends a waiting write, even if its handler has SA_RESTART"""
+    """with --wait a signal that usually ends programs ends a waiting write, even if its handler has SA_RESTART"""
     path = compiled("stopped", str(tmp_path))
     for _ in range(lots):
-        # The bus sends one frame a minute, and all tries of a lot end earlier.
+        # The bus sends only one frame a minute, and all tries of a program end before that.
         with serving("--pace", "60000", "--txqueue", "1", "can0,can1") as server:
             passes(server, path, str(int(number)), "50", options=["--wait"])
             server.end()
@@ -178,22 +179,22 @@ def test_stopped(number, lots, tmp_path):
 
 @pytest.mark.parametrize("room", ["1", "10"])
 def test_deaf_thread(build, room):
-    """with --wait a thread that no signal reaches waits for a second, so that the handler ends the program; with a
-    queue of 10 a quick write finds no room"""
+    """with --wait a thread that no signal reaches waits for only a second, so that another thread's handler can end the
+    program; with a queue of 10, quick writes find no room"""
     with serving("--pace", "60000", "--txqueue", room, "can0,can1") as server:
         build.passes(server, "deaf", options=["--wait"])
         server.end()
 
 
 def test_busoff(build):
-    """the program gets error message frames, ENETDOWN, and the restart"""
+    """the program gets error message frames and ENETDOWN, and works again after the restart"""
     with serving("--pace", "1", "--auto-restart", "300", ATTACK) as server:
         assert build.passes(server, "busoff") in ("down\n", "up\n")
         server.end()
 
 
 def test_gone(build, tmp_path):
-    """sockets return ENODEV and ENXIO if the server ends while a program has them"""
+    """calls on sockets return ENODEV and ENXIO if the server ends while the program runs"""
     path = compiled("gone", str(tmp_path))
     with serving(*FAST, "can0,can1") as server, started(server, path) as child:
         assert child.stdout.readline() == "ready\n", child.stderr.read()
@@ -203,14 +204,14 @@ def test_gone(build, tmp_path):
 
 
 def test_overflow(build):
-    """the frames that a slow reader loses are counted"""
+    """a counter reports how many frames a slow reader has lost"""
     with serving(*FAST, "can0,can1") as server:
         assert re.fullmatch(r"\d+ received, \d+ lost\n", build.passes(server, "overflow"))
         server.end()
 
 
 def test_static(tmp_path):
-    """a static program gets a note before it starts, and the kernel's sockets"""
+    """before a statically linked program starts, a note says that it gets the kernel's sockets"""
     path = compiled("faults", str(tmp_path), "-static")
     with serving("can0,can1") as server:
         ended = run(server, path)

@@ -1,4 +1,4 @@
-"""canbusd-run, the command: it becomes the program, finds the server, and leaves no file or process."""
+"""The command canbusd-run: it becomes the program, finds the server, and leaves no file or process."""
 
 import contextlib
 import os
@@ -35,14 +35,14 @@ NOWHERE = "127.0.0.1:9"
 
 
 def alone(*words, **how):
-    """Runs canbusd-run with these words, without a server of the tests."""
+    """Runs canbusd-run with these words, without starting a server."""
     how = {"capture_output": True, "text": True, "timeout": 60, "check": False, **how}
     env = {name: value for name, value in os.environ.items() if not name.startswith("CANBUSD_")}
     return subprocess.run([command(), *words], **{"env": env, **how})
 
 
 def test_help():
-    """--help shows each option, --version the version"""
+    """--help shows each option, and --version shows the version"""
     shown = alone("--help")
     assert shown.returncode == 0 and shown.stderr == ""
     for word in ("--address", "--interfaces", "--wait", "CANBUSD_ADDRESS", "CANBUSD_RUN_DEBUG", "125", "126", "127"):
@@ -67,7 +67,7 @@ def test_help():
     ],
 )
 def test_wrong_words(words, line):
-    """wrong words end it with status 125 and one line"""
+    """wrong arguments end canbusd-run with status 125 and one line"""
     ended = alone(*words)
     assert (ended.returncode, ended.stdout, ended.stderr) == (125, "", f"canbusd-run: {line}\n")
 
@@ -75,7 +75,7 @@ def test_wrong_words(words, line):
 @pytest.mark.quiet
 @pytest.mark.parametrize("how", ["option", "variable", "default"])
 def test_no_server(how, tmp_path, fixed_ports):
-    """a missing server ends it at once with status 125, and one line has the address and the remedy"""
+    """without a server canbusd-run ends at once with status 125, and one line names the address and the remedy"""
     address = f"{tmp_path}/none.socket"
     words = {"option": ["--address", address], "variable": [], "default": []}[how]
     env = {**os.environ, "CANBUSD_ADDRESS": address if how == "variable" else ""}
@@ -97,7 +97,7 @@ def test_no_server(how, tmp_path, fixed_ports):
 
 
 def test_other_server():
-    """the line says so if the listening program is not canbusd"""
+    """if another program than canbusd listens at the address, the line says so"""
     with socket.create_server(("127.0.0.1", 0)) as other:
         address = f"127.0.0.1:{other.getsockname()[1]}"
         with subprocess.Popen([command(), "--address", address, "true"], stderr=subprocess.PIPE, text=True) as child:
@@ -110,7 +110,7 @@ def test_other_server():
 
 @pytest.mark.parametrize("answer", [b"< error unknown command >", b"< interfaces can0", b"< interfaces >", b""])
 def test_older_server(answer):
-    """a server that can't list its interfaces is reported as older"""
+    """a server that can't list its interfaces is reported as an older version"""
     with socket.create_server(("127.0.0.1", 0)) as older:
         address = f"127.0.0.1:{older.getsockname()[1]}"
         with subprocess.Popen([command(), "--address", address, "true"], stderr=subprocess.PIPE, text=True) as child:
@@ -127,7 +127,7 @@ def test_older_server(answer):
 
 
 def test_full_server():
-    """a full server does exist: the line says so, and names a remedy"""
+    """if the server has no free session, the line does not say that it is missing, but names a remedy"""
     with serving("can0,can1") as server:
         clients = [plain(server, "can0") for _ in range(64)]
         ended = run(server, "true")
@@ -141,8 +141,8 @@ def test_full_server():
         server.end()
 
 
-#: Sends a frame for each of these words, and prints for each received frame whether this socket sent it, and whether
-#: the host sent it.
+#: Sends a frame for each argument. Prints for each received frame whether this socket sent it, and whether this host
+#: sent it.
 OWN_FRAMES = """
 import socket, struct, sys
 with socket.socket(socket.PF_CAN, socket.SOCK_RAW, socket.CAN_RAW) as can:
@@ -157,9 +157,10 @@ with socket.socket(socket.PF_CAN, socket.SOCK_RAW, socket.CAN_RAW) as can:
 
 
 def test_numbers_of_a_long_run():
-    """after billions of frames a socket recognises its own frames, and no others"""
+    """after billions of frames a socket still recognises its own frames, and only these"""
     numbers = [5, 6, 2**24 + 4, 2**24 + 6, 2**32 - 2]
-    # After each comes a frame of another socket, in a place that one of its own frames had.
+    # After each own frame the server sends a frame of another socket, whose number falls on the place of an earlier own
+    # frame.
     others = [4, 2**24 + 5, 2**24 + 5, 2**24 + 5, 2**24 + 6]
     with socket.create_server(("127.0.0.1", 0)) as server:
         address = f"127.0.0.1:{server.getsockname()[1]}"
@@ -171,7 +172,7 @@ def test_numbers_of_a_long_run():
         server.close()
 
 
-#: Sends two frames, the second by a timer, and prints the number of each received frame.
+#: Sends two frames, the second by a timer, and prints whether each of the four messages reports a received frame.
 TIMED_FRAMES = """
 import socket, struct
 with socket.socket(socket.PF_CAN, socket.SOCK_DGRAM, socket.CAN_BCM) as can:
@@ -188,7 +189,8 @@ with socket.socket(socket.PF_CAN, socket.SOCK_DGRAM, socket.CAN_BCM) as can:
 
 
 def test_frames_that_come_with_a_verdict():
-    """messages that come with the verdict on a timer's frame are handed over, though nothing comes after them"""
+    """the program gets the messages that arrive together with the result of a timer's frame, even if nothing arrives
+    after them"""
     with socket.create_server(("127.0.0.1", 0)) as server:
         address = f"127.0.0.1:{server.getsockname()[1]}"
         numbers = [(1, 2), (3, 4)]
@@ -199,8 +201,7 @@ def test_frames_that_come_with_a_verdict():
 
 
 def answer_sessions(server, numbers):
-    """Greets each session, and answers a frame with its number, and with the frame and another frame of its
-    interface."""
+    """Greets each session. Answers a send with the frame's number, this frame, and another frame of the interface."""
     with contextlib.suppress(OSError):
         while True:
             connection, _ = server.accept()
@@ -231,7 +232,7 @@ def answer_session(connection, numbers):
 
 
 def test_interfaces():
-    """the program finds the names of the server's interfaces, whatever program it is"""
+    """a program finds the names of all the server's interfaces"""
     buses = [",".join(f"{bus}-interface{number:02}" for number in range(16)) for bus in "abcdefghijklmnop"]
     names = [name for bus in buses for name in bus.split(",")]
     text = "import socket; print(*(n for i, n in socket.if_nameindex() if i >= 1 << 20)); " + (
@@ -245,7 +246,7 @@ def test_interfaces():
 
 
 def test_some_interfaces():
-    """a program finds only the named interfaces; the server must have each of them"""
+    """with --interfaces a program finds only the named interfaces, and the server must have all of them"""
     text = "import socket; print(*(n for i, n in socket.if_nameindex() if i >= 1 << 20))"
     with serving("can0,can1,can2", "far0") as server:
         shown = passes(server, "/usr/bin/python3", "-c", text, options=["--interfaces", "far0,can1"])
@@ -266,7 +267,7 @@ def test_some_interfaces():
 
 
 def test_wait(tmp_path):
-    """--wait waits for the server"""
+    """--wait waits until the server has started"""
     address = str(tmp_path / "late.socket")
     with subprocess.Popen(
         [command(), "--wait", "--address", address, "echo", "ran"], stdout=subprocess.PIPE, text=True
@@ -280,8 +281,8 @@ def test_wait(tmp_path):
 
 @pytest.mark.parametrize("address", ["127.0.0.1:0", "./run.socket", "[::1]:0"])
 def test_addresses(address):
-    """an address comes from an option or a variable; it may be a host name or a relative path, also from another
-    folder"""
+    """the address comes from an option or a variable; it may be a host name or a relative path, which also works if the
+    program is in another folder"""
     if address.startswith("[") and not os.path.exists("/proc/net/if_inet6"):
         pytest.skip("no IPv6")
     with serving("can0,can1", address=address) as server:
@@ -305,7 +306,7 @@ SEND = "import socket, struct; s = socket.socket(29, 3, 1); s.bind(('can0',)); s
 
 
 def test_status_and_pid():
-    """the status, the signal and the process number are the program's"""
+    """canbusd-run has the status, the signal and the process number of the program"""
     with serving("can0,can1") as server:
         assert run(server, "sh", "-c", "exit 7").returncode == 7
         assert run(server, "sh", "-c", "kill -KILL $$").returncode == -signal.SIGKILL
@@ -322,9 +323,9 @@ def test_status_and_pid():
 
 
 def pressed(terminal):
-    """Returns the terminal's output from Ctrl-C to the end of its program.
+    """Presses Ctrl-C, and returns the terminal's output from then to the end of its program.
 
-    Python notices a Ctrl-C that comes just before a wait only when it is woken, so Ctrl-C is pressed again.
+    If Ctrl-C comes just before a wait, Python notices it only when it is woken, so Ctrl-C is pressed again.
     """
     shown = b""
     for _ in range(WAIT):
@@ -333,13 +334,13 @@ def pressed(terminal):
             while select.select([terminal], [], [], 1)[0]:
                 shown += os.read(terminal, 1000)
         except OSError:
-            # The last process has ended, which the system reports as EIO.
+            # The last process has ended, and reads of the terminal then fail with EIO.
             return shown
     raise AssertionError(f"it goes on: {shown!r}")
 
 
 def test_interrupt():
-    """Ctrl-C at a terminal ends the program, which has the terminal, and its bridges"""
+    """Ctrl-C at a terminal ends the program that runs there, and its bridges"""
     with serving("can0,can1") as server:
         pid, terminal = pty.fork()
         if pid == 0:
@@ -363,7 +364,7 @@ WAITING_READER = (
 
 
 def test_kill():
-    """after SIGKILL no process and no session is left"""
+    """SIGKILL of the program leaves no process and no session"""
     with serving("can0,can1", "car0") as server:
         watcher = plain(server, "can1")
         for _ in range(3):
@@ -379,7 +380,7 @@ def test_kill():
 
 
 def test_pipes():
-    """a bridge holds no pipe: a reader sees the end of its input when the program has ended"""
+    """a bridge holds no pipe open, so a reader sees the end of its input when the program has ended"""
     with serving("can0,can1") as server:
         script = 'python3 -c "$1" & read -r _; kill -STOP $!; echo done'
         with started(server, "bash", "-c", f"({script})", "sh", WAITING_READER, stdin=subprocess.PIPE) as child:
@@ -397,7 +398,7 @@ def test_pipes():
 
 
 def test_no_child():
-    """the program sees no child, no SIGCHLD, and one descriptor for each socket; its other files are untouched"""
+    """the program sees no child, no SIGCHLD, and only one descriptor for each socket; its other files are untouched"""
     text = """
 import os, signal, socket
 seen = []
@@ -430,7 +431,7 @@ with open("/dev/null", "wb", 0) as null:
 
 @needs("candump", "cansend")
 def test_nested():
-    """canbusd-run works within canbusd-run, in a shell, and with other preloads"""
+    """canbusd-run works inside canbusd-run, in a shell, and together with other preloaded libraries"""
     with serving(*FAST, "can0,can1") as server:
         assert passes(server, command(), "sh", "-c", 'echo "$LD_PRELOAD"').count("libcanbusd-run.so") == 1
         with listening(server, "stdbuf", "-oL", "candump", "-L", "-n", "2", "can1") as dump:
@@ -439,7 +440,7 @@ def test_nested():
         server.end()
 
 
-#: Makes two binds that the server refuses.
+#: Makes two binds, both of which the server refuses.
 TWICE = """
 import errno, socket
 with socket.socket(29, 3, 1) as s:
@@ -454,7 +455,7 @@ with socket.socket(29, 3, 1) as s:
 
 
 def test_debug():
-    """CANBUSD_RUN_DEBUG=1 writes each refusal and the server's reason"""
+    """with CANBUSD_RUN_DEBUG=1 each refusal is printed with the server's reason"""
     text = SEND.replace("s.send(", "s.send(b'x' * 15) if 0 else s.send(")
     with serving("--limit", "3", "can0,can1") as server:
         client = plain(server, "can0")
@@ -464,7 +465,7 @@ def test_debug():
             ended.returncode == 1
             and "canbusd-run: bind: No space left on device: the server says: record full\n" in ended.stderr
         ), ended
-        # A full record differs from bus off, and a line reports it once in any case.
+        # A full record is not the same as bus off. It is reported once, even without CANBUSD_RUN_DEBUG.
         again = run(server, "/usr/bin/python3", "-c", TWICE)
         assert again.stderr == "canbusd-run: bind: No space left on device: the server says: record full\n", again
         client.close()
@@ -483,7 +484,7 @@ def test_debug():
         server.end()
 
 
-#: Starts another program by posix_spawn, and then becomes a program from PATH.
+#: Starts another program by posix_spawn, and then replaces itself with a program from PATH.
 STARTS = [
     "/usr/bin/python3",
     "-c",
@@ -493,7 +494,7 @@ STARTS = [
 
 @needs_gcc
 def test_obstacles(tmp_path):
-    """a note gives the reason why a program's sockets are the kernel's: static linking, setuid, 32 bits, Go"""
+    """a note says why a program gets the kernel's sockets: static linking, setuid, 32 bits, Go"""
     source = tmp_path / "nothing.c"
     source.write_text("int main(void) { return 0; }\n", encoding="utf-8")
     built = {}
@@ -510,12 +511,12 @@ def test_obstacles(tmp_path):
         note = plain.replace("\n", "; with canbusd-run --static they are the server's\n")
         static = run(server, built["static"])
         assert (static.returncode, static.stderr) == (0, note.format(built["static"], "is linked statically"))
-        # A shell or Python starts the program, and the line is the same.
+        # The note is the same if a shell or Python starts the program.
         for words in (["sh", "-c", built["static"]], ["bash", "-c", f"exec {built['static']}"], STARTS):
             started = run(server, *(word.format(built["static"]) for word in words))
             assert started.stderr == static.stderr, words
         assert run(server, "sh", "-c", built["dynamic"]).stderr == ""
-        # Programs that are linked statically, but have no such sockets, or run programs with the library.
+        # These programs are linked statically, but they use no CAN sockets, or run another program with the library.
         assert run(server, "/usr/bin/python3", "-c", "import ctypes.util; ctypes.util.find_library('c')").stderr == ""
         loader = os.path.realpath("/lib64/ld-linux-x86-64.so.2")
         if os.path.exists(loader):
@@ -536,7 +537,7 @@ def test_obstacles(tmp_path):
 
 
 def test_space_in_path(tmp_path):
-    """the loader can't take a library from a path with a space: status 125 and a line"""
+    """the loader can't preload a library from a path with a space, so canbusd-run ends with status 125 and one line"""
     folder = tmp_path / "my programs"
     folder.mkdir()
     for name in ("canbusd-run", "canbusd-bridge", "libcanbusd-run.so", "libcanbusd-virtual.so"):
@@ -549,7 +550,7 @@ def test_space_in_path(tmp_path):
 
 @pytest.mark.root
 def test_unprivileged(tmp_path):
-    """the user nobody, who can get no new rights, can use it"""
+    """the user nobody, who can get no additional rights, can use canbusd-run"""
     reader = os.path.dirname(command())
     shutil.copytree(reader, tmp_path / "run", ignore=shutil.ignore_patterns("sanitized"))
     for path in [tmp_path, *tmp_path.parents]:
@@ -571,8 +572,8 @@ def test_unprivileged(tmp_path):
 
 
 def test_64_sockets():
-    """a program has as many sockets as the server has room for. One more is EUSERS (87), which a line explains, and
-    succeeds after another is closed"""
+    """a program can have as many sockets as the server has sessions. One more fails with EUSERS (87), which a line
+    explains. It succeeds after another socket is closed"""
     text = """
 import errno, socket
 def one():
@@ -608,8 +609,8 @@ else:
 
 
 def test_limit_of_descriptors():
-    """a socket without a free descriptor returns EMFILE, whichever of its descriptors is missing, and leaves none
-    open"""
+    """a socket that finds no free descriptor fails with EMFILE, whichever of its descriptors is missing, and leaves
+    none open"""
     text = """
 import errno, os, resource, socket
 before = len(os.listdir("/proc/self/fd"))
@@ -636,7 +637,7 @@ print(*seen)
 
 
 def test_limit_of_files():
-    """a program that may write no file has sockets nevertheless, and its limit stays"""
+    """a program whose limit allows no file writes can still use sockets, and the limit stays"""
     text = f"import resource; resource.setrlimit(resource.RLIMIT_FSIZE, (0, 1 << 30)); {SEND}"
     text += "; assert resource.getrlimit(resource.RLIMIT_FSIZE) == (0, 1 << 30)"
     with serving("can0,can1") as server:
@@ -646,7 +647,7 @@ def test_limit_of_files():
 
 @pytest.mark.skipif(os.geteuid() != 0, reason="another user has to be this one's")
 def test_limit_of_processes():
-    """a socket whose process can't be started returns EAGAIN, like the start of a process"""
+    """if a socket's bridge process can't be started, the call fails with EAGAIN, as fork does"""
     text = """
 import os, resource, socket
 os.setgid(65534); os.setuid(65534)
@@ -676,7 +677,7 @@ with socket.socket() as any:
         server.end()
 
 
-#: In a bridge with this library, connect returns after the server has closed, if it closes soon.
+#: With this library, connect in a bridge returns only after the server has closed the connection, or after 5 seconds.
 LATE_CONNECT = """
 #include <poll.h>
 #include <sys/socket.h>
@@ -691,7 +692,7 @@ int __wrap_connect(int fd, const struct sockaddr *address, socklen_t length) {
 
 @needs_gcc
 def test_server_closes_before_a_write(tmp_path):
-    """the server's last messages count: a full server is EUSERS, even if the bridge has not written yet"""
+    """the last messages of a server are read: a full server causes EUSERS, even if the bridge has not written yet"""
     text = """
 import errno, socket
 with socket.socket(29, 3, 1) as s:
@@ -728,7 +729,7 @@ with socket.socket(29, 3, 1) as s:
 
 
 def stop(server):
-    """Stops a server, and returns after it has stopped."""
+    """Sends SIGSTOP to a server, and waits until it has stopped."""
     os.killpg(server.child.pid, signal.SIGSTOP)
     assert come_true(lambda: all(state == "T" for _, state, _ in threads_of(pid for pid, _ in server.processes())))
 
@@ -739,9 +740,9 @@ def call_of(pid):
         return file.read().split()[0]
 
 
-#: After this many writes to a socket, a process's later writes are quick writes.
+#: After this many writes to a socket, the process's further writes to it are quick writes.
 QUICK = 8
-#: Writes as many frames as its argument says, and then waits for a line before it continues.
+#: Writes as many frames as its argument says, and then waits for an input line.
 WRITER = """
 import errno, socket, struct, sys, threading, time
 s = socket.socket(29, 3, 1)
@@ -756,8 +757,8 @@ sys.stdin.readline()
 
 @pytest.mark.parametrize("before", [0, QUICK])
 def test_server_stops(before):
-    """with a stopped server, waiting writes fail after their time limit, however many there are, and all work again
-    when it continues; this holds by pipes and for quick writes"""
+    """while the server is stopped, each waiting write fails after its time limit, even if there are several. After the
+    server continues, writes succeed. This holds for writes by pipes and for quick writes"""
     text = (
         WRITER
         + """
@@ -796,7 +797,7 @@ print("sent", flush=True)
 
 @pytest.mark.parametrize("before", [0, QUICK])
 def test_bridge_is_killed(before):
-    """a write whose bridge is killed meanwhile returns ENXIO"""
+    """a write fails with ENXIO if the bridge is killed during the write"""
     text = (
         WRITER
         + """
@@ -814,7 +815,7 @@ except OSError as fault:
         stop(server)
         child.stdin.write("\n")
         child.stdin.flush()
-        # In a write the bridge waits for the server in recv, which is recvfrom, and not in ppoll.
+        # During a write the bridge waits for the server in recv (system call recvfrom), and not in ppoll.
         assert come_true(lambda: call_of(bridge) == "45")
         os.kill(bridge, signal.SIGKILL)
         assert line_of(child.stdout) == "ENXIO\n"
@@ -822,7 +823,8 @@ except OSError as fault:
 
 
 def test_no_descriptors():
-    """at the limit of descriptors a program writes and reads frames, and requests to the bridge are refused (EMFILE)"""
+    """a program that has reached its limit of descriptors can write and read frames, but requests to the bridge fail
+    with EMFILE"""
     text = """
 import errno, os, resource, socket, struct
 s, t = socket.socket(29, 3, 1), socket.socket(29, 3, 1)
@@ -857,7 +859,7 @@ assert s.getsockopt(socket.SOL_CAN_RAW, socket.CAN_RAW_LOOPBACK) == 1
 
 @needs_gcc
 def test_stored_files():
-    """the files in dist/ are identical to the results of the sources, if sources and compiler are the same"""
+    """if the sources and the compiler are the same, a build gives exactly the files in dist/"""
     if not os.access(os.path.join(ROOT, "canrun"), os.W_OK):
         pytest.skip("the sources' folder can't be written")
     compared = subprocess.run(
@@ -879,7 +881,7 @@ def test_stored_files():
     ],
 )
 def test_completions_of_bash(words, wanted):
-    """completion offers options first, then programs"""
+    """shell completion offers options first, then programs"""
     script = """
 source "$1/tools/completions/canbusd-run.bash"
 shift
@@ -891,7 +893,7 @@ _canbusd_run canbusd-run "${@: -1}" "${COMP_WORDS[COMP_CWORD - 1]}" && printf '%
 
 
 def test_bridge_alone():
-    """a bridge that is started by hand prints its purpose"""
+    """a bridge that a user starts by hand says what it is for"""
     bridge = os.path.join(os.path.dirname(command()), "canbusd-bridge")
     ended = subprocess.run([bridge], capture_output=True, text=True, check=False, stdin=subprocess.DEVNULL)
     assert ended.returncode == 125 and "canbusd-run" in ended.stderr

@@ -1,5 +1,5 @@
-"""canbusd-run: J1939, with the tools of can-utils and CPython's own tests. The cases with a kernel's answers are in
-kernel/j1939.c and other files."""
+"""canbusd-run: J1939, tested with the tools of can-utils and CPython's own tests. The cases with a kernel's answers are
+in kernel/j1939.c and other files."""
 
 import importlib.util
 import re
@@ -28,14 +28,15 @@ PYTHON = "/usr/bin/python3"
 
 
 def lines_of(child):
-    """Returns the output of a program that Ctrl-C ends."""
+    """Returns the output of a program, which it ends by Ctrl-C."""
     child.send_signal(signal.SIGINT)
     return child.communicate(timeout=20)[0].splitlines()
 
 
 @needs("testj1939")
 def test_testj1939(server):  # noqa: F811
-    """one frame and several frames arrive, at two ends of a bus, and at a socket of the same interface"""
+    """messages of one frame and of several frames arrive at the other end of a bus, and at a socket of the same
+    interface"""
     for sender in "can1", "can0":
         with listening(server, "testj1939", "-r", "-w20", "can0:0x90") as receiver:
             passes(server, "testj1939", "-s20", f"{sender}:0x80", f"{sender}:0x90,0x12300")
@@ -57,8 +58,8 @@ def test_testj1939_echo(server):  # noqa: F811
 
 @needs("j1939cat")
 def test_j1939cat(server, tmp_path):  # noqa: F811
-    """a file of a kilobyte arrives complete. The sender ends, in Debian 12 as with its kernel, which has no room for
-    the reply"""
+    """a file of a kilobyte arrives complete. The sender may end with an error, as in Debian 12 with the kernel's
+    sockets, because it has no room for the notification"""
     data = bytes(number * 7 % 256 for number in range(1000))
     (tmp_path / "sent").write_bytes(data)
     with open(tmp_path / "received", "wb") as file:
@@ -71,7 +72,7 @@ def test_j1939cat(server, tmp_path):  # noqa: F811
 
 @needs("j1939spy", "testj1939", "cansend")
 def test_j1939spy(server):  # noqa: F811
-    """messages to all and to others are shown"""
+    """j1939spy shows messages to all nodes and to other nodes"""
     with listening(server, "stdbuf", "-oL", "j1939spy", "-P", "can0") as spy:
         passes(server, "testj1939", "-s30", "-B", "can1:0x80", "can1:,0x0FE12")
         passes(server, "cansend", "can1", "18EA90FE#00EE00")
@@ -92,7 +93,7 @@ def test_j1939sr(server):  # noqa: F811
 
 @needs("j1939acd", "candump", "cansend")
 def test_j1939acd(server, tmp_path):  # noqa: F811
-    """the daemon claims an address, answers requests, gives the address up to a lower name, and takes another"""
+    """the daemon claims an address, answers requests, yields the address to a lower name, and takes another one"""
     words = ("j1939acd", "-r", "100,80-120", "-c", str(tmp_path / "cache"), "1122334455667788", "can0")
     with listening(server, "stdbuf", "-oL", "candump", "-L", "can1") as dump:
 
@@ -116,7 +117,7 @@ def test_j1939acd(server, tmp_path):  # noqa: F811
     not importlib.util.find_spec("test.test_socket"), reason="no tests of CPython, as of libpython3.11-testsuite"
 )
 def test_cpython(server):  # noqa: F811
-    """its three tests of J1939 pass"""
+    """CPython's three tests of J1939 pass"""
     ended = run(server, PYTHON, "-m", "unittest", "-v", "test.test_socket.J1939Test")
     assert ended.returncode == 0 and "Ran 3 tests" in ended.stderr and "skipped" not in ended.stderr, ended
 
@@ -134,7 +135,7 @@ def test_long_message(tmp_path):
 @pytest.mark.slow
 @needs_gcc
 def test_waits(tmp_path):
-    """1,000 messages from separate sockets arrive, and their ends are awaited"""
+    """1,000 messages from separate sockets arrive, and each sender waits until its message is sent"""
     path = compiled("j1939", str(tmp_path))
     with serving(*FAST, "can0,can1") as server:
         passes(server, path, "9", "1000", patience=280)
@@ -143,7 +144,7 @@ def test_waits(tmp_path):
 
 @needs_gcc
 def test_bus_off(tmp_path):
-    """a transfer with lost packets fails: both ends give it up, and nothing is reported as sent"""
+    """a transfer that loses packets fails: both ends abort it, and nothing is reported as sent"""
     script = tmp_path / "off.script"
     script.write_text("next 32 from can1 skip 3 global bit\n", encoding="utf-8")
     with serving("--pace", "1", f"can0,can1@{script}") as server:
@@ -171,7 +172,8 @@ with socket.socket(socket.PF_CAN, socket.SOCK_DGRAM, socket.CAN_J1939) as ecu, \
 
 @needs_gcc
 def test_virtual(tmp_path, nodes):  # noqa: F811
-    """in virtual time an address is valid after 250 ms, and a transfer to nobody is given up after 1.25 s"""
+    """in virtual time a claimed address is valid after exactly 250 ms, and a transfer to a missing node is aborted
+    after 1.25 s"""
     left = case("j1939", tmp_path / "run", nodes)
     claimed = re.fullmatch(rb"claimed after (0\.\d+) s\n", left["claimed"])
     assert claimed and 0.25 <= float(claimed.group(1)) < 0.252, left["claimed"]
@@ -181,7 +183,7 @@ def test_virtual(tmp_path, nodes):  # noqa: F811
         *(f"{length} bytes: Success" for length in (8, 30, 5000)),
         "30 bytes: No route to host",
     ]
-    # The time counts from the end of the request on the bus, which has 131 bits and at most 29 stuff bits, of 2
+    # The time begins at the end of the request on the bus. The request has 131 bits and at most 29 stuff bits, of 2
     # microseconds each.
     given_up = float(sent[3].split(" after ")[1].split()[0])
     assert 1.25 + 131 * 2e-6 <= given_up <= 1.25 + 160 * 2e-6, sent
@@ -189,7 +191,7 @@ def test_virtual(tmp_path, nodes):  # noqa: F811
 
 @needs_gcc
 def test_virtual_answers(tmp_path, nodes):  # noqa: F811
-    """each case has the kernel's answer in virtual time too, though frames take time"""
+    """in virtual time, in which frames take time, each case also has the kernel's answer"""
     kernel = answers(file_of("answers.txt"))
     left = case("answers", tmp_path / "run", nodes, PROBE=probe(str(tmp_path)))
     got = answers(left["answers"].decode())

@@ -1,5 +1,5 @@
-"""canbusd-run compared with a real kernel. The programs of run_c/ pass on the kernel too, and each case of kernel/ has
-the kernel's answer, as in answers.txt. The exceptions are in differences.txt, each with its line of LIMITS in
+"""Compares canbusd-run with a real kernel. The programs of run_c/ pass on the kernel too. Each case of kernel/ has the
+kernel's answer, which is in answers.txt. The exceptions are in differences.txt, each with its line of LIMITS in
 canbusd-run.1."""
 
 import concurrent.futures
@@ -14,7 +14,7 @@ from running import FAST, FLAGS, compiled, environment, needs_gcc, passes
 from serving import ROOT, serving
 
 KERNEL = os.path.join(ROOT, "canrun", "tests", "kernel")
-#: The kernel has the checks of these programs.
+#: The programs whose checks also pass on the kernel.
 SAME = (
     "calls",
     "faults",
@@ -34,12 +34,12 @@ SAME = (
     "passed_by",
     "wrote_past",
 )
-#: The number of servers that share the cases; most of the time is waiting.
+#: The cases are divided among this many servers, because most of their time is waiting.
 LOTS = 12
 
 
 def answers(text):
-    """Returns the cases in some lines, each with its answer."""
+    """Returns the cases in a text, each with its answer."""
     return dict(re.findall(r"^(\w+:\w+):(.*)$", text, re.M))
 
 
@@ -49,18 +49,18 @@ def file_of(name, folder=KERNEL):
 
 
 def differences(folder=KERNEL):
-    """Returns the expected differences: the lines of LIMITS, and the cases."""
+    """Returns the expected differences: the lines of LIMITS, and the cases with their answers."""
     text = re.sub(r"^#.*\n", "", file_of("differences.txt", folder), flags=re.M)
     return re.findall(r"^(?!\w+:\w+:)(.+)$", text, re.M), answers(text)
 
 
 def plain(page):
-    """Returns the words of a manual page, without markup."""
+    """Returns the words of a manual page without markup."""
     return " ".join(re.sub(r"\\f.|\\(?=-)|^\.\S+", "", page, flags=re.M).split())
 
 
 def probe(folder, *more, flags=()):
-    """Compiles the program of the cases, also with the cases of further folders."""
+    """Compiles the program of the cases, optionally with the cases of further folders."""
     path = os.path.join(folder, "probe")
     sources = [
         os.path.join(of, name) for of in (KERNEL, *more) for name in sorted(os.listdir(of)) if name.endswith(".c")
@@ -70,7 +70,7 @@ def probe(folder, *more, flags=()):
 
 
 def answered(program, cases, options=(*FAST, "can0,can1", "vcan0"), settings=(), run_options=(), **how):
-    """Returns the answers of canbusd-run to these cases, with a separate server."""
+    """Returns the answers of canbusd-run to these cases, from a server of their own."""
     with serving(*options) as server:
         how = {"env": environment(server, **dict(settings)), "options": run_options, **how}
         written = passes(server, program, *cases, patience=300, **how)
@@ -79,7 +79,7 @@ def answered(program, cases, options=(*FAST, "can0,can1", "vcan0"), settings=(),
 
 
 def unlike(program, cases, folder, **how):
-    """Returns the cases whose answers differ from the kernel's and from those in differences.txt."""
+    """Returns the cases whose answers are neither the kernel's nor those in differences.txt."""
     kernel = answers(file_of("answers.txt", folder))
     assert cases == list(kernel), "answers.txt is of other cases: canrun/tests/kernel/answers renews it"
     with concurrent.futures.ThreadPoolExecutor(LOTS) as pool:
@@ -105,7 +105,7 @@ def boots(*words):
 
 @needs_gcc
 def test_answers(tmp_path):
-    """canbusd-run answers each case like the kernel, or as differences.txt says"""
+    """canbusd-run answers each case as the kernel does, or as differences.txt says"""
     program = probe(str(tmp_path))
     cases = subprocess.run([program, "--list"], stdout=subprocess.PIPE, text=True, check=True).stdout.split()
     wrong = unlike(program, cases, KERNEL)
@@ -113,7 +113,7 @@ def test_answers(tmp_path):
 
 
 def check_differences(folder):
-    """Fails unless each difference is in LIMITS, and does occur."""
+    """Fails unless each difference is documented in LIMITS, and still occurs."""
     limits = plain(file_of("../../../canbusd-run.1").split(".SH LIMITS")[1].split(".SH ENVIRONMENT")[0])
     lines, cases = differences(folder)
     kernel = answers(file_of("answers.txt", folder))
@@ -122,20 +122,20 @@ def check_differences(folder):
 
 
 def test_differences():
-    """each difference is in LIMITS, and does occur"""
+    """each difference is documented in LIMITS, and still occurs"""
     check_differences(KERNEL)
 
 
 @pytest.mark.slow
 def test_recorded():
-    """answers.txt has the answers of the kernel"""
+    """answers.txt has the answers that the kernel gives now"""
     booted = boots(os.path.join(KERNEL, "answers"))
     assert answers(booted) == answers(file_of("answers.txt"))
 
 
 @pytest.mark.slow
 def test_programs(tmp_path):
-    """the programs of run_c/ end with status 0"""
+    """on the kernel the programs of run_c/ end with status 0"""
     words = [compiled(name, str(tmp_path), "-static") for name in SAME]
     booted = boots(os.path.join(KERNEL, "boot"), *words)
     assert re.findall(r"^status (\d+) of (\w+)$", booted, re.M) == [("0", name) for name in SAME], booted

@@ -1,5 +1,5 @@
 """canbusd-run: interfaces by netlink. Each case of links/ has the answer of a kernel with a CAN card. Common programs
-find interfaces, change them, and recover them from bus off. Further tests check the cost for a server."""
+find interfaces, change them, and recover them from bus off. Further tests check what these requests cost a server."""
 
 import contextlib
 import os
@@ -30,9 +30,9 @@ from serving import ROOT, come_true, join, plain, serving
 from test_run_kernel import KERNEL, boots, check_differences, probe, unlike
 
 LINKS = os.path.join(ROOT, "canrun", "tests", "links")
-#: The server of the cases; can2 and can3 are the interfaces of the cards.
+#: The buses of the server for the cases; can2 and can3 stand for the interfaces of the CAN cards.
 CARDS = ("--bitrate", "500000", "can0,can1", "vcan0", "can2,can3")
-#: Faults destroy a frame of can0 until its sender is bus off.
+#: A fault script destroys a frame of can0 again and again until its sender is bus off.
 ATTACK = f"can0,can1@{ROOT}/examples/bus_off_attack.script"
 
 needs_ip = pytest.mark.skipif(not os.path.exists("/usr/sbin/ip"), reason="no ip: apt-get install iproute2")
@@ -43,26 +43,26 @@ IP = "/usr/sbin/ip"
 
 
 def keepers(server):
-    """Returns the process numbers of a server's keepers."""
+    """Returns the process numbers of a server's keepers (canbusd-links)."""
     return processes_of(environment(server)["CANBUSD_ADDRESS"], "canbusd-links")
 
 
 def ended(server):
-    """Ends a server; its keepers end with it."""
+    """Ends a server, and checks that its keepers end too."""
     server.end()
     assert come_true(lambda: not keepers(server)), "a keeper is left"
 
 
 @contextlib.contextmanager
 def bus(*words):
-    """A server; its keepers end with it."""
+    """Runs a server, and checks at its end that its keepers end too."""
     with serving(*words) as server:
         yield server
         ended(server)
 
 
 def state_of(server, name="can0"):
-    """Returns the state and the counters in the format of `ip`."""
+    """Returns the state and the error counters in the format of `ip`."""
     shown = passes(server, IP, "-details", "link", "show", name)
     return re.search(r"state (\S+) \(berr-counter tx (\d+) rx (\d+)\)", shown).groups()
 
@@ -83,7 +83,7 @@ def cases_of(program):
 @needs_ip
 @needs_libsocketcan
 def test_answers(tmp_path):
-    """canbusd-run answers each case like the kernel, or as differences.txt says"""
+    """canbusd-run answers each case as the kernel does, or as differences.txt says"""
     program = probe(str(tmp_path), LINKS, flags=["-lsocketcan"])
     wrong = unlike(program, cases_of(program), LINKS, options=CARDS)
     assert not wrong, "\n".join(wrong)
@@ -94,7 +94,7 @@ def test_answers(tmp_path):
 @needs_ip
 @needs_libsocketcan
 def test_answers_sanitized(tmp_path):
-    """the answers are the same with sanitizers, which report nothing"""
+    """the answers are the same with sanitizers, and the sanitizers report nothing"""
     folder = str(tmp_path)
     program = probe(folder, LINKS, flags=[*SANITIZERS, "-lsocketcan"])
     reports = f"log_path={folder}/report:verify_asan_link_order=0:detect_stack_use_after_return=0"
@@ -106,13 +106,13 @@ def test_answers_sanitized(tmp_path):
 
 
 def test_differences():
-    """each difference is in LIMITS, and does occur"""
+    """each difference is documented in LIMITS, and still occurs"""
     check_differences(LINKS)
 
 
 @pytest.mark.slow
 def test_recorded():
-    """answers.txt has the answers of the kernel"""
+    """answers.txt has the answers that the kernel gives now"""
     booted = boots(os.path.join(KERNEL, "answers"), "links")
     with open(os.path.join(LINKS, "answers.txt"), encoding="utf-8") as file:
         recorded = file.read()
@@ -125,7 +125,7 @@ def test_recorded():
 @needs_gcc
 @needs_ip
 def test_bus_off(tmp_path):
-    """state, carrier, counters and counts are the server's, before and after a restart"""
+    """state, carrier, error counters and restart counts are those of the server, before and after a restart"""
     writer = compiled("send_one", str(tmp_path))
     with bus(*FAST, ATTACK) as server:
         assert state_of(server) == ("ERROR-ACTIVE", "0", "0")
@@ -144,7 +144,8 @@ def test_bus_off(tmp_path):
 
 
 def relay(source, target):
-    """Hands on all messages, and the items of a server after the next reply to a keeper, or once nothing else comes."""
+    """Passes all messages on, but holds state reports back until the next reply to a keeper, or until nothing else
+    comes."""
     text = items = b""
     source.settimeout(0.1)
     with contextlib.suppress(OSError):
@@ -172,7 +173,7 @@ def relay(source, target):
 
 @contextlib.contextmanager
 def overtaken(server):
-    """The same server, as it is where replies overtake items that were queued before them."""
+    """Yields an address of the same server at which replies overtake reports that were queued before them."""
 
     def accept():
         with contextlib.suppress(OSError):
@@ -194,7 +195,7 @@ def overtaken(server):
 @needs_gcc
 @needs_ip
 def test_bus_off_that_replies_overtake(tmp_path):
-    """the counts are those of the state that is shown"""
+    """the restart counts belong to the state that is shown, even if replies overtake reports"""
     writer = compiled("send_one", str(tmp_path))
     with bus(*FAST, ATTACK) as server, overtaken(server) as late:
         assert state_of(late) == ("ERROR-ACTIVE", "0", "0")
@@ -210,7 +211,7 @@ def test_bus_off_that_replies_overtake(tmp_path):
 @needs_gcc
 @needs_ip
 def test_restart_ms(tmp_path):
-    """restart-ms restarts an interface after the program that set it has ended, and refuses restarts by hand"""
+    """restart-ms restarts an interface even after the program that set it has ended; manual restarts are refused"""
     writer = compiled("send_one", str(tmp_path))
     with bus(*FAST, ATTACK) as server:
         passes(server, IP, "link", "set", "can0", "up", "type", "can", "restart-ms", "300")
@@ -230,7 +231,7 @@ def test_restart_ms(tmp_path):
 
 @needs_ip
 def test_bit_rates_of_each_bus():
-    """`ip` shows the bit rates of the interface's bus, and accepts no others"""
+    """`ip` shows the bit rates of the interface's bus, and can't set other bit rates"""
     rates = ("--bitrate", "500000", "--bitrate", "body0=125000", "--dbitrate", "can0=2000000")
     with bus(*rates, "can0,can1", "body0") as server:
         for name, nominal, fast in (("can0", 500000, 2000000), ("can1", 500000, 2000000), ("body0", 125000, 125000)):
@@ -244,7 +245,7 @@ def test_bit_rates_of_each_bus():
 @needs_gcc
 @needs_ip
 def test_monitor(tmp_path):
-    """`ip monitor link` reports that the carrier goes and comes"""
+    """`ip monitor link` reports when the carrier is lost and when it comes back"""
     writer = compiled("send_one", str(tmp_path))
     with bus(*FAST, ATTACK) as server, started(server, IP, "monitor", "link") as monitor:
         assert come_true(lambda: keepers(server))
@@ -262,18 +263,18 @@ def test_monitor(tmp_path):
         os.killpg(monitor.pid, signal.SIGKILL)
 
 
-# ---- down and up ----
+# ---- interfaces that are set down and up ----
 
 
 @needs_gcc
 @needs_ip
 def test_down_and_up(tmp_path):
-    """an interface that is set down sends nothing, acknowledges nothing, and loses its waiting frames"""
+    """an interface that is down sends nothing, acknowledges nothing, and loses its queued frames"""
     writer = compiled("send_one", str(tmp_path))
-    # The bus has a pace, because otherwise repeats of an unacknowledged frame fill the record in seconds.
+    # The bus has a bit rate, because otherwise repeats of an unacknowledged frame would fill the record in seconds.
     with bus("--ack", "peers", "can0,can1") as server, contextlib.closing(plain(server, "can1")) as other:
         passes(server, IP, "link", "set", "can1", "down")
-        # No node acknowledges the frame of can0, which waits.
+        # No node acknowledges the frame of can0, so it stays in the queue.
         passes(server, writer, "can0")
         comes_to(server, "ERROR-PASSIVE")
         shown = passes(server, IP, "-details", "link", "show", "can1")
@@ -284,18 +285,18 @@ def test_down_and_up(tmp_path):
         assert refused.returncode != 0 and "Network is down" in refused.stderr
         refused = run(server, IP, "link", "set", "can1", "type", "can", "restart")
         assert (refused.returncode, refused.stderr) == (2, "Error: the interface is down.\n")
-        # After the interface is up, it receives the frame.
+        # When the interface is up again, it receives that frame.
         passes(server, IP, "link", "set", "can1", "up")
         assert other.frame()[0] == "123"
         shown = passes(server, IP, "-details", "-statistics", "link", "show", "can1")
         assert "<NOARP,UP,LOWER_UP,ECHO>" in shown and "state ERROR-ACTIVE (berr-counter tx 0 rx 0)" in shown
-        # Setting the interface up is not a restart by can_restart.
+        # Setting the interface up does not count as a restart.
         assert re.search(r"bus-off\n\s+0 +0 +0 +0 +0 +0 ", shown), shown
 
 
 @needs_ip
 def test_down_by_others():
-    """an interface that a client of the server takes down is down, and netlink sets it up"""
+    """an interface that another client of the server takes down is shown as down, and netlink can set it up"""
     with bus(*FAST, "can0,can1") as server, contextlib.closing(plain(server, "can0")) as client:
         assert state_of(server)[0] == "ERROR-ACTIVE"
         assert client.answer("< down >") == "< ok >"
@@ -304,12 +305,12 @@ def test_down_by_others():
         assert client.answer("< status >") == "< status active 0 0 >"
 
 
-# ---- what it costs ----
+# ---- cost for the server ----
 
 
 @needs_ip
 def test_dump_of_many():
-    """a list of 256 interfaces starts no process, uses no session, and takes a moment"""
+    """listing 256 interfaces is fast, starts no process and uses no session"""
     names = [[f"b{number}x{one}" for one in range(16)] for number in range(16)]
     with bus(*FAST, *(",".join(names_of_bus) for names_of_bus in names)) as server:
         shown = passes(server, IP, "-details", "-o", "link", "show")
@@ -323,7 +324,7 @@ def test_dump_of_many():
 
 @needs_ip
 def test_sessions():
-    """all requests share one session of the server, and a thousand leave room for 63"""
+    """all requests share one session of the server, even a hundred of them"""
     with bus(*FAST, "can0,can1") as server:
         script = "for i in $(seq 100); do ip link show can0; done | grep -c link/can"
         assert passes(server, "sh", "-c", script, env=environment(server, PATH="/usr/sbin:/usr/bin:/bin")) == "100\n"
@@ -332,7 +333,8 @@ def test_sessions():
 
 @needs_ip
 def test_full():
-    """the interface is found even if the server has no free session, and standard error gives the reason"""
+    """an interface is found even if the server has no free session; its state is then missing, and standard error says
+    why"""
     with bus(*FAST, "can0,can1") as server:
         clients = [plain(server, "can0") for _ in range(63)]
         script = f"echo ready; read line; {IP} -details link show can0"
@@ -349,7 +351,7 @@ def test_full():
 @pytest.mark.skipif(os.geteuid() != 0, reason="not root, so there is no other user")
 @needs_ip
 def test_other_user():
-    """another user's program is not served by this user's keeper, but has its own"""
+    """a keeper does not serve the programs of another user, who gets a separate keeper"""
     with bus(*FAST, "can0,can1") as server:
         passes(server, IP, "link", "set", "can0", "type", "can", "restart-ms", "100")
         words = ["setpriv", "--reuid=65534", "--regid=65534", "--clear-groups", command(), "--", IP]
@@ -415,7 +417,7 @@ QT = "/usr/lib/qt5/bin/canbusutil"
     not os.path.exists(QT), reason="no canbusutil: apt-get install libqt5serialbus5-bin libqt5serialbus5-plugins"
 )
 def test_qt():
-    """Qt's device list has the interfaces of the server"""
+    """Qt's list of CAN devices contains the server's interfaces"""
     with bus(*FAST, "can0,can1", "vcan0") as server:
         written = passes(server, QT, "-d", "socketcan", env=environment(server, QT_QPA_PLATFORM="offscreen"))
         assert [line for line in written.split() if "can" in line] == ["can0", "can1", "vcan0"]
@@ -427,7 +429,7 @@ def test_qt():
 @needs_gcc
 @needs_ip
 def test_virtual(tmp_path):
-    """in virtual time restart-ms takes exactly its time: a minute passes in a moment"""
+    """in virtual time restart-ms takes exactly its time, so a minute passes at once"""
     writer = compiled("send_one", str(tmp_path))
     script = f"""
 export PATH=/usr/sbin:$PATH CANBUSD_ADDRESS={tmp_path}/bus

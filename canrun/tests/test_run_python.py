@@ -1,4 +1,4 @@
-"""canbusd-run: python-can's interface `socketcan`, in programs without any knowledge of canbusd."""
+"""canbusd-run: python-can's interface `socketcan`, in programs that are not written for canbusd."""
 
 import textwrap
 
@@ -33,7 +33,7 @@ def python(server, text, *words, **how):
 
 
 def test_send_and_receive(server):
-    """identifiers, lengths and remote frames arrive, and frames of others count as received"""
+    """identifiers, lengths and remote frames arrive, and frames of other nodes count as received"""
     python(
         server,
         """
@@ -52,7 +52,7 @@ def test_send_and_receive(server):
 
 
 def test_filters(server):
-    """filters apply when they are given and when they change"""
+    """filters apply both when a bus is opened and when they are changed"""
     python(
         server,
         """
@@ -88,7 +88,7 @@ def test_fd(server):
 
 
 def test_own_messages(server):
-    """receive_own_messages works, and own messages are marked"""
+    """receive_own_messages works, and a socket's own messages are marked as sent"""
     python(
         server,
         """
@@ -116,7 +116,7 @@ def test_any(server):
 
 
 def test_notifier(server):
-    """a Notifier works, and a ThreadSafeBus"""
+    """a Notifier and a ThreadSafeBus work"""
     python(
         server,
         """
@@ -187,7 +187,7 @@ def test_periodic(server):
 
 
 def test_errors():
-    """a program gets error message frames, bus off, and the exception of a send"""
+    """a program gets error message frames and bus off, and a send then raises an exception"""
     with serving("--pace", "0", f"can0,can1@{ROOT}/examples/bus_off_attack.script") as server:
         python(
             server,
@@ -225,7 +225,7 @@ def test_no_interface(server):
 
 @needs("candump")
 def test_logger_and_player(server, tmp_path):
-    """python-can's own programs write a log, and play it"""
+    """python-can's own programs write a log and replay it"""
     log = tmp_path / "run.log"
     with started(server, PYTHON, "-m", "can.logger", "-i", "socketcan", "-c", "can1", "-f", str(log)) as logger:
         settled(logger)
@@ -281,7 +281,7 @@ def test_plain_sockets(server):
 
 
 def test_multiprocessing(server):
-    """a forked child process has a bus"""
+    """a forked child process can use a bus"""
     python(
         server,
         """
@@ -302,7 +302,7 @@ def test_multiprocessing(server):
 
 
 def test_isotp(server):
-    """Python's own sockets of ISO-TP work"""
+    """ISO-TP sockets of Python's socket module work"""
     python(
         server,
         """
@@ -320,8 +320,8 @@ def test_isotp(server):
 
 
 def test_handle_of_libc(server):
-    """functions that a program takes from a handle of the C library, as scapy's native ISO-TP sockets do, are
-    canbusd-run's too"""
+    """canbusd-run also replaces functions that a program gets from a handle of the C library, as scapy's native ISO-TP
+    sockets do"""
     text = """
 import ctypes, socket, struct
 libc = ctypes.CDLL("libc.so.6", use_errno=True)

@@ -1,6 +1,6 @@
 """canbusd-run --static: programs that load no library. A statically linked program gets the kernel's answers to the
-cases of kernel/ and links/. The exceptions are the kernel's differences and static.txt. Further tests run programs of
-Go and musl, signals and forks."""
+cases of kernel/ and links/. The exceptions are the known differences from the kernel, and static.txt. Further tests run
+programs of Go and musl, signals and forks."""
 
 import concurrent.futures
 import os
@@ -19,7 +19,7 @@ from test_run_kernel import plain as words_of
 from test_run_links import CARDS, LINKS, needs_ip, needs_libsocketcan
 
 STATIC = ("--static",)
-#: Words in the names of cases whose sockets do not exist here.
+#: Cases whose names contain these words use J1939 sockets, which --static does not have.
 OF_J1939 = ("j1939", "claims:", "notices:", "transport:")
 
 
@@ -38,7 +38,7 @@ def known_differences():
 
 def unlike(cases, folder, answer):
     """Returns the cases of a folder whose answer is neither the kernel's nor a known difference. Each case of
-    static.txt has a separate server, because its leftovers would disturb others."""
+    static.txt runs with a separate server, because what it leaves would disturb other cases."""
     alone = known_differences()[1]
     wanted = {**answers(file_of("answers.txt", folder)), **differences(folder)[1], **alone}
     others = [case for case in cases if case not in alone]
@@ -52,7 +52,7 @@ def unlike(cases, folder, answer):
 @needs_libsocketcan
 @pytest.mark.parametrize("folder", [KERNEL, LINKS], ids=["kernel", "links"])
 def test_answers(tmp_path, folder):
-    """a static program gets the kernel's answers, except for those in static.txt"""
+    """a static program gets the kernel's answers, except for the cases in static.txt"""
     program = probe(str(tmp_path), LINKS, flags=["-static", "-lsocketcan"])
     listed = subprocess.run([program, "--list"], stdout=subprocess.PIPE, text=True, check=True).stdout.split()
     known = answers(file_of("answers.txt", folder))
@@ -63,7 +63,7 @@ def test_answers(tmp_path, folder):
 
 
 def test_differences():
-    """each difference is in LIMITS, and does occur"""
+    """each difference is documented in LIMITS, and still occurs"""
     limits = words_of(file_of("../../../canbusd-run.1").split(".SH LIMITS")[1].split(".SH ENVIRONMENT")[0])
     lines, cases = known_differences()
     kernel = {**answers(file_of("answers.txt")), **answers(file_of("answers.txt", LINKS))}
@@ -71,13 +71,13 @@ def test_differences():
     assert not [case for case, answer in cases.items() if kernel.get(case, answer) == answer]
 
 
-#: The programs of test_run_c.py that only need can0 and can1 on one bus, and do not check the library's inner working.
+#: The programs of test_run_c.py that need only can0 and can1 on one bus, and do not check the internals of the library.
 SAME = ("calls", "options", "filters", "own", "fd", "epoll", "threads", "bcm", "rows", "isotp")
 
 
 @pytest.mark.parametrize("name", SAME)
 def test_programs(tmp_path, name):
-    """statically linked programs get the same results as programs with the library"""
+    """statically linked programs give the same results as programs with the library"""
     program = compiled(name, str(tmp_path), "-static")
     with serving(*FAST, "can0,can1", "vcan0") as server:
         passes(server, program, options=STATIC, patience=200)
@@ -86,7 +86,7 @@ def test_programs(tmp_path, name):
 
 @pytest.mark.parametrize("kind", ["restarted", "interrupted"])
 def test_signals(tmp_path, kind):
-    """a wait that a signal interrupts loses no frame"""
+    """no frame is lost when a signal interrupts a wait"""
     program = compiled("interrupted", str(tmp_path), "-static")
     with serving(*FAST, "can0,can1") as server:
         passes(server, program, kind, options=STATIC, patience=200)
@@ -125,7 +125,7 @@ def test_musl(tmp_path):
 
 
 def test_process(tmp_path):
-    """the program keeps its process number and its status, and the supervisor leaves nothing"""
+    """the program keeps its process number and its status, and the supervisor process ends"""
     program = compiled("send_one", str(tmp_path), "-static")
     with serving(*FAST, "can0,can1") as server:
         shown = run(server, "sh", "-c", f"echo $$; exec {program} none", options=STATIC)
@@ -137,12 +137,12 @@ def test_process(tmp_path):
 
 
 def supervisors(server):
-    """Returns the supervisors of programs that have this server's address."""
+    """Returns the supervisor processes of programs that have this server's address."""
     return processes_of(environment(server)["CANBUSD_ADDRESS"], "canbusd-static")
 
 
 def test_refused(tmp_path):
-    """requests that --static can't handle are refused, and a line names the program that needs them"""
+    """what --static does not support is refused, and a line says what it is"""
     program = compiled("send_one", str(tmp_path), "-static")
     with serving(*FAST, "can0,can1") as server:
         note = run(server, program, "can0").stderr

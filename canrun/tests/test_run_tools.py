@@ -1,4 +1,4 @@
-"""canbusd-run: the tools of can-utils, tested by their output, whose expected format is can-utils' own."""
+"""canbusd-run: the tools of can-utils, tested by their output in can-utils' own formats."""
 
 import contextlib
 import re
@@ -34,20 +34,20 @@ def send(server, *frames, name="can0"):
 
 
 def ended(child):
-    """Returns the output of a program that Ctrl-C ends."""
+    """Returns the output of a program, which it ends by Ctrl-C."""
     child.send_signal(signal.SIGINT)
     return child.communicate(timeout=20)[0]
 
 
 def logged(server, name):
-    """Returns the frames of a server's log, after the server has ended."""
+    """Ends the server, and returns the frames in its log."""
     server.end()
     with open(server.path(f"{name}.log"), encoding="utf-8") as log:
         return [line.split(" ", 1)[1] for line in log.read().splitlines()]
 
 
 def test_cansend():
-    """classic frames, 29-bit identifiers, remote frames and FD frames are in the server's log"""
+    """the server's log has the classic frames, 29-bit identifiers, remote frames and FD frames that cansend sends"""
     with serving(*FAST, "can0,can1") as server:
         frames = ["123#", "123#DEADBEEF", "5AA#0011223344556677", "1F334455#11", "00000123#", "123#R", "123#R5"]
         frames += ["213##311223344556677881122334455667788", "123##1AABB", "123##2", "123##0AA"]
@@ -57,7 +57,7 @@ def test_cansend():
 
 
 def test_cansend_refused():
-    """a wrong name, a full queue and bus off have the words of the kernel's errors"""
+    """a wrong interface name, a full queue and bus off give the same error messages as the kernel"""
     with serving("--pace", "60000", "can0,can1@" + f"{ROOT}/examples/bus_off_attack.script") as server:
         wrong = run(server, "cansend", "can7", "123#")
         assert wrong.returncode == 1 and "No such device" in wrong.stderr, wrong
@@ -73,10 +73,10 @@ def test_cansend_refused():
 
 
 def test_candump(server):
-    """its lines have the documented forms"""
+    """the lines of candump have the documented formats"""
     with listening(server, "candump", "-n", "4", "can1") as dump:
         send(server, "123#1122", "12345678#01", "123#R", "7FF#0011223344556677")
-        # Identifiers of 11 bits are indented after the first one of 29 bits.
+        # After the first 29-bit identifier, candump indents 11-bit identifiers.
         assert re.sub(" +", " ", written(dump)) == (
             " can1 123 [2] 11 22\n"
             " can1 12345678 [1] 01\n"
@@ -89,8 +89,8 @@ def test_candump(server):
     with listening(server, "candump", "-n", "1", "can1") as dump:
         send(server, "123##0112233445566778899AABBCC")
         assert written(dump) == "  can1  123  [12]  11 22 33 44 55 66 77 88 99 AA BB CC\n"
-    # The digit has the flags: 1 is the bit rate switch, 2 the error state indicator; 4 marks each FD frame
-    # (linux/can.h).
+    # The digit contains the flags of an FD frame: 1 is the bit rate switch, 2 the error state indicator; 4 marks each
+    # FD frame (linux/can.h).
     with listening(server, "candump", "-L", "-n", "3", "can1") as dump:
         send(server, "123##1AABB", "123##3", "123##0AA")
         assert [line.split()[-1] for line in written(dump).splitlines()] == ["123##5AABB", "123##7", "123##4AA"]
@@ -99,7 +99,7 @@ def test_candump(server):
 
 
 def test_candump_stamps():
-    """the times of each kind of timestamp are those of the server's log"""
+    """each kind of timestamp is the same as in the server's log"""
     with serving(*FAST, "can0,can1") as server:
         with listening(server, "candump", "-L", "-n", "2", "can1") as first, listening(
             server, "candump", "-ta", "-n", "2", "can1"
@@ -132,7 +132,7 @@ def test_candump_stamps():
     ],
 )
 def test_candump_filters(server, words, expected):
-    """only matching frames pass, up to a last frame that passes; up to 200 filters"""
+    """only matching frames pass, up to a last frame that always passes; there may be 200 filters"""
     last = "" if "~" in words else ",1AA:7FF"
     with listening(server, "candump", "-L", words + last) as dump:
         send(server, "123#", "124#", "00000123#", "7FF#", "1AA#")
@@ -145,7 +145,7 @@ def test_candump_filters(server, words, expected):
 
 
 def test_candump_any(server):
-    """frames of two buses arrive, with loopback at the interface that sends"""
+    """frames of two buses arrive, including the loopback at the interface that sends"""
     with listening(server, "candump", "-L", "any") as dump:
         send(server, "123#01")
         send(server, "124#02", name="vcan0")
@@ -154,7 +154,7 @@ def test_candump_any(server):
 
 
 def test_candump_errors():
-    """bus off and restart appear as error message frames, in the format of `-L`"""
+    """candump shows bus off and restart as error message frames, in the format of `-L`"""
     script = f"can0,can1@{ROOT}/examples/bus_off_attack.script"
     with serving("--pace", "1", "--auto-restart", "50", script) as server:
         with listening(server, "candump", "-L", "-n", "4", "can0,0~0,#FFFFFFFF") as dump:
@@ -165,7 +165,7 @@ def test_candump_errors():
 
 
 def test_candump_log(server, tmp_path):
-    """-l writes a file"""
+    """candump -l writes a log file"""
     with listening(server, "candump", "-l", "-n", "2", "can1", cwd=tmp_path) as dump:
         send(server, "123#01", "12345678#02")
         written(dump)
@@ -175,7 +175,7 @@ def test_candump_log(server, tmp_path):
 
 
 def test_cangen(server, tmp_path):
-    """10,000 frames at full speed all arrive, once and in order"""
+    """10,000 frames at full speed all arrive, each once and in order"""
     frames = 10_000
     with open(tmp_path / "lines", "w+", encoding="utf-8") as lines:
         with listening(server, "candump", "-L", "-n", str(frames), "can1", stdout=lines) as dump:
@@ -189,7 +189,7 @@ def test_cangen(server, tmp_path):
 
 
 def test_cangen_kinds(server):
-    """FD, 29 bits and remote frames are generated; -i continues if the queue is full"""
+    """cangen generates FD frames, 29-bit identifiers and remote frames, and with -i continues if the queue is full"""
     with listening(server, "candump", "-L", "-n", "30", "can1") as dump:
         passes(server, "cangen", "can0", "-g", "1", "-n", "10", "-f")
         passes(server, "cangen", "can0", "-g", "1", "-n", "10", "-e")
@@ -205,7 +205,7 @@ def test_cangen_kinds(server):
 
 
 def test_canplayer(server, tmp_path):
-    """a log is played, with --wait also into a short queue"""
+    """canplayer replays a log, and with --wait also if the queue is short"""
     log = tmp_path / "run.log"
     lines = [f"({number / 1000:.6f}) can0 {number:03X}#{number:04X}" for number in range(1, 101)]
     log.write_text("\n".join(lines) + "\n", encoding="utf-8")
@@ -221,7 +221,7 @@ def test_canplayer(server, tmp_path):
 
 
 def test_cansequence(server):
-    """one end counts and sends, and the other finds no gap"""
+    """one cansequence sends a counter, and the other finds no gap"""
     with listening(server, "cansequence", "-r", "-v", "can1") as reader:
         passes(server, "cansequence", "can0", "--loop=300", "-p")
         send(server, "002#FF")  # The next number is 300 & 255.
@@ -235,7 +235,7 @@ def test_cansequence(server):
 
 
 def test_canfdtest(server):
-    """each frame comes back with all its bytes one higher"""
+    """canfdtest returns each frame with all its bytes incremented by one"""
     with listening(server, "canfdtest", "can1") as dut:
         host = run(server, "canfdtest", "-g", "-l", "200", "can0")
         assert host.returncode == 0 and "Test messages sent and received: 200" in host.stdout + host.stderr, host
@@ -243,7 +243,7 @@ def test_canfdtest(server):
 
 
 def test_canbusload(server):
-    """it counts frames and bits"""
+    """canbusload counts frames and bits"""
     with listening(server, "canbusload", "can1@500000") as load:
         for number in range(5):
             send(server, f"{0x100 + number:03X}#1122334455667788")
@@ -254,7 +254,7 @@ def test_canbusload(server):
 
 
 def test_cansniffer(server):
-    """it shows the data of an identifier that changes"""
+    """cansniffer shows the changing data of an identifier"""
     with started(server, "cansniffer", "can1", stdin=subprocess.PIPE) as sniffer:
         settled(sniffer)
         shown = ""
@@ -274,7 +274,7 @@ def test_cansniffer(server):
 
 
 def test_canlogserver(server):
-    """a client of its port gets the log"""
+    """a client that connects to the port of canlogserver gets the log"""
     with started(server, "canlogserver", "-p", "28700", "can1") as logs, contextlib.ExitStack() as ending:
         for _ in turns("it listens"):
             with contextlib.suppress(ConnectionRefusedError):
@@ -290,7 +290,8 @@ def test_canlogserver(server):
 
 
 def test_isotpdump(server):
-    """it reads the protocol's frames; another preload makes it write each line at once"""
+    """isotpdump shows the protocol's frames; it also works with a preloaded library that makes it write each line at
+    once"""
     with listening(server, "stdbuf", "-oL", "isotpdump", "-s", "123", "-d", "321", "-c", "can1") as dump:
         send(server, "123#021122", "123#100A112233445566")
         lines = [dump.stdout.readline() for _ in range(2)]
@@ -311,7 +312,8 @@ def test_isotpdump(server):
     ],
 )
 def test_isotp(server, sending, receiving, length):
-    """isotpsend and isotprecv transfer one frame, blocks, 29 bits with padding, extended addresses and FD frames"""
+    """isotpsend and isotprecv transfer single frames, blocks, 29-bit identifiers with padding, extended addresses and
+    FD frames"""
     text = " ".join(f"{number * 7 % 256:02X}" for number in range(length))
     with listening(server, "isotprecv", *receiving, "can1") as receiver:
         passes(server, "isotpsend", *sending, "can0", input=text + "\n")
@@ -320,7 +322,8 @@ def test_isotp(server, sending, receiving, length):
 
 @needs("isotpsend", "isotprecv")
 def test_isotp_bus_off(tmp_path):
-    """a message with lost frames counts as not sent, though all were accepted: ECOMM, 2 seconds after the last"""
+    """a message whose frames are lost fails with ECOMM 2 seconds after the last frame, although the server accepted all
+    frames"""
     script = tmp_path / "off.script"
     script.write_text("next 32 from ecu skip 3 global bit\n", encoding="utf-8")
     with serving("--pace", "1", f"ecu,tester@{script}") as server:
@@ -334,8 +337,8 @@ def test_isotp_bus_off(tmp_path):
 @pytest.mark.quiet
 @pytest.mark.parametrize("is_busy", [False, True], ids=["idle", "busy"])
 def test_isotp_stmin(is_busy):
-    """the pause that a receiver asks for lasts from the end of a frame on the wire to the next, also during other
-    traffic"""
+    """the pause that a receiver requests lasts from the end of one frame on the bus to the start of the next, even if
+    other nodes send"""
     with serving("--bitrate", "50000", "ecu,tester,other") as server, contextlib.ExitStack() as ending:
         receiver = ending.enter_context(
             listening(server, "isotprecv", "-s", "321", "-d", "123", "-m", "0A", "tester", stdout=subprocess.PIPE)
@@ -351,7 +354,8 @@ def test_isotp_stmin(is_busy):
         with open(server.path("ecu.log"), encoding="utf-8") as log:
             frames = re.findall(r"^\((\d+\.\d+)\) ecu 123#(2\w+)", log.read(), re.M)
         ends = [float(end) for end, _ in frames]
-        # A frame has 44 bits and its data, without stuff bits: the last frame has 6 bytes, the others have 8.
+        # A frame has 44 bits and its data, without counting stuff bits. The last frame has 6 data bytes, and the others
+        # have 8.
         least = [0.010 + (44 + 4 * len(data)) / 50_000 for _, data in frames]
         gaps = [after - end for end, after in zip(ends, ends[1:])]
         assert len(ends) == 8 and all(gap >= short - 1e-6 for gap, short in zip(gaps, least[1:])), (gaps, least)
@@ -361,7 +365,8 @@ def test_isotp_stmin(is_busy):
 
 
 def test_canplayer_log_with_faults(tmp_path):
-    """a server's own log with error frames is played to its end: they are accepted, and a note says where they go"""
+    """canplayer replays a server's own log with error message frames to its end: the frames are accepted, and a note
+    says that they are not sent"""
     log = "(0.000001) can0 123#01\n(0.000002) can0 20000080#0000000000000000\n(0.000003) can0 124#02\n"
     (tmp_path / "faults.log").write_text(log, encoding="utf-8")
     with serving(*FAST, "can0,can1") as server:
@@ -373,7 +378,7 @@ def test_canplayer_log_with_faults(tmp_path):
         assert logged(server, "can0") == ["can0 123#01", "can0 124#02"]
 
 
-#: Some runs of a test that would fail at a hang; the slow test has as many as --cases.
+#: How often a test runs that would fail if a program hung. The slow variant runs as often as --cases says.
 few_and_many = pytest.mark.parametrize("runs", [10, pytest.param(0, marks=pytest.mark.slow)], ids=["few", "many"])
 
 
@@ -381,7 +386,7 @@ few_and_many = pytest.mark.parametrize("runs", [10, pytest.param(0, marks=pytest
 @needs("cangen")
 @pytest.mark.parametrize("places", ["1", "10"])
 def test_wait_never_hangs(places, runs, cases):
-    """each run sends 1,000 frames that find the queue full again and again"""
+    """with --wait, sends of 1,000 frames that find the queue full again and again always end"""
     words = ["cangen", "-g", "0", "-n", "1000", "can0"]
     with serving("--pace", "0", "--txqueue", places, "--record", "none", "can0,can1") as server:
         for _ in range(runs or cases):
@@ -391,7 +396,7 @@ def test_wait_never_hangs(places, runs, cases):
 
 
 def refused_sends(server):
-    """Returns the number of sends that a full queue has refused."""
+    """Returns how many sends a full queue has refused."""
     client = plain(server, "can0")
     for text in iter(lambda: client.answer("< stats >"), ""):
         if text.startswith("< stats "):
@@ -401,9 +406,9 @@ def refused_sends(server):
 
 
 def refused_without_cause(record):
-    """Returns the sends that were refused although no other socket had sent since the socket's last refusal. After a
-    refusal a waiting write watches the queue, and sends when there is room. So it is refused again only if another
-    socket was faster."""
+    """Returns the sends that were refused although no other socket had sent a frame since the socket's previous
+    refusal. After a refusal a waiting write watches the queue, and sends when there is room. So it is refused again
+    only if another socket was faster."""
     found, overtaken = [], {}
     with open(record, encoding="utf-8") as entries:
         sends = re.findall(r"^send (\d+) \S+ = (no-buffers|number)", entries.read(), re.M)
@@ -419,8 +424,8 @@ def refused_without_cause(record):
 @needs("cangen")
 @pytest.mark.parametrize("options", [(), ("--txqueue", "1"), ("--bitrate", "500000")], ids=["10", "1", "bit rate"])
 def test_waits_are_not_refused(options):
-    """a waiting write is sent when there is room. Without other writers only the first write that finds no room is
-    refused; with others, also writes whose room another has taken"""
+    """a waiting write is sent when there is room. If there is only one writer, only its first write that finds no room
+    is refused. With several writers, a write is also refused if another one has taken its room"""
     words = ["cangen", "-g", "0", "-n", "300", "-L", "8", "can0"]
     with serving(*options, "can0,can1") as server:
         for _ in range(2):
@@ -437,7 +442,8 @@ def test_waits_are_not_refused(options):
 @few_and_many
 @needs("cangen", "isotpsend", "isotprecv")
 def test_isotp_full_queue(runs, cases):
-    """without --wait a message of ISO-TP ends even if others keep the queue full: it was sent completely or not"""
+    """without --wait, sending an ISO-TP message always ends, even if other programs keep the queue full: it succeeds or
+    fails"""
     with serving(
         "--pace", "0", "--txqueue", "1", "--record", "none", "can0,can1"
     ) as server, contextlib.ExitStack() as end:
@@ -458,7 +464,7 @@ def test_isotp_full_queue(runs, cases):
 
 @needs("isotpperf", "isotpsend", "isotprecv")
 def test_isotpperf(server):
-    """it measures a message between two other programs"""
+    """isotpperf measures a message between two other programs"""
     with listening(server, "stdbuf", "-oL", "isotpperf", "-s", "123", "-d", "321", "vcan0") as perf:
         with listening(server, "isotprecv", "-s", "321", "-d", "123", "vcan0") as receiver:
             passes(server, "isotpsend", "-s", "123", "-d", "321", "vcan0", input="11 " * 100 + "\n")
@@ -473,7 +479,7 @@ def test_isotpperf(server):
 
 @needs("bcmserver")
 def test_bcmserver(server, fixed_ports):
-    """its port accepts commands: a cyclic frame, and a filter for contents"""
+    """bcmserver accepts commands at its port: for a cyclic frame, and for a content filter"""
     with started(server, "bcmserver") as running, contextlib.ExitStack() as ending:
         for _ in turns("it listens"):
             if running.poll() is not None:

@@ -1,5 +1,5 @@
-"""Virtual time, `canbusd-run --virtual`: the waits of unchanged programs, equal bytes in each run, the messages, and
-the leftovers."""
+"""Virtual time, `canbusd-run --virtual`: exact waits in unchanged programs, identical output in each run, the messages,
+and what a run leaves."""
 
 import contextlib
 import os
@@ -22,7 +22,7 @@ __all__ = ["nodes"]
 
 @needs_gcc
 def test_waits(nodes):
-    """each kind of wait takes exactly its time, and returns the expected result"""
+    """each kind of wait takes exactly as long as requested, and returns the expected result"""
     ended = virtual(nodes / "waits")
     assert (ended.returncode, ended.stderr) == (0, ""), ended
     assert ended.stdout.splitlines() == [
@@ -51,7 +51,7 @@ def test_example(tmp_path):
 @needs_gcc
 @needs_tools
 def test_moments(tmp_path, nodes):
-    """a frame ends when its bits end, counted from the time of its send: 63 to 67 bits of 2 us, by ISO 11898-1"""
+    """a frame's timestamp is its send time plus its duration of 63 to 67 bits of 2 us, by ISO 11898-1"""
     left = case("nodes", tmp_path / "run", nodes, FRAMES="50")
     sent = re.findall(r"\((\d+)\.(\d{6})\) +can2 +100 ", left["candump"].decode())
     assert len(sent) == 50
@@ -60,7 +60,8 @@ def test_moments(tmp_path, nodes):
 
 
 def worst_case_bench(rounds):
-    """Returns the lines of a bench in which three nodes send like the case, from the same second on."""
+    """Returns the lines of a bench in which three nodes send like the nodes of the case `worst_case`, from the same
+    second on."""
     sends = [(k * 540, 1, "001 7 55 55 55 55 55 55 05") for k in range(7 * rounds)]
     for node, text in ((2, "002 7 55 55 55 55 55 55 03"), (3, "003 7 55 55 55 55 55 55 7C")):
         sends += [(k * 756, node, text) for k in range(5 * rounds)]
@@ -75,7 +76,7 @@ def worst_case_bench(rounds):
 
 @needs_gcc
 def test_response_times(tmp_path, nodes):
-    """three unchanged programs leave the log of a bench with the same sends, byte for byte"""
+    """the log of three unchanged programs is identical to the log of a bench with the same sends"""
     left = case("worst_case", tmp_path / "run", nodes, ROUNDS="100")
     words = [program(), "bench", "--bitrate", "500000", "--log", str(tmp_path / "log"), "can0,can1,can2"]
     subprocess.run(words, input=worst_case_bench(100), text=True, stdout=subprocess.DEVNULL, check=True)
@@ -86,19 +87,20 @@ def test_response_times(tmp_path, nodes):
 @needs_gcc
 @needs_tools
 def test_isotp(tmp_path, nodes):
-    """a message of ISO-TP whose receiver is gone fails after exactly N_Bs, 1 s"""
+    """an ISO-TP message without a receiver fails after exactly the timeout N_Bs, 1 s"""
     sent = case("isotp", tmp_path / "run", nodes)["sent"].decode().splitlines()
     assert [line.split(": ")[1].split()[0] for line in sent] == ["60", "4000", "-1"]
     assert sent[2].endswith("write of 60 after 1.000000 s: -1 Communication error on send")
 
 
 def turns(ended):
-    """Returns the number of turns of a run's threads, which the run reports with CANBUSD_RUN_DEBUG=1."""
+    """Returns how many turns the threads of a run took. The run reports this with CANBUSD_RUN_DEBUG=1."""
     return int(re.search(r"(\d+) turns", ended.stderr).group(1))
 
 
 def sockets(folder, nodes, script):
-    """Runs a shell script between start and stop of a server; returns its output, the frames of can0, and the turns."""
+    """Starts a server, runs a shell script, and stops the server. Returns the script's output, the number of frames on
+    can0, and the number of turns."""
     settings = {"RUN": command(), "CANBUSD": program(), "NODES": str(nodes), "CASES": CASES, "OUT": str(folder)}
     script = f'. "$CASES/server.sh"; start can0,can1; {script}; stop; cat "$OUT/errors"'
     ended = virtual("bash", "-c", script, env={**os.environ, **settings, "CANBUSD_RUN_DEBUG": "1"})
@@ -109,7 +111,7 @@ def sockets(folder, nodes, script):
 
 @needs_gcc
 def test_full_queue(tmp_path, nodes):
-    """a program that does not read keeps the first frames, and receives later frames after it reads"""
+    """while a program does not read, it loses all but the first frames; after it has read, it receives later frames"""
     script = 'aside "$NODES/full" can1 8 9>&-; node=$!; inside "$NODES/cyclic" can0 100 1000 12000; wait $node'
     text, frames, _ = sockets(tmp_path / "run", nodes, script)
     parts = [[int(number) for number in part.split("-")] for part in text.split()]
@@ -120,14 +122,15 @@ def test_full_queue(tmp_path, nodes):
 
 @needs_gcc
 def test_turns_of_many_sockets(tmp_path, nodes):
-    """a process with many sockets takes the same turns in each run, though its sockets have other names"""
+    """a process with many sockets takes the same number of turns in each run, although its sockets have other names"""
     runs = [sockets(tmp_path / name, nodes, 'inside "$NODES/many" can0 48 9>&-') for name in "abc"]
     assert len(set(runs)) == 1, runs
 
 
 @needs_gcc
 def test_turns_of_the_late(nodes):
-    """only threads take turns: two for each child, its own and then its parent's, however late a child begins"""
+    """only threads take turns: two for each child process, one of the child and one of its parent, however late the
+    child begins"""
     env = {**os.environ, "CANBUSD_RUN_DEBUG": "1"}
     runs = [virtual(nodes / "late", ms, "4", env=env) for ms in ("0", "100")]
     assert [(run.returncode, turns(run)) for run in runs] == [(0, 1 + 2 * 4)] * 2, runs
@@ -135,7 +138,7 @@ def test_turns_of_the_late(nodes):
 
 @needs_gcc
 def test_turns_of_a_sender(tmp_path, nodes):
-    """a frame takes four turns if its sender does not read: two for the sender, and two for the server"""
+    """a frame of a sender that does not read takes four turns: two of the sender, and two of the server"""
     few, many = (
         sockets(tmp_path / str(count), nodes, f'inside "$NODES/lent" turns {count}')[1:] for count in (1000, 3000)
     )
@@ -144,8 +147,8 @@ def test_turns_of_a_sender(tmp_path, nodes):
 
 @needs_gcc
 def test_lent_sessions(tmp_path, nodes):
-    """programs that only send have the same verdicts and recognise their frames, while descriptors and processes come
-    and go"""
+    """programs that only send get the same results and recognise their own frames, even while descriptors and processes
+    are opened, closed, started and ended"""
     plain = sockets(tmp_path / "plain", nodes, 'inside "$NODES/lent" plain')
     assert plain[0] == 3 * (10 * "0 " + 30 * "105 " + "\n") and plain[1] == 30
     assert sockets(tmp_path / "filter", nodes, 'inside "$NODES/lent" filter')[:2] == plain[:2]
@@ -163,7 +166,7 @@ def test_lent_sessions(tmp_path, nodes):
 
 
 def test_shell():
-    """a script has the dates of virtual time, and the run has the status of the program"""
+    """a script sees the dates of virtual time, and the run ends with the status of the program"""
     ended = virtual("sh", "-c", "date +%s; sleep 3600; (sleep 1; date +%s) & wait; date +%s; exit 7")
     assert (ended.returncode, ended.stderr) == (7, "")
     assert ended.stdout.split() == ["1767225600", "1767229201", "1767229201"]
@@ -172,12 +175,12 @@ def test_shell():
 
 
 def test_until():
-    """the run ends by its clock: with SIGTERM, as in a shell"""
+    """with --until the run ends at this virtual time by SIGTERM, with a shell's status for that"""
     ended = virtual("sleep", "1000", options=("--until", "10"))
     assert ended.returncode == 128 + signal.SIGTERM and "--until" in ended.stderr
 
 
-#: A program that SIGTERM does not end, a program that it ends a second later, and a program that it ends at once.
+#: Starts a program that ignores SIGTERM, a program that ends a second after SIGTERM, and a program that ends at once.
 LEFT = """
 (trap '' TERM; while :; do sleep 0.1; echo x; done) >deaf &
 (trap 'sleep 1; echo ended; exit' TERM; while :; do sleep 0.25; echo x; done) >late &
@@ -188,25 +191,26 @@ sleep $0
 
 @pytest.mark.parametrize("seconds, options", [("3.05", ()), ("1000", ("--until", "3.05"))])
 def test_what_is_left(tmp_path, seconds, options):
-    """a program's leftovers have two seconds of the run after SIGTERM, however busy the machine is"""
+    """programs that are left at the end of a run get SIGTERM, and then two more seconds of virtual time, however busy
+    the machine is"""
     for number in range(3):
         folder = tmp_path / str(number)
         folder.mkdir()
         assert virtual("sh", "-c", LEFT, seconds, options=options, cwd=folder).returncode == (143 if options else 0)
         lines = {path.name: path.read_text() for path in folder.iterdir()}
-        # The shell ends together with its sleep, which gets SIGTERM too.
+        # The shell of `plain` ends together with its sleep, which gets SIGTERM too.
         assert lines == {"deaf": 50 * "x\n", "late": 12 * "x\n" + "ended\n", "plain": 30 * "x\n"}, number
 
 
 def test_all_wait(tmp_path):
-    """if all wait and none waits for a time, the run ends with status 125, and reports each wait"""
+    """if all threads wait and none has a timeout, the run ends with status 125, and reports each wait"""
     ended = virtual("sh", "-c", "mkfifo $0; cat $0", tmp_path / "pipe", options=("--stall", "2"))
     assert ended.returncode == 125 and "all wait, and nobody for a moment" in ended.stderr
     assert re.search(r"sh \(process \d+\) waits for a child's end", ended.stderr), ended.stderr
 
 
 def test_stopped():
-    """a stopped program does not hold up the others, and later continues where it was"""
+    """a stopped program does not delay other programs, and continues where it was after SIGCONT"""
     for text, seconds in (("sleep 5 & sleep 1", 11), ("sleep 5 &", 15)):
         script = f"{text}; kill -STOP $!".replace("&;", "&") + "; sleep 10; kill -CONT $!; wait; date +%s"
         ended = virtual("sh", "-c", script)
@@ -214,7 +218,7 @@ def test_stopped():
 
 
 def test_signals_to_a_stopped_one():
-    """nobody waits for a stopped program to take signals, but it takes them after it continues"""
+    """the sender of a signal does not wait for a stopped program, which handles the signal after it continues"""
     send = 30 * "kill -USR1 $!; "
     begun = time.monotonic()
     ended = virtual("sh", "-c", f"sleep 100 & sleep 1; kill -STOP $!; {send} sleep 4; kill -CONT $!; wait $!; echo $?")
@@ -223,7 +227,7 @@ def test_signals_to_a_stopped_one():
 
 
 def test_lock_of_a_file(tmp_path):
-    """a wait that the library does not see, but that another program ends, takes its proper time"""
+    """a wait that the library does not see takes its correct virtual time if another program ends it"""
     text = '(flock 8; sleep 5) 8>"$0" & sleep 1; flock "$0" date +%s; wait'
     ended = virtual("sh", "-c", text, tmp_path / "lock")
     assert (ended.returncode, ended.stdout, ended.stderr) == (0, "1767225605\n", ""), ended
@@ -231,7 +235,8 @@ def test_lock_of_a_file(tmp_path):
 
 @needs_gcc
 def test_unseen(nodes):
-    """a wait by the real clock and a thread that spins end the run; SO_SNDTIMEO works, and one line refuses io_uring"""
+    """a wait by the real clock ends the run, and so does a thread that spins; SO_SNDTIMEO works, and io_uring is
+    refused with one line"""
     for word, number in (("nanosleep", 35), ("futex", 202)):
         ended = virtual(nodes / "unseen", word)
         fails(ended, rf"unseen \(process \d+\) waits by the real clock, in system call {number},")
@@ -246,7 +251,7 @@ def test_unseen(nodes):
 
 
 def static_unseen(folder):
-    """Builds unseen.c without the C library's dynamic form, like a Go program; returns its path."""
+    """Builds unseen.c with static linking, so that it can't load the library, like a Go program. Returns its path."""
     path = str(folder / "unseen")
     words = ["gcc", *FLAGS, "-static", "-o", path, os.path.join(SOURCES, "unseen.c")]
     if subprocess.run(words, check=False, capture_output=True).returncode:
@@ -256,8 +261,8 @@ def static_unseen(folder):
 
 @needs_gcc
 def test_calls_of_go(tmp_path):
-    """a program that makes its own system calls, like a Go program, is named with the reason, and its wait ends the
-    run"""
+    """a program that makes its own system calls, as Go programs do, is reported with the reason, and a wait of it ends
+    the run"""
     ended = virtual(static_unseen(tmp_path), "futex")
     fails(ended, r"unseen \(process \d+\) is linked statically, so it sees the real time")
     fails(ended, r"unseen \(process \d+\) waits by the real clock, in system call 202, .* it is linked statically")
@@ -266,7 +271,7 @@ def test_calls_of_go(tmp_path):
 @needs_gcc
 @pytest.mark.parametrize("is_static", [False, True])
 def test_io_uring_by_instruction(tmp_path, nodes, is_static):
-    """a wait for a ring that was set up without the C library ends the run"""
+    """a wait for a ring that was set up by direct system calls ends the run"""
     ended = virtual(static_unseen(tmp_path) if is_static else nodes / "unseen", "io_uring_enter")
     if ended.returncode == 77:
         pytest.skip("no io_uring")
@@ -286,7 +291,7 @@ def test_server_outside():
     assert virtual(sys.executable, "-c", inside).returncode == 0
 
 
-#: Connections to programs outside the run: by python-can without an address, by a child, and by a path.
+#: Connects to programs outside the run: by python-can without an address, in a child process, and to a Unix path.
 OUTSIDE = r"""
 import os, socket, subprocess, sys
 import can
@@ -329,8 +334,8 @@ def test_odd():
     ],
 )
 def test_server_outside_of_pytest(tmp_path, name, line):
-    """the line about this is on the standard error of the run, with the test, although pytest captures the tests'
-    output"""
+    """the line about such a connection names the test, and is on the run's standard error, although pytest captures the
+    tests' output"""
     (tmp_path / "test_it.py").write_text(OUTSIDE, encoding="utf-8")
     path = str(tmp_path / "outside")
     with socket.create_server(("127.0.0.1", 0)) as server, socket.socket(socket.AF_UNIX) as other:
@@ -354,7 +359,7 @@ def test_server_outside_of_pytest(tmp_path, name, line):
 
 @needs_gcc
 def test_static(tmp_path):
-    """a program without the library is named with the reason, and its wait ends the run"""
+    """a program that does not load the library is reported with the reason, and a wait of it ends the run"""
     (tmp_path / "static.c").write_text(
         "#include <unistd.h>\nint main(int n, char **w) { return w && n > 1 && sleep(2); }\n"
     )
@@ -400,7 +405,7 @@ def test_slow_start(tmp_path):
     assert (ended.returncode, ended.stdout, ended.stderr) == (0, "", ""), ended
 
 
-#: Prints the number of seconds until the end of its input.
+#: Prints how many seconds pass until the end of the input.
 END_OF_INPUT = """
 import select, sys, time
 begun = time.monotonic()
@@ -411,7 +416,7 @@ print(f"{time.monotonic() - begun:.3f}", ready and sys.stdin.read())
 
 @needs_gcc
 def test_slow_end(nodes):
-    """no time passes while an ended program still has threads that must end, on a busy processor"""
+    """no virtual time passes while a program that has ended still has threads that must end, on a busy processor"""
     processor = {min(os.sched_getaffinity(0))}
     burners = [subprocess.Popen(["sh", "-c", "while :; do :; done"]) for _ in range(2)]
     try:
@@ -439,13 +444,13 @@ def test_slow_end(nodes):
     ],
 )
 def test_wrong_options(words, fault):
-    """wrong options give one line and status 125"""
+    """wrong options end canbusd-run with status 125 and one line"""
     ended = subprocess.run([command(), *words], capture_output=True, text=True, check=False)
     assert ended.returncode == 125 and fault in ended.stderr and ended.stderr.count("\n") == 1
 
 
 def runs(pid):
-    """Returns whether a process has not ended."""
+    """Returns whether a process is still running."""
     try:
         with open(f"/proc/{pid}/stat", encoding="ascii", errors="replace") as file:
             return file.read().rpartition(")")[2].split()[0] not in "ZX"
@@ -454,7 +459,7 @@ def runs(pid):
 
 
 def of_run(mark):
-    """Returns the processes with this text in their environment, as all processes of a run have."""
+    """Returns the running processes that have this text in their environment. All processes of a run inherit it."""
     found = []
     for pid in filter(str.isdigit, os.listdir("/proc")):
         with contextlib.suppress(OSError):
@@ -464,7 +469,8 @@ def of_run(mark):
     return found
 
 
-#: Programs that fork, start a new session, ignore signals, become daemons, crash, are stopped, and execute others.
+#: Programs that fork, start a new session, ignore signals, become daemons, crash, are stopped, and execute other
+#: programs.
 MANY = """
 setsid sleep 1e6 &
 (trap '' TERM HUP; while :; do sleep 1; done) &
@@ -479,7 +485,7 @@ wait
 
 @pytest.mark.parametrize("times", [10, pytest.param(200, marks=pytest.mark.slow)])
 def test_killed(times):
-    """SIGKILL of the started process, or of its coordinator, at any time leaves no process a second later"""
+    """after SIGKILL of the started process or its coordinator, at any time, no process is left a few seconds later"""
     chance = random.Random(1)
     for number in range(times):
         mark = f"CANBUSD_TEST_KILLED={os.getpid()}.{times}.{number}"
@@ -524,8 +530,8 @@ def test_no_rate():
 
 @needs_can
 def test_pytest(tmp_path):
-    """pytest restarts itself in virtual time; a failing test shows the command that repeats it, and a test for virtual
-    time fails outside"""
+    """pytest restarts itself in virtual time; a failed test prints the command that repeats it, and a test that
+    requires virtual time fails without it"""
     (tmp_path / "test_it.py").write_text(PYTEST, encoding="utf-8")
     line = [sys.executable, "-m", "pytest", "-p", "canbusd.pytest_plugin", "-q", "test_it.py"]
     env = {**os.environ, "CANBUSD_RUN": command(), "CANBUSD": program(), "PYTHONPATH": os.path.join(ROOT, "python/src")}

@@ -1,4 +1,4 @@
-"""Virtual time: the messages about things that can't work, and no false message."""
+"""Virtual time: the messages about things that can't work, and no messages about things that can."""
 
 import os
 import re
@@ -13,7 +13,8 @@ from virtual_runs import fails, virtual
 
 @needs("candump")
 def test_no_server():
-    """a program with CAN sockets and no server gets one message about the missing server, with a command"""
+    """a program that uses CAN sockets without a server gets one message about the missing server, which suggests a
+    command"""
     ended = virtual("candump", "can0")
     assert ended.returncode == 1
     (said,) = (line for line in ended.stderr.splitlines() if line.startswith("canbusd-run: "))
@@ -23,7 +24,7 @@ def test_no_server():
     assert "canbusd-run --virtual sh -c 'canbusd serve --bitrate 500000 can0 & sleep 1; canbusd-run candump ..'" in said
 
 
-#: A program with Go's note in second place, after another note.
+#: A program with an ELF note of Go in second place, after another note.
 NOTED = """
 #include <stdio.h>
 #define NOTE(name, owner) \\
@@ -43,7 +44,7 @@ int main(void) {
 
 @needs_gcc
 def test_go_with_c(tmp_path):
-    """a Go program that loads libraries ends the run at once, and not only when no program can go on"""
+    """a Go program that loads libraries ends the run at once, and not only when no program can continue"""
     (tmp_path / "noted.c").write_text(NOTED, encoding="utf-8")
     path = str(tmp_path / "noted")
     subprocess.run(["gcc", *FLAGS, "-Wno-unused-macros", "-o", path, path + ".c"], check=True)
@@ -57,7 +58,7 @@ def test_go_with_c(tmp_path):
 
 @needs_gcc
 def test_short_ones(tmp_path):
-    """a program without the library that neither waits nor stays causes no message"""
+    """a program without the library causes no message if it does not wait and ends soon"""
     source = str(tmp_path / "short.c")
     with open(source, "w", encoding="utf-8") as file:
         file.write("int main(void) { for (volatile long i = 0; i < 50000000; i++) {} return 0; }\n")
@@ -70,7 +71,8 @@ def test_short_ones(tmp_path):
 @needs_gcc
 @pytest.mark.parametrize("does", ["for (volatile long i = 0; i < 3000000000; i++) {}", "getchar();"])
 def test_long_ones(tmp_path, does):
-    """a program that continues is named, even if it only waits for something outside the run: it sees the real time"""
+    """a program without the library that runs for long is reported, because it sees the real time; also if it only
+    waits for input from outside the run"""
     source = str(tmp_path / "long.c")
     with open(source, "w", encoding="utf-8") as file:
         file.write(f"#include <stdio.h>\nint main(void) {{ {does} return 0; }}\n")
@@ -85,14 +87,14 @@ def test_long_ones(tmp_path, does):
 
 @needs("valgrind")
 def test_valgrind():
-    """a program within valgrind is in virtual time, and there is no other message"""
+    """a program inside valgrind is in virtual time, and there is no message"""
     ended = virtual("valgrind", "-q", "sh", "-c", "date +%s; sleep 30; date +%s")
     assert (ended.returncode, ended.stdout, ended.stderr) == (0, "1767225600\n1767225630\n", ""), ended
 
 
 @needs("parallel")
 def test_parallel(tmp_path):
-    """GNU parallel works, which first tests the maximum length of commands, with a changed environment"""
+    """GNU parallel works, although it first tests the maximum length of commands with a changed environment"""
     env = {**os.environ, "HOME": str(tmp_path), "PARALLEL_HOME": str(tmp_path)}
     begun = time.monotonic()
     ended = virtual("parallel", "-j1", "sleep 20; echo", ":::", "a", "b", env=env)
@@ -102,6 +104,6 @@ def test_parallel(tmp_path):
 
 @pytest.mark.parametrize("word", ["--seed", "--jitter"])
 def test_help(word):
-    """the help says how large the jitter must be"""
+    """the help says how large the jitter has to be"""
     shown = subprocess.run([command(), "--help"], stdout=subprocess.PIPE, text=True, check=True).stdout
     assert word in shown and "to exceed the time between the events" in shown

@@ -1,4 +1,5 @@
-"""Programs that can't be in virtual time end the run at once, with status 125 and a line that names program, thread and reason."""
+"""A program that can't be in virtual time ends the run at once, with status 125 and a line that names program, thread
+and reason."""
 
 import os
 import shutil
@@ -13,13 +14,13 @@ from running import command, needs_gcc
 from virtual_runs import fails, virtual
 
 needs_root = pytest.mark.skipif(os.geteuid() != 0, reason="only root can run as another user")
-#: Words that run a program as a user who is neither the run's user nor in any group, like nobody.
+#: The words that run a program as a user who is not the run's user and is in no group, like nobody.
 OTHER = ["setpriv", "--reuid=65534", "--regid=65534", "--clear-groups"]
 RIGHTS = r"\w+ \(process \d+\) has other rights than the run"
 
 
 def soon(pattern, *words, before=()):
-    """Checks that a run of a program that would take a minute ends with this reason within seconds."""
+    """Runs a program that would take a minute. Checks that the run ends within seconds, with this reason."""
     begun = time.monotonic()
     line = [*before, command(), "--virtual", "--", *map(str, words)]
     ended = subprocess.run(line, capture_output=True, text=True, timeout=100, check=False)
@@ -29,14 +30,14 @@ def soon(pattern, *words, before=()):
 
 @needs_root
 def test_another_user():
-    """root's run ends if a program becomes another user's and then executes a program"""
+    """root's run ends if a process changes to another user and then executes a program"""
     soon(RIGHTS, *OTHER, "sleep", "60")
     soon(RIGHTS, "sh", "-c", f"{' '.join(OTHER)} sleep 60; echo never")
 
 
 @needs_root
 def test_same_program_goes_on():
-    """a program that only gives up rights stays in the run"""
+    """a program that gives up its rights, but executes no other program, stays in the run"""
     text = "import os, time; os.setuid(65534); time.sleep(60); print(time.time())"
     ended = virtual(sys.executable, "-c", text)
     assert (ended.returncode, ended.stdout) == (0, "1767225660.0\n"), ended
@@ -54,7 +55,7 @@ def make_open_folder():
 @needs_root
 @pytest.mark.skipif(not shutil.which("setcap"), reason="no setcap")
 def test_own_rights(open_folder):
-    """another user's run ends if a program is setuid, or has capabilities"""
+    """a run of another user than root ends if a program is setuid or has capabilities"""
     for name, words in (("setuid", ["chmod", "4755"]), ("setcap", ["setcap", "cap_net_raw+ep"])):
         path = shutil.copy(shutil.which("sleep"), os.path.join(open_folder, name))
         subprocess.run([*words, path], check=True)
@@ -67,7 +68,7 @@ TRACED = r"\w+ \(process \d+\) is traced, as by strace or gdb"
 
 @pytest.mark.skipif(not shutil.which("strace"), reason="no strace")
 def test_traced():
-    """a program that strace starts ends the run, and so does a run that strace started"""
+    """the run ends if a program in it is started by strace, or if the run itself is started by strace"""
     soon(TRACED, "strace", "-f", "-o", "/dev/null", "sleep", "60")
     soon(TRACED, "sleep", "60", before=("strace", "-f", "-o", "/dev/null"))
 
@@ -76,7 +77,7 @@ SENDS = "import socket, time; s = socket.socket(socket.AF_INET, socket.SOCK_DGRA
 
 
 def test_datagrams():
-    """UDP to programs outside the run, on this machine or another, ends the run"""
+    """a UDP datagram to a program outside the run, on this machine or another, ends the run"""
     sent = r"\(thread \d+ of process \d+\) sends to UDP port {}, which is no program of this run, at {}"
     with socket.socket(socket.AF_INET, socket.SOCK_DGRAM) as server:
         server.bind(("127.0.0.1", 0))
@@ -90,8 +91,8 @@ def test_datagrams():
         "-c",
         f"{SENDS}; s.sendto(b'x', ('192.0.2.1', 53)); time.sleep(60)",
     )
-    # The peers: a missing one, which the kernel reports; one for which a socket only looks up the route; several; one
-    # within the run.
+    # These peers do not end the run: a missing one, which the kernel reports; one to which a socket is only connected,
+    # as for a route lookup; a multicast group; and one within the run.
     for text in (
         "s.sendto(b'x', ('127.0.0.1', 9))",
         "s.connect(('127.0.0.1', 9))",
@@ -127,7 +128,7 @@ int main(int count, char **words) {
 
 @needs_gcc
 def test_calls(tmp_path):
-    """unknown calls that wait end the run, and so does a process that shares its parent's memory"""
+    """unknown system calls that wait end the run, and so does a child process that shares its parent's memory"""
     (tmp_path / "calls.c").write_text(CALLS, encoding="ascii")
     subprocess.run(["gcc", "-o", str(tmp_path / "calls"), str(tmp_path / "calls.c")], check=True)
     reasons = (

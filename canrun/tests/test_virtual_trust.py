@@ -12,8 +12,8 @@ from virtual_runs import nodes, virtual
 
 __all__ = ["nodes"]
 
-#: A stranger that connects to a coordinator as this user, until the run is over: prints the number of received
-#: descriptors.
+#: A program outside the run that connects to a coordinator as this user until the run has ended. Prints how many
+#: descriptors it received.
 STRANGER = textwrap.dedent(
     """
     import contextlib, os, socket, sys
@@ -35,7 +35,7 @@ STRANGER = textwrap.dedent(
     """
 )
 
-#: A program of the run that has a server of pipes and ticks, and reports the end.
+#: A program of the run that passes bytes through a pipe with pauses, and prints the time at its end.
 TICKS = textwrap.dedent(
     """
     import os, sys, threading, time
@@ -58,7 +58,7 @@ TICKS = textwrap.dedent(
     "user", [pytest.param("nobody", marks=pytest.mark.root), pytest.param("same", id="of the same user")]
 )
 def test_stranger(user):
-    """a program outside the run that connects to the coordinator gets nothing, and changes nothing"""
+    """a program outside the run that connects to the coordinator gets no descriptor, and does not change the run"""
     line = [command(), "--virtual", sys.executable, "-c", TICKS]
     with subprocess.Popen(line, stdin=subprocess.PIPE, stdout=subprocess.PIPE, text=True) as run:
         coordinator = run.stdout.readline().strip()
@@ -72,7 +72,7 @@ def test_stranger(user):
 
 @needs_gcc
 def test_alarms_of_others(nodes):
-    """data that a program without rights writes into the memory of the run cause no signal outside the run"""
+    """alarms that a program without rights writes into the run's memory cause no signal outside the run"""
     with subprocess.Popen(["sleep", "1000"]) as victim:
         try:
             ended = virtual(nodes / "forger", "alarm", victim.pid)
@@ -84,7 +84,7 @@ def test_alarms_of_others(nodes):
 
 @needs_gcc
 def test_alarms_of_the_run(nodes):
-    """such data cause no signal to a program of the run with more rights either; a program's own alarms do"""
+    """forged alarms cause no signal to a program of the run that has more rights, but a program's own alarms work"""
     script = 'sleep 100 & victim=$!; "$0" alarm $victim; kill -0 $victim && echo lives; kill $victim'
     ended = virtual("bash", "-c", script, nodes / "forger")
     assert (ended.returncode, ended.stdout) == (0, "written\nlives\n"), ended
@@ -94,12 +94,12 @@ def test_alarms_of_the_run(nodes):
 
 @needs_gcc
 def test_slots_that_are_not_there(nodes):
-    """a slot number that is too large does not end a coordinator"""
+    """a slot number that is too large does not crash the coordinator"""
     ended = virtual("sh", "-c", 'sleep 5 & "$0" used; wait; date +%s', nodes / "forger")
     assert (ended.returncode, ended.stdout) == (0, "written\n1767225605\n"), ended
 
 
-#: Puts ends of pipes that are always ready into the epoll of the run, and lets time pass.
+#: Puts pipe ends that are always ready into the epoll of the run, and then sleeps.
 READY = textwrap.dedent(
     """
     import os, select, time
@@ -120,14 +120,14 @@ READY = textwrap.dedent(
 
 
 def test_epoll_that_is_always_ready():
-    """the run continues although a program has put descriptors into its epoll that are always ready"""
+    """the run continues even if a program has put descriptors that are always ready into the run's epoll"""
     ended = virtual(sys.executable, "-c", READY)
     assert (ended.returncode, ended.stdout) == (0, "1020.0\n"), ended
 
 
 @pytest.mark.root
 def test_user_given_up():
-    """a program that gave up root continues, and so do its children; the run notices its end"""
+    """a program that has given up root's rights continues, and so do its children; the run notices when it ends"""
     text = """
     import os, time
     os.setgid(65534)
@@ -143,6 +143,6 @@ def test_user_given_up():
 
 @needs_gcc
 def test_orphans(nodes):
-    """a process of the run is recognised even if its parent ends while the process reports itself"""
+    """a process is recognised as part of the run even if its parent ends while the process registers"""
     ended = virtual(nodes / "orphans", "1000")
     assert (ended.returncode, ended.stdout, ended.stderr) == (0, "over\n", ""), ended

@@ -20,12 +20,12 @@ TOPICS = (
     *("sleeps", "polls", "signals", "awaited", "signalfds", "cancels", "locks", "conditions", "threads", "timers"),
     *("timerfds", "files", "queues", "sockets", "processes", "by_number"),
 )
-#: The seconds by which a wait in real time may be longer, and the number of tries for all waits on a busy machine.
+#: By how many seconds a wait in real time may be longer, and how often all waits are tried on a busy machine.
 LATE, TRIES = 2.0, 4
 
 
 class Wait(NamedTuple):
-    """The intended and the measured length of a wait, in microseconds, and its result."""
+    """The requested and the measured duration of a wait in microseconds, and its result."""
 
     wanted: float
     took: int
@@ -33,7 +33,7 @@ class Wait(NamedTuple):
 
 
 def waits_in(text: str) -> Dict[str, Wait]:
-    """Reads `NAME MILLISECONDS MICROSECONDS RESULT`."""
+    """Parses lines in the format `NAME MILLISECONDS MICROSECONDS RESULT`."""
     found = {}
     for line in text.splitlines():
         name, wanted, took, result = (*line.split(" ", 3), "")[:4]
@@ -42,14 +42,14 @@ def waits_in(text: str) -> Dict[str, Wait]:
 
 
 def real(*words) -> Dict[str, Wait]:
-    """Makes waits in real time."""
+    """Makes waits in real time, and returns them."""
     ended = subprocess.run([*map(str, words)], capture_output=True, text=True, timeout=100, check=False)
     assert ended.returncode == 0, ended
     return waits_in(ended.stdout)
 
 
 def compare(count: int, *words) -> None:
-    """Makes waits in virtual and in real time, and compares them."""
+    """Makes waits in virtual time and in real time, and compares them."""
     ended = virtual(*words, options=("--stall", "10"))
     assert ended.returncode == 0, ended
     found = waits_in(ended.stdout)
@@ -69,14 +69,14 @@ def compare(count: int, *words) -> None:
 
 
 def skip_without(tool: str) -> None:
-    """Skips a test if a language is not installed."""
+    """Skips a test if this program is not installed."""
     if shutil.which(tool) is None:
         pytest.skip(f"no {tool}")
 
 
 @pytest.fixture(scope="module", name="program_of_c")
 def make_program_of_c(request):
-    """The C program with all waits."""
+    """Builds the C program that has all waits."""
     sources = [os.path.join(FOLDER, f"{name}.c") for name in ("main", *TOPICS)]
     words = ["gcc", *FLAGS, "-Wno-deprecated-declarations", *sources, "-lutil", "-o"]
     return made_once(request, "waits", lambda folder: subprocess.run([*words, folder / "waits"], check=True)) / "waits"
@@ -90,7 +90,7 @@ def names_of(topic):
 
 @needs_gcc
 def test_c(program_of_c):
-    """300 waits of C all take their time, all at once"""
+    """300 waits in C that run at the same time all take exactly their time"""
     count = sum(len(names_of(topic)) for topic in TOPICS)
     assert count > 300
     compare(count, program_of_c)
@@ -100,7 +100,7 @@ def test_c(program_of_c):
 @pytest.mark.slow
 @pytest.mark.parametrize("topic", TOPICS)
 def test_often(program_of_c, topic):
-    """no wait hangs in a thousand runs, and each run is the same"""
+    """no wait hangs in a thousand runs, and all runs are identical"""
     first = None
     for _ in range(1000):
         ended = virtual(program_of_c, *names_of(topic), options=("--stall", "20"))
@@ -121,13 +121,13 @@ SCRIPTS = [
 
 @pytest.mark.parametrize("script, command, count", SCRIPTS, ids=[script for script, _, _ in SCRIPTS])
 def test_script(script, command, count):
-    """waits of Python, Perl, bash, Tcl and JavaScript take their time"""
+    """waits in Python, Perl, bash, Tcl and JavaScript take exactly their time"""
     skip_without(command[0])
     compare(count, *command, os.path.join(FOLDER, "languages", script))
 
 
 def test_cpp(tmp_path):
-    """waits of C++ take their time"""
+    """waits in C++ take exactly their time"""
     skip_without("g++")
     source = os.path.join(FOLDER, "languages", "waits.cpp")
     subprocess.run(
@@ -137,7 +137,7 @@ def test_cpp(tmp_path):
 
 
 def test_java(tmp_path):
-    """waits of Java take their time"""
+    """waits in Java take exactly their time"""
     skip_without("javac")
     subprocess.run(["javac", "-d", str(tmp_path), os.path.join(FOLDER, "languages", "Waits.java")], check=True)
     compare(13, "java", "-cp", str(tmp_path), "Waits")

@@ -1,4 +1,4 @@
-"""Runs in virtual time for tests: programs, and cases whose output and files are compared."""
+"""Runs programs in virtual time for tests, and cases whose output and files are compared."""
 
 import importlib.util
 import os
@@ -24,7 +24,7 @@ NODES = "bcm cyclic drawn forger full isotp j1939 late lent many orphans race re
 
 @pytest.fixture(scope="module")
 def nodes(request):
-    """Returns the folder of the C programs."""
+    """Compiles the C programs, and returns their folder."""
 
     def compile_all(folder):
         for name in NODES:
@@ -35,13 +35,13 @@ def nodes(request):
 
 
 def virtual(*words, options=(), patience=300, **how):
-    """Runs a program in virtual time; returns its status and its output."""
+    """Runs a program in virtual time. Returns the completed process with its status and output."""
     line = [command(), "--virtual", *options, "--", *map(str, words)]
     return subprocess.run(line, capture_output=True, text=True, timeout=patience, check=False, **how)
 
 
 def files_below(folder):
-    """Returns the contents of the files in a folder, by name."""
+    """Returns the contents of all files below a folder, by name."""
     return {
         str(path.relative_to(folder)): path.read_bytes()
         for path in sorted(folder.rglob("*"))
@@ -50,7 +50,7 @@ def files_below(folder):
 
 
 def case(name, folder, nodes, options=(), **settings):
-    """Runs a case of virtual_cases/; returns its output, and the files that it left."""
+    """Runs a case of virtual_cases/. Returns its output and the files that it left."""
     env = {
         **os.environ,
         "RUN": command(),
@@ -68,5 +68,5 @@ def case(name, folder, nodes, options=(), **settings):
 
 
 def fails(ended, pattern):
-    """Checks that a run has ended with status 125 and a line that names program and reason."""
+    """Checks that a run ended with status 125 and that its standard error matches this pattern."""
     assert ended.returncode == 125 and re.search(pattern, ended.stderr), ended

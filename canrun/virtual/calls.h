@@ -1,4 +1,4 @@
-/* Declarations that the files of this library share, which replace calls of the C library. */
+/* Declarations shared by the files of this library, whose functions replace calls of the C library. */
 #ifndef CALLS_H
 #define CALLS_H
 
@@ -16,7 +16,7 @@
 #include <time.h>
 
 #define EXPORT __attribute__((visibility("default")))
-/* Exports the function before under another name of the C library. */
+/* Exports the function defined before this line under another name of the C library. */
 #define ALSO(name, of) EXPORT __typeof__(of) also_##name __asm__(#name) __attribute__((alias(#of), copy(of)));
 /* The bridge is linked with clock.c and descriptors.c by --wrap, so that it can be linked statically. */
 #ifdef FOR_BRIDGE
@@ -25,21 +25,21 @@
 #define CALL(name) name
 #endif
 
-/* Finds the C library's function with this name, as `real`. */
+/* Finds the C library's function with this name and calls it `real`. */
 #define REAL(name)                                         \
     static __typeof__(&name) real;                         \
     if (!real) {                                           \
         real = (__typeof__(&name))dlsym(RTLD_NEXT, #name); \
     }
 
-/* Converts a timespec to nanoseconds; and returns whether it is valid as a length of time. */
+/* length_of converts a timespec to nanoseconds. is_proper returns whether a timespec is a valid duration. */
 static inline uint64_t length_of(const struct timespec *t) {
     return (uint64_t)t->tv_sec >= NEVER / SECOND / 2 ? NEVER / 2 : (uint64_t)t->tv_sec * SECOND + (uint64_t)t->tv_nsec;
 }
 static inline bool is_proper(const struct timespec *t) {
     return t->tv_sec >= 0 && t->tv_nsec >= 0 && t->tv_nsec < (long)SECOND;
 }
-/* Whether a timespec is valid as a moment, which may be before 1970. */
+/* Whether a timespec is a valid point in time, which may be before 1970. */
 static inline bool is_proper_moment(const struct timespec *t) {
     return t->tv_nsec >= 0 && t->tv_nsec < (long)SECOND;
 }
@@ -47,7 +47,7 @@ static inline struct timespec spec_of(uint64_t n) {
     return (struct timespec){(time_t)(n / SECOND), (long)(n % SECOND)};
 }
 
-/* For calls that must not wait. The kernel writes the remaining time here, which is zero. */
+/* The timeout of calls that must not wait. The kernel writes the remaining time here, which is zero. */
 __attribute__((unused)) static struct timespec no_time;
 
 /* ---- cancel.c ---- */
@@ -56,16 +56,16 @@ __attribute__((unused)) static struct timespec no_time;
 static inline void cancel_point(void) {
 }
 #else
-/* Whether a thread of this process was ever cancelled. */
+/* Whether any thread of this process has been cancelled. */
 extern bool may_be_cancelled;
-/* Ends this thread if it was cancelled and cancellation is enabled. The caller must have nothing to clean up. */
+/* Ends this thread if it was cancelled and cancellation is enabled. The caller must hold nothing that needs cleanup. */
 static inline void cancel_point(void) {
     if (may_be_cancelled) {
         pthread_testcancel();
     }
 }
 #endif
-/* Does wait_turn in a call that is a cancellation point. A thread that may not be cancelled continues to wait. */
+/* Calls wait_turn in a call that is a cancellation point. A thread with cancellation disabled continues to wait. */
 uint32_t wait_turn_or_cancel(uint64_t deadline, uint64_t key, enum kind kind);
 /* Whether an event ends the wait of a call that is restarted after a handler with SA_RESTART. */
 static inline bool ends_wait(uint32_t flags) {
@@ -75,56 +75,58 @@ static inline bool ends_wait(uint32_t flags) {
 /* ---- clock.c ---- */
 
 bool is_of_day(clockid_t id);
-/* Converts a time of this clock to a moment of the run. */
+/* Converts a time of this clock to virtual time. */
 uint64_t moment_of(clockid_t id, const struct timespec *t);
-/* Notes that this thread has read the clock, or has looked for something that is not there. Time passes for a thread
- * that does so again and again. */
+/* Counts that this thread has read the clock, or has polled for something that is not ready. Virtual time passes for a
+ * thread that does so again and again. */
 void looked(void);
-/* Does not count the last look, which was not part of a wait. */
+/* Removes the last read or poll from that count, because it was not part of a wait. */
 void forget_look(void);
 
 /* ---- descriptors.c ---- */
 
 /* Waits until one of these descriptors may be ready. Returns the flags of wait_turn. */
 uint32_t wait_for(const struct pollfd *fds, nfds_t count, uint64_t deadline);
-/* Waits until an epoll may be ready; and notes that an epoll has this descriptor. */
+/* Waits until an epoll may be ready. note_entry notes that an epoll contains this descriptor. */
 uint32_t wait_for_epoll(int fd, uint64_t deadline);
 void note_entry(int fd);
 /* Asks the kernel which of these descriptors are ready now, and returns its result. */
 long look_at(struct pollfd *fds, nfds_t count);
-/* Waits once more in a blocking call on a descriptor. False and errno if the timeout or a signal came, or if the
- * descriptor does not block. `deadline` is 0 at first. */
+/* Waits once more in a blocking call on a descriptor. Returns false and sets errno if the timeout or a signal came, or
+ * if the descriptor does not block. `deadline` is 0 at first. */
 bool await_later(int fd, short events, uint64_t *deadline);
-/* Waits until a blocking call on a descriptor can be made. False and errno if the timeout or a signal came. */
+/* Waits until a blocking call on a descriptor can be made. Returns false and sets errno if the timeout or a signal
+ * came. */
 bool await_ready(int fd, short events, int flags);
-/* Waits until such a call can be made, or until this deadline. */
+/* Waits until a blocking call on a descriptor can be made, or until this deadline. */
 bool await_until(int fd, short events, uint64_t deadline);
 /* Does recvfrom. */
 ssize_t receive(int fd, void *data, size_t length, int flags, struct sockaddr *from, socklen_t *room);
 /* The deadline set by SO_RCVTIMEO or SO_SNDTIMEO, which the kernel stores. */
 uint64_t timeout_of(int fd, short events);
-/* In the child of a fork: notes that the epoll has none of its descriptors. */
+/* Notes, in the child of a fork, that the epoll has none of the child's descriptors. */
 void descriptors_forget(void);
-/* Takes all descriptors out of the run's epoll, so that no epoll of a program stays there without a waiting thread. */
+/* Removes all descriptors from the run's epoll, so that no epoll of a program stays there without a waiting thread. */
 void descriptors_leave(void);
-/* The deadline of a wait of so many milliseconds; -1: never. */
+/* The deadline of a wait of this many milliseconds; -1 means no deadline. */
 uint64_t after_ms(int ms);
 
 /* ---- kernel_waits.c ---- */
 
-/* Repeats a call of the kernel until it does not return `would_wait`, the error of a call that would block. Returns its
- * result, or -EINTR, or -ETIMEDOUT. `restarts`: the call is restarted after a handler with SA_RESTART. */
+/* Repeats a call of the kernel until it does not return `would_wait`, the error of a call that would block. Returns the
+ * call's result, or -EINTR, or -ETIMEDOUT. `restarts`: the call is restarted after a handler with SA_RESTART. */
 long try_until(long (*call)(void *), void *given, int would_wait, uint64_t deadline, bool restarts);
 
 /* ---- mappings.c ---- */
 
-/* The key of a place in memory. It is the same in all processes that share the memory; for private memory it is
- * key_of. */
+/* Returns the key of a place in memory. The key is the same in all processes that share the memory. For private memory
+ * it is the result of key_of. */
 uint64_t key_of_any(const volatile void *at, uint64_t salt);
 
 /* ---- signals.c ---- */
 
-/* Replaces the signal mask for a wait, and restores it. `handled` is the value of my.handled before. */
+/* The state that set_mask saves when it replaces the signal mask for a wait; put_mask_back restores the mask. `handled`
+ * is the value of my.handled before the wait. */
 struct masked {
     sigset_t before;
     uint32_t handled;
@@ -133,36 +135,38 @@ struct masked {
 struct masked set_mask(const sigset_t *mask);
 void put_mask_back(const struct masked *masked);
 void start_signals(void);
-/* Notes that a signal has been sent to a process, a group (0 or a negative number), or all processes that this one may
- * signal (-1). */
+/* Notes that a signal has been sent to a process, a group (0 or a negative number), or all processes that this process
+ * may signal (-1). */
 void signal_sent(pid_t pid, int number);
 
 /* ---- signalfds.c ---- */
 
-/* Whether this process may have a signalfd; notes that it has one; whether this descriptor is a signalfd. */
+/* has_signalfds returns whether this process may have a signalfd, and signalfds_note notes that it has one. is_signalfd
+ * returns whether this descriptor is a signalfd. */
 bool has_signalfds(void);
 void signalfds_note(void);
 bool is_signalfd(int fd);
-/* Adds this process's signalfds to an epoll again: another process may have looked at the epoll and found no signal. */
+/* Adds this process's signalfds to an epoll again, because another process may have polled the epoll and found no
+ * signal. */
 void signalfds_look(int epoll);
 
 /* ---- timerfds.c ---- */
 
-/* When a timerfd of this process is next due; and handles the timerfds that are due. */
+/* timers_due returns when a timerfd of this process is next due. timers_fire handles the timerfds that are due. */
 uint64_t timers_due(void);
 void timers_fire(void);
-/* Called before a descriptor is read, which may be a timerfd. */
+/* Called before a read of a descriptor that may be a timerfd. */
 void timers_read(int fd);
-/* Called after a descriptor was closed, which may have been a timerfd. */
+/* Called after a descriptor that may have been a timerfd was closed. */
 void timers_closed(int fd);
-/* Finds the timerfds and signalfds that were open before the program began, or that came by a message. */
+/* Finds the timerfds and signalfds that were open before the program began, or that were received in a message. */
 void timers_find(void);
 
 /* ---- timers.c ---- */
 
 struct itimerspec left_of(uint64_t deadline, uint64_t period);
 uint64_t deadline_for(clockid_t id, const struct itimerspec *value, bool is_absolute);
-/* How often a timer has expired by now; moves its deadline to the next expiry. */
+/* Returns how often a timer has expired by now, and moves its deadline to the next expiry. */
 uint64_t take_due(uint64_t *deadline, uint64_t period);
 
 /* ---- futex.c ---- */
@@ -171,13 +175,14 @@ long futex(long word, long operation, long value, long fourth, long fifth, long 
 
 /* ---- threads.c, processes.c ---- */
 
-/* Waits for a child like the C library's function, whose wait in the kernel this library does not see. */
+/* Waits for a child as the C library does. The C library's own wait is in the kernel, where this library does not see
+ * it. */
 long wait_for_child(int number, long pid, int *status, int options, void *usage);
-/* Prepares the first thread of a program as other threads are prepared. */
+/* Prepares the first thread of a program in the same way as later threads. */
 void begin_first_thread(void);
 /* Marks the robust mutexes of a thread that ends, so that the next owner gets EOWNERDEAD. */
 void leave_mutexes(void);
-/* Makes a child by this system call; -1: by _Fork. */
+/* Creates a child with this system call; -1 means with _Fork. */
 pid_t fork_by(long number, const long of[6]);
 
 #endif

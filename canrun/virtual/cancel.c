@@ -1,4 +1,4 @@
-/* pthread_cancel. A cancelled thread that waits for its turn is woken, and ends once it has the turn: at the end of a
+/* pthread_cancel. A cancelled thread that waits for its turn is woken. It ends once it has the turn: at the end of a
  * cancellable wait, or anywhere if its cancellation type is asynchronous. */
 #define _GNU_SOURCE
 #include "calls.h"
@@ -32,8 +32,8 @@ EXPORT int pthread_cancel(pthread_t thread) {
     return error;
 }
 
-/* While a thread waits for its turn its type is deferred, because its cleanup handlers must not run without the
- * turn. */
+/* While a thread waits for its turn, its cancellation type is deferred, because its cleanup handlers must not run
+ * without the turn. */
 static void hold(bool is_held) {
     REAL(pthread_setcanceltype);
     real(is_held ? PTHREAD_CANCEL_DEFERRED : PTHREAD_CANCEL_ASYNCHRONOUS, NULL);

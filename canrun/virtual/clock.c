@@ -1,4 +1,4 @@
-/* Clocks, and waits for a moment. */
+/* Clocks, and waits until a point in time. */
 #define _GNU_SOURCE
 #include "calls.h"
 
@@ -10,8 +10,9 @@
 #include <threads.h>
 #include <unistd.h>
 
-/* After so many looks at the clock without a wait between them, 10 microseconds pass. After each further hundred looks
- * twice as many pass, up to a millisecond. So a busy wait ends, in the same way in each run. */
+/* After this many clock reads without a wait between them, 10 microseconds of virtual time pass. After each further
+ * hundred reads twice as much time passes, up to a millisecond. So a busy wait ends, and it ends in the same way in
+ * each run. */
 #define LOOKS 2000
 #define LOOKS_MORE 100
 #define FIRST_STEP 10000ull
@@ -93,7 +94,7 @@ EXPORT clock_t times(struct tms *used) {
     return run ? (clock_t)((run->now + UPTIME) / (SECOND / 100)) : (clock_t)result;
 }
 
-/* Facts of the machine, with the uptime of the run. */
+/* System information of the machine, but with the uptime of the run. */
 EXPORT int sysinfo(struct sysinfo *info) {
     int result = (int)answer(RAW(SYS_sysinfo, info));
     if (run && !result) {
@@ -102,7 +103,7 @@ EXPORT int sysinfo(struct sysinfo *info) {
     return result;
 }
 
-/* ---- nobody sets the clocks of a run ---- */
+/* ---- a program cannot set the clocks of a run ---- */
 
 EXPORT int clock_settime(clockid_t id, const struct timespec *t) {
     return run ? (errno = EPERM, -1) : (int)answer(RAW(SYS_clock_settime, id, t));
@@ -142,7 +143,7 @@ ALSO(ntp_gettime, ntp_gettimex)
 
 /* ---- sleeps ---- */
 
-/* Sleeps until a moment; false if a signal came before it. */
+/* Sleeps until this deadline. Returns false if a signal came before it. */
 static bool sleep_until(uint64_t deadline) {
     cancel_point();
     regain_turn();

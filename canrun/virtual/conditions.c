@@ -6,9 +6,9 @@
 #include <semaphore.h>
 #include <threads.h>
 
-/* ---- condition variables: first come, first served ---- */
+/* ---- condition variables, whose waiters are woken in the order of arrival ---- */
 
-/* Some systems keep an older version of these functions under the same names. */
+/* Some systems keep older versions of these functions under the same names. */
 #define CONDITION(name)                                                    \
     static __typeof__(&name) real;                                         \
     if (!real) {                                                           \
@@ -110,9 +110,10 @@ EXPORT int cnd_broadcast(cnd_t *condition) {
     return pthread_cond_broadcast((pthread_cond_t *)condition) ? thrd_error : thrd_success;
 }
 
-/* ---- semaphores of one process or of several ---- */
+/* ---- semaphores of one process or of several processes ---- */
 
-/* CPython reads the clock for each lock that it takes, even for a free one. How often depends on its version. */
+/* CPython reads the clock for each lock that it takes, even if the lock is free. The number of reads depends on its
+ * version. */
 EXPORT int sem_trywait(sem_t *semaphore) {
     REAL(sem_trywait);
     int result = real(semaphore);
@@ -135,7 +136,7 @@ static int semaphore_until(sem_t *semaphore, uint64_t deadline) {
         if (!sem_trywait(semaphore)) {
             return 0;
         }
-        /* A call with a timeout is not restarted. */
+        /* A signal handler ends a call that has a timeout, even with SA_RESTART. */
         if (flags & IS_INTERRUPTED && (my.has_to_return || deadline != NEVER)) {
             return errno = EINTR, -1;
         }

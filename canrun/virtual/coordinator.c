@@ -1,6 +1,6 @@
-/* The coordinator of a run: it starts the program, hands out the epoll, and sees the ends of processes. It decides if
- * no thread can: when signals are due, when a thread sleeps in a call that the library does not see, and when nothing
- * can continue. */
+/* The coordinator of a run. It starts the program, gives the epoll to each process, and notices when processes end. It
+ * decides in three cases: when signals are due, when a thread sleeps in a call that the library does not see, and when
+ * no thread can continue. */
 #define _GNU_SOURCE
 #include "coordinator.h"
 #include "grants.h"
@@ -31,26 +31,26 @@
 #include <time.h>
 #include <unistd.h>
 
-/* Milliseconds between two looks at the owner of the turn; and while the coordinator waits for births or for threads
- * outside. After so many looks at which the turn had moved, or its owner was running, the pause doubles, up to the
- * longest. If the owner sleeps, the pause is the shortest again. */
+/* The milliseconds between two checks of the thread that has the turn, and between checks while the coordinator waits
+ * for new threads or for threads outside. After IDLE_LOOKS checks at which the turn had moved or its owner was running,
+ * the pause doubles, up to the longest. If the owner sleeps, the pause is the shortest again. */
 #define WATCH_MS 4
 #define LONGEST_WATCH_MS 32
 #define IDLE_LOOKS 8
 #define SOON_MS 1
 #define STATUS_STUCK 125
-/* How many seconds the other programs have to end after PROGRAM: seconds of the run; real seconds, if all wait in vain;
- * and seconds of a processor, if one never waits. */
+/* How many seconds the other programs have to end after PROGRAM. They are seconds of the run, real seconds if all
+ * programs wait in vain, and processor seconds if one never waits. */
 #define END_SECONDS 2
-/* The number of looks between two checks of a thread's running time; and the seconds between two checks of the
- * processor's load. */
+/* RARELY is the number of checks between two checks of a thread's running time. PROCESSOR_SECONDS is the time between
+ * two checks of the processor's load. */
 #define RARELY 12
-/* The processor time in nanoseconds after which a thread with the turn counts as busy. */
+/* A thread that has the turn counts as busy after this processor time in nanoseconds. */
 #define LONG_RUN 1000000000
 #define PROCESSOR_SECONDS 0.25
 /* How many milliseconds a connecting process has to send its request. */
 #define ASK_MS 1000
-/* The length of the path of the run's memory before its descriptor's number. */
+/* The length of the path of the run's memory, up to the number of its descriptor. */
 #define PATH_SLASHES 20
 
 static struct {
@@ -62,18 +62,18 @@ static struct {
     volatile sig_atomic_t number; /* the number of a signal that ends the run */
     uint64_t seen_turn;
     int looks, idle_looks;
-    double since; /* the real time since which the run has made no progress */
+    double since; /* since this real time the run has made no progress */
     uint64_t run_before;
 } coordinator = {.root_status = -1};
 
-/* The coordinator needs no descriptors from itself. */
+/* The coordinator needs no descriptors, so it does not register with itself. */
 bool register_process(void) {
     return false;
 }
 
 /* ---- processes of the run ---- */
 
-/* Watches for the end of a process; false if it is not a descendant. */
+/* Watches for the end of a process. Returns false if the process is not a descendant. */
 static bool watch_process(uint32_t pid) {
     int fd = descendant_open(pid);
     struct epoll_event event = {.events = EPOLLIN, .data.u64 = (uint64_t)pid << 32 | (uint32_t)fd};
@@ -90,7 +90,7 @@ static bool is_known(uint32_t pid) {
     return false;
 }
 
-/* Replies to a process of the run: sends the epoll, or accepts an alarm. */
+/* Replies to a process of the run: sends it the epoll, or accepts its alarm. */
 static void reply_to(int fd, uint32_t pid) {
     struct pollfd polled = {fd, POLLIN, 0};
     struct request request;
@@ -107,8 +107,8 @@ static void reply_to(int fd, uint32_t pid) {
     }
 }
 
-/* Serves connecting processes of the run. For a process of another user it only watches for the end. Returns whether
- * there was one. */
+/* Serves the processes of the run that have connected. If a process belongs to another user, the coordinator only
+ * watches for its end. Returns whether any process of the run had connected. */
 static bool admit(void) {
     bool is_any = false;
     int fd;
@@ -160,7 +160,7 @@ static void reap(void) {
     }
 }
 
-/* After the end of a process: its parent gets SIGCHLD before any other thread continues. */
+/* Handles the end of a process. Its parent gets SIGCHLD before any other thread continues. */
 static void process_ended(uint32_t pid, int fd) {
     uint32_t parent = proc_parent(pid);
     close(fd);
@@ -181,7 +181,7 @@ static void process_ended(uint32_t pid, int fd) {
 
 /* ---- deciding ---- */
 
-/* How many seconds the run may make no progress; 0: no limit. */
+/* How many seconds the run may make no progress; 0 means no limit. */
 static double most_stall(void) {
     return coordinator.has_ended ? END_SECONDS : coordinator.options->stall;
 }
@@ -194,7 +194,8 @@ static bool is_stalled(void) {
     return most_stall() > 0 && now - coordinator.since > most_stall();
 }
 
-/* There is no progress: the run fails with this text; after the end of PROGRAM it is only over. */
+/* Ends a run that makes no progress: the run fails with this text. After the end of PROGRAM it ends without a failure.
+ */
 static void end_stalled(const char *text) {
     if (coordinator.has_ended) {
         coordinator.is_over = true;
@@ -237,7 +238,7 @@ static void send_alarms(void) {
     }
 }
 
-/* The moment of --until has come; after the end of PROGRAM, the moment at which the rest must have ended. */
+/* Ends the run at the time of --until. After the end of PROGRAM, this is the time by which the rest must have ended. */
 static void end_by_until(void) {
     if (coordinator.has_ended) {
         coordinator.is_over = true;
@@ -250,7 +251,7 @@ static void end_by_until(void) {
     settle((uint32_t)coordinator.root);
 }
 
-/* No thread waits for a moment: only input from outside of the run can continue it. */
+/* Handles a run in which no thread waits for a deadline, so only input from outside the run can continue it. */
 static int wait_idle(void) {
     struct epoll_event event = {.events = EPOLLIN | EPOLLONESHOT, .data.u64 = 1};
     epoll_ctl(coordinator.own, EPOLL_CTL_MOD, run_epoll, &event);
@@ -260,7 +261,7 @@ static int wait_idle(void) {
     return 50;
 }
 
-/* Hands the turn on. If that is not possible yet, returns how many milliseconds to wait. */
+/* Gives the turn to the next thread. If that is not possible yet, returns how many milliseconds to wait. */
 static int decide(void) {
     bool ignores = false;
     for (int tries = 0;; tries++) {
@@ -295,13 +296,13 @@ static int decide(void) {
     }
 }
 
-/* The milliseconds until the next look. */
+/* The milliseconds until the next check. */
 static int watch_pause(void) {
     int pause = WATCH_MS << coordinator.idle_looks / IDLE_LOOKS;
     return pause < LONGEST_WATCH_MS ? pause : LONGEST_WATCH_MS;
 }
 
-/* Counts looks in a row without work, as long as they delay the next look. */
+/* Counts consecutive checks that found nothing to do, until the pause has its maximum. */
 static void count_idle_looks(bool is_idle) {
     if (!is_idle) {
         coordinator.idle_looks = 0;
@@ -310,7 +311,7 @@ static void count_idle_looks(bool is_idle) {
     }
 }
 
-/* A thread has the turn: checks whether the turn moves. The thread may run for long, but not for ever. */
+/* Checks whether the turn moves while a thread has it. The thread may run for a long time, but not for ever. */
 static void watch(void) {
     uint64_t turn = run->turn;
     uint32_t owner = (uint32_t)turn & NOBODY;
@@ -343,7 +344,7 @@ static void watch(void) {
     }
 }
 
-/* ---- the processor: the whole run uses one, since there a thread wakes another fastest ---- */
+/* ---- the processor: the whole run uses one, because a thread wakes another fastest on the same processor ---- */
 
 static void pin(uint32_t tid, int processor) {
     cpu_set_t one;
@@ -353,7 +354,7 @@ static void pin(uint32_t tid, int processor) {
 }
 
 /* Other programs may use the run's processor too. If the run mostly waits for that processor, it moves to the processor
- * on which the kernel has put this process. */
+ * on which this process now runs. */
 static void find_processor(void) {
     static double looked_at;
     static struct usage before;
@@ -406,8 +407,8 @@ static void handle_events(int patience) {
     reap();
 }
 
-/* PROGRAM has ended, so the rest must end. Programs without a handler end at once; the others get the signal before any
- * thread continues. */
+/* Ends the rest of the run after PROGRAM has ended. Programs without a handler end at once. The others get the signal
+ * before any thread continues. */
 static void end_rest(void) {
     static uint32_t pids[TREE_MOST];
     size_t count = tree_below((uint32_t)getpid(), pids, TREE_MOST);
@@ -454,7 +455,7 @@ static void loop(void) {
     }
 }
 
-/* The terminal from which the run was started: its input comes from outside of the run. */
+/* Returns the terminal from which the run was started. Input from this terminal comes from outside the run. */
 static uint64_t own_terminal(void) {
     struct stat status;
     for (int fd = 0; fd < 3; fd++) {
@@ -484,7 +485,7 @@ static bool make_run(const struct virtual_options *options) {
     coordinator_pid = getpid();
     run->turn = NOBODY;
     run->magic = RUN_MAGIC;
-    /* The path always has the same length, because addresses in programs depend on it. */
+    /* The path always has the same length, because addresses in programs depend on that length. */
     int length = snprintf(path, sizeof path, "/proc/%d", getpid());
     snprintf(path + length, sizeof path - (size_t)length, "%.*sfd/%d", PATH_SLASHES - length, slashes, fd);
     setenv(RUN_SETTING, path, 1);
@@ -507,12 +508,12 @@ static bool make_descriptors(void) {
            !epoll_ctl(coordinator.own, EPOLL_CTL_ADD, run_epoll, &idle);
 }
 
-/* Executes the program with the signal mask that this process had at first. */
+/* Executes the program with the signal mask that this process had at its start. */
 static void become_program(const char *file, char **words, const sigset_t *mask) {
     int here = sched_getcpu();
     pin(0, here < 0 ? 0 : here);
     prctl(PR_SET_PDEATHSIG, SIGKILL);
-    personality(ADDR_NO_RANDOMIZE); /* Containers may forbid it. */
+    personality(ADDR_NO_RANDOMIZE); /* Containers may forbid this call. */
     sigprocmask(SIG_SETMASK, mask, NULL);
     execv(file, words);
     int error = errno;
@@ -537,8 +538,8 @@ static int status_of(int status) {
     return WIFEXITED(status) ? WEXITSTATUS(status) : 128 + WTERMSIG(status);
 }
 
-/* Makes this process the coordinator of a run without a program yet; false if that fails. `before` gets the signals
- * that were blocked. */
+/* Makes this process the coordinator of a run that has no program yet. Returns false if that fails. `before` gets the
+ * signals that were blocked. */
 static bool begin(const struct virtual_options *options, pid_t parent, sigset_t *before) {
     coordinator.options = options;
     prctl(PR_SET_CHILD_SUBREAPER, 1);
@@ -555,7 +556,7 @@ static bool begin(const struct virtual_options *options, pid_t parent, sigset_t 
     return true;
 }
 
-/* The slot of the first program, which is not running yet or waits. */
+/* Takes the slot of the first program. The program is not running yet, or it waits. */
 static struct slot *first_slot(void) {
     struct slot *slot = &run->slots[take_slot()];
     slot->parent = (uint32_t)getpid();
@@ -563,7 +564,7 @@ static struct slot *first_slot(void) {
     return slot;
 }
 
-/* Runs until the end, and returns the status. */
+/* Coordinates the run until it ends, and returns the exit status. */
 static int coordinate(void) {
     signal(SIGINT, SIG_IGN);
     signal(SIGQUIT, SIG_IGN);

@@ -1,4 +1,5 @@
-/* Datagrams to programs outside the run. Their time does not stop, so the run ends if a datagram is sent to one. */
+/* Datagrams to programs outside the run. Time does not stop for those programs, so the run ends if a datagram is sent
+ * to one of them. */
 #define _GNU_SOURCE
 #include "calls.h"
 #include "peers.h"
@@ -27,7 +28,7 @@ static bool is_to_many(const struct sockaddr *to) {
                : IN6_IS_ADDR_MULTICAST(&six->sin6_addr);
 }
 
-/* Whether this machine has an address: a socket can be bound to it. */
+/* Whether an address belongs to this machine, which is so if a socket can be bound to it. */
 static bool is_here(const struct sockaddr *to) {
     struct sockaddr_in6 six;
     struct sockaddr_in *four = (struct sockaddr_in *)&six;
@@ -71,8 +72,8 @@ static bool is_of_run(unsigned long inode) {
     return false;
 }
 
-/* The owner of a port of this machine: the run, other programs, or no program. In the last case the kernel refuses
- * datagrams to the port. */
+/* The owner of a port of this machine: the run, other programs, or no program. If no program owns the port, the kernel
+ * refuses datagrams to it. */
 enum owner { OF_NOBODY, OF_OTHERS, OF_RUN };
 
 static enum owner owner_of(uint32_t port) {

@@ -1,6 +1,6 @@
 /* Waits for descriptors: poll, and the common part of blocking calls. Each call first checks whether a descriptor is
- * ready, because a thread that has the turn may continue at once. Otherwise it waits for its turn, with its descriptors
- * in the epoll of the run. */
+ * ready, because a thread that has the turn may continue at once. If none is ready, the thread waits for its turn, with
+ * its descriptors in the epoll of the run. */
 #define _GNU_SOURCE
 #include "calls.h"
 
@@ -16,11 +16,11 @@
 #include <unistd.h>
 
 #define POLL_MOST 1024
-/* After a wait for at most so many descriptors, they stay in the epoll for the next wait. */
+/* After a wait for at most this many descriptors, they stay in the epoll for the next wait. */
 #define FEW 16
 
 #ifdef FOR_BRIDGE
-/* A bridge has no timers, no handlers and no cancelled threads. */
+/* A bridge has no timers, no signal handlers and no cancelled threads. */
 uint64_t timers_due(void) {
     return NEVER;
 }
@@ -47,8 +47,9 @@ static long control(int operation, int fd, short events) {
     return result;
 }
 
-/* A kernel thread carries bytes from a terminal's writer to its reader. A reader that looks gets them at once, so it
- * looks once more before the clock moves. This does not hold for the terminal of the run, whose writer is outside. */
+/* A kernel thread carries bytes from a terminal's writer to its reader. A reader that polls gets the bytes at once, so
+ * it polls once more before the clock moves. The terminal of the run is an exception, because its writer is outside the
+ * run. */
 #define TERMINALS 136 /* the first of eight device numbers; the other end is device 5, 2 */
 static bool is_terminal(int fd) {
     struct stat status;
@@ -59,7 +60,7 @@ static bool is_terminal(int fd) {
 }
 
 /* For each descriptor of this process that stays in the epoll: 1 + the slot of its thread. A closed descriptor leaves
- * the epoll by itself; another with its number is added again. */
+ * the epoll by itself. If its number is used again, the new descriptor is added. */
 #define STAYING 1024
 static uint16_t keepers[STAYING];
 static bool are_terminals[STAYING];
@@ -77,13 +78,13 @@ void descriptors_leave(void) {
     descriptors_forget();
 }
 
-/* Whether the epoll has this descriptor for a thread of this process that does not wait for it now. */
+/* Whether the epoll has this descriptor for a thread of this process that is not waiting for it now. */
 static bool is_idle(int fd) {
     const struct slot *slot = &run->slots[(keepers[fd] - 1) % SLOTS];
     return keepers[fd] && (keepers[fd] - 1U == my.index || slot->state != SLOT_WAITS || slot->kind != KIND_DESCRIPTOR);
 }
 
-/* Keeps the descriptor in the epoll for this thread and these events, even after the wait. False if that is not
+/* Keeps the descriptor in the epoll for this thread and these events, even after the wait. Returns false if that is not
  * possible. */
 static bool watch_staying(int fd, short events) {
     bool is_in = keepers[fd] == my.index + 1 && !control(EPOLL_CTL_MOD, fd, events);
@@ -97,7 +98,7 @@ static bool watch_staying(int fd, short events) {
 }
 
 /* Registers a descriptor for one event. Returns the descriptor to remove after the wait: this one, or a copy if another
- * thread waits for this one. Returns -1 if it stays, or is always ready. */
+ * thread waits for this one. Returns -1 if the descriptor stays registered, or is always ready. */
 static int watch(int fd, short events, bool may_stay) {
     if (may_stay && fd < STAYING && watch_staying(fd, events)) {
         return -1;
@@ -115,7 +116,7 @@ static int watch(int fd, short events, bool may_stay) {
     return other;
 }
 
-/* The events that a wait needs of a descriptor, which may be in the list several times. */
+/* The events that a wait requests for a descriptor, which may be in the list several times. */
 static short events_of(const struct pollfd *fds, nfds_t count, int fd) {
     short events = 0;
     for (nfds_t i = 0; i < count; i++) {
@@ -133,8 +134,8 @@ static void unwatch(int fd, int watched) {
     }
 }
 
-/* Waits until one of these may be ready, or the key is woken. Returns the flags of wait_turn. `tries`: perhaps no
- * thread of the run wakes it. */
+/* Waits until one of these descriptors may be ready, or the key is woken. Returns the flags of wait_turn. `tries` means
+ * that perhaps no thread of the run ends this wait. */
 static uint32_t wait_with_key(const struct pollfd *fds, nfds_t count, uint64_t deadline, uint64_t key, bool tries) {
     int watched[POLL_MOST];
     uint64_t timers = timers_due();
@@ -159,7 +160,7 @@ static uint32_t wait_with_key(const struct pollfd *fds, nfds_t count, uint64_t d
 }
 
 uint32_t wait_for(const struct pollfd *fds, nfds_t count, uint64_t deadline) {
-    /* No thread reports signals that the kernel itself sends. */
+    /* A signalfd needs another poll, because no thread reports signals that the kernel itself sends. */
     return wait_with_key(fds, count, deadline, 0, has_signalfds());
 }
 
@@ -180,10 +181,11 @@ long look_at(struct pollfd *fds, nfds_t count) {
     return result;
 }
 
-/* Waits until one of these is ready, and returns the result of poll. After a handler it does not look again. */
+/* Waits until one of these descriptors is ready, and returns the result of poll. After a signal handler it does not
+ * poll again. */
 static int poll_until(struct pollfd *fds, nfds_t count, uint64_t deadline) {
     uint32_t flags = 0;
-    /* A bridge mostly waits, so it only looks when there may be something. */
+    /* A bridge spends most of its time waiting, so it only polls if a descriptor may be ready. */
     bool looks = !is_bridge || deadline <= run->now;
     for (;; looks = true) {
         long result = (flags & (IS_INTERRUPTED | HAS_EVENT)) == IS_INTERRUPTED ? -EINTR
@@ -260,7 +262,7 @@ bool await_later(int fd, short events, uint64_t *deadline) {
     struct pollfd polled = {fd, events, 0};
     uint32_t flags = wait_for(&polled, 1, *deadline);
     timers_fire();
-    /* With a timeout of the socket the call is not restarted, whichever flags the handler has. */
+    /* If the socket has a timeout, the call is not restarted, whichever flags the handler has. */
     bool ends = flags & IS_INTERRUPTED && (my.has_to_return || *deadline != NEVER);
     if (ends && !(flags & HAS_EVENT && look_at(&polled, 1) > 0)) {
         return errno = EINTR, false;
@@ -280,11 +282,11 @@ bool await_until(int fd, short events, uint64_t deadline) {
 }
 
 bool await_ready(int fd, short events, int flags) {
-    /* A call that does not block reports that itself. */
+    /* A nonblocking call itself reports that it would block. */
     return !run || flags & MSG_DONTWAIT || await_until(fd, events, 0) || (errno == EAGAIN && is_nonblocking(fd));
 }
 
-/* Whether the call receives all that it asks for: a stream with MSG_WAITALL. */
+/* Whether the call must receive all bytes that it asks for, as a stream with MSG_WAITALL does. */
 static bool is_whole(int fd, int flags) {
     int type = 0;
     socklen_t size = sizeof type;
@@ -335,10 +337,11 @@ EXPORT ssize_t CALL(recv)(int fd, void *data, size_t length, int flags) {
 
 #ifndef FOR_BRIDGE
 
-/* For libcanbusd-run.so: takes the turn. False without virtual time. */
+/* Takes the turn, for libcanbusd-run.so. Returns false without virtual time. */
 EXPORT bool canbusd_virtual_turn(void);
-/* For libcanbusd-run.so: sends a text, and reads the reply into it. Returns the reply's length, or -1 if the text was
- * not sent. Returns 0 if no reply came in this time, or another thread has changed the word and woken the key. */
+/* Sends a text, for libcanbusd-run.so, and reads the reply into the same buffer. Returns the reply's length, or -1 if
+ * the text was not sent. Returns 0 if no reply came within this time, or if another thread has changed the word and
+ * woken the key. */
 EXPORT long canbusd_virtual_talk(int fd, char *text, size_t length, size_t room, uint32_t *word, uint64_t key,
                                  const struct timespec *t);
 

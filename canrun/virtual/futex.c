@@ -1,4 +1,4 @@
-/* Waits on a word, futex(2). This library wakes the waits that it sees; the kernel wakes those that it does not see. */
+/* Waits on a word, futex(2). This library wakes the waits that it sees. The kernel wakes the others. */
 #define _GNU_SOURCE
 #include "calls.h"
 #include "tell.h"
@@ -7,7 +7,7 @@
 
 #define ALL_BITS 0xffffffffu
 
-/* All words have the same salt, because there is only one way to wait on a word. */
+/* All words have the same salt, because there is only one kind of wait on a word. */
 static uint64_t key_of_word(long word, int operation) {
     const volatile void *at = (const volatile void *)word;
     return operation & FUTEX_PRIVATE_FLAG ? key_of(at, 0) : key_of_any(at, 0);
@@ -30,7 +30,7 @@ static long wait_until(long word, long expected, uint64_t key, uint32_t bits, ui
         if (flags & IS_WOKEN || flags == IS_OVER) {
             return 0;
         }
-        /* A call with a timeout is not restarted. */
+        /* A signal handler ends a call that has a timeout, even with SA_RESTART. */
         if (flags & IS_INTERRUPTED && (my.has_to_return || deadline != NEVER)) {
             return -EINTR;
         }
@@ -54,7 +54,8 @@ static long wait_on_word(long word, int operation, long expected, const struct t
     return wait_until(word, expected, key_of_word(word, operation), bits, deadline_of(operation, t));
 }
 
-/* Waits on a word of memory that other processes have at other addresses; the waking thread uses the same key. */
+/* Waits on a word of memory that is at other addresses in other processes. The thread that wakes it uses the same key.
+ */
 EXPORT long canbusd_virtual_wait(uint32_t *word, uint32_t expected, uint64_t key, const struct timespec *t);
 
 long canbusd_virtual_wait(uint32_t *word, uint32_t expected, uint64_t key, const struct timespec *t) {
@@ -62,7 +63,7 @@ long canbusd_virtual_wait(uint32_t *word, uint32_t expected, uint64_t key, const
                       : RAW(SYS_futex, word, FUTEX_WAIT, expected, t, NULL, 0));
 }
 
-/* Returns the thread that has waited longest for a key, with one of these bits; NULL if there is none. */
+/* Returns the thread that has waited longest for a key with one of these bits, or NULL if there is none. */
 static struct slot *first_of(uint64_t key, uint32_t bits) {
     struct slot *first = NULL;
     for (uint32_t i = 0; i < slots_used(); i++) {
@@ -75,7 +76,8 @@ static struct slot *first_of(uint64_t key, uint32_t bits) {
     return first;
 }
 
-/* Wakes threads that wait in this library, and lets others wait for another key. Returns their number. */
+/* Wakes up to `most` threads that wait in this library, and makes up to `most_moved` others wait for another key.
+ * Returns the number of woken threads; `counts_moved` adds the moved ones. */
 static long wake_and_move(uint64_t key, uint32_t bits, long most, uint64_t to, long most_moved, bool counts_moved) {
     long woken = 0, moved = 0;
     struct slot *slot;
@@ -91,7 +93,7 @@ static long wake_and_move(uint64_t key, uint32_t bits, long most, uint64_t to, l
 
 static long wake_word(long word, int operation, long most, uint32_t bits) {
     long woken = wake_and_move(key_of_word(word, operation), bits, most, 0, 0, false);
-    /* A server makes all its waits in this library. */
+    /* All waits of a server are in this library. */
     if (woken >= most || is_server) {
         return woken;
     }
@@ -99,8 +101,8 @@ static long wake_word(long word, int operation, long most, uint32_t bits) {
     return rest < 0 ? rest : woken + rest;
 }
 
-/* FUTEX_WAKE_OP: changes the second word. Returns whether its old value passes the comparison, so that its waiters are
- * woken. */
+/* Does the operation of FUTEX_WAKE_OP on the second word. Returns whether the old value passes the comparison, so that
+ * the waiters of that word are woken. */
 static bool change_word(long word, uint32_t encoded) {
     uint32_t argument = encoded >> 12 & 0xfff, compared = encoded & 0xfff, before;
     uint32_t operand = encoded >> 31 ? 1u << (argument & 31) : argument;
@@ -123,7 +125,7 @@ static bool change_word(long word, uint32_t encoded) {
     }
 }
 
-/* ---- words with an owner ---- */
+/* ---- words that contain their owner (FUTEX_LOCK_PI) ---- */
 
 struct owned {
     long word;

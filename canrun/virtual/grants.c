@@ -1,4 +1,4 @@
-/* The processes that the coordinator signals: see grants.h. */
+/* The checks of processes before the coordinator signals them: see grants.h. */
 #define _GNU_SOURCE
 #include "grants.h"
 #include "proc.h"
@@ -16,7 +16,7 @@ static struct grant {
 
 int descendant_open(uint32_t pid) {
     int fd = pid ? (int)syscall(SYS_pidfd_open, pid, 0) : -1;
-    /* If another process got the number meanwhile, this is not the process of the descriptor. */
+    /* If another process has got this number in the meantime, the descriptor is not of the checked process. */
     if (fd >= 0 && !proc_is_below(pid, (uint32_t)getpid())) {
         close(fd);
         return -1;
@@ -65,7 +65,7 @@ bool alarm_signal(uint32_t place) {
     if (grant->tid) {
         syscall(SYS_rt_tgsigqueueinfo, grant->pid, grant->tid, grant->number, &info);
     } else {
-        /* The signal of setitimer carries no value. */
+        /* The signal of setitimer has no value. */
         syscall(SYS_pidfd_send_signal, grant->fd, grant->number, alarm->id == INTERVAL_TIMER ? NULL : &info, 0);
     }
     return true;

@@ -1,6 +1,6 @@
 /* Checks of the processes that the coordinator signals: it opened their descriptors itself, and they are its
- * descendants. Processes with other rights than the coordinator may write the run's memory, so it does not trust the
- * numbers there. */
+ * descendants. The coordinator does not trust the process numbers in the run's memory, because processes with other
+ * rights may write that memory. */
 #ifndef GRANTS_H
 #define GRANTS_H
 
@@ -9,17 +9,17 @@
 #include <stdbool.h>
 #include <stdint.h>
 
-/* Opens a pidfd of a process that is a descendant of this one; otherwise -1. */
+/* Opens a pidfd of a process that is a descendant of this one. Returns -1 for any other process. */
 int descendant_open(uint32_t pid);
 
 /* Sends a signal to a process if it is a descendant of this one. */
 void descendant_signal(uint32_t pid, int number);
 
-/* Notes that a process has asked for the signals of its alarm. False if the number is not an alarm, or the process no
- * descendant. */
+/* Notes that a process has asked for the signals of its alarm. Returns false if the number is not that of an alarm, or
+ * if the process is not a descendant. */
 bool alarm_grant(uint32_t pid, const struct request *request);
 
-/* Sends the signal of this alarm. False if its process has not asked for the signal, or has ended. */
+/* Sends the signal of this alarm. Returns false if its process has not asked for the signal, or has ended. */
 bool alarm_signal(uint32_t place);
 
 /* Forgets the alarms of a process that has ended. */

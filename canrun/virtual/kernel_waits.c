@@ -1,5 +1,6 @@
-/* Waits that only the kernel can end: for file locks, queues and semaphores of System V, and a listener without room.
- * The call is tried without waiting, and again before the clock moves if other threads have run meanwhile. */
+/* Waits that only the kernel can end: for file locks, queues and semaphores of System V, and a listener whose queue is
+ * full. Each call is tried without waiting. It is tried again before the clock moves if other threads have run in the
+ * meantime. */
 #define _GNU_SOURCE
 #include "calls.h"
 
@@ -33,7 +34,7 @@ long try_until(long (*call)(void *), void *given, int would_wait, uint64_t deadl
     }
 }
 
-/* ---- locks of files ---- */
+/* ---- file locks ---- */
 
 struct lock_of_file {
     int fd, operation;
@@ -53,7 +54,7 @@ EXPORT int flock(int fd, int operation) {
     return (int)answer(try_until(try_flock, &it, EWOULDBLOCK, NEVER, true));
 }
 
-/* Uses the form of F_SETLKW that does not wait. */
+/* Uses F_SETLK, the form of F_SETLKW that does not wait. */
 static long try_lock(void *given) {
     struct lock_of_file *it = given;
     long result = RAW(SYS_fcntl, it->fd, it->operation, it->lock);
@@ -87,7 +88,7 @@ EXPORT int lockf(int fd, int operation, off_t length) {
 }
 ALSO(lockf64, lockf)
 
-/* ---- System V ---- */
+/* ---- System V queues and semaphores ---- */
 
 struct message_of_queue {
     int queue, flags;
@@ -159,7 +160,7 @@ EXPORT int semop(int semaphores, struct sembuf *of, size_t count) {
     return semtimedop(semaphores, of, count, NULL);
 }
 
-/* ---- queues of POSIX ---- */
+/* ---- POSIX message queues ---- */
 
 struct message_of_mq {
     mqd_t queue;
@@ -169,7 +170,7 @@ struct message_of_mq {
     unsigned priority;
 };
 
-/* With a moment in the past these do not wait. */
+/* With a deadline in the past these calls do not wait. */
 static long try_mq_receive(void *given) {
     struct message_of_mq *it = given;
     return RAW(SYS_mq_timedreceive, it->queue, it->data, it->length, it->to, &no_time);

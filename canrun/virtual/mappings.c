@@ -1,4 +1,5 @@
-/* Identifies a place in shared memory for all processes that share it: by the file and the offset. */
+/* Identifies a place in shared memory by its file and offset, which all processes that share the memory have in common.
+ */
 #define _GNU_SOURCE
 #include "calls.h"
 
@@ -18,7 +19,7 @@ struct mapping {
     bool is_shared;
 };
 
-/* A new era begins when a mapping ends. */
+/* The cached mappings. Each end of a mapping begins a new era, in which the older entries do not count. */
 static struct mapping cached[CACHED];
 static uint32_t era = 1;
 
@@ -54,7 +55,7 @@ static bool is_in_line(const char *at, uint64_t place, struct mapping *found) {
     return true;
 }
 
-/* Searches /proc/self/maps, without using memory of the C library. */
+/* Searches /proc/self/maps without allocating memory from the C library. */
 static void find(uint64_t place, struct mapping *found) {
     char text[PAGE + 1];
     long length, kept = 0;

@@ -22,10 +22,10 @@ void fail(const char *format, ...) __attribute__((format(printf, 1, 2)));
 /* Prints the notices of programs: see tell.h. */
 void say_notices(void);
 
-/* Describes a thread: its name, process and thread number. */
+/* Describes a thread by its name, process number and thread number. */
 const char *who(uint32_t pid, uint32_t tid);
 
-/* Lists the threads that wait, at most ten, and the reasons. */
+/* Lists at most ten waiting threads, each with the reason for its wait. */
 void say_waits(void);
 
 #endif

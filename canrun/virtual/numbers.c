@@ -1,5 +1,5 @@
-/* syscall(2): calls by number, as in the server and in Rust's standard library. A call that waits or reads a clock goes
- * to the function with its name. */
+/* syscall(2): calls by number, as in the server and in Rust's standard library. A call that waits or reads a clock is
+ * passed to the library's function with the same name. */
 #define _GNU_SOURCE
 #include "calls.h"
 #include "tell.h"
@@ -31,7 +31,7 @@
 #include <sys/wait.h>
 #include <unistd.h>
 
-/* The last names are for calls whose waits this library does not see. */
+/* The numbers of futex calls whose waits this library does not see. */
 #ifndef SYS_futex_waitv
 #define SYS_futex_waitv 449
 #endif
@@ -39,7 +39,7 @@
 #define SYS_FUTEX_WAIT2 455
 #define SYS_FUTEX_REQUEUE2 456
 
-/* Ends the run, because an unknown call waits. */
+/* Ends the run, because this library does not know the call and the call may wait. */
 static long refuse(long number) {
     char test[TEST_ROOM];
     tell(true, "%.60s (thread %ld of process %ld) makes system call %ld, which virtual time does not know%s",
@@ -47,7 +47,8 @@ static long refuse(long number) {
     return errno = ENOSYS, -1;
 }
 
-/* Refuses io_uring like a kernel without it, because its waits are not seen. Reports that once. */
+/* Refuses io_uring like a kernel that has no io_uring, because this library does not see its waits. Reports that once.
+ */
 static long refuse_io_uring(void) {
     static _Atomic bool is_said;
     char test[TEST_ROOM];
@@ -61,7 +62,7 @@ static long refuse_io_uring(void) {
 
 #define P(i) ((void *)of[i])
 #define INT(i) ((int)of[i])
-/* The signal mask of a wait, which pselect6 has with its size in its last argument. */
+/* The signal mask of a wait. The last argument of pselect6 points to the mask and its size. */
 #define MASK_OF(i) (of[i] ? *(const sigset_t **)of[i] : NULL)
 
 static long call_of_time(long number, const long of[6], bool *is_known) {
@@ -89,7 +90,7 @@ static long call_of_time(long number, const long of[6], bool *is_known) {
     }
 }
 
-/* The kernel numbers timers; the C library has pointers. */
+/* The kernel identifies timers by numbers, the C library by pointers. */
 static long call_of_timer(long number, const long of[6], bool *is_known) {
     timer_t timer = (timer_t)(uintptr_t)(uint32_t)of[0], made;
     switch (number) {

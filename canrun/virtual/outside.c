@@ -16,21 +16,21 @@
 #include <unistd.h>
 
 #define LIBRARY "libcanbusd-virtual.so"
-/* Without the library only PROGRAM has this mapping, before it is executed: until then it is a copy of the
+/* In a process without the library only PROGRAM has this mapping: before PROGRAM is executed, it is a copy of the
  * coordinator. */
 #define MEMORY "/memfd:" RUN_MEMORY
 /* The files that a program loads after the preloaded ones. */
 #define C_LIBRARY "/libc.so."
 #define LOADER "/ld-linux"
-/* How long a program without the library may run before a note: nanoseconds of processor time, or real seconds if it
- * sleeps. */
+/* How long a program without the library may run before the coordinator reports it: nanoseconds of processor time, or
+ * real seconds if it sleeps. */
 #define FOREIGN_RUN 300000000
 #define FOREIGN_SECONDS 1.0
-/* The number of looks before a check whether a program loads the library. */
+/* The number of checks after which the coordinator looks whether a program loads the library. */
 #define FOREIGN_LOOKS 4
-/* After so many more looks a thread that has the turn counts as asleep. */
+/* After this many more checks a sleeping thread that has the turn counts as asleep. */
 #define SLEEP_LOOKS 4
-/* The parent of a process for which no thread has taken a slot. */
+/* The value of a slot's `parent` if no thread took the slot for the process. */
 #define STRANGER UINT32_MAX
 
 /* ---- programs that do not load the library ---- */
@@ -40,7 +40,8 @@ struct mapped {
     bool library, memory, loader, c_library, is_hidden;
 };
 
-/* The list of a process that is ending may be cut; the stack comes after the libraries. */
+/* Reads the mappings of a process. The list of a process that is ending may be cut off; it is complete if it contains
+ * the stack, which comes after the libraries. */
 static struct mapped mapped_by(uint32_t pid) {
     char path[32], line[PATH_MAX + 200];
     struct mapped mapped = {false, false, false, false, false};
@@ -62,13 +63,13 @@ static struct mapped mapped_by(uint32_t pid) {
     return mapped;
 }
 
-/* Whether the loader does not load the library into a process, because its file gives it rights, or it may not open the
- * run's memory. */
+/* Whether the loader did not load the library into a process, because the program's file gives it more rights, or
+ * because the process may not open the run's memory. */
 static bool has_other_rights(uint32_t pid, const struct mapped *mapped) {
     return mapped->is_hidden || (!mapped->memory && !proc_is_of_user(pid, geteuid()));
 }
 
-/* The reason why a process is not in virtual time; NULL if it is, or has not begun. */
+/* The reason why a process is not in virtual time. NULL if it is in virtual time, or has not begun. */
 static const char *obstacle_of(uint32_t pid) {
     char path[32], name[PATH_MAX];
     snprintf(path, sizeof path, "/proc/%u/exe", pid);
@@ -86,8 +87,8 @@ static const char *obstacle_of(uint32_t pid) {
         return NULL;
     }
     const char *obstacle = program_obstacle(path);
-    /* A program that runs another inside itself, such as valgrind, has that program's loader, which loads the
-     * library. */
+    /* A program that runs another program inside itself, such as valgrind, maps the other program's loader, which loads
+     * the library. */
     bool is_host = obstacle && mapped.loader && !mapped.c_library;
     return is_host ? NULL : obstacle ? obstacle : mapped.c_library ? "has lost LD_PRELOAD, as by env -i" : NULL;
 }
@@ -97,7 +98,8 @@ static void say_foreign(uint32_t pid, const char *obstacle) {
              obstacle);
 }
 
-/* Reports a program without the library once it has run or slept for long: then it may read the real clock. */
+/* Reports a program without the library after it has run or slept for a long time, because it may then have read the
+ * real clock. */
 static void note_foreign(uint32_t index) {
     static struct {
         uint32_t pid;
@@ -147,7 +149,7 @@ static struct called called_by(uint32_t pid, uint32_t tid) {
     return called;
 }
 
-/* Whether a call ends by itself after some real time. */
+/* Whether a system call ends by itself after some real time. */
 static bool is_timed(const struct called *called) {
     const unsigned long *a = called->arguments;
     switch (called->number) {
@@ -167,7 +169,7 @@ static bool is_timed(const struct called *called) {
     case SYS_io_getevents: return a[4] != 0;
     case SYS_semtimedop:
     case SYS_epoll_pwait2: return a[3] != 0;
-    case SYS_io_uring_enter: return true; /* The length of its wait is not known. */
+    case SYS_io_uring_enter: return true; /* It is not known how long the call waits. */
     default: return false;
     }
 }
@@ -186,7 +188,8 @@ static bool waits_for_turn(uint32_t pid, uint32_t tid, const struct called *call
     return false;
 }
 
-/* Fails for a traced thread: the tracer stops it at its calls, and itself waits for turns. */
+/* Ends the run if a thread is traced: the tracer stops the thread at its calls, and the tracer itself waits for turns.
+ */
 static bool is_traced(uint32_t pid, uint32_t tid, char state) {
     if (state == 't') {
         fail("%s is traced, as by strace or gdb, so it can't be in virtual time", who(pid, tid));
@@ -223,12 +226,13 @@ static bool sleeps(uint32_t pid, uint32_t tid) {
     return state == 'S';
 }
 
-/* How often a thread got a processor. */
+/* How often a thread was scheduled on a processor. */
 static uint64_t times_run(uint32_t pid, uint32_t tid) {
     return proc_usage(pid, tid).times;
 }
 
-/* Checks all threads of a process, or one of them; adds the number of times they ran. */
+/* Checks whether all threads of a process sleep, or only the thread `tid`. Adds the number of times they ran to
+ * `times`. */
 static bool all_sleep(uint32_t pid, uint32_t tid, uint64_t *times) {
     char path[40];
     bool do_sleep = true;
@@ -295,13 +299,13 @@ bool outside_any_runs(void) {
 bool outside_sleeps(void) {
     uint64_t before, now;
     outside_strangers();
-    /* It checks twice, because a thread may wake another that was already checked. */
+    /* The check is done twice, because a thread may wake another one that was already checked. */
     return one_pass(&before) && !outside_any_runs() && one_pass(&now) && before == now;
 }
 
-/* ---- threads that have the turn and sleep ---- */
+/* ---- threads that sleep while they have the turn ---- */
 
-/* A stopped thread may not have begun its turn. */
+/* Takes the turn back from a thread. A stopped thread may not have begun its turn. */
 static void take_back(uint64_t turn, bool is_stopped) {
     struct slot *slot = slot_at((uint32_t)turn & NOBODY);
     uint32_t state = slot->state;
@@ -311,7 +315,8 @@ static void take_back(uint64_t turn, bool is_stopped) {
     }
 }
 
-/* Whether the thread has slept in this turn for a few looks: a thread that waits for a disk or memory soon runs. */
+/* Whether the thread has slept in this turn for several checks in a row. A thread that waits for a disk or for memory
+ * runs again soon. */
 static bool is_asleep_for_long(uint64_t turn, char state, uint64_t times) {
     static struct {
         uint64_t turn, times;
@@ -332,8 +337,9 @@ bool outside_watch(uint64_t turn, int looks, bool (*is_asked)(void)) {
     uint32_t pid = slot->pid, tid = slot->tid;
     char state = proc_state(pid, tid);
     if (state == 'Z' || state == 'X') {
-        /* A thread that ended unseen frees its slot here; the end of a process is seen elsewhere. If other threads of
-         * the process are still ending, its files are not closed yet, and other programs may wait for that. */
+        /* If a thread ended without the library seeing it, its slot is freed here. The end of a whole process is
+         * handled elsewhere. If other threads of the process are still ending, its files are not closed yet, and other
+         * programs may wait for that. */
         if ((pid != tid || state == 'Z') && !process_runs(pid) && turn_change(turn, NOBODY)) {
             free_slot(slot);
         }

@@ -5,29 +5,29 @@
 #include <stdbool.h>
 #include <stdint.h>
 
-/* Checks the thread that has had this turn for so many looks. Takes the turn back if the thread sleeps and no thread of
- * the run will wake it. It does not if `is_asked` reports a process that waits for the coordinator. Returns whether the
- * thread was not running. */
+/* Checks a thread that has had this turn at this many checks. Takes the turn back if the thread sleeps and no thread of
+ * the run will wake it, unless `is_asked` reports a process that waits for the coordinator. Returns whether the thread
+ * was not running. */
 bool outside_watch(uint64_t turn, int looks, bool (*is_asked)(void));
 
-/* For a thread that computes for long in this turn, or waits for another thread of its process by looking. Gives the
- * turn to a thread of this process that can go on. A thread that waits for Python's interpreter counts too, so that it
- * can ask for the interpreter. */
+/* Handles a thread that computes for a long time in this turn, or waits for another thread of its process in a busy
+ * loop. Gives the turn to a thread of the same process that can continue. A thread that waits for Python's interpreter
+ * counts too, so that it can ask for the interpreter. */
 void outside_share(uint64_t turn);
 
-/* Whether all threads outside sleep, and none by a real clock. */
+/* Whether all threads outside sleep, and none of them sleeps by a real clock. */
 bool outside_sleeps(void);
 
 /* Whether any thread of the run's processes runs or waits for a processor. */
 bool outside_any_runs(void);
 
-/* Whether a thread that is outside, or has not begun, runs or waits for a processor. */
+/* Whether a thread that is outside, or that has not begun, runs or waits for a processor. */
 bool outside_runs(void);
 
-/* Checks the threads and processes that were born and have not begun. */
+/* Checks the threads and processes that have been created and have not begun. */
 void outside_births(int looks);
 
-/* Adds processes of the run that have not registered, such as those of popen. */
+/* Adds processes of the run that have not registered, such as those started by popen. */
 void outside_strangers(void);
 
 #endif

@@ -1,4 +1,4 @@
-/* Servers outside the run. */
+/* Connections to servers outside the run, which end the run. */
 #define _GNU_SOURCE
 #include "calls.h"
 #include "peers.h"
@@ -17,7 +17,7 @@
 
 #define NAME_SERVICES "/run/systemd/"
 
-/* Ends the run, because time does not stop for a program outside it. `host` is `, at ` and the address, or empty. */
+/* Ends the run, because time does not stop for a program outside it. `host` is `, at ` and the address, or is empty. */
 static void fail_with(const char *does, const char *what, const char *host) {
     char test[TEST_ROOM];
     tell(true,
@@ -35,7 +35,8 @@ void fail_outside(const char *does, const char *kind, const struct sockaddr *to)
     fail_with(does, what, at);
 }
 
-/* Whether a process belongs to the run: it is a descendant of the coordinator. If it has ended, the answer is yes. */
+/* Whether a process belongs to the run, which is so if it is a descendant of the coordinator. Returns true if the
+ * process has ended. */
 static bool is_of_run(uint32_t pid) {
     return proc_is_below(pid, (uint32_t)coordinator_pid) || !proc_parent(pid);
 }
@@ -50,8 +51,8 @@ uint32_t port_of(const struct sockaddr *address) {
                                             : 0;
 }
 
-/* Makes TCP send at once: otherwise it delays data by the real clock. Connections inherit this from the listening
- * socket. */
+/* Makes a TCP socket send at once, because otherwise the kernel delays data by the real clock. Connections inherit this
+ * option from the listening socket. */
 static void send_at_once(int fd) {
     int on = 1;
     RAW(SYS_setsockopt, fd, IPPROTO_TCP, TCP_NODELAY, &on, sizeof on);
@@ -71,7 +72,8 @@ EXPORT int listen(int fd, int backlog) {
     return (int)answer(result);
 }
 
-/* Ends the run if the other end of a connection is outside. Services for names of users and hosts may be outside. */
+/* Ends the run if the other end of a connection is outside the run. Services that resolve user and host names may be
+ * outside. */
 static void check_peer(int fd, const struct sockaddr *to) {
     char text[160];
     int type = 0;
@@ -103,7 +105,7 @@ struct connection {
     socklen_t length;
 };
 
-/* Makes the socket nonblocking for this call only. */
+/* Tries to connect. The socket is nonblocking for this call only. */
 static long try_connect(void *given) {
     struct connection *it = given;
     int flags = (int)RAW(SYS_fcntl, it->fd, F_GETFL);
@@ -113,7 +115,7 @@ static long try_connect(void *given) {
     return result;
 }
 
-/* Connects to a Unix socket, and waits while the listener has no room. */
+/* Connects to a Unix socket, and waits while the listener's queue is full. */
 static long connect_unix(int fd, const struct sockaddr *to, socklen_t length) {
     struct connection it = {fd, to, length};
     if (RAW(SYS_fcntl, fd, F_GETFL) & O_NONBLOCK) {
@@ -124,7 +126,8 @@ static long connect_unix(int fd, const struct sockaddr *to, socklen_t length) {
     return result == -ETIMEDOUT ? -EAGAIN : result;
 }
 
-/* The kernel's CAN sockets use the real clock. canbusd-run inside the run provides others, and sets this variable. */
+/* The kernel's CAN sockets use the real clock. A canbusd-run inside the run provides its own CAN sockets, and sets this
+ * variable. */
 #define HAS_INTERFACES "CANBUSD_INTERFACES"
 
 EXPORT int socket(int domain, int type, int protocol) {

@@ -1,4 +1,4 @@
-/* Opening a named pipe, which waits for its other end. */
+/* Opens of a named pipe, which wait for the other end. */
 #define _GNU_SOURCE
 #include "calls.h"
 #include "random.h"
@@ -12,7 +12,7 @@ static uint64_t key_of_pipe(const struct stat *status) {
     return key_of_file(status->st_dev, status->st_ino, 0);
 }
 
-/* Whether a pipe that is open for reading has a writer: otherwise tee returns 0. */
+/* Whether a pipe that is open for reading has a writer. If it has none, tee returns 0. */
 static bool has_writer(int fd) {
     int ends[2];
     if (RAW(SYS_pipe2, ends, O_CLOEXEC)) {
@@ -36,7 +36,7 @@ static int open_pipe(int folder, const char *path, int flags, const struct stat 
         }
         uint32_t came = wait_turn_or_cancel(NEVER, key_of_pipe(status), KIND_DESCRIPTOR);
         if (fd >= 0 && came & IS_WOKEN) {
-            break; /* A writer has come, and may be gone again. */
+            break; /* A writer has opened the pipe, and may have closed it again. */
         }
         if (fd >= 0) {
             RAW(SYS_close, fd);

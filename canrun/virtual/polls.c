@@ -33,7 +33,7 @@ static int select_now(struct sets *sets) {
     return (int)answer(RAW(SYS_pselect6, sets->count, at[0], at[1], at[2], &no_time, NULL));
 }
 
-/* Reads the descriptors from the sets. Returns their number. */
+/* Copies the descriptors of the sets to `fds`. Returns their number. */
 static nfds_t take_sets(struct sets *sets, struct pollfd *fds) {
     nfds_t count = 0;
     for (int i = 0; i < 3; i++) {
@@ -54,7 +54,7 @@ static nfds_t take_sets(struct sets *sets, struct pollfd *fds) {
     return count;
 }
 
-/* Writes the result to the sets; after a failure they stay unchanged. */
+/* Writes the result to the sets. After a failure the sets stay unchanged. */
 static void give_sets(const struct sets *sets, int result) {
     for (int i = 0; i < 3 && result >= 0; i++) {
         if (sets->of[i]) {
@@ -63,7 +63,7 @@ static void give_sets(const struct sets *sets, int result) {
     }
 }
 
-/* Whether a handler has ended the wait, so that select does not look again. */
+/* Whether a signal handler has ended the wait, so that select does not poll again. */
 static bool is_ended(uint32_t flags) {
     return (flags & (IS_INTERRUPTED | HAS_EVENT)) == IS_INTERRUPTED;
 }
@@ -135,9 +135,9 @@ EXPORT int pselect(int count, fd_set *restrict r, fd_set *restrict w, fd_set *re
     return select_until(&sets, t ? after(length_of(t)) : NEVER, mask);
 }
 
-/* ---- epoll: the run's epoll contains the program's epoll ---- */
+/* ---- epoll: the run's epoll contains the epoll of the program ---- */
 
-/* Returns the ready events; `flags` are those of the last wait. */
+/* Returns the ready events. `flags` are the flags that the last wait returned. */
 static long epoll_now(int fd, struct epoll_event *events, int most, uint32_t flags) {
     timers_fire();
     if (flags & LOOKS_AGAIN) {

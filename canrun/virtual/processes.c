@@ -24,7 +24,7 @@ static uint32_t bear(void) {
     return index;
 }
 
-/* All forks of the C library call these two, before the fork and in the child; this includes daemon and forkpty. */
+/* All forks of the C library call before_fork, and then in_child in the child. This includes daemon and forkpty. */
 static void before_fork(void) {
     my.born = run ? bear() : NOBODY;
 }
@@ -41,7 +41,7 @@ static void in_child(void) {
     my.slot->thread = pthread_self();
 }
 
-/* In the parent: handles the result of the fork. */
+/* Handles the result of the fork in the parent. */
 static pid_t after_fork(pid_t pid) {
     if (run && pid > 0) {
         run->slots[my.born].pid = (uint32_t)pid;
@@ -57,7 +57,7 @@ EXPORT pid_t fork(void) {
 }
 ALSO(__fork, fork)
 
-/* Makes a copy instead of a child that shares the memory; the parent continues at once. */
+/* Makes a copy, as fork does, instead of a child that shares the memory. The parent continues at once. */
 EXPORT pid_t vfork(void) {
     return fork();
 }
@@ -68,7 +68,7 @@ EXPORT int forkpty(int *terminal, char *name, const struct termios *settings, co
     return after_fork(real(terminal, name, settings, size));
 }
 
-/* A fork for which the C library calls no handlers. */
+/* Forks without the handlers that the C library calls at other forks. */
 EXPORT pid_t _Fork(void) {
     REAL(_Fork);
     before_fork();
@@ -99,7 +99,7 @@ static int begin_cloned(void *given) {
     return it.routine(it.argument);
 }
 
-/* A child that shares the memory only while its parent waits becomes a copy, as in vfork. */
+/* If the child would share the memory only while its parent waits, it becomes a copy, as in vfork. */
 EXPORT int clone(int (*routine)(void *), void *stack, int flags, void *argument, ...) {
     va_list list;
     va_start(list, argument);
@@ -163,7 +163,8 @@ EXPORT int posix_spawnp(pid_t *restrict pid, const char *restrict file, const po
     return spawned(index, error, child, pid);
 }
 
-/* For canbusd-run's library, which starts a bridge: takes a slot for the bridge; and then stores its process number. */
+/* For canbusd-run's library when it starts a bridge. canbusd_virtual_bear takes a slot for the bridge, and
+ * canbusd_virtual_born stores its process number. */
 EXPORT uint32_t canbusd_virtual_bear(void);
 uint32_t canbusd_virtual_bear(void) {
     return run ? bear() : NOBODY;
@@ -237,7 +238,7 @@ EXPORT int waitid(idtype_t type, id_t id, siginfo_t *info, int options) {
     }
 }
 
-/* Like the C library's function, whose own wait for the shell is in the kernel. */
+/* Like the C library's function, but without its wait for the shell, which is in the kernel. */
 EXPORT int system(const char *command) {
     REAL(system);
     if (!run || !command) {

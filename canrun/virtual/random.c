@@ -10,9 +10,9 @@
 #include <sys/stat.h>
 #include <sys/sysmacros.h>
 
-/* The variable that pytest sets when each part of a test begins. */
+/* The environment variable that pytest sets when each phase of a test begins. */
 #define TEST "PYTEST_CURRENT_TEST"
-/* Descriptors below this may be /dev/random or /dev/urandom. */
+/* Only descriptors below this number can be known as /dev/random or /dev/urandom. */
 #define DEVICES 1024
 /* The device numbers, as in devices.txt of Linux. */
 enum { MEMORY_DEVICES = 1, RANDOM_DEVICE = 8, URANDOM_DEVICE = 9 };
@@ -29,7 +29,7 @@ static void fill(void *data, size_t length) {
     }
 }
 
-/* The kernel checks these arguments; then the bytes are replaced by the run's. */
+/* The kernel checks these arguments. Then the run's random bytes replace the kernel's. */
 EXPORT ssize_t getrandom(void *data, size_t length, unsigned flags) {
     ssize_t result = answer(RAW(SYS_getrandom, data, length, flags));
     if (run && result > 0) {
@@ -60,7 +60,7 @@ uint32_t arc4random(void) {
     return number;
 }
 
-/* Numbers below `least` are drawn again, so that all results are equally likely. */
+/* Draws again if a number is below `least`, so that all results are equally likely. */
 EXPORT uint32_t arc4random_uniform(uint32_t bound);
 uint32_t arc4random_uniform(uint32_t bound) {
     uint32_t number, least = bound ? -bound % bound : 0;
@@ -98,7 +98,7 @@ void random_read(int fd, const struct iovec *parts, int count, ssize_t length) {
     }
 }
 
-/* ---- a test of pytest begins ---- */
+/* ---- the beginning of a pytest test ---- */
 
 static void note_setting(const char *name, const char *value) {
     if (run && !strcmp(name, TEST)) {

@@ -5,13 +5,13 @@
 #include <sys/types.h>
 #include <sys/uio.h>
 
-/* Called once this thread has its slot. */
+/* Called after this thread has got its slot. */
 void start_random(void);
 
-/* Called after a file was opened, which may be /dev/urandom. */
+/* Called after a file that may be /dev/urandom was opened. */
 void random_opened(int fd, const char *path);
 
-/* Called after a read of so many bytes. Replaces them by the run's own if they are random. */
+/* Called after a read of this many bytes. If they are random bytes, the run's random bytes replace them. */
 void random_read(int fd, const struct iovec *parts, int count, ssize_t length);
 
 #endif

@@ -1,4 +1,4 @@
-/* System calls without the C library, whose functions this library replaces. */
+/* System calls made directly, because this library replaces the functions of the C library. */
 #ifndef RAW_H
 #define RAW_H
 
@@ -18,10 +18,10 @@ static inline long raw_call(long number, long a, long b, long c, long d, long e,
 }
 
 #define RAW_6(nr, a, b, c, d, e, f, ...) raw_call(nr, (long)(a), (long)(b), (long)(c), (long)(d), (long)(e), (long)(f))
-/* RAW(number, arguments ..): the kernel's result; a failure is a negative errno. */
+/* RAW(number, arguments ..) makes a system call and returns the kernel's result. A failure is a negative errno. */
 #define RAW(...) RAW_6(__VA_ARGS__, 0, 0, 0, 0, 0, 0, 0)
 
-/* Converts this to the C library's result. */
+/* Converts a result of the kernel to a result of the C library, which sets errno. */
 static inline long answer(long result) {
     if (result < 0 && result > -4096) {
         errno = (int)-result;

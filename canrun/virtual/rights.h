@@ -1,4 +1,4 @@
-/* A message of one byte with a descriptor: the coordinator uses it to hand out the epoll of the run. */
+/* A message of one byte with a descriptor. The coordinator uses it to send the epoll of the run. */
 #ifndef RIGHTS_H
 #define RIGHTS_H
 
@@ -14,7 +14,7 @@ struct rights {
     struct msghdr message;
 };
 
-/* Prepares the message with this descriptor; with -1 it only has room for a received descriptor. */
+/* Prepares a message with this descriptor. With -1 the message only has room for a received descriptor. */
 static inline struct msghdr *rights_message(struct rights *rights, int fd) {
     *rights = (struct rights){.part = {&rights->byte, 1}};
     rights->message = (struct msghdr){.msg_iov = &rights->part,
@@ -29,7 +29,7 @@ static inline struct msghdr *rights_message(struct rights *rights, int fd) {
     return &rights->message;
 }
 
-/* The descriptor that came with a message, or -1. */
+/* Returns the descriptor that was received with a message, or -1. */
 static inline int rights_descriptor(const struct rights *rights) {
     const struct cmsghdr *head = CMSG_FIRSTHDR(&rights->message);
     int fd = -1;

@@ -73,7 +73,8 @@ ALSO(__pthread_rwlock_unlock, pthread_rwlock_unlock)
 
 /* ---- barriers ---- */
 
-/* The C library's structure. A barrier without waiting threads is in its initial state, so it may be destroyed. */
+/* The layout of the C library's barrier. A barrier without waiting threads is in its initial state, so it may be
+ * destroyed. */
 struct barrier {
     uint32_t in, round, count;
     int is_shared;
@@ -83,7 +84,7 @@ static uint64_t key_of_barrier(const struct barrier *barrier) {
     return barrier->is_shared ? key_of_any(barrier, OF_BARRIER) : key_of(barrier, OF_BARRIER);
 }
 
-/* A woken thread does not read the barrier again, because another may have destroyed it. */
+/* Waits at a barrier. A woken thread does not read the barrier again, because another thread may have destroyed it. */
 static int wait_at_barrier(struct barrier *barrier) {
     uint64_t key = key_of_barrier(barrier);
     regain_turn();

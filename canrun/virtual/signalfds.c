@@ -1,6 +1,6 @@
-/* Descriptors that read signals. The kernel only finds a signal for the process that looks. If another process looks at
- * an epoll with a signalfd, for the run, the kernel takes the entry off its ready list. So a process adds its signalfds
- * again before it looks. */
+/* Descriptors that read signals. The kernel reports a signal only to the process that polls. If another process polls
+ * an epoll with a signalfd for the run, the kernel removes the entry from its ready list. So a process adds its
+ * signalfds again before it polls. */
 #define _GNU_SOURCE
 #include "calls.h"
 
@@ -12,7 +12,7 @@
 #include <sys/signalfd.h>
 
 #define NESTED 8
-/* The bits that remain of an entry with EPOLLONESHOT after its event. */
+/* The event bits that an entry with EPOLLONESHOT still has after its event. */
 #define PRIVATE_EVENTS (EPOLLWAKEUP | EPOLLONESHOT | EPOLLET | EPOLLEXCLUSIVE)
 #define LISTED 65536
 

@@ -1,5 +1,5 @@
 /* Signals. A handler runs when its thread has the turn. A waiting thread gets the turn for the handler, and its wait
- * ends with EINTR. So handlers are wrapped, and the sender of a signal waits until the receiver has taken it. */
+ * ends with EINTR. So this library wraps handlers, and the sender of a signal waits until the receiver has taken it. */
 #define _GNU_SOURCE
 #include "calls.h"
 
@@ -18,7 +18,7 @@ static __thread struct {
     siginfo_t infos[DEFERRED];
 } deferred;
 
-/* The description of a wait in its slot; a handler that waits itself overwrites it. */
+/* A copy of the wait that a slot describes, because a handler that waits overwrites the description. */
 struct kept {
     uint32_t state, flags, kind, tries, bits;
     uint64_t deadline, key, since;
@@ -96,7 +96,7 @@ static bool is_handler(const struct sigaction *action) {
     return action->sa_handler != SIG_DFL && action->sa_handler != SIG_IGN;
 }
 
-/* A fault is handled at once, whichever thread has the turn. */
+/* Whether a signal is a fault, which is handled at once, whichever thread has the turn. */
 static bool is_fault(int number) {
     return number == SIGSEGV || number == SIGBUS || number == SIGILL || number == SIGFPE || number == SIGTRAP ||
            number == SIGABRT;
@@ -146,8 +146,8 @@ EXPORT __sighandler_t sysv_signal(int number, __sighandler_t to) {
 
 ALSO(__sysv_signal, sysv_signal)
 
-/* Like the C library's function, which does not see this library's handlers: SIG_HOLD blocks the signal, and all other
- * values unblock it. */
+/* Replaces the C library's function, which does not know the handlers of this library. SIG_HOLD blocks the signal, and
+ * all other values unblock it. */
 EXPORT __sighandler_t sigset(int number, __sighandler_t to) {
     struct sigaction old;
     sigset_t one, before;
@@ -171,7 +171,7 @@ EXPORT int siginterrupt(int number, int is_interrupting) {
     return sigaction(number, &action, NULL);
 }
 
-/* ---- masks during a wait ---- */
+/* ---- signal masks during a wait ---- */
 
 struct masked set_mask(const sigset_t *mask) {
     struct masked masked = {.handled = my.handled, .is_set = mask != NULL};
@@ -223,7 +223,7 @@ int __sigpause(int mask_or_number, int is_number) {
     return sigsuspend(&mask);
 }
 
-/* The header declares __xpg_sigpause under this name. */
+/* The header declares __xpg_sigpause under the name sigpause. */
 EXPORT int sigpause_of_mask(int mask) __asm__("sigpause");
 int sigpause_of_mask(int mask) {
     return __sigpause(mask, 0);
@@ -275,7 +275,7 @@ EXPORT int sigwait(const sigset_t *restrict set, int *restrict number) {
     return 0;
 }
 
-/* ---- sending: waits until the receiver has taken the signal ---- */
+/* ---- sending: the sender waits until the receiver has taken the signal ---- */
 
 static void sent_to(uint32_t pid) {
     settle(pid);

@@ -1,4 +1,4 @@
-/* Makes a program, or a bridge, part of the run. */
+/* Makes a program or a bridge part of the run. */
 #define _GNU_SOURCE
 #include "calls.h"
 #include "proc.h"
@@ -17,10 +17,11 @@
 #include <sys/un.h>
 #include <unistd.h>
 
-/* The least number of the run's descriptor in a program, so that it does not disturb the program's numbers. */
+/* The lowest number of the run's descriptor in a program, so that the program's own descriptors keep their usual
+ * numbers. */
 #define HIGH_DESCRIPTOR 900
 
-/* Receives the descriptor in the coordinator's reply; -1 if there is none. */
+/* Receives the descriptor in the coordinator's reply. Returns -1 if there is none. */
 static int take_epoll(int fd) {
     struct rights rights;
     struct msghdr *message = rights_message(&rights, -1);
@@ -38,7 +39,7 @@ static int take_epoll(int fd) {
     return epoll;
 }
 
-/* Sends a request to the coordinator, which sees from the connection which process asks. Returns a connection for the
+/* Sends a request to the coordinator, which learns from the connection which process asks. Returns a connection for the
  * reply, or -1. */
 static int ask_coordinator(const struct request *request) {
     struct sockaddr_un name = {.sun_family = AF_UNIX};
@@ -70,8 +71,8 @@ bool register_process(void) {
     return epoll >= 0;
 }
 
-/* Waits for the end of the run, which also ends this program: the coordinator sees a program of another user, and ends
- * the run. */
+/* Waits for the end of the run, which also ends this program. The coordinator notices a program of another user, and
+ * ends the run. */
 static void await_end_of_run(const char *path) {
     const struct timespec second = {1, 0};
     int coordinator = atoi(path + sizeof "/proc/" - 1);
@@ -152,7 +153,8 @@ static void recognize(void) {
 }
 
 #ifndef FOR_BRIDGE
-/* Ends the run if this process is traced: the tracer stops it at its calls, and itself waits for turns. */
+/* Ends the run if this process is traced: the tracer stops the process at its calls, and the tracer itself waits for
+ * turns. */
 static void end_traced(void) {
     char test[TEST_ROOM];
     if (proc_tracer((uint32_t)RAW(SYS_getpid, 0))) {
@@ -161,8 +163,8 @@ static void end_traced(void) {
     }
 }
 
-/* Ends the run if this program calls the kernel itself, as Go programs do even if they load libraries: its waits are
- * not seen. */
+/* Ends the run if this program makes system calls itself, because this library does not see its waits. Go programs do
+ * so even if they load libraries. */
 static void end_bypassing(void) {
     const char *obstacle = is_server ? NULL : program_bypass(SELF);
     char test[TEST_ROOM];
@@ -205,8 +207,8 @@ __attribute__((constructor(103))) static void start(void) {
 #endif
 }
 
-/* Adds this process to the run that its environment names. It has loaded this library before and has one thread: it was
- * forked outside of the run. Returns 0, or -1 if there is no such run. */
+/* Adds this process to the run that the environment names. The process was forked outside the run, has loaded this
+ * library before, and has one thread. Returns 0, or -1 if there is no such run. */
 EXPORT int canbusd_virtual_enter(void);
 EXPORT int canbusd_virtual_enter(void) {
     if (!run) {

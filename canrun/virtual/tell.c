@@ -1,4 +1,4 @@
-/* Makes the coordinator print a message of a program: see tell.h. */
+/* Asks the coordinator to print a message of a program: see tell.h. */
 #define _GNU_SOURCE
 #include "tell.h"
 #include "raw.h"
@@ -16,7 +16,7 @@ void make_printable(char *text) {
     }
 }
 
-/* Takes a free notice; NULL if there is none. */
+/* Takes a free notice, or returns NULL if there is none. */
 static struct notice *take_notice(void) {
     for (int i = 0; i < NOTICES; i++) {
         uint32_t none = NOTICE_NONE;
@@ -28,7 +28,7 @@ static struct notice *take_notice(void) {
     return NULL;
 }
 
-/* Hands a text to the coordinator; false if that is not possible. */
+/* Passes a text to the coordinator. Returns false if that is not possible. */
 static bool put_notice(bool ends_run, const char *text) {
     struct notice *notice = take_notice();
     if (!notice) {

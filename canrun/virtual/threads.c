@@ -1,4 +1,4 @@
-/* Threads: their beginnings and ends, and waits for their ends. */
+/* Threads: how they begin and end, and waits until they end. */
 #define _GNU_SOURCE
 #include "locks.h"
 
@@ -6,8 +6,8 @@
 #include <stdlib.h>
 #include <threads.h>
 
-/* How long a CPython thread waits for the interpreter before it asks the present owner to release it: 5 ms. For this
- * the coordinator checks whether the owner computes. */
+/* How long a CPython thread waits for the interpreter before it asks the thread that owns it to release it: 5 ms. Such
+ * a wait lets the coordinator give the turn to the waiting thread if the owner computes for long. */
 #define SWITCH_INTERVAL 5000000
 
 bool is_python(void) {
@@ -46,7 +46,7 @@ struct beginning {
 
 static pthread_key_t at_end;
 
-/* Runs after the destructors of other keys: it delays its own call as long as possible. */
+/* Ends a thread. It has to run after the destructors of other keys, so it puts off its own call as long as possible. */
 static void thread_ends(void *count) {
     uintptr_t left = (uintptr_t)count;
     struct slot *slot = my.slot;
@@ -63,7 +63,7 @@ static void thread_ends(void *count) {
     } while (!begin_deciding());
     leave_mutexes();
     wake(key_of((void *)(uintptr_t)pthread_self(), OF_END), INT_MAX);
-    /* The first thread exists as long as its process. */
+    /* No thread waits for the end of a first thread, because it exists as long as its process. */
     run->ending = slot->tid != slot->pid ? (uint64_t)slot->pid << 32 | slot->tid : 0;
     free_slot(slot);
     uint32_t next = next_turn(false);
@@ -97,7 +97,7 @@ EXPORT int pthread_create(pthread_t *restrict thread, const pthread_attr_t *rest
         free_slot(&run->slots[slot]);
         free(it);
     } else {
-        run->slots[slot].thread = *thread; /* The new thread waits for its turn, and may not have stored this yet. */
+        run->slots[slot].thread = *thread; /* The new thread waits for its turn, and may not have stored its id. */
     }
     return error;
 }
@@ -112,7 +112,7 @@ static bool is_alive(pthread_t thread) {
     return false;
 }
 
-/* Waits until a thread has ended. Returns 0 or ETIMEDOUT. The rest of its end takes no time of the run. */
+/* Waits until a thread has ended. Returns 0 or ETIMEDOUT. The last part of the thread's end takes no virtual time. */
 static int wait_for_end(pthread_t thread, uint64_t deadline) {
     regain_turn();
     while (is_alive(thread)) {
@@ -153,7 +153,7 @@ EXPORT int pthread_tryjoin_np(pthread_t thread, void **result) {
     return is_alive(thread) ? EBUSY : pthread_join(thread, result);
 }
 
-/* ---- threads of C11, which use those of POSIX ---- */
+/* ---- C11 threads, which use POSIX threads ---- */
 
 struct c_beginning {
     thrd_start_t routine;

@@ -1,6 +1,7 @@
-/* Timers that are read. The descriptor of such a timer is a kernel timerfd that never runs; its interval is the number
- * of the run's timer. When the timer expires, a process with the descriptor writes the number of expirations into the
- * timerfd. This fails for any other file, so no data are written to a file that has taken the descriptor's number. */
+/* Timers that programs read. The descriptor of such a timer is a kernel timerfd that never runs; its interval contains
+ * the number of the run's timer. When the timer expires, a process with the descriptor writes the number of expirations
+ * into the timerfd. That call fails for any other file, so no data are written to a file that now has the same
+ * descriptor number. */
 #define _GNU_SOURCE
 #include "calls.h"
 #include "tell.h"
@@ -15,12 +16,13 @@
 #ifndef TFD_IOC_SET_TICKS
 #define TFD_IOC_SET_TICKS _IOW('T', 0, uint64_t)
 #endif
-/* The interval has so many seconds, and the timer's number as nanoseconds: no program uses an interval of 126 years. */
+/* The interval has this many seconds, and the timer's number as nanoseconds. No program uses an interval of 126 years.
+ */
 #define OURS 4000000000
-/* The part of the number above the place wraps around here. */
+/* The limit at which the part of the number above the place starts again from zero. */
 #define MOST_NUMBERS 900000
 
-/* The timers for which this process has a descriptor, each with one such descriptor. */
+/* The timers for which this process has descriptors. Each entry has one descriptor of its timer. */
 static struct {
     int fd;
     uint32_t number;
@@ -32,7 +34,7 @@ static struct timer *timer_of_number(uint32_t number) {
     return number && timer->number == number ? timer : NULL;
 }
 
-/* The number of a descriptor's timer, or 0. */
+/* Returns the number of a descriptor's timer, or 0 if it has none. */
 static uint32_t number_of(int fd) {
     struct itimerspec value;
     bool is_one = !RAW(SYS_timerfd_gettime, fd, &value) && value.it_interval.tv_sec == OURS;
@@ -55,7 +57,7 @@ static void forget(int i) {
     known[i] = known[--known_count];
 }
 
-/* Calls `is_it` for each descriptor of this process until it returns true. Returns that descriptor, or -1. */
+/* Calls `is_it` for each descriptor of this process until `is_it` returns true. Returns that descriptor, or -1. */
 static int find_descriptor(bool (*is_it)(int fd, uint32_t number), uint32_t number) {
     int found = -1;
     DIR *folder = opendir("/proc/self/fd");
@@ -73,7 +75,7 @@ static bool has_number(int fd, uint32_t number) {
     return number_of(fd) == number;
 }
 
-/* Whether this process still has a descriptor of this timer. */
+/* Whether this process still has a descriptor of the timer at this index. */
 static bool is_there(int i) {
     if (number_of(known[i].fd) != known[i].number) {
         known[i].fd = find_descriptor(has_number, known[i].number);
@@ -85,7 +87,7 @@ uint64_t timers_due(void) {
     uint64_t due = NEVER;
     for (int i = 0; i < known_count; i++) {
         struct timer *timer = timer_of_number(known[i].number);
-        /* An expired timer has no next event until it is read. */
+        /* After a timer has expired, it causes no further event until it is read. */
         due = timer && timer->deadline > run->now && timer->deadline < due ? timer->deadline : due;
     }
     return due;
@@ -127,7 +129,7 @@ void timers_read(int fd) {
     }
 }
 
-/* The time until the next expiry, and the interval. */
+/* Returns the time until the next expiry, and the interval. */
 static struct itimerspec next_of(const struct timer *timer) {
     uint64_t deadline = timer->deadline;
     take_due(&deadline, timer->period);
@@ -145,7 +147,7 @@ void timers_closed(int fd) {
     }
 }
 
-/* Takes a descriptor that came from elsewhere, if it is a timer. */
+/* Registers a descriptor that came from another process, if it is of a timer. */
 static bool adopt(int fd, uint32_t nothing) {
     (void)nothing;
     struct timer *timer = timer_of_number(number_of(fd));
@@ -167,7 +169,7 @@ void timers_find(void) {
 
 /* ---- calls ---- */
 
-/* Takes a free timer; NULL if there is none. */
+/* Takes a free timer, or returns NULL if there is none. */
 static struct timer *new_timer(void) {
     static const uint32_t taken = UINT32_MAX;
     for (uint32_t i = 0; i < TIMERS; i++) {
@@ -187,7 +189,7 @@ static struct timer *new_timer(void) {
     return NULL;
 }
 
-/* Makes the kernel's timer stop, with no expirations to read. */
+/* Stops the kernel's timer and clears its expirations. */
 static long make_still(int fd, uint32_t number) {
     struct itimerspec still = {{OURS, number}, {0, 0}};
     return RAW(SYS_timerfd_settime, fd, 0, &still, NULL);
@@ -238,7 +240,7 @@ EXPORT int timerfd_gettime(int fd, struct itimerspec *value) {
     return 0;
 }
 
-/* The child of a fork has the same timers. */
+/* Marks all timers as shared, because the child of a fork has them too. */
 static void share(void) {
     for (int i = 0; i < known_count; i++) {
         run->timers[known[i].number % TIMERS].is_shared = 1;

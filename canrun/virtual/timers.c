@@ -1,5 +1,5 @@
-/* Timers that send signals or call a function: alarm, setitimer, timer_create. They are in the memory of the run, and
- * the coordinator sends their signals. */
+/* Timers that send signals or call a function: alarm, setitimer, timer_create. The timers are in the memory of the run,
+ * and the coordinator sends their signals. */
 #define _GNU_SOURCE
 #include "calls.h"
 
@@ -42,8 +42,8 @@ static struct alarm *alarm_of(uint32_t id) {
     return NULL;
 }
 
-/* Makes an alarm; `number` is 0 if the coordinator is to send no signal. NULL if there is no free alarm, or the
- * coordinator refuses it. */
+/* Creates an alarm. `number` is 0 if the coordinator has to send no signal. Returns NULL if there is no free alarm, or
+ * if the coordinator refuses it. */
 static struct alarm *new_alarm(uint32_t id, int number, uint32_t tid) {
     for (uint32_t i = 0; i < ALARMS; i++) {
         struct alarm *alarm = &run->alarms[i];
@@ -115,7 +115,7 @@ EXPORT useconds_t ualarm(useconds_t n, useconds_t period) {
 
 /* ---- timer_create ---- */
 
-/* A timer of SIGEV_THREAD: a thread sleeps until it is due, and calls the function. */
+/* A timer with SIGEV_THREAD. A thread sleeps until the timer is due, and calls the function. */
 struct caller {
     struct alarm *alarm;
     uint32_t id;

@@ -15,14 +15,14 @@
 #include <termios.h>
 #include <unistd.h>
 
-/* How many bytes a ready pipe takes at once. */
+/* How many bytes a pipe takes without waiting if it is ready. */
 #define PIECE 4096
-/* The maximum number of parts of a message that is received or sent in pieces. */
+/* The maximum number of buffers of a message that is received or sent in pieces. */
 #define PARTS 64
 
 /* ---- messages ---- */
 
-/* The rest of a message after the first bytes. */
+/* The rest of a message, after the bytes that are already transferred. */
 struct rest {
     struct msghdr message;
     struct iovec parts[PARTS];
@@ -55,7 +55,7 @@ static bool is_stream(int fd) {
     return !RAW(SYS_getsockopt, fd, SOL_SOCKET, SO_TYPE, &type, &size) && type == SOCK_STREAM;
 }
 
-/* Looks for timers among the descriptors that came with a message. */
+/* Searches the descriptors that were received with a message for timers. */
 static long received(struct msghdr *message, long result) {
     if (result < 0 || !message->msg_controllen || !run || !run->timer_count) {
         return result;
@@ -202,13 +202,13 @@ EXPORT int accept(int fd, struct sockaddr *restrict from, socklen_t *restrict ro
 
 #define TENTH (SECOND / 10)
 
-/* Whether a terminal in byte mode has a timeout, VTIME. */
+/* Whether a terminal that delivers single bytes (not lines) has a timeout, VTIME. */
 static bool has_timeout(int fd, struct termios *settings) {
     return !RAW(SYS_ioctl, fd, TCGETS, settings) && !(settings->c_lflag & ICANON) && settings->c_cc[VTIME];
 }
 
-/* Reads such a terminal. VTIME limits the wait for the first byte if VMIN is 0, otherwise the wait between two
- * bytes. */
+/* Reads a terminal with a timeout. VTIME limits the wait for the first byte if VMIN is 0, and otherwise the wait
+ * between two bytes. */
 static ssize_t read_terminal(int fd, char *data, size_t length, const struct termios *settings) {
     uint64_t most = settings->c_cc[VTIME] * TENTH, deadline = settings->c_cc[VMIN] ? NEVER : after(most);
     size_t done = 0, least = settings->c_cc[VMIN] ? settings->c_cc[VMIN] : 1;
@@ -262,7 +262,7 @@ EXPORT ssize_t readv(int fd, const struct iovec *parts, int count) {
     return result;
 }
 
-/* With the offset -1 it reads at the descriptor's own position, and may wait. */
+/* With the offset -1 the call reads at the descriptor's own position, and may wait. */
 EXPORT ssize_t preadv2(int fd, const struct iovec *parts, int count, off_t offset, int flags) {
     bool is_ready = offset != -1 || flags & RWF_NOWAIT || await_ready(fd, POLLIN, 0);
     return is_ready ? answer(RAW(SYS_preadv2, fd, parts, count, offset, 0, flags)) : -1;
@@ -273,7 +273,7 @@ EXPORT int eventfd_read(int fd, eventfd_t *value) {
     return read(fd, value, sizeof *value) == sizeof *value ? 0 : -1;
 }
 
-/* The checked forms, which know the size of the buffer. */
+/* The fortified forms of these functions, which know the size of the buffer. */
 extern void __chk_fail(void) __attribute__((noreturn));
 EXPORT ssize_t __read_chk(int fd, void *data, size_t length, size_t room);
 ssize_t __read_chk(int fd, void *data, size_t length, size_t room) {
@@ -294,7 +294,8 @@ ssize_t __recvfrom_chk(int fd, void *data, size_t length, size_t room, int flags
 
 /* ---- writing ---- */
 
-/* Writes more than a pipe takes at once, in pieces: otherwise the kernel would wait for the reader. */
+/* Writes data in pieces if there is more than a pipe takes at once. A single call would make the kernel wait for the
+ * reader. */
 static ssize_t write_pieces(int fd, const char *data, size_t length) {
     size_t done = 0;
     while (done < length) {
@@ -308,8 +309,8 @@ static ssize_t write_pieces(int fd, const char *data, size_t length) {
     return (ssize_t)done;
 }
 
-/* The mode of a file that cannot be written at once: it blocks, and it has no room or gets more than a pipe takes.
- * Otherwise 0. */
+/* Returns the mode of a file if a write to it may wait: the file blocks, and it has no room or gets more than a pipe
+ * takes. Otherwise returns 0. */
 static mode_t mode_of_blocking(int fd, size_t length) {
     struct pollfd polled = {fd, POLLOUT, 0};
     struct stat status;

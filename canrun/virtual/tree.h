@@ -1,4 +1,4 @@
-/* All descendants of this process, which is their subreaper. */
+/* All descendants of this process, which is their subreaper (it becomes the parent of orphans). */
 #ifndef TREE_H
 #define TREE_H
 
@@ -10,7 +10,7 @@
 /* Lists the descendants of a process, and returns their number. */
 size_t tree_below(uint32_t pid, uint32_t *pids, size_t most);
 
-/* Kills all descendants, including those that start meanwhile, and waits for their ends. */
+/* Kills all descendants, including those that start in the meantime, and waits until they have ended. */
 void tree_kill(void);
 
 #endif

@@ -19,12 +19,12 @@ void (*hold_cancel)(bool is_held);
 /* How many real seconds a thread sleeps before it checks that the coordinator still runs. */
 #define LIVE_SECONDS 1
 #define BIRTH_NANOSECONDS 20000000
-/* How many events are taken at once, and how often: together more than the slots and their descriptors that can be
+/* How many events are taken at once, and how often. Their product is more than the slots and descriptors that can be
  * ready. */
 #define EVENTS 32
 #define MOST_LOOKS 2000
-/* How often a thread's end is checked without a pause; the pause after that in nanoseconds; and the most checks, about
- * a minute. */
+/* How often a thread's end is checked without a pause; the pause between later checks, in nanoseconds; and the maximum
+ * number of checks, which take about a minute. */
 #define END_YIELDS 20
 #define END_PAUSE 100000
 #define END_LOOKS 600000
@@ -49,7 +49,7 @@ void begin_test(const char *name) {
     }
     run->test = test;
     run->born = 0;
-    /* Finds the next older thread each time. */
+    /* Each round finds the next older thread and numbers it. */
     for (struct slot *next;; run->born++) {
         next = NULL;
         for (uint32_t i = 0; i < slots_used(); i++) {
@@ -64,8 +64,8 @@ void begin_test(const char *name) {
         next->number = run->born + 1;
         next->waits = next->reads = 0;
     }
-    /* Threads that the last test has left, such as sessions that are about to end, do not influence the numbers of new
-     * threads. */
+    /* Threads that the previous test has left, such as sessions that are about to end, do not influence the numbers of
+     * new threads. */
     run->born = SLOTS;
 }
 
@@ -117,7 +117,7 @@ void begin_slot(uint32_t index) {
     slot->rank = is_bridge ? RANK_BRIDGE : is_server ? RANK_DRIVER : RANK_PROGRAM;
     slot->go_at = (uintptr_t)&slot->go;
     if (has_turn()) {
-        slot->state = SLOT_RUNS; /* execve: the process continues as another program */
+        slot->state = SLOT_RUNS; /* after execve the process continues as another program */
         return;
     }
     slot->state = SLOT_READY;
@@ -141,12 +141,12 @@ struct slot *my_slot(void) {
 static void collect_events(void) {
     struct epoll_event events[EVENTS];
     long count = EVENTS;
-    /* The epoll reports each descriptor of a waiting thread once. Others that a program has added may be ready for
-     * ever. */
+    /* The epoll reports each descriptor of a waiting thread once. Other descriptors, which a program has added, may be
+     * ready for ever. */
     for (int i = 0; count == EVENTS && i < MOST_LOOKS; i++) {
         count = RAW(SYS_epoll_pwait, run_epoll, events, EVENTS, 0, NULL, 8);
         if (count == -EBADF && register_process()) {
-            count = EVENTS; /* A program that closes all descriptors has closed this one too. */
+            count = EVENTS; /* A program that closes all descriptors has also closed the epoll. */
             continue;
         }
         for (long i = 0; i < count; i++) {
@@ -175,7 +175,7 @@ static bool goes_before(const struct slot *one, const struct slot *other) {
                                           : one->number < other->number;
 }
 
-/* Gives a place to each thread that has become able to run, and finds the first thread. */
+/* Gives a ticket to each thread that has become able to run, and finds the thread that goes first. */
 static struct look look_round(void) {
     struct look look = {.best = NOBODY, .next = NEVER};
     uint64_t now = run->now, round = 0;
@@ -199,8 +199,8 @@ static struct look look_round(void) {
     return look;
 }
 
-/* Makes threads in waits that no thread ends look once more, if another thread has run since their last look. False if
- * there are none. */
+/* Some waits can be ended by no thread of the run. Makes the threads in such waits poll once more if another thread has
+ * run since they last polled. Returns false if there are none. */
 static bool try_again(void) {
     bool has_one = false;
     for (uint32_t i = 0; run->tries && i < slots_used(); i++) {
@@ -214,7 +214,7 @@ static bool try_again(void) {
     return has_one;
 }
 
-/* Moves the clock to the next moment for which a thread waits, unless the coordinator has work before that. */
+/* Moves the clock to the next deadline of a thread, unless the coordinator has work before that. */
 static bool go_on(uint64_t next) {
     uint64_t alarm = NEVER;
     for (uint32_t i = 0; i < run->alarm_count && i < ALARMS; i++) {
@@ -241,7 +241,7 @@ static bool has_birth(void) {
     return false;
 }
 
-/* Waits until new threads have begun: the order must include all threads that can run. */
+/* Waits until new threads have begun, because the order must include all threads that can run. */
 static bool wait_for_births(void) {
     struct timespec patience = {0, BIRTH_NANOSECONDS};
     for (uint32_t seen = run->births; has_birth(); seen = run->births) {
@@ -257,7 +257,7 @@ uint32_t next_turn(bool ignores_outside) {
         run->pause = PAUSE_BIRTH;
         return NOBODY;
     }
-    /* If a server's thread only read memory in its turn, it has made no descriptor ready. */
+    /* A thread of a server that only read memory in its turn has made no descriptor ready. */
     bool is_quiet = is_server && !my.has_acted;
     if (!is_quiet) {
         collect_events();
@@ -325,11 +325,12 @@ bool has_turn(void) {
 
 void check_coordinator(void) {
     if (run->has_ended || RAW(SYS_kill, coordinator_pid, 0) == -ESRCH) {
-        RAW(SYS_exit_group, 125); /* Without its coordinator the whole run ends. */
+        RAW(SYS_exit_group, 125); /* If the coordinator has ended, the whole run ends. */
     }
 }
 
-/* Waits until a thread that handed on the turn at its end is gone, because the next thread may get its stack. */
+/* Waits until a thread that gave the turn away at its end no longer exists, because the next thread may get its stack.
+ */
 static void await_end(void) {
     struct timespec pause = {0, END_PAUSE};
     uint64_t ending = run->ending;
@@ -345,7 +346,8 @@ static void await_end(void) {
 
 void await_turn(void) {
     struct timespec second = {LIVE_SECONDS, 0};
-    /* In a server only the first thread checks, and no thread has a handler. */
+    /* In a server only the first thread checks whether the coordinator still runs, and no thread has a signal handler.
+     */
     struct timespec *patience = is_server && my.slot->tid != my.slot->pid ? NULL : &second;
     for (;;) {
         uint32_t seen = my.slot->go;
@@ -353,18 +355,18 @@ void await_turn(void) {
             await_end();
             return;
         }
-        /* With a timeout, futex returns EINTR after any handler, even one with SA_RESTART. */
+        /* With a timeout, futex returns EINTR after any handler, even if the handler has SA_RESTART. */
         long result = RAW(SYS_futex, &my.slot->go, FUTEX_WAIT, seen, patience);
         if (result == -ETIMEDOUT) {
             check_coordinator();
         } else if (result == -EINTR && !has_turn()) {
-            my.slot->flags |= IS_INTERRUPTED; /* The C library's own signal, such as that of pthread_cancel. */
+            my.slot->flags |= IS_INTERRUPTED; /* A signal of the C library itself, as for pthread_cancel. */
             ring();
         }
     }
 }
 
-/* Waits for the turn, during which it cannot be cancelled asynchronously, and continues. */
+/* Waits for the turn and continues. During the wait the thread cannot be cancelled asynchronously. */
 static void await_and_run(void) {
     if (my.is_asynchronous) {
         hold_cancel(true);
@@ -378,7 +380,7 @@ static void await_and_run(void) {
     }
 }
 
-/* Hands the turn on and waits for the next one; the slot describes the wait. */
+/* Gives the turn away and waits for the next one. The slot describes the wait. */
 static void give_turn(void) {
     run->progress += my.tries != TRIES_ON;
     my.is_deciding++;

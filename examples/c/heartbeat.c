@@ -1,7 +1,8 @@
-/* A node that sends a heartbeat each 20 milliseconds, as a C program for SocketCAN: it knows nothing of canbusd.
+/* A node that sends a heartbeat every 20 milliseconds. It is an ordinary C program for SocketCAN, without code for
+ * canbusd.
  *
- * Its controller goes bus off where too many of its frames are destroyed. Then it waits for the restart, and begins to
- * count from the start, so that others see that it was away. After three heartbeats more it ends. */
+ * Its controller goes bus off if too many of its frames are destroyed. Then the program waits for the restart, and
+ * counts from 0 again, so that other nodes notice that it was absent. It ends after three more heartbeats. */
 #include <errno.h>
 #include <linux/can.h>
 #include <linux/can/error.h>
@@ -29,7 +30,7 @@ static int open_node(const char *interface) {
     return node;
 }
 
-/* The class of the error message frame that comes within a period, or 0. */
+/* Returns the class of the error message frame that comes within a period, or 0 if none comes. */
 static canid_t wait_for_error(int node) {
     struct pollfd polled = {node, POLLIN, 0};
     struct can_frame frame;

@@ -1,8 +1,8 @@
-"""A C program for SocketCAN, unchanged, on a bus where its frames are destroyed until it is bus off.
+"""An unchanged C program for SocketCAN, on a bus that destroys its frames until it is bus off.
 
     python3 -m pytest examples/c
 
-`canbusd.run` starts it by canbusd-run, which has its CAN sockets be those of the test's server.
+`canbusd.run` starts the program by canbusd-run, which connects its CAN sockets to the test's server.
 """
 
 import subprocess
@@ -15,15 +15,15 @@ from canbusd import Faults
 
 @pytest.fixture
 def heartbeat(tmp_path):
-    """Returns the path of the program, which gcc builds."""
+    """Builds the program with gcc, and returns its path."""
     program = tmp_path / "heartbeat"
     source = Path(__file__).with_name("heartbeat.c")
     subprocess.run(["gcc", "-Wall", "-Wextra", "-Werror", "-o", program, source], check=True)
     return str(program)
 
 
-# Attempts 0 and 1 send two heartbeats. The third is destroyed 32 times, which raises the count to 256, bus off. The
-# controller restarts 50 attempts later, with one attempt each millisecond.
+# Attempts 0 and 1 send two heartbeats. The third heartbeat is destroyed 32 times, which raises the error counter to
+# 256: bus off. The controller restarts after 50 more attempts; the bus makes one attempt each millisecond.
 @pytest.mark.canbusd("node,tester", faults=Faults().destroyed(range(2, 34)), auto_restart=50)
 def test_a_node_that_goes_bus_off(canbusd, heartbeat):
     with canbusd.bus("tester") as tester:

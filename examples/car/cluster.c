@@ -1,8 +1,8 @@
-/* An instrument cluster, as a program for SocketCAN. It knows nothing of canbusd.
+/* An instrument cluster, as an ordinary program for SocketCAN, without code for canbusd.
  *
  *     cluster INTERFACE
  *
- * cluster.py says what it does, and does the same. */
+ * It does the same as cluster.py, which has the description. */
 #include <linux/can.h>
 #include <linux/can/error.h>
 #include <linux/can/isotp.h>
@@ -64,7 +64,7 @@ static void send_state(struct cluster *cluster, int node, int64_t now) {
     };
     cluster->alive = (cluster->alive + 1) & 15;
     if (write(node, &frame, sizeof frame) != sizeof frame) {
-        /* Bus off, or a full queue: the next one may go. */
+        /* If the interface is bus off, or its queue is full, a later frame may succeed. */
         perror("cluster");
     }
 }

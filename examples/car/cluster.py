@@ -1,11 +1,11 @@
-"""An instrument cluster, as a program for SocketCAN: cluster.c in Python. It knows nothing of canbusd.
+"""An instrument cluster, as an ordinary program for SocketCAN: cluster.c in Python. It has no code for canbusd.
 
     python3 cluster.py INTERFACE
 
-Each 50 milliseconds it sends what it shows, 300: the speed of the engine, which comes in 100; a lamp, where the engine was
-not heard for 250 milliseconds, or its counter stayed the same for 400; and that there may be ice, by the temperature in page
-1 of 200. By ISO-TP, 7E0 and 7E8, it answers which cluster it is (22 F1 90). Counting of its own frames begins anew with each
-restart after bus off.
+Every 50 milliseconds it sends its state in message 300. The state has the engine's speed, which comes in message 100. It
+has a lamp, which is on if no engine message came for 250 milliseconds, or if the engine's counter stayed the same for 400.
+And it warns of ice, depending on the temperature in page 1 of message 200. The cluster answers requests for its name
+(22 F1 90) by ISO-TP, with the identifiers 7E0 and 7E8. After each restart from bus off it counts its frames from 0 again.
 """
 
 import select
@@ -83,7 +83,7 @@ def main(interface):
                 try:
                     node.send(FRAME.pack(STATE, len(data), data))
                 except OSError as fault:
-                    # The interface is bus off, or its queue is full: the next frame may pass.
+                    # If the interface is bus off, or its queue is full, a later frame may succeed.
                     print(fault, flush=True)
 
 

@@ -1,10 +1,10 @@
-"""A car of three nodes: the instrument cluster is under test, in C and in Python, and the engine and the gateway are
+"""A car of three nodes. The instrument cluster is under test, once in C and once in Python. The engine and the gateway are
 simulated from the database.
 
     python3 -m pytest examples/car
     python3 -m pytest --canbusd-virtual examples/car
 
-The cluster is a program for SocketCAN, unchanged, which canbusd-run gives the sockets of the test's server.
+The cluster is an unchanged program for SocketCAN. canbusd-run connects its sockets to the test's server.
 """
 
 import subprocess
@@ -23,7 +23,7 @@ pytestmark = pytest.mark.canbusd("engine,gateway,cluster,tester", bitrate=500_00
 
 @pytest.fixture(scope="session")
 def built(tmp_path_factory):
-    """Returns the words that start each cluster."""
+    """Builds the C cluster. Returns the command of each cluster."""
     program = tmp_path_factory.mktemp("cluster") / "cluster"
     source = HERE / "cluster.c"
     subprocess.run(
@@ -34,7 +34,7 @@ def built(tmp_path_factory):
 
 @pytest.fixture(params=["C", "Python"])
 def rest(canbusd, built, request):
-    """All nodes except the cluster, which runs as a program; the engine counts its messages."""
+    """Starts a cluster program, and simulates all other nodes. The engine counts its messages."""
     nodes = {"Engine": "engine", "Gateway": "gateway"}
     with canbusd.rest_bus(CAR, without="Cluster", nodes=nodes) as rest:
         rest.on_send("EngineData", lambda message: message.__setitem__("Counter", message.count % 16))
@@ -44,13 +44,13 @@ def rest(canbusd, built, request):
 
 
 def restart(canbusd, name):
-    """Brings a node back from bus off."""
+    """Restarts a node that is bus off."""
     with canbusd.bus(name) as bus:
         bus.restart()
 
 
 def test_start_up(canbusd, rest):
-    """it counts its messages from the first on, and that message shows no lamp"""
+    """the cluster counts its messages from the first one on, and shows no lamp"""
     canbusd.expect_sequence(*({"signal": "Alive", "equals": number} for number in (1, 2, 3)), within=1)
     canbusd.expect_no_frame(signal="Lamp", above=0, within=0)
 
@@ -66,7 +66,7 @@ def test_it_shows_the_speed(canbusd, rest):
 
 
 def test_ice_is_in_one_page_only(canbusd, rest):
-    """the byte that is 2 degrees in page 1 is 42 % of fuel in page 0"""
+    """a byte that means 2 degrees in page 1 means 42 % of fuel in page 0"""
     rest.send("Comfort", {"Page": 0, "Fuel": 42})
     canbusd.expect_no_change(signal="Ice", within=0.12)
     rest.send("Comfort", {"Page": 1, "Outside": 2})
@@ -83,7 +83,7 @@ def test_an_engine_that_falls_silent(canbusd, rest):
 
 
 def test_an_engine_that_is_stuck(canbusd, rest):
-    """a lamp shows that the engine's counter stays the same, though its messages come"""
+    """a lamp shows that the engine's counter does not change, although its messages come"""
     rest.on_send("EngineData", lambda message: message.__setitem__("Counter", 7))
     canbusd.expect(signal="Lamp", equals="EngineStuck", within=1)
 
@@ -95,7 +95,7 @@ def test_a_destroyed_message_is_sent_again(canbusd, rest):
 
 
 def test_a_message_that_comes_twice(canbusd, rest):
-    """after a fault that only the engine saw, the cluster gets the same count again"""
+    """after a fault that only the engine saw, it repeats its message, so the cluster gets the same count twice"""
     canbusd.inject(Faults().next(3, sender="engine").last_bit())
     canbusd.wait_for(lambda: canbusd.rules_left() == 0)
     canbusd.expect_no_frame(signal="Lamp", above=0, within=0.3)
@@ -109,9 +109,9 @@ def test_the_engine_goes_bus_off(canbusd, rest):
 
 
 def test_the_cluster_goes_bus_off(canbusd, rest):
-    """the others continue without it, and after its restart it counts from 0"""
+    """other nodes continue while the cluster is bus off, and after its restart the cluster counts from 0"""
     canbusd.bus_off("cluster")
-    # These frames of the cluster are on the bus already.
+    # Ignores the frames that the cluster has sent before.
     canbusd.expect_from_now()
     canbusd.expect_no_frame("ClusterState", within=0.12)
     canbusd.expect_state("engine", "active")
@@ -120,7 +120,7 @@ def test_the_cluster_goes_bus_off(canbusd, rest):
 
 
 def test_diagnostics_under_faults(canbusd, rest):
-    """frames of the answer are destroyed, and the answer is complete nevertheless"""
+    """although frames of the answer are destroyed, the answer arrives complete"""
     with canbusd.isotp("tester", tx=0x7E0, rx=0x7E8) as tester:
         canbusd.inject(Faults().next(2, id=0x7E8, skip=1).destroyed())
         tester.send(b"\x22\xf1\x90")
@@ -130,7 +130,7 @@ def test_diagnostics_under_faults(canbusd, rest):
 
 
 def test_load(canbusd, rest):
-    """a babbling node with the highest priority leaves a third of the bus, which is enough"""
+    """a babbling node with the highest priority leaves a third of the bus to other nodes, which is enough"""
     with canbusd.bus("tester") as tester:
         message = can.Message(arbitration_id=0x001, data=bytes(8), is_extended_id=False)
         task = tester.send_periodic([message], period=0.00035)

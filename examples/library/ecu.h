@@ -1,4 +1,4 @@
-/* An ECU that answers requests for its speed. Its CAN driver is these five functions. */
+/* An ECU that answers requests for its speed. Its CAN driver consists of these five functions. */
 #ifndef ECU_H
 #define ECU_H
 
@@ -14,7 +14,7 @@ typedef struct can_driver {
     uint32_t (*errors)(void *self);
 } can_driver;
 
-/* Takes what has come, and answers it; restarts the controller where that is bus off. */
+/* Receives all pending frames and answers them. Restarts the controller if it is bus off. */
 void ecu_step(const can_driver *can, uint8_t speed);
 
 #endif

@@ -1,4 +1,4 @@
-/* A unit test of ecu.c: the same code as on the target, on a bus inside the test. */
+/* A unit test of ecu.c: it runs the same code as the target, on a bus inside the test. */
 #include "ecu.h"
 
 #include <canbusd.h>
@@ -18,7 +18,7 @@ static canbusd *bus;
 static uint32_t ecu, tester;
 static uint64_t now;
 
-/* The ECU's driver, on interface 0. */
+/* The functions of the ECU's driver, on interface 0. */
 static bool send_frame(void *self, uint32_t id, const uint8_t *data, uint8_t len) {
     canbusd_frame frame = {.id = id, .len = len};
     (void)self;
@@ -57,7 +57,7 @@ static uint32_t errors(void *self) {
 
 static const can_driver driver = {NULL, send_frame, receive_frame, is_off, restart, errors};
 
-/* Lets the bus run for a millisecond, and the ECU do a step. */
+/* Runs the bus for a millisecond, and calls the ECU once. */
 static void pass_millisecond(void) {
     now += 1000;
     CHECK(canbusd_run(bus, now, NULL) == CANBUSD_OK);
@@ -86,7 +86,7 @@ int main(void) {
     pass_millisecond();
     is_answered();
 
-    /* 32 faults of its answer take the ECU off the bus; it comes back, and answers the next request. */
+    /* 32 faults in its answer make the ECU bus off. It restarts, and answers the next request. */
     CHECK(canbusd_inject(bus, "next 32 from ecu global bit") == CANBUSD_OK);
     ask();
     for (int i = 0; i < 20 && !is_off(NULL); i++) {

@@ -1,7 +1,7 @@
-"""A door on a CAN bus, as a program of yours might be. It knows nothing of canbusd.
+"""A door on a CAN bus, as your own program might be. It has no code for canbusd.
 
-A command, 100, is a number and whether to open; the door obeys those with the next number, and replies with a report,
-200. Where a command is missing it asks for it by a request, 101.
+A command, 100, contains a number and whether to open. The door obeys the command with the next number, and replies with
+a report, 200. If a command is missing, the door requests it with 101.
 """
 
 import can
@@ -26,17 +26,17 @@ class Door:
         self.number = 0
 
     def report(self):
-        """Returns the report on the last obeyed command, and on whether the door is open."""
+        """Returns a report with the number of the last obeyed command, and whether the door is open."""
         return message(REPORT, (self.number - 1) % 256, self.is_open)
 
     def handle(self, received):
-        """Obeys a command; returns the messages to send."""
+        """Obeys a command, and returns the messages to send."""
         if received.is_error_frame or received.arbitration_id != COMMAND:
             return []
         number, is_open = received.data
         ahead = (number - self.number) % 256
         if ahead >= 128:
-            # The door has obeyed this command: CAN may deliver a frame twice.
+            # The door has already obeyed this command, because CAN may deliver a frame twice.
             return []
         if ahead > 0:
             return [message(REQUEST, self.number)]
@@ -48,7 +48,7 @@ class Door:
 
 
 def step(door, bus):
-    """Waits for the next message, and obeys it. After bus off the door restarts, and reports its state."""
+    """Waits for the next message, and handles it. After bus off the door restarts, and reports its state."""
     received = bus.recv(timeout=5)
     assert received is not None, "nothing came"
     if received.is_error_frame and received.arbitration_id & BUS_OFF:

@@ -1,5 +1,5 @@
 #!/usr/bin/env python3
-"""A first session with python-can.  In one window
+"""A first session with python-can.  In one window run
 
     ./canbusd serve can0,can1
 
@@ -7,7 +7,7 @@ and in another
 
     PYTHONPATH=python/src python3 examples/python/first_session.py [ADDRESS]
 
-Where the package is installed, can.Bus(interface="canbusd", channel="can0") is the same.
+If the package is installed, can.Bus(interface="canbusd", channel="can0") does the same.
 """
 
 import sys

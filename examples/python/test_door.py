@@ -1,10 +1,10 @@
-"""What a door has to survive: frames that come twice, that it misses, that lose arbitration, and bus off.
+"""Faults that a door has to survive: frames that come twice, frames that it misses, lost arbitration, and bus off.
 
     pip install ./python
     python3 -m pytest examples/python
 
-The fixtures are of the package's plugin for pytest. `canbusd` is a server, here with two nodes, and at the end of each
-test its record is audited. `canbusd_bench` is a bus without clocks, on which nothing happens but in `attempt`.
+The fixtures come from the package's pytest plugin. `canbusd` is a server, here with two nodes. Its record is audited at
+the end of each test. `canbusd_bench` is a bus without a clock, on which frames are sent only by `attempt` and `run`.
 """
 
 import pytest
@@ -29,7 +29,7 @@ def door_bus(canbusd):
 
 
 def expect(bus, identifier, *data):
-    """Fails unless the next message is this one."""
+    """Fails unless the next message has this identifier and these data."""
     received = bus.recv(timeout=5)
     assert (received.arbitration_id, tuple(received.data)) == (identifier, data)
 
@@ -53,13 +53,13 @@ def test_a_command_that_arrives_twice_is_obeyed_once(tester, door_bus):
     step(door, door_bus)
     step(door, door_bus)
     expect(tester, REPORT, 0, OPEN)
-    # The door sends one report, and no more.
+    # The door sends only one report.
     assert door_bus.stats().sent == 1
     assert door.moves == 1
 
 
-# 17 failed attempts make the door error passive. So it can't destroy the command that it receives with a fault, and
-# misses it.
+# 17 failed attempts make the door error passive. So its error flag can't destroy the command that it receives with a
+# fault, and the door misses that command.
 @pytest.mark.canbusd("tester,door", faults=Faults().destroyed(range(17)).local("crc", ["door"], 18))
 def test_a_missed_command_is_asked_for(canbusd, tester, door_bus):
     door = Door()
@@ -67,7 +67,7 @@ def test_a_missed_command_is_asked_for(canbusd, tester, door_bus):
     expect(tester, REPORT, 255, CLOSED)
     for number, wanted in enumerate([OPEN, CLOSED]):
         tester.send(message(COMMAND, number, wanted))
-    # The door receives the notices of warning and passive, and then the second command.
+    # The door receives error message frames for error warning and error passive, and then the second command.
     for _ in range(3):
         step(door, door_bus)
     expect(tester, REQUEST, 0)
@@ -78,7 +78,7 @@ def test_a_missed_command_is_asked_for(canbusd, tester, door_bus):
     assert (door.moves, door.is_open) == (2, False)
 
 
-# The door's first report is destroyed 32 times: 32 times 8 is 256, and the door is bus off.
+# The door's first report is destroyed 32 times. Each time adds 8 to its error counter, and at 256 the door is bus off.
 @pytest.mark.canbusd("tester,door", faults=Faults().destroyed(range(1, 33)))
 def test_it_comes_back_from_bus_off(canbusd, tester, door_bus):
     door = Door()

@@ -1,6 +1,6 @@
-"""Hypothesis looks for the fault plan that breaks a node, and shrinks it; what it finds is kept as an ordinary test.
+"""Hypothesis searches for a fault plan that breaks a node, and shrinks it. The plan that it finds becomes an ordinary test.
 
-Debian has it as python3-hypothesis. A bench gives the same run for the same plan, so the search can be repeated.
+Debian's package is python3-hypothesis. A bench gives the same run for the same plan, so the search can be repeated.
 """
 
 import pytest
@@ -12,13 +12,13 @@ hypothesis = pytest.importorskip("hypothesis", reason="Hypothesis is not install
 strategies = pytest.importorskip("canbusd.strategies")
 
 BUS = "switch,lamp"
-# The plan that `test_a_search` found.
+# The fault plan that `test_a_search` finds.
 FOUND = Faults().last_bit(0)
 search = hypothesis.settings(deadline=None, derandomize=True, database=None, max_examples=50)
 
 
 def ends_on(lamp, plan):
-    """Returns whether the lamp is on after it was switched once."""
+    """Switches the lamp once. Returns whether it is on after that."""
     with Bench(BUS, faults=plan) as bench:
         switch, node = bench.open("switch"), bench.open("lamp", error_frames=False)
         switch.send(TOGGLE, b"\x07")
@@ -39,7 +39,7 @@ def test_what_the_search_found():
     assert ends_on(Lamp(counts=True), FOUND)
 
 
-# The plans don't put the switch bus off, which takes 32 faults.
+# The plans have too few faults to make the switch bus off, which takes 32.
 @search
 @hypothesis.given(plan=strategies.fault_plans(BUS, attempts=8))
 def test_a_lamp_that_counts(plan):

@@ -1,7 +1,7 @@
-"""A node of Go.
+"""A Go node.
 
-Programs of Go call the kernel themselves, as those that are linked statically do; with `static=True` their CAN sockets are
-the server's all the same. The node of examples/go answers each frame 0x123.
+Go programs make system calls without the C library, as statically linked programs do. With `static=True` their CAN sockets
+are nevertheless those of the server. The node of examples/go answers each frame 0x123.
 """
 
 import shutil

@@ -1,8 +1,8 @@
 """A log as input.
 
-A log of candump is read by python-can, and sent by `can.MessageSync` at its own pace, each frame as it is due; `send_many`
-would read all of it first, and send it as fast as the bus can take it. Here all frames go by one interface; candump2bench
-keeps that of each.
+python-can reads a log of candump, and `can.MessageSync` returns each frame when it is due, so that the frames are sent with
+their original timing. `send_many` would read the whole log first, and send it as fast as the bus allows. Here all frames
+are sent on one interface; candump2bench keeps the interface of each frame.
 """
 
 import can

@@ -1,8 +1,8 @@
 """A rest bus.
 
-All nodes of a database but the one under test, which sees here that the engine falls silent. On a bench the moments are
-exact; with a server it is `with canbusd.rest_bus(..)` and the same calls, and the thread of the rest bus in place of
-`run`.
+It simulates all nodes of a database except the one under test, which here notices that the engine falls silent. On a bench
+the send times are exact. With a server you write `with canbusd.rest_bus(..)` and the same calls; the thread of the rest bus
+then replaces `run`.
 """
 
 import pytest

@@ -1,7 +1,7 @@
 """A run of days.
 
-A server whose record is written while it runs may stay for days, and what it has written outlives it. Here it is killed
-in the middle of a run, and the partial record is read.
+A server that writes its record while it runs can run for days, and what it has written survives its end. Here the server is
+killed in the middle of a run, and the partial record is read.
 """
 
 import can

@@ -1,7 +1,7 @@
 """A simulated ECU.
 
-It is asked by UDS: a session, security access, a routine, trouble codes that take longer than P2, a refusal on demand,
-and an answer of which a segment is lost.
+A tester uses UDS: a session, security access, a routine, trouble codes that take longer than P2, a refusal on demand, and
+an answer of which one segment is lost.
 """
 
 import pytest

@@ -1,8 +1,8 @@
 """A virtual ECU.
 
-A guest of QEMU is on a bus by its own Linux driver. `examples/virtual_ecu/guest` makes `initrd` for a kernel of Debian,
-and the test beside it asks the guest, destroys its replies, and has both ends go bus off. GUEST is the folder of kernel
-and initrd.
+A guest system in QEMU uses a bus through its own Linux driver. `examples/virtual_ecu/guest` makes `initrd` for a Debian
+kernel. The test in that folder sends requests to the guest, destroys its replies, and makes both ends go bus off. GUEST is
+the folder of kernel and initrd.
 """
 
 import os

@@ -1,6 +1,6 @@
 """asyncio.
 
-A bus has a file descriptor, so python-can's `Notifier` needs no thread. The reader is awaited.
+A bus has a file descriptor, so python-can's `Notifier` needs no thread. The test awaits the reader.
 """
 
 import asyncio
@@ -24,6 +24,6 @@ def test_an_answer(canbusd):
             notifier.stop()
         return received.arbitration_id
 
-    # Without error message frames, which are no requests, and no answers.
+    # Error message frames are switched off, because they would count as requests and answers.
     with canbusd.bus("ecu", error_frames=False) as ecu, canbusd.bus("tester", error_frames=False) as tester:
         assert asyncio.run(ask(ecu, tester)) == 0x101

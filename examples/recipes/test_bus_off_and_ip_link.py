@@ -1,7 +1,7 @@
 """Bus off, and back by `ip link`.
 
-The scripts of a bench with hardware go on as they are: they set an interface up with the bus's bit rate, read its state and
-error counter, and restart it. Another bit rate than that of the bus is refused.
+Scripts that were written for a bench with hardware work unchanged: they set an interface up with the bus's bit rate, read
+its state and error counter, and restart it. A bit rate that differs from the bus's is refused.
 """
 
 import shutil

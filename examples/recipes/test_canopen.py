@@ -1,7 +1,7 @@
 """CANopen.
 
-A node in Python as CiA 301 has it: its boot-up message, network management, which starts it, and an object of its
-dictionary, the vendor's number, that a master reads by SDO.
+A node in Python that follows CiA 301: it sends its boot-up message, network management starts it, and a master reads an
+object of its dictionary, the vendor's number, by SDO.
 """
 
 import can

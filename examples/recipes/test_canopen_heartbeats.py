@@ -1,7 +1,8 @@
 """CANopen heartbeats.
 
-A master consumes the heartbeat of node 5, which comes each 50 ms, with a consumer time of 120 ms (object 1016 of CiA 301). The
-node is unplugged: the master sends the emergency 8130, heartbeat error, and hears the node again once it is plugged in.
+A master monitors the heartbeat of node 5, which comes every 50 ms, with a consumer time of 120 ms (object 1016 of CiA 301). When
+the node is unplugged, the master sends the emergency 8130, heartbeat error. It receives heartbeats again after the node is
+plugged in.
 """
 
 import pytest

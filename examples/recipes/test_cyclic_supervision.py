@@ -1,7 +1,6 @@
 """Cyclic supervision.
 
-A supervisor reports a heartbeat that is late. On a bench the test sets the clock, so the result depends on nothing
-else.
+A supervisor reports a heartbeat that is late. On a bench the test sets the time, so the result depends on nothing else.
 """
 
 from canbusd import Bench, Faults

@@ -1,7 +1,7 @@
 """End-to-end protection.
 
-The rest bus sends a message with the counter and the checksum of AUTOSAR's profile 1. The test checks them as an ECU
-would, and then has a counter stand still, and a checksum be wrong.
+The rest bus sends a message with the counter and the checksum of AUTOSAR's profile 1. The test checks them as an ECU would.
+Then it injects a counter that does not change, and a wrong checksum.
 """
 
 import pytest

@@ -1,7 +1,7 @@
 """J1939 addresses.
 
-The daemon j1939acd of can-utils claims an address for an ECU. Another node claims the same one with a smaller NAME, which has
-priority (SAE J1939-81), so the ECU takes the next address. Against a larger NAME it defends that by its own claim.
+The daemon j1939acd of can-utils claims an address for an ECU. Another node claims the same address with a smaller NAME, which
+has priority (SAE J1939-81), so the ECU takes the next address. It defends that address against a larger NAME with its own claim.
 """
 
 import pytest

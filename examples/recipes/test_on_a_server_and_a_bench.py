@@ -1,7 +1,7 @@
 """On a server and on a bench.
 
-A test says the same on both: here the ECU goes bus off, comes back, and its heartbeat goes on. On a bench time
-is that of the bus, passes while the test waits, and each run is the same.
+The same test runs on both: the ECU goes bus off and restarts, and its heartbeat continues. A bench uses the time of the bus,
+which passes while the test waits, and each run is the same.
 """
 
 import pytest

@@ -1,6 +1,6 @@
 """Order and change.
 
-A lamp answers each request, and keeps its state until the next.
+A lamp answers each request, and does not change its state until the next request.
 """
 
 import can

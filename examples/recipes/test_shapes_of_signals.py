@@ -1,7 +1,7 @@
 """Shapes of signals.
 
-The engine's speed rises, its temperature swings, and its gear is that of a CSV file. A test sees the shapes again on the
-bus: an ECU that shows the speed would be tried in the same way.
+The engine's speed rises, its temperature swings, and its gear comes from a CSV file. The test checks that the same shapes
+appear on the bus; an ECU that displays the speed can be tested in the same way.
 """
 
 import pytest

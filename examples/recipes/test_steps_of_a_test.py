@@ -1,7 +1,7 @@
 """Steps of a test.
 
-The report of a test names them, with the seconds since it began: JUnit's, that of pytest-html, and that of
-allure-pytest. A step that fails is named so, and a failed test shows all of them on the terminal.
+The test reports of JUnit, pytest-html and allure-pytest list the steps, with the seconds since the test began. They name the
+step that failed. A failed test also shows all steps on the terminal.
 """
 
 import pytest

@@ -1,7 +1,7 @@
 """Tests side by side.
 
-With pytest-xdist (`apt-get install python3-pytest-xdist`) `python3 -m pytest -n auto` runs tests in as many processes
-as there are processors. Each has a server of its own on a free port, so interfaces with the same name do not clash.
+With pytest-xdist (`apt-get install python3-pytest-xdist`), `python3 -m pytest -n auto` runs tests in as many processes
+as there are processors. Each test has its own server on a free port, so interfaces with the same name do not clash.
 """
 
 import can

@@ -1,8 +1,8 @@
 """UDS over ISO-TP.
 
-A tester asks for the identification number of a vehicle (22 F1 90), over ISO-TP. The second time all frames of the
-answer after the first two are destroyed, until the ECU is bus off: both ends report that the transfer failed, and after
-a restart the next one works.
+A tester requests the identification number of a vehicle (22 F1 90) over ISO-TP. In the second transfer all frames of the
+answer after the first two are destroyed, until the ECU is bus off. Both ends report that the transfer failed, and after a
+restart the next transfer works.
 """
 
 import pytest

@@ -1,7 +1,7 @@
 """udsoncan.
 
-udsoncan (`pip install udsoncan`) asks by services and identifiers, over an end of ISO-TP. Debian has no package of it,
-so this recipe is written by its documentation, and was not run.
+The test reads an identifier with udsoncan (`pip install udsoncan`), over an ISO-TP connection. Debian has no package of
+udsoncan, so this recipe follows its documentation, and has not been run.
 """
 
 import pytest

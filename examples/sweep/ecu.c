@@ -1,8 +1,9 @@
-/* A body controller for SocketCAN, with two faults that a sweep finds. It knows nothing of canbusd.
+/* A body controller for SocketCAN, with two faults that a sweep finds. It has no code for canbusd.
  *
- * Each frame 123 is one press of a button, and it answers 124 with how often that was pressed. A press has no number by
- * which a frame that comes twice could be told apart: the first fault. Each 20 ms it sends 200 with a counter, which
- * goes on also when the write was refused, so that receivers see a gap after bus off: the second fault. */
+ * Each frame 123 is one press of a button, and the controller answers with 124, which has the number of presses. The
+ * first fault: a press has no number, so a frame that comes twice counts as two presses. Every 20 ms the controller
+ * sends 200 with a counter. The second fault: the counter is incremented even if the write was refused, so receivers
+ * see a gap after bus off. */
 #include <errno.h>
 #include <linux/can.h>
 #include <linux/can/error.h>
@@ -43,7 +44,7 @@ int main(int count, char **words) {
         if (now() >= due) {
             due += 20;
             write(node, &cyclic, sizeof cyclic);
-            cyclic.data[0]++; /* also when the write was refused */
+            cyclic.data[0]++; /* even if the write was refused */
         }
     }
 }

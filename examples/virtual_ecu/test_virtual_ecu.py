@@ -1,8 +1,8 @@
-"""A virtual ECU: Linux in QEMU, whose own driver of a CAN card sends and receives on a bus with a tester and with faults.
+"""A virtual ECU: Linux in QEMU. Its own driver of a CAN card sends and receives on a bus with a tester and with faults.
 
     CANBUSD_KERNEL=FOLDER python3 -m pytest examples/virtual_ecu
 
-`guest` beside this file makes the guest, and says what it needs. Its program is `ecu`.
+`guest` in this folder makes the guest system, and says what it needs. The guest's program is `ecu`.
 """
 
 import os
@@ -16,13 +16,13 @@ import pytest
 from canbusd import Faults, Server
 
 FOLDER = Path(__file__).parent
-#: The limits in seconds for the start of a guest without KVM on a busy machine, and for its reply.
+#: How many seconds a guest without KVM on a busy machine may take to start, and to reply.
 START, REPLY = 300, 30
 
 
 @pytest.fixture(scope="module")
 def machine(tmp_path_factory):
-    """Returns the words that start a guest whose CAN card is on the interface ecu."""
+    """Returns the command that starts a guest whose CAN card is connected to the interface ecu."""
     if not shutil.which("qemu-system-x86_64"):
         pytest.skip("no qemu-system-x86_64: apt-get install qemu-system-x86")
     initrd = tmp_path_factory.mktemp("guest") / "initrd"
@@ -37,7 +37,7 @@ def machine(tmp_path_factory):
 
 @pytest.fixture(scope="module")
 def server(machine, tmp_path_factory):
-    """A bus with the guest, which has sent its first heartbeat."""
+    """Runs a server and starts the guest. Yields the server after the guest's first heartbeat."""
     with Server("ecu,tester", out=tmp_path_factory.mktemp("can")) as running:
         with running.bus("tester") as tester:
             running.start(machine)
@@ -48,7 +48,7 @@ def server(machine, tmp_path_factory):
 
 @pytest.fixture
 def tester(server):
-    """Receives replies from the ECU."""
+    """Opens a bus that receives only the replies of the ECU."""
     replies = [{"can_id": 0x200, "can_mask": 0x7FF, "extended": False}]
     with server.bus("tester", can_filters=replies, error_frames=False) as bus:
         yield bus
@@ -59,7 +59,7 @@ def ask(tester, value):
 
 
 def test_sigterm_where_nobody_acknowledges(machine, tmp_path):
-    """The second heartbeat waits for room, and the machine waits with it, for a second."""
+    """The second heartbeat waits for room, and the virtual machine waits with it, for a second."""
     with Server("ecu", ack="peers", txqueue=1, out=tmp_path) as server:
         guest = server.start(machine, wait=True)
         guest.expect("heartbeat 2", within=START)

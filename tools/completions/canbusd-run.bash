@@ -1,4 +1,4 @@
-# Completions of canbusd-run for bash: its options, then a program and what completes the words of that.
+# Completions of canbusd-run for bash: its options, then a program, and then that program's own completions.
 _canbusd_run() {
     local text=$2 before=$3 place
     # words: bash run

@@ -1,4 +1,4 @@
-# Completions of canbusd-run for fish: its options, then a program and what completes the words of that.
+# Completions of canbusd-run for fish: its options, then a program, and then that program's own completions.
 complete -c canbusd-run -x -a "(__fish_complete_subcommand --fcs-skip 1)"
 # words: fish run
 complete -c canbusd-run -r -F -l address -d 'the server: HOST:PORT, [V6]:PORT, or a Unix path that begins with / or .'

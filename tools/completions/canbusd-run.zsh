@@ -1,5 +1,5 @@
 #compdef canbusd-run
-# Completions of canbusd-run for zsh: its options, then a program and what completes the words of that.
+# Completions of canbusd-run for zsh: its options, then a program, and then that program's own completions.
 local -a options=(
     # words: zsh run
     '--address=[the server: HOST:PORT, \[V6\]:PORT, or a Unix path that begins with / or .]:ADDR:_files'

@@ -2,21 +2,22 @@
 _canbusd() {
     local text=$2 before=$3
     COMPREPLY=()
-    # The value of an option follows a blank or `=`, at which bash parts words unless COMP_WORDBREAKS lacks it.
+    # The value of an option follows a blank or `=`, at which bash splits words unless COMP_WORDBREAKS lacks it.
     [ "$before" != = ] || before=${COMP_WORDS[COMP_CWORD - 2]}
-    # So does the number of `--bitrate NAME=`.
+    # The number in `--bitrate NAME=` follows `=` too.
     case ${COMP_WORDS[COMP_CWORD - 1]},${COMP_WORDS[COMP_CWORD - 3]} in =,--bitrate | =,--dbitrate) before=--bitrate ;; esac
     case $text in --*=*) before=${text%%=*} ;; esac
     # words: bash commands
     local commands="serve bench audit bits dump send status watch fault restart down up restbus convert extcap sweep report replay"
     # end of words
     case $COMP_CWORD,$before,${COMP_WORDS[1]} in
-    # A file follows a redirection.
+    # After a redirection comes a file.
     *,*[\<\>]*,*) compopt -o default && return ;;
     1,*) _canbusd_offer "$commands help --help --version" && return ;;
     *,help) _canbusd_offer "$commands" && return ;;
     esac
-    # The command, the option before this word, and the word: what an option takes, the file after a bus, or an option.
+    # Offers an option's values, the file after a bus, or options: this depends on the command, the option before this
+    # word, and the word.
     case ${COMP_WORDS[1]},$before,$text in
     *,*,*@*) _canbusd_files -f default ;;
     # words: bash
@@ -39,14 +40,14 @@ _canbusd() {
     esac
 }
 
-# Offers these words, after a front of the word such as `--ack=`.
+# Offers these words, after a prefix such as `--ack=`.
 _canbusd_offer() {
     local front=
     case $text in --*=*) front=${text%%=*}= ;; esac
     mapfile -t COMPREPLY < <(compgen -P "$front" -W "$1" -- "${text#"$front"}")
 }
 
-# Offers files (-f) or folders (-d): readline does, but after a front of the word such as `can0@` or `--out=`.
+# Offers files (-f) or folders (-d). readline does so itself, except after a prefix such as `can0@` or `--out=`.
 _canbusd_files() {
     local rest=${text#*[@=]} place
     local front=${text%"$rest"}
@@ -54,7 +55,7 @@ _canbusd_files() {
         compopt -o "$2"
         return
     fi
-    # The rest without its backslashes, as files are named.
+    # The rest of the word without backslashes, as in the names of files.
     mapfile -t COMPREPLY < <(compgen "$1" -- "$(printf '%s' "$rest" | sed 's/\\\(.\)/\1/g')")
     for place in "${!COMPREPLY[@]}"; do
         if [ -d "${COMPREPLY[place]}" ]; then
@@ -66,7 +67,7 @@ _canbusd_files() {
 }
 complete -F _canbusd canbusd
 
-# candump2bench: the options that its help has, and files.
+# candump2bench: the options in its help, and files.
 _canbusd_tool() {
     local text=$2
     COMPREPLY=()

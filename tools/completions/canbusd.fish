@@ -1,6 +1,6 @@
 # Completions of canbusd and candump2bench for fish. `scripts/words` writes the lists.
 
-# The file of faults after the `@` of a bus.
+# The file with faults after the `@` of a bus.
 function __canbusd_scripts
     set -l parts (string split --max 1 @ -- (commandline --current-token --cut-at-cursor))
     if set --query parts[2]
@@ -72,6 +72,6 @@ complete -c canbusd -n $first -l version -d "Show the version"
 complete -c canbusd -n "__fish_seen_subcommand_from help" -a "$commands"
 complete -c canbusd -n "__fish_seen_subcommand_from bench serve" -a "(__canbusd_scripts)"
 
-# candump2bench: the options that its help has, and files.
+# candump2bench: the options in its help, and files.
 complete -c candump2bench -n "string match --quiet -- '-*' (commandline --current-token)" \
     -a "(candump2bench --help | string match --all --regex -- '--[a-z-]+' | sort --unique)"

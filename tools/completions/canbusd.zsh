@@ -2,7 +2,7 @@
 # Completions of canbusd and candump2bench for zsh. `scripts/words` writes the lists.
 
 _canbusd() {
-    # candump2bench: the options that its help has, and files.
+    # candump2bench: the options in its help, and files.
     if [[ $service != canbusd ]]; then
         _gnu_generic
         return
@@ -95,7 +95,7 @@ _canbusd() {
     esac
 }
 
-# The names of a bus, and the file of faults after `@`.
+# The names of a bus, and the file with faults after `@`.
 _canbusd_bus() {
     if compset -P '*@'; then
         _files

@@ -1,4 +1,4 @@
-/* The calls that the cases make, and the printing of their results. */
+/* Makes the calls of the cases, and prints their results. */
 #include "probe.h"
 
 int a, b, c, d;
@@ -19,7 +19,7 @@ struct sockaddr_can *ids(canid_t rx, canid_t tx) {
     return address;
 }
 
-/* Prints a failed call and its errno. */
+/* Prints a failed call and its errno; prints nothing if the call succeeded. */
 static void check(const char *what, bool is_done) {
     if (!is_done) {
         say(" %s %s", what, strerrorname_np(errno));

@@ -1,4 +1,4 @@
-/* Control messages of sendmsg and recvmsg, and filters that a program attaches to a socket. */
+/* Control messages of sendmsg and recvmsg, and BPF filters that a program attaches to a socket. */
 #include "probe.h"
 #include <linux/filter.h>
 
@@ -36,7 +36,8 @@ CASE(sends_unbound, a = socket(PF_CAN, SOCK_RAW, CAN_RAW), send_with(a, 24, 4, S
 CASE(sends_bcm, a = bcm("can0"), send_with(a, 24, 4, SOL_SOCKET, 99, 0))
 CASE(sends_isotp, a = tp(RX, TX, 0), b = raw("can1"), send_with(a, 24, 4, SOL_SOCKET, 99, 0))
 
-/* Attaches a filter that passes this many bytes of each frame; or only frames with this first byte. */
+/* `passes` attaches a filter that passes this many bytes of each frame. `passes_data` passes only frames with this
+ * first data byte. */
 static void passes(int fd, unsigned bytes) {
     struct sock_filter code[] = {{BPF_RET | BPF_K, 0, 0, bytes}};
     DO(setsockopt(fd, SOL_SOCKET, SO_ATTACH_FILTER, &(struct sock_fprog){1, code}, sizeof(struct sock_fprog)));

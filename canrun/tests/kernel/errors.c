@@ -1,9 +1,9 @@
-/* Written error message frames, and the error mask. */
+/* Error message frames that a program writes, and the error mask. */
 #include "probe.h"
 
 static const can_err_mask_t every = CAN_ERR_MASK;
 #define BUSERROR (CAN_ERR_FLAG | CAN_ERR_BUSERROR)
-/* A socket with this mask, and its result for a written error message frame. */
+/* What a socket with this error mask receives if a program writes an error message frame. */
 #define MASKED(name, interface, mask)                                                                         \
     CASE(name, a = raw(interface), b = raw("can0"), DO(set(a, SOL_CAN_RAW, CAN_RAW_ERR_FILTER, (int)(mask))), \
          put(b, FRAME(BUSERROR, 1, 2, 3, 4, 5, 6, 7, 8)), PUT(b, LAST), take_to(a, LAST))

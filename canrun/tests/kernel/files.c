@@ -1,4 +1,4 @@
-/* Calls of files and pipes on CAN sockets. a writes or reads; b is the other end. */
+/* File and pipe calls on CAN sockets. a writes or reads; b is the other end. */
 #include "probe.h"
 #include <sys/sendfile.h>
 #include <sys/syscall.h>
@@ -24,7 +24,7 @@ READS(read_0, PUT(b, 0x123), until(a, POLLIN), DO(read(a, room, 0)), DO(recv(a, 
 READS(read_by_number, PUT(b, 0x123), until(a, POLLIN), DO(syscall(SYS_read, a, room, 100)))
 READS(readv_none, DO(readv(a, part(room, 16), 0)))
 
-/* Makes a pipe with the ends c and d. */
+/* Makes a pipe; c and d are its ends. */
 static void pipes(void) {
     int ends[2];
     OPEN(pipe(ends));
@@ -52,7 +52,7 @@ READS(splices_none, pipes(), DO(splice(c, NULL, b, NULL, 16, SPLICE_F_NONBLOCK))
 CASE(splices_unbound, a = socket(PF_CAN, SOCK_RAW, CAN_RAW), pipes(), DO(write(d, FRAME(0x123, 1), 16)),
      DO(splice(c, NULL, a, NULL, 16, 0)))
 
-/* Makes a file with this frame; c is its descriptor. */
+/* Makes a file that contains this frame; c is its descriptor. */
 static void file_of(const void *data, size_t length) {
     char path[] = "/tmp/probe-XXXXXX";
     OPEN(c = mkstemp(path));
@@ -76,7 +76,7 @@ READS(pwritev2_offset, DO(pwritev2(b, part(FRAME(0x123, 1), 16), 1, 0, 0)))
 READS(write_by_number, DO(syscall(SYS_write, b, FRAME(0x123, 1), 16)), look(a),
       DO(syscall(SYS_write, b, FRAME(0x123, 1), 15)))
 
-/* Streams: prints the results of fread and fwrite, and whether the stream has an error. */
+/* Uses a stdio stream: prints the results of fread and fwrite, and whether the stream has an error. */
 static void streams(int fd, const char *mode, size_t length) {
     FILE *file = fdopen(fd, mode);
     if (!file) {

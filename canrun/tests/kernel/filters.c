@@ -1,7 +1,7 @@
 /* The frames that a CAN_RAW socket receives. */
 #include "probe.h"
 
-/* The socket has these filters, and a filter for the last frame of the set. */
+/* Adds a filter for the last frame of the set to the socket's filters. */
 #define AND_LAST \
     { LAST, CAN_SFF_MASK | CAN_EFF_FLAG }
 #define PASSES(name, ...) \

@@ -113,7 +113,7 @@ CASE(several_forced_stmin, a = isotp(), set_options(a, CAN_ISOTP_FORCE_TXSTMIN),
      SETS(a, SOL_CAN_ISOTP, CAN_ISOTP_TX_STMIN, &(uint32_t){1000000}, 4), DO(bind(a, TO(ids(RX, TX)))), b = peer(),
      DO(write(a, "0123456789abcdefghijk", 21)), take(b, 1), SAYS(b, 0x30, 0, 0x7F), take(b, 3))
 
-/* Ends of a sent message; then the next message. */
+/* A sent message ends with this failure; then the next message is written. */
 #define FAILS(name, flags, ...) \
     CASE(name, FIRST(flags), SAYS(b, __VA_ARGS__), until(a, POLLOUT), error_of(a), DO(write(a, "x", 1)), take(b, 1))
 FAILS(fails_overflow, 0, 0x32, 0, 0)
@@ -224,7 +224,7 @@ CASE(fd_get_classic, LINKED(64, 0), SAYS(b, 1, 2), pass(30), glance(a))
 CASE(fd_flow, LINKED(64, CANFD_BRS), put_fd(b, FD(RX, 0, 0x10, 20, 1, 2, 3, 4, 5, 6)), take(b, 1))
 CASE(fd_to_classic, a = tp(RX, TX, 0), b = peer(), put_fd(b, FD(RX, 0, 1, 2)), pass(30), glance(a))
 
-/* Two sockets, one at each end. */
+/* Messages between two sockets, one at each end of the bus. */
 CASE(both_ends_1, two_ends(10, 0))
 CASE(both_ends_4095, two_ends(4095, 0))
 CASE(both_ends_8000, two_ends(8000, 0))

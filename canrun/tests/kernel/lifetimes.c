@@ -1,4 +1,4 @@
-/* Copies of a socket, and its close. */
+/* Duplicates of a socket, and what closing it does. */
 #include "probe.h"
 
 CASE(closed_write, a = raw("can0"), DO(close(a)), DO(write(a, FRAME(0x123, 1), 16)), DO(read(a, (char[16]){0}, 16)),
@@ -41,7 +41,7 @@ CASE(positioned_write, a = raw("can0"), DO(pwrite(a, FRAME(0x123, 1), 16, 0)))
 CASE(synchronized, a = raw("can0"), DO(fsync(a)))
 CASE(mapped, a = raw("can0"), DO(mmap(NULL, 4096, PROT_READ, MAP_SHARED, a, 0)))
 
-/* ISO-TP: the close of a socket while messages are under way. */
+/* ISO-TP sockets that are closed while a message is being transferred. */
 CASE(isotp_again, a = tp(RX, TX, 0), DO(close(a)), a = tp(RX, TX, 0), b = peer(), DO(write(a, "x", 1)), take(b, 1))
 CASE(isotp_same_ids_twice, a = tp(RX, TX, 0), b = tp(RX, TX, 0), c = peer(), SAYS(c, 1, 7), message(a), message(b))
 CASE(isotp_close_waits, b = peer(), a = tp(RX, TX, 0), DO(write(a, "0123456789", 10)), take(b, 1), lasts_from(),

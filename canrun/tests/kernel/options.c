@@ -1,7 +1,7 @@
-/* Options of sockets: set and read. */
+/* Setting and reading socket options. */
 #include "probe.h"
 
-/* Options of CAN_RAW: the default, set to 1, set to 2, and with other lengths. */
+/* Options of CAN_RAW: the default value, the value after 1 and after 2 were set, and calls with other lengths. */
 #define FLAG(name, option)                                                                                            \
     CASE(name, a = raw("can0"), get(a, SOL_CAN_RAW, option, 4), DO(set(a, SOL_CAN_RAW, option, 1)),                   \
          get(a, SOL_CAN_RAW, option, 4), DO(set(a, SOL_CAN_RAW, option, 2)), get(a, SOL_CAN_RAW, option, 4))          \
@@ -29,7 +29,7 @@ LEVEL(bcm_by_raw, bcm("can0"), SOL_CAN_RAW, CAN_RAW_LOOPBACK)
 LEVEL(isotp_by_raw, isotp(), SOL_CAN_RAW, CAN_RAW_LOOPBACK)
 LEVEL(isotp_by_tcp, isotp(), 6, 1)
 
-/* Options of SOL_SOCKET: the default, after they were set to 1, and for BCM and ISO-TP. */
+/* Options of SOL_SOCKET: the default value, the value after 1 was set, and the values on BCM and ISO-TP sockets. */
 #define READ(option) CASE(get_##option, a = raw("can0"), get(a, SOL_SOCKET, option, 4))
 #define BOTH(option)                                                   \
     CASE(get_##option, a = raw("can0"), get(a, SOL_SOCKET, option, 4)) \
@@ -105,7 +105,7 @@ CASE(receive_timeout_odd, a = raw("can0"),
      SETS(a, SOL_SOCKET, SO_RCVTIMEO, (&(struct timeval){-1, 0}), sizeof(struct timeval)),
      SETS(a, SOL_SOCKET, SO_RCVTIMEO, &(int){1}, 4))
 
-/* The control messages of recvmsg. */
+/* The control messages that recvmsg returns. */
 #define CONTROLS(name, option, value)                                                                  \
     CASE(name, a = raw("can1"), b = raw("can0"), DO(set(a, SOL_SOCKET, option, value)), PUT(b, 0x123), \
          until(a, POLLIN), controls(a, 200))

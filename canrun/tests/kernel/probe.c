@@ -1,18 +1,18 @@
 /* Runs all cases, the cases of some files (`probe raw`), or single cases (`probe raw:write_0 raw:order`). Prints a line
- * for each case: its name, and the results of its calls. `probe --list` prints the names. */
+ * for each case with its name and the results of its calls. `probe --list` prints the names. */
 #include "probe.h"
 #include <stdarg.h>
 
-/* The length of a line in bytes, and the limit of a case in seconds. */
+/* The maximum length of a line in bytes, and the time limit of a case in seconds. */
 enum { LINE = 8000, LONGEST = 20 };
 
-/* The linker's names for the start and the end of the section. */
+/* The linker defines these names as the start and the end of the section `probes`. */
 extern const struct probe __start_probes[], __stop_probes[];
 
-/* The line of the case; the case's process shares this memory. */
+/* The output line of the case, in memory that is shared with the case's process. */
 static char *line;
-/* For each bus a socket that writes and a socket that reads a barrier frame. The reader gets this frame after all
- * frames of the cases. */
+/* For each bus, a socket that writes a barrier frame and a socket that reads it. The reader gets this frame after all
+ * frames of the case. */
 static int writers[2], readers[2];
 #define BARRIER 0x7FE
 
@@ -45,7 +45,7 @@ static void set_barriers(void) {
     }
 }
 
-/* Even the longest is far below the second that ISO-TP waits for a frame. */
+/* The limits of `quiet` in milliseconds. Even the longest is far below the second that ISO-TP waits for a frame. */
 enum { SHORTEST_QUIET = 50, LONGEST_QUIET = 200 };
 int quiet = SHORTEST_QUIET;
 
@@ -55,7 +55,7 @@ static long milliseconds(void) {
     return now.tv_sec * 1000 + now.tv_nsec / 1000000;
 }
 
-/* Waits until no frame of a case is on its way. The time that this takes shows how slow the machine is. */
+/* Waits until all frames of a case have been transmitted. The time that this takes shows how slow the machine is. */
 static void settle(void) {
     long begun = milliseconds();
     for (int i = 0; i < 2; i++) {
@@ -70,7 +70,7 @@ static void settle(void) {
     quiet = (int)(slow < SHORTEST_QUIET ? SHORTEST_QUIET : slow > LONGEST_QUIET ? LONGEST_QUIET : slow);
 }
 
-/* Runs the case in its process. Its sockets are closed one after the other, as by a program at its end. */
+/* Runs the case in its own process. Its sockets are closed one by one, as at the end of a program. */
 static void alone(const struct probe *probe) {
     timer_t timer;
     struct sigevent event = {.sigev_notify = SIGEV_SIGNAL, .sigev_signo = SIGKILL};
@@ -99,7 +99,7 @@ static void run(const struct probe *probe, const char *topic) {
     fflush(stdout);
 }
 
-/* The name of the case's file, without folder and extension. */
+/* Returns the topic of a case: the name of its file without folder and extension. */
 static const char *topic_of(const struct probe *probe) {
     static char topic[32];
     const char *slash = strrchr(probe->file, '/');
@@ -108,7 +108,7 @@ static const char *topic_of(const struct probe *probe) {
     return topic;
 }
 
-/* Whether a word names this topic, or this case of the topic. */
+/* Whether a word names this topic, or names this case of the topic. */
 static bool is_named(const char *word, const char *topic, const char *name) {
     size_t length = strlen(topic);
     return !strncmp(word, topic, length) &&

@@ -1,4 +1,5 @@
-/* Cases of SocketCAN for test_run_kernel.py. Each prints one line, which is the same on the kernel and on canbusd. */
+/* Cases of SocketCAN for test_run_kernel.py. Each case prints one line, which is the same on the kernel and on canbusd.
+ */
 #ifndef PROBE_H
 #define PROBE_H
 
@@ -31,7 +32,7 @@
 #include <time.h>
 #include <unistd.h>
 
-/* A case: expressions that are evaluated in order, in a separate process, within 20 seconds. a, b, c and d are
+/* Defines a case: expressions that are evaluated in order, in a separate process, within 20 seconds. a, b, c and d are
  * descriptors for the case's sockets. can0 and can1 are on one bus, and vcan0 is on another. */
 #define CASE(name, ...)                                                                        \
     static void case_##name(void) {                                                            \
@@ -46,39 +47,39 @@ struct probe {
 };
 
 extern int a, b, c, d;
-/* Memory that is not accessible. */
+/* Pointers to memory that is not accessible. */
 extern char *nowhere, *volatile null;
 
-/* Appends to the line of the case. */
+/* Appends to the output line of the case. */
 void say(const char *format, ...) __attribute__((format(printf, 1, 2)));
 /* Prints the result of a call, or its errno. */
 void result(long value);
 /* The value that the last call returned. */
 extern long returned;
 #define DO(...) (errno = 0, result((long)(__VA_ARGS__)))
-/* Prints whether a call returned a descriptor, without its number; or its errno. */
+/* Prints 0 if a call returned a descriptor, whatever its number, or else the errno. */
 #define OPEN(...) (errno = 0, result((__VA_ARGS__) < 0 ? -1 : 0))
 #define SETS(...) DO(setsockopt(__VA_ARGS__))
 
-/* The address of an interface with this name; NULL for all interfaces. */
+/* Returns the address of the interface with this name; NULL means all interfaces. */
 struct sockaddr_can *at(const char *name);
-/* The address of an ISO-TP socket on can0. */
+/* Returns the address of an ISO-TP socket on can0. */
 struct sockaddr_can *ids(canid_t rx, canid_t tx);
 #define TO(address) (struct sockaddr *)(address), sizeof(struct sockaddr_can)
 
-/* Make sockets: CAN_RAW, bound; CAN_BCM, connected; CAN_ISOTP. */
+/* Functions that make sockets: CAN_RAW (bound), CAN_BCM (connected) and CAN_ISOTP. */
 int raw(const char *name);
 int bcm(const char *name);
 int isotp(void);
 /* Makes an ISO-TP socket that is bound to these identifiers, with these flags of CAN_ISOTP_OPTS. */
 int tp(canid_t rx, canid_t tx, unsigned flags);
 void set_options(int fd, unsigned flags);
-/* The usual identifiers. `peer` makes a raw socket on can1 that receives only frames with TX. */
+/* The identifiers that most cases use. `peer` makes a raw socket on can1 that receives only frames with TX. */
 #define RX 0x321
 #define TX 0x123
 int peer(void);
 
-/* An address with more bytes than usual. The functions print the socket's own address. */
+/* An address with room for more bytes than usual. The functions below print the socket's own address. */
 struct wide {
     struct sockaddr_can can;
     char more[200];
@@ -87,70 +88,72 @@ struct wide {
 void name_of(int fd);
 void length_of_name(int fd, int length);
 void names_listed(void);
-/* Makes an ioctl for an interface, and prints the result. */
+/* Calls an ioctl for an interface, and prints the result. */
 void ask(int fd, unsigned long request, const char *name);
 void ask_name(int fd, int index);
 
-/* A frame with these bytes; an FD frame with these flags; a frame without bytes. */
+/* Macros for a classic frame with these bytes, an FD frame with these flags, and a frame without data. */
 #define LENGTH(...) sizeof((unsigned char[]){__VA_ARGS__})
 #define FRAME(id, ...) (&(struct can_frame){.can_id = (id), .len = LENGTH(__VA_ARGS__), .data = {__VA_ARGS__}})
 #define FD(id, bits, ...) \
     (&(struct canfd_frame){.can_id = (id), .len = LENGTH(__VA_ARGS__), .flags = (bits), .data = {__VA_ARGS__}})
 #define EMPTY(id) (&(struct can_frame){.can_id = (id)})
-/* Write frames, and print only failures. */
+/* Functions and macros that write frames, and print only failures. */
 void put(int fd, const struct can_frame *frame);
 void put_fd(int fd, const struct canfd_frame *frame);
 #define PUT(fd, id) put(fd, FRAME(id, 1))
 #define SAYS(fd, ...) put(fd, FRAME(RX, __VA_ARGS__))
-/* Writes frames of all kinds; the last is LAST. */
+/* `put_set` writes frames of all kinds. The last one has the identifier LAST. */
 #define LAST 0x7F1
 void put_set(int fd);
 void flood(int fd, int number);
 void pieces_of(int fd, int pieces);
 void several_of(int fd, unsigned number);
-/* Returns memory of which only this many bytes are accessible. */
+/* Returns a pointer to memory of which only this many bytes are accessible. */
 char *halfway(size_t bytes);
 
-/* How many milliseconds to wait for unwanted frames; the slower the machine, the longer. */
+/* How many milliseconds to wait for unwanted frames. The value is larger on a slower machine. */
 extern int quiet;
-/* Reads this many frames, however long each takes, and all others that come soon after. */
+/* Reads this many frames, however long each takes, and all further frames that come soon after. */
 void take(int fd, int expected);
-/* Reads frames up to the one with this identifier. */
+/* Reads frames until the frame with this identifier. */
 void take_to(int fd, canid_t id);
-/* Reads the frame of the last write, and prints its bytes up to the last nonzero one. After a failed write no frame
- * comes. */
+/* Reads the frame of the last write, and prints its bytes up to the last nonzero one. After a failed write no frame is
+ * expected. */
 void look(int fd);
-/* Read messages: of ISO-TP, up to a message with the byte 0x77; of CAN_BCM, up to the frame LAST of `writer`. */
+/* Functions that read messages: an ISO-TP socket's, up to a message with the byte 0x77, or a CAN_BCM socket's, up to
+ * the frame LAST from `writer`. */
 void message(int fd);
 void message_to_77(int fd);
 void change(int fd);
 void changes_to_last(int fd, int writer);
-/* Read without waiting; with the address; several messages; with control messages. */
+/* Functions that read without waiting, with the address, several messages at once, or with control messages. */
 void glance(int fd);
 void from(int fd, int length);
 void several_from(int fd, unsigned number, int flags);
 void controls(int fd, size_t room);
 
-/* Waits for one of these events, and prints the events then; or prints the present events. */
+/* `until` waits for one of these events and prints the events that the socket then has. `events` prints the present
+ * events. */
 void until(int fd, short events);
 void events(int fd, short events);
 void selected(int fd);
 void watch(int fd, unsigned events);
-/* Checks that the watched descriptor gets an event, however long that takes; or that it gets none. */
+/* Checks that the watched descriptor gets an event, however long that takes, or that it gets none. */
 void watched(bool is_expected);
-/* Waits so many milliseconds; only for cases in which time must pass. */
+/* Waits for this many milliseconds. Only for cases in which time must pass. */
 void pass(int milliseconds);
-/* Installs a handler of SIGALRM, or of another signal, with these flags; sends SIGALRM in 50 ms; prints how many
- * signals came. */
+/* `signals` and `signals_of` install a handler of SIGALRM, or of another signal, with these flags. `soon` sends SIGALRM
+ * in 50 ms. `caught` prints how many signals came. */
 void signals(int flags);
 void signals_of(int number, int flags);
 void soon(void);
 void caught(void);
-/* Prints whether more than so many milliseconds have passed since lasts_from. */
+/* `lasted` prints whether more than this many milliseconds have passed since lasts_from. */
 void lasts_from(void);
 void lasted(int milliseconds);
 
-/* Set and print options. */
+/* Functions that set options and print them. */
 int set(int fd, int level, int option, int value);
 void get(int fd, int level, int option, socklen_t length);
 void get_length(int fd, int level, int option, socklen_t length);
@@ -159,7 +162,7 @@ void error_of(int fd);
 #define FILTER(fd, ...) filter(fd, (struct can_filter[]){__VA_ARGS__}, sizeof((struct can_filter[]){__VA_ARGS__}))
 void filter(int fd, const struct can_filter *filters, size_t length);
 
-/* A message to the broadcast manager: the frames, then the fields of the head. */
+/* A message to the broadcast manager. TELL has the frames first, and then the fields of the head. */
 struct task {
     struct bcm_msg_head head;
     _Alignas(8) struct can_frame frames[4];
@@ -176,13 +179,13 @@ void tell(int fd, const struct task *task);
 void tell_to(int fd, const struct sockaddr_can *address, const struct task *task);
 void tell_fd(int fd, unsigned opcode, const struct canfd_frame *frame);
 
-/* Send an ISO-TP message of this length; the second from can0 to can1 with this block size. */
+/* Functions that send an ISO-TP message of this length. `two_ends` sends it from can0 to can1 with this block size. */
 void long_message(int fd, size_t length);
 void two_ends(size_t length, unsigned char block);
 
-/* Evaluates this in a separate process, which starts after so many milliseconds. */
+/* Evaluates an expression in a separate process, which starts after this many milliseconds. */
 #define BESIDE(milliseconds, ...) (fork() == 0 ? pass(milliseconds), (__VA_ARGS__), _exit(0) : (void)0)
-/* Passes a socket through a pair of Unix sockets; d is the copy. */
+/* Passes a socket through a pair of Unix sockets; d is the received copy. */
 void passed(int fd);
 void many_sockets(int number);
 void one_after_other(int number);

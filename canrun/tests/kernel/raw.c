@@ -1,14 +1,14 @@
-/* CAN_RAW: writes and reads. */
+/* Writes and reads on CAN_RAW sockets. */
 #include "probe.h"
 
-/* A frame of 3 bytes in a larger buffer; and a -1 that the compiler does not see. */
+/* A frame of 3 bytes in a larger buffer, and a -1 that the compiler does not know. */
 static const union {
     struct canfd_frame frame;
     char room[100];
 } wide = {{.can_id = 0x123, .len = 3, .data = {1, 2, 3}}};
 static volatile int minus_1 = -1;
 
-/* Writes of this length: to a socket without FD frames, and to one with them. */
+/* Writes this many bytes to a socket without FD frames, and to a socket with FD frames. */
 #define WRITES(name, length)                                                                          \
     CASE(name, a = raw("can0"), b = raw("can1"), with_fd(b), DO(write(a, &wide, length)), with_fd(a), \
          DO(write(a, &wide, length)), take(b, (length) == 16 || (length) == 72 ? 1 : 0))
@@ -21,7 +21,7 @@ WRITES(write_71, 71)
 WRITES(write_72, 72)
 WRITES(write_73, 73)
 
-/* The contents of a frame. */
+/* Writes a frame with these contents. */
 #define CARRIES(name, ...) \
     CASE(name, a = raw("can0"), b = raw("can1"), DO(write(a, &(struct can_frame){__VA_ARGS__}, 16)), look(b))
 CARRIES(frame_plain, .can_id = 0x123, .len = 2, .data = {1, 2})
@@ -80,7 +80,7 @@ SENDS(send_dontroute, MSG_DONTROUTE)
 CASE(send_oob, a = raw("can0"), DO(send(a, FRAME(0x123, 1), 16, MSG_OOB)))
 CASE(send_errqueue, a = raw("can0"), DO(send(a, FRAME(0x123, 1), 16, MSG_ERRQUEUE)))
 
-/* Addresses of sendto on a socket that is bound to can0. */
+/* Calls sendto with this address on a socket that is bound to can0. */
 #define SENDS_TO(name, address, length)                                                                    \
     CASE(name, a = raw("can0"), b = raw("can1"), c = raw("can0"),                                          \
          DO(sendto(a, FRAME(0x123, 1), 16, 0, (const struct sockaddr *)(address), length)), PUT(c, 0x7F0), \
@@ -108,7 +108,7 @@ CASE(unbound_read, a = socket(PF_CAN, SOCK_RAW, CAN_RAW), glance(a))
 CASE(all_write, a = raw(NULL), DO(write(a, FRAME(0x123, 1), 16)))
 CASE(all_to, a = raw(NULL), b = raw("can1"), DO(sendto(a, FRAME(0x123, 1), 16, 0, TO(at("can0")))), take(b, 1))
 
-/* Pieces of a frame. */
+/* Frames that are written in pieces. */
 CASE(pieces, a = raw("can0"), b = raw("can1"), pieces_of(a, 16), take(b, 1))
 CASE(pieces_1024, a = raw("can0"), b = raw("can1"), pieces_of(a, 1024), take(b, 1))
 CASE(pieces_1025, a = raw("can0"), pieces_of(a, 1025))
@@ -160,7 +160,7 @@ CASE(from_all, a = raw(NULL), b = raw("vcan0"), PUT(b, 0x123), until(a, POLLIN),
 CASE(from_own, a = raw("can0"), set(a, SOL_CAN_RAW, CAN_RAW_RECV_OWN_MSGS, 1), PUT(a, 0x123), until(a, POLLIN),
      from(a, 24))
 
-/* The receivers of a sent frame. */
+/* Which sockets receive a sent frame. */
 CASE(other_end, a = raw("can0"), b = raw("can1"), PUT(a, 0x123), take(b, 1))
 CASE(neighbour, a = raw("can0"), b = raw("can0"), PUT(a, 0x123), take(b, 1), take(a, 0))
 CASE(own, a = raw("can0"), DO(set(a, SOL_CAN_RAW, CAN_RAW_RECV_OWN_MSGS, 1)), PUT(a, 0x123), take(a, 1))

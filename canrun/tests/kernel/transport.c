@@ -1,5 +1,5 @@
 /* CAN_J1939: messages of several frames. a and c are J1939 sockets on can0, at the addresses OWN and OTHER. b is a raw
- * socket on can1, and sends the frames of the node OTHER. */
+ * socket on can1 that sends the frames of the node OTHER. */
 #include "j1939.h"
 
 #define SENDER a = node(OWN), b = line()
@@ -67,7 +67,8 @@ CASE(bam_own_interface, TO_ALL, c = broadcast(node(OTHER)), send_to(a, ALL, GROU
      receive_none(a))
 CASE(bam_short_data, TO_ALL, BAM(10, 2), HEARS(b, 0x18EBFF90, 1, 2), BAM_DATA(1), BAM_DATA(2), receive_none(a))
 
-/* A transfer that is still active when the last socket is closed would disturb the next case. */
+/* Ends each active transfer. A transfer that is still active when the last socket is closed would disturb the next
+ * case. */
 #define ENDS ABORTS(3), EXTENDED_CONTROLS(b, 0xFF, 3, 0xFF, 0xFF, 0xFF, 0, 0x23, 1), pass(20)
 #define REQUESTS(length, total, most) CONTROLS(b, 0x10, length, 0, total, most, 0, 0x23, 1)
 CASE(get_whole, SENDER, REQUESTS(10, 2, 2), take(b, 1), packets(b, 1, 2), take(b, 1), receive(a))
@@ -131,7 +132,7 @@ CASE(extended_get_offset_of_other_group, SENDER, ASKS(0xFA, 6), take(b, 1),
      EXTENDED_CONTROLS(b, 0x16, 255, 0, 0, 0, 0, 0x24, 1), take(b, 1), ENDS)
 CASE(extended_get_too_long, SENDER, EXTENDED_CONTROLS(b, 0x14, 0, 0, 0, 8, 0, 0x23, 1), take(b, 1))
 
-/* Both ends on one interface. */
+/* Both ends of a transfer are on one interface. */
 #define BOTH a = node(OWN), c = node(OTHER)
 #define BOTH_SEND(length) CASE(both_##length, BOTH, send_to(a, OTHER, GROUP, length), receive(c), error_of(a))
 BOTH_SEND(9)
@@ -154,7 +155,7 @@ CASE(both_in_pieces, BOTH,
                 0)),
      receive(c))
 
-/* SO_SNDBUF counts the waiting segments. */
+/* Sends until SO_SNDBUF is used up, which counts the waiting segments. */
 static void flood_segments(int fd, int number, int flags) {
     int done = 0;
     while (done < number && sendto(fd, "12345678", 8, flags, WAY("can0", 0, GROUP, OTHER)) == 8) {

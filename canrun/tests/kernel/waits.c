@@ -1,8 +1,8 @@
-/* Received frames, events of a socket, and signals. */
+/* Waits for frames, for events of a socket, and for signals. */
 #include "probe.h"
 #include <sys/stat.h>
 
-/* The limit in milliseconds for frames that must come, and the maximum number of frames that are read. */
+/* How many milliseconds to wait for frames that must come, and the maximum number of frames that are read. */
 enum { PATIENCE = 5000, MOST = 40 };
 
 static bool comes(int fd, short wanted, int milliseconds) {
@@ -15,7 +15,7 @@ static void bytes(const unsigned char *first, size_t length) {
     }
 }
 
-/* Prints a frame like candump. An FD frame is printed as its flags, a dot, and its bytes. */
+/* Prints a frame in candump's format. An FD frame is printed as its flags, a dot, and its bytes. */
 static void show_frame(const struct canfd_frame *frame, ssize_t length) {
     const struct can_frame *classic = (const struct can_frame *)frame;
     say(frame->can_id & (CAN_EFF_FLAG | CAN_ERR_FLAG) ? "%08X" : "%03X",
@@ -59,7 +59,7 @@ void take(int fd, int expected) {
     }
 }
 
-/* Repeats the call until it returns `last`, or nothing comes. */
+/* Repeats the call until it returns `last`, or until nothing comes. */
 static void each_to(int fd, canid_t (*one)(int), canid_t last) {
     for (int number = 0; number < MOST; number++) {
         if (!comes(fd, POLLIN, PATIENCE)) {
@@ -93,7 +93,7 @@ void look(int fd) {
     bytes(got, used);
 }
 
-/* Returns the byte of a message with one byte. */
+/* Reads a message and prints it. Returns its byte if it has exactly one, and otherwise 0. */
 static canid_t message_one(int fd) {
     static unsigned char room[9000];
     errno = 0;

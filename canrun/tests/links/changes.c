@@ -1,4 +1,4 @@
-/* Changes of a link, and events. */
+/* Changes of a link, and the events that they cause. */
 #include "links.h"
 
 #define TO_CAN2 indexed(new_link(0), "can2")
@@ -76,7 +76,7 @@ CASE(events_by_membership, reset(), a = route(0), b = route(0),
 CASE(events_of_down, reset(), a = route(RTMGRP_LINK), b = route(0), tells(b, flags(TO_CAN2, 0, IFF_UP)),
      events_of(a, "can2"), reset())
 
-/* Makes a request for ioctl. */
+/* Fills in a request for ioctl. */
 static struct ifreq *request_of(const char *name, int flags) {
     static struct ifreq one;
     one = (struct ifreq){.ifr_flags = (short)flags};

@@ -1,4 +1,4 @@
-/* Messages of NETLINK_ROUTE: questions, answers, and reads of the answers. */
+/* Messages of NETLINK_ROUTE: requests, answers, and reads of the answers. */
 #include "links.h"
 
 #define GET(flags) get_link(flags)

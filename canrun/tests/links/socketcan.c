@@ -1,9 +1,9 @@
-/* The whole interface of libsocketcan. */
+/* All functions of libsocketcan. */
 #include "links.h"
 
 #include <libsocketcan.h>
 
-/* Prints the result of a call. It prints no errno, because the library itself prints the reason. */
+/* Prints the result of a call, but no errno, because the library itself prints the reason. */
 #define LIB(...) say(" %d", (int)(__VA_ARGS__))
 #define GETS(name, ...) CASE(lib_##name, reset(), ({ __VA_ARGS__; }))
 #define CAN2(call, field) LIB(call("can2", &got)), say(" %u", (unsigned)(field))

@@ -1,7 +1,7 @@
-/* A socket on all interfaces: the interface that a frame comes from, and the interface that a frame is sent on. */
+/* A socket on all interfaces: from which interface a frame comes, and on which interface a frame is sent. */
 #include "check.h"
 
-/* The interface of the other bus. */
+/* The interface of the second bus. */
 #define OTHER "car0"
 
 int main(void) {
@@ -16,7 +16,7 @@ int main(void) {
     length = sizeof from;
     CHECK(recvfrom(any, &frame, sizeof frame, 0, (struct sockaddr *)&from, &length) == 16 && number_of(&frame) == 1);
     CHECK(from.can_ifindex == to.can_ifindex);
-    /* The frame comes by loopback at can0, and from the bus at can1. */
+    /* The frame arrives by loopback at can0, and from the bus at can1. */
     send_numbered(can0, 0x123, 2);
     bool has_can0 = false, has_can1 = false;
     for (int i = 0; i < 2; i++) {

@@ -1,12 +1,12 @@
-/* A socket on all interfaces receives the frames in their order, from the first on: a gateway's answer comes after its
- * cause, and no timestamp is before the last. There are two buses, and on each a second interface on which the program
- * listens. */
+/* A socket on all interfaces receives the frames in order, from the first frame on: a gateway's answer comes after the
+ * frame that caused it, and timestamps never decrease. There are two buses, and on each a second interface on which the
+ * program listens. */
 #include "check.h"
 #include <pthread.h>
 
 #define FRAMES 300
 
-/* Sends each frame received at can1 on to car0. */
+/* Answers each frame received on can1 with a frame on car0. */
 static void *gateway(void *ready) {
     int in = bound("can1"), out = bound("car0");
     CHECK(write(*(int *)ready, "x", 1) == 1);
@@ -52,7 +52,7 @@ int main(void) {
     for (unsigned i = 0; i < FRAMES; i++) {
         send_patiently(writer, 0x100, i);
     }
-    /* A frame comes once from each interface of its bus: can0 and can1, or car0 and car1. */
+    /* Each frame arrives once from each interface of its bus: can0 and can1, or car0 and car1. */
     for (; count < 4 * FRAMES; count++) {
         struct can_frame frame = take(all, &moment);
         CHECK(moment >= last);

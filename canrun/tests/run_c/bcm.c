@@ -84,7 +84,7 @@ static void cyclic(void) {
         get(raw, 0x102, 2);
     }
     CHECK(now() - start >= 9 * 20 - 5); /* The first frame is sent at once, then one every 20 ms. */
-    /* The contents change, and the timer continues. */
+    /* The contents change, but the timer is not restarted. */
     struct message changed = {.head = {.opcode = TX_SETUP, .can_id = 77, .nframes = 2},
                               .frames = {frame_of(0x101, 3), frame_of(0x102, 4)}};
     CHECK(give(changed) == (ssize_t)size_of(2));
@@ -104,7 +104,7 @@ static void cyclic(void) {
     FAILS(give((struct message){.head = {.opcode = TX_READ, .can_id = 77}}), EINVAL);
 }
 
-/* Three frames, 10 ms apart; then they stop, and the program gets a message. */
+/* Sends three frames, 10 ms apart; then the task stops, and the program gets a message. */
 static void counted(void) {
     struct message task = {.head = {.opcode = TX_SETUP,
                                     .flags = SETTIMER | STARTTIMER | TX_COUNTEVT | TX_CP_CAN_ID,
@@ -165,7 +165,7 @@ static void limits(void) {
     while (comes(manager, 0)) {
         expect(RX_TIMEOUT, 0x210, 0); /* On a slow machine there was a second timeout. */
     }
-    /* At most one message in two seconds. */
+    /* The throttle allows at most one message in two seconds. */
     double start = now();
     CHECK(give((struct message){
               .head = {.opcode = RX_SETUP, .flags = SETTIMER | RX_FILTER_ID, .can_id = 0x211, .ival2 = ms(2000)}}) > 0);
@@ -186,7 +186,7 @@ static void remote(void) {
     get(raw, 0x220, 42);
 }
 
-/* A socket on all interfaces names the interface in sendto, and recvfrom returns the interface of a frame. */
+/* For a socket on all interfaces, sendto names the interface, and recvfrom returns the interface of a frame. */
 static void all_interfaces(void) {
     int all = opened(NULL);
     struct sockaddr_can to = address_of("can0"), from;

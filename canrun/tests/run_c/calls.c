@@ -57,7 +57,7 @@ static void each_read(void) {
     CHECK(recvmmsg(can1, several, 2, MSG_WAITFORONE, &limit) == 1 && is_frame(&frame, 8));
 }
 
-/* recvmsg(2), and af_can: a frame that is cut is marked, and its rest is lost. */
+/* Flags of recvmsg(2) and af_can: a frame that does not fit is marked as truncated, and the rest of it is lost. */
 static void flags(void) {
     struct can_frame frame;
     struct iovec part = {&frame, 8};

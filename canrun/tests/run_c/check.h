@@ -1,4 +1,4 @@
-/* The common part of the C programs of test_run_c.py. They are ordinary programs with CAN sockets, and know nothing of
+/* The common part of the C programs of test_run_c.py. They are ordinary programs with CAN sockets, without code for
  * canbusd. A failed check prints its place and ends the program with status 1. */
 #ifndef CHECK_H
 #define CHECK_H
@@ -48,7 +48,7 @@
         }                                                                                                          \
     } while (0)
 
-/* How many milliseconds a frame may take, on any machine. */
+/* How many milliseconds to wait for a frame that must come, on any machine. */
 #define PATIENCE 20000
 /* How many milliseconds to wait for unwanted frames. */
 #define QUIET 100
@@ -88,7 +88,7 @@ static inline void send_numbered(int fd, canid_t id, unsigned number) {
     CHECK(write(fd, &frame, sizeof frame) == sizeof frame);
 }
 
-/* Sends a numbered frame, and repeats that while the transmit queue is full. */
+/* Sends a numbered frame, and tries again as long as the transmit queue is full. */
 static inline void send_patiently(int fd, canid_t id, unsigned number) {
     struct can_frame frame = frame_of(id, number);
     while (write(fd, &frame, sizeof frame) != sizeof frame) {
@@ -109,7 +109,7 @@ static inline struct can_frame got(int fd) {
     return frame;
 }
 
-/* Checks that the next frame is this one. */
+/* Checks that the next frame has this identifier and number. */
 static inline void get(int fd, canid_t id, unsigned number) {
     struct can_frame frame = got(fd);
     if (frame.can_id != id || frame.can_dlc != 4 || number_of(&frame) != number) {

@@ -1,8 +1,8 @@
-/* Interfaces as devices: getifaddrs, and CAN sockets that are bound to a device, which they ignore. */
+/* CAN interfaces as network devices: getifaddrs, and CAN sockets that are bound to a device, which has no effect. */
 #include "check.h"
 #include <ifaddrs.h>
 
-/* An interface has one entry, without an address. */
+/* Checks that an interface has one entry, without an address. */
 static void entry(const struct ifaddrs *list, const char *name) {
     int count = 0;
     for (; list; list = list->ifa_next) {

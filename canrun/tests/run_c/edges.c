@@ -5,7 +5,7 @@
 #include <linux/sockios.h>
 #include <sys/mman.h>
 
-/* Memory that is not accessible; and the address 0, hidden from the compiler. */
+/* Memory that is not accessible, and a null pointer that is hidden from the compiler. */
 static char *nowhere, *volatile null;
 
 static void types(void) {
@@ -47,7 +47,7 @@ static void addresses(void) {
     CHECK(close(fd) == 0 && close(reader) == 0);
 }
 
-/* A frame in more pieces than it has bytes. */
+/* A frame that is written and read in more pieces than it has bytes. */
 static void pieces(void) {
     int fd = bound("can0"), reader = bound("can1");
     struct can_frame frame = frame_of(0x123, 7), back = {0};
@@ -91,7 +91,7 @@ static void pointers_of_reads(int fd, int writer) {
     FAILS(recv(fd, null, sizeof frame, 0), EFAULT);
     FAILS(recvmsg(fd, (struct msghdr *)nowhere, 0), EFAULT);
     FAILS(readv(fd, (struct iovec *)nowhere, 1), EFAULT);
-    /* Data that could not be copied are lost. */
+    /* Frames whose data could not be copied are lost. */
     get(fd, 0x123, 2);
     FAILS(recvfrom(fd, &frame, sizeof frame, 0, (struct sockaddr *)nowhere, &length), EFAULT);
     FAILS(getsockname(fd, (struct sockaddr *)nowhere, &length), EFAULT);
@@ -111,7 +111,7 @@ static void pointers(void) {
     CHECK(close(fd) == 0 && close(writer) == 0);
 }
 
-/* Which argument is checked first if several are wrong, or there is nothing to do. */
+/* Checks which argument is tested first if several are wrong, or if there is nothing to do. */
 static void order_of_arguments(void) {
     int fd = bound("can1"), writer = bound("can0"), one = 1;
     struct can_frame frame;
@@ -157,7 +157,7 @@ static void filters(void) {
     CHECK(close(fd) == 0 && close(writer) == 0);
 }
 
-/* Written error message frames are accepted. */
+/* Error message frames that a program writes are accepted. */
 static void errors(void) {
     int fd = bound("can0"), reader = bound("can1");
     struct can_frame frame = {.can_id = CAN_ERR_FLAG | CAN_ERR_BUSERROR, .can_dlc = CAN_ERR_DLC};
@@ -215,7 +215,7 @@ static void times(void) {
     CHECK(close(fd) == 0);
 }
 
-/* The manager compares 8 bytes, even of shorter frames. */
+/* The broadcast manager compares 8 bytes, even if the frame is shorter. */
 static void lengths(void) {
     int fd = manager(), writer = bound("can1");
     struct manager got, sent = {{RX_SETUP, 0, 0, {0, 0}, {0, 0}, 0x321, 1}, {{.can_id = 0x321}}};
@@ -233,7 +233,7 @@ static void lengths(void) {
     CHECK(close(fd) == 0 && close(writer) == 0);
 }
 
-/* Each remote frame is answered. */
+/* Checks that each remote frame is answered. */
 static void replies(void) {
     int fd = manager(), writer = bound("can1");
     struct manager sent = {{RX_SETUP, RX_RTR_FRAME, 0, {0, 0}, {0, 0}, 0x222 | CAN_RTR_FLAG, 1},

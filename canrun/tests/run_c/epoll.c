@@ -1,4 +1,4 @@
-/* poll, select and epoll, level-triggered and edge-triggered, report a frame exactly when there is one. */
+/* poll, select and epoll, level-triggered and edge-triggered, report a frame if and only if there is one. */
 #include "check.h"
 #include <sys/epoll.h>
 #include <sys/select.h>

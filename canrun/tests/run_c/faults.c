@@ -1,4 +1,4 @@
-/* Each errno of net/can/af_can.c and raw.c of the kernel. */
+/* Each errno that net/can/af_can.c and raw.c of the kernel return. */
 #include "check.h"
 #include <linux/sockios.h>
 
@@ -72,7 +72,7 @@ static void writes(int fd) {
     get(reader, 0x123, 2);
 }
 
-/* A refused bind leaves the earlier one in place. A bind to another interface moves the socket. */
+/* A refused bind leaves the earlier binding in place. A bind to another interface moves the socket. */
 static void binds(void) {
     struct sockaddr_can address = address_of("can1"), own;
     socklen_t length = sizeof own;

@@ -20,12 +20,12 @@ int main(void) {
         CHECK(got_frame.can_id == frame.can_id && got_frame.len == frame.len &&
               got_frame.flags == (frame.flags | CANFD_FDF) && !memcmp(got_frame.data, frame.data, frame.len));
     }
-    /* A length that no frame has is padded with zeros. */
+    /* A frame with an invalid length is padded with zeros to the next valid length. */
     struct canfd_frame odd = {.can_id = 0x123, .len = 9, .data = {9, 9, 9, 9, 9, 9, 9, 9, 9}}, filled = {0};
     CHECK(write(writer, &odd, sizeof odd) == CANFD_MTU);
     CHECK(read(reader, &filled, sizeof filled) == CANFD_MTU && filled.len == 12 && filled.data[8] == 9 &&
           filled.data[9] == 0);
-    /* One read returns both kinds. A socket without the option gets classic frames only. */
+    /* One read call returns both kinds of frame. A socket without the option gets classic frames only. */
     send_numbered(writer, 0x321, 7);
     CHECK(read(reader, &filled, sizeof filled) == CAN_MTU && filled.can_id == 0x321);
     get(classic, 0x321, 7);

@@ -1,5 +1,5 @@
-/* Filters with the rule of linux/can.h: received & mask == id & mask, inverted by CAN_INV_FILTER. Some lists are too
- * long for one message of the server. */
+/* Filters with the rule of linux/can.h: received & mask == id & mask, inverted by CAN_INV_FILTER. Some filter lists are
+ * too long for one message to the server. */
 #include "check.h"
 
 #define MANY 200
@@ -9,7 +9,7 @@ static void use(const struct can_filter *filters, size_t count) {
     CHECK(setsockopt(reader, SOL_CAN_RAW, CAN_RAW_FILTER, filters, (socklen_t)(count * sizeof *filters)) == 0);
 }
 
-/* Sends frames, and checks that exactly the expected ones come; the last one always does. */
+/* Sends frames, and checks that exactly the expected ones arrive. The last frame always passes the filters. */
 static void passes(const canid_t *sent, size_t count, const canid_t *expected, size_t expected_count) {
     for (size_t i = 0; i < count; i++) {
         struct can_frame frame = {.can_id = sent[i]};
@@ -51,7 +51,7 @@ static void many(bool is_joined) {
     }
     set(reader, CAN_RAW_JOIN_FILTERS, is_joined);
     use(filters, MANY);
-    /* The frame is sent on another interface, and the filters do not let it back in. */
+    /* The frame is sent on another interface, and the filters do not let it in again. */
     struct sockaddr_can to = address_of("can0");
     struct can_frame frame = {.can_id = is_joined ? filters[0].can_id & ~CAN_INV_FILTER : 0x7FF};
     CHECK(sendto(reader, &frame, sizeof frame, 0, (struct sockaddr *)&to, sizeof to) == sizeof frame);

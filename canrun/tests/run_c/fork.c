@@ -1,5 +1,5 @@
-/* A socket survives fork, dup, exec and SCM_RIGHTS, and ends with its last copy. With a number as argument this program
- * is the one that inherits that descriptor. */
+/* A socket survives fork, dup, exec and SCM_RIGHTS, and ends when its last copy is closed. With a number as its
+ * argument, this program is the one that inherits that descriptor. */
 #include "check.h"
 
 static void send_descriptor(int through, int fd) {
@@ -46,7 +46,7 @@ int main(int count, char **words) {
         _exit(0);
     }
     succeeds(child);
-    send_numbered(writer, 0x123, 2); /* The copies in the child are closed, ours are not. */
+    send_numbered(writer, 0x123, 2); /* The child's copies are closed, but this process still has the socket. */
     get(reader, 0x123, 2);
     int copy = dup(writer), third = dup2(copy, 77);
     CHECK(copy >= 0 && third == 77 && close(writer) == 0 && close(copy) == 0);

@@ -1,5 +1,5 @@
-/* A transmit queue of 10 frames on a bus that sends one frame a second: at the latest the 12th write finds the queue
- * full. With the word `wait` no write does. */
+/* A transmit queue of 10 frames on a bus that sends one frame a second: the 12th write, or an earlier one, finds the
+ * queue full. With the argument `wait`, no write finds it full. */
 #include "check.h"
 
 int main(int count, char **words) {

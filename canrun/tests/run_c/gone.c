@@ -1,5 +1,5 @@
-/* The server ends while a read waits, as if a device is unregistered: ENODEV, and ENXIO for writes. The program prints
- * a word when the server should end. */
+/* The server ends while a read waits, as if the device was unregistered. The read returns ENODEV, and writes return
+ * ENXIO. The program prints a word when the server should end. */
 #include "check.h"
 
 int main(void) {

@@ -1,4 +1,4 @@
-/* Receives a thousand frames in order while signals interrupt the waits; the handler has SA_RESTART or not. */
+/* Receives a thousand frames in order while signals interrupt the waits, with and without SA_RESTART. */
 #include "check.h"
 
 #include <sys/time.h>
@@ -10,7 +10,7 @@ static void count(int number) {
     signals++;
 }
 
-/* Receives a message with its address, for which the kernel has no simple read. */
+/* Receives a message with its address, which the kernel's simple read cannot return. */
 static bool receive(int fd, unsigned expected) {
     struct can_frame frame;
     struct sockaddr_can from;

@@ -59,7 +59,8 @@ static void single_frames(void) {
     CHECK(close(fd) == 0);
 }
 
-/* 20 bytes: a first frame, flow control with blocks of one frame and pauses of 5 ms, two consecutive frames. */
+/* Sends 20 bytes: a first frame, flow control with blocks of one frame and pauses of 5 ms, and two consecutive frames.
+ */
 static void several_frames(void) {
     int fd = made();
     CHECK(bind_isotp(fd, RX, TX) == 0);
@@ -83,7 +84,7 @@ static void several_frames(void) {
     SAYS("\x22"
          "defghij");
     reads(fd, "0123456789abcdefghij", 20);
-    /* A wrong sequence number, and frames that stop. */
+    /* A frame with a wrong sequence number, and frames that stop too early. */
     SAYS("\x10\x14"
          "012345");
     SEES("\x30\0\0");
@@ -99,7 +100,7 @@ static void several_frames(void) {
     CHECK(close(fd) == 0);
 }
 
-/* With CAN_ISOTP_WAIT_TX_DONE a write reports how its message ended. */
+/* With CAN_ISOTP_WAIT_TX_DONE, write returns the result of the whole message. */
 static void waits(void) {
     int fd = made();
     set_options(
@@ -149,7 +150,8 @@ static void extended(void) {
     CHECK(close(fd) == 0);
 }
 
-/* Two sockets, and 8,000 bytes: a length of 32 bits. The whole message is sent although its socket is closed. */
+/* Two sockets and 8,000 bytes, which need a length of 32 bits. The whole message is sent although its socket is closed
+ * before. */
 static void long_messages(bool is_fd) {
     static char data[8000];
     int sender = made(), receiver = made();

@@ -1,4 +1,4 @@
-/* The common part of the programs of CAN_ISOTP: a raw socket at the other end that plays the peer. */
+/* The common part of the CAN_ISOTP programs: a raw socket at the other end that plays the peer. */
 #ifndef ISOTP_TEST_H
 #define ISOTP_TEST_H
 

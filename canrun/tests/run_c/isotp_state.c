@@ -17,7 +17,8 @@ static int error_of(int fd) {
     return error;
 }
 
-/* The events that epoll reports for a socket; the program does not register its number there. */
+/* Returns the events that epoll reports for a socket. The program's event data do not contain the descriptor's number.
+ */
 static uint32_t epolled(int fd, uint32_t events) {
     struct epoll_event event = {.events = events, .data = {.u64 = 1ull << 40}};
     int epoll = epoll_create1(0);
@@ -27,7 +28,7 @@ static uint32_t epolled(int fd, uint32_t events) {
     return count ? event.events : 0;
 }
 
-/* Checks a socket with an error, without a later message or with one. */
+/* Checks the events of a socket that has an error. `more` is POLLIN if a message came later, and otherwise 0. */
 static void has_error(int fd, short more) {
     fd_set readable, writable;
     FD_ZERO(&readable);
@@ -50,7 +51,7 @@ static void becomes_writable(int fd) {
     CHECK(poll(&one, 1, PATIENCE) == 1 && one.revents & POLLOUT);
 }
 
-/* Before bind nothing is sent or received. */
+/* A socket that is not bound sends and receives nothing. */
 static void unbound(void) {
     int fd = made();
     FAILS(write(fd, "x", 1), EADDRNOTAVAIL);
@@ -86,7 +87,8 @@ static void busy(void) {
     CHECK(close(fd) == 0);
 }
 
-/* An error of a sent message becomes the socket's error. The first call takes the error, and no other call gets it. */
+/* The error of a sent message becomes the socket's error. The first call reports and clears it, so later calls do not
+ * report it. */
 static void fault(const char *control, size_t length, int error) {
     int fd = made();
     CHECK(bind_isotp(fd, RX, TX) == 0);
@@ -116,7 +118,7 @@ static void fault(const char *control, size_t length, int error) {
 }
 #define FAULT(bytes, error) fault(bytes, sizeof(bytes) - 1, error)
 
-/* An error of a received message becomes the socket's error. Earlier data stay readable. */
+/* The error of a received message becomes the socket's error. Data that came before stay readable. */
 static void received_fault(void) {
     int fd = made();
     CHECK(bind_isotp(fd, RX, TX) == 0);
@@ -143,7 +145,7 @@ static void on_signal(int number) {
     (void)number;
 }
 
-/* A signal whose handler has no SA_RESTART ends a waiting write. */
+/* A signal whose handler lacks SA_RESTART ends a waiting write. */
 static void signals(void) {
     int fd = made();
     struct sigaction action = {.sa_handler = on_signal};
@@ -166,12 +168,12 @@ static void signals(void) {
     FAILS(write(fd, "0123456789", 10), EINTR);
     SEES("\x10\x0A"
          "012345");
-    SAYS("\x30\0\0"); /* The message was given up. */
+    SAYS("\x30\0\0"); /* The message has been aborted. */
     CHECK(!comes(peer, QUIET));
     CHECK(close(fd) == 0);
 }
 
-/* close waits for the end of the message, so a new socket sees none of its frames. */
+/* close waits until the message has been sent, so a new socket sees none of its frames. */
 static void closing(void) {
     int fd = made();
     CHECK(bind_isotp(fd, RX, TX) == 0);
@@ -203,7 +205,7 @@ static void closing_last(void) {
         clock_gettime(CLOCK_MONOTONIC, &before);
         CHECK(close(fd) == 0);
         clock_gettime(CLOCK_MONOTONIC, &after);
-        /* No flow control comes: the message ends a second after its first frame. */
+        /* No flow control frame comes, so the message ends one second after its first frame. */
         CHECK(after.tv_sec - before.tv_sec + (after.tv_nsec - before.tv_nsec) / 1e9 > 0.3);
         _exit(0);
     }

@@ -1,4 +1,5 @@
-/* Each option of linux/can/raw.h: its default, its lengths, and the result of getsockopt; and options of SOL_SOCKET. */
+/* Each option of linux/can/raw.h: its default, the lengths that it accepts, and the result of getsockopt. Also options
+ * of SOL_SOCKET. */
 #include "check.h"
 
 static int value_of(int fd, int level, int option) {
@@ -67,7 +68,7 @@ static void others(int fd) {
     CHECK(value_of(fd, SOL_SOCKET, SO_RCVBUF) == 16384); /* socket(7): the kernel doubles it. */
 }
 
-/* Options that are set before and after the bind have the same effect. */
+/* An option has the same effect whether it is set before or after the bind. */
 static void effects(void) {
     int writer = bound("can0"), beside = bound("can0"), reader = bound("can1");
     set(writer, CAN_RAW_LOOPBACK, 0);

@@ -1,5 +1,5 @@
-/* A reader with a small SO_RCVBUF that does not read loses frames, and SO_RXQ_OVFL counts them: received and lost
- * frames together are all sent frames. A reader that has set nothing loses none, because the server has room. */
+/* A reader with a small SO_RCVBUF that does not read loses frames. SO_RXQ_OVFL counts them, so that received and lost
+ * frames together are all sent frames. A reader that has not set SO_RCVBUF loses none, because the server has room. */
 #include "check.h"
 
 #define FRAMES 20000

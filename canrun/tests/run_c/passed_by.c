@@ -1,4 +1,4 @@
-/* Reads that bypass the library's receiving calls get the frame and nothing else, with buffers of any size: splice,
+/* Reads that bypass the library's receive functions get the frame and nothing else, with buffers of any size: splice,
  * preadv2, stdio, direct system calls and io_uring. */
 #include "check.h"
 #include <linux/io_uring.h>
@@ -52,7 +52,7 @@ static ssize_t by_system_call(char *room, size_t length) {
     return syscall(SYS_read, reader, room, length);
 }
 
-/* Not even through the C library. */
+/* Makes the system call without the C library. */
 static ssize_t by_instruction(char *room, size_t length) {
 #ifdef __x86_64__
     ssize_t result;
@@ -75,7 +75,7 @@ static ssize_t by_stdio(char *room, size_t length) {
     return (ssize_t)fread(room, 1, length, file);
 }
 
-/* The minimum of io_uring: one request at a time. */
+/* A minimal io_uring, with one request at a time. */
 static struct {
     int fd;
     unsigned *tail, *mask, *array, *head_of_ends, *mask_of_ends;
@@ -115,7 +115,7 @@ static ssize_t by_uring(char *room, size_t length) {
     return result;
 }
 
-/* A frame gets its own note, even if the frames before it bypassed the library. */
+/* Each frame comes with its own flags and address, even if the reads of earlier frames bypassed the library. */
 static void notes_are_right(void) {
     struct sockaddr_can from;
     char data[72];
@@ -124,7 +124,8 @@ static void notes_are_right(void) {
         struct can_frame frame;
         socklen_t length = sizeof from;
         int own = i % 3 == 0;
-        /* The bridge may still be sending the last of several equal frames; after a bypassed one this waits for it. */
+        /* The bridge may still be sending the last of several identical frames. After a frame that bypassed the
+         * library, this call waits for the bridge. */
         send_numbered(own ? reader : writer, 0x200, i < 7 ? i : i / 7);
         CHECK(comes(reader, PATIENCE));
         if (i % 2) {
@@ -139,7 +140,7 @@ static void notes_are_right(void) {
     }
 }
 
-/* Streams that are not sockets are unchanged. */
+/* Streams on descriptors other than sockets work as before. */
 static void other_streams(void) {
     char *text = NULL;
     size_t size;

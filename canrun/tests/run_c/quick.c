@@ -1,5 +1,5 @@
-/* Frames of many sockets, processes and threads at once. Each socket is written often enough for quick writes. Copies
- * of descriptors, and reused descriptor numbers, change nothing. Built with -pthread. */
+/* Frames of many sockets, processes and threads at once. Each socket is written often enough to get quick writes.
+ * Duplicated and reused descriptor numbers change nothing. Built with -pthread. */
 #include "check.h"
 #include <pthread.h>
 
@@ -33,7 +33,7 @@ static void *write_some(void *number) {
     return NULL;
 }
 
-/* More threads than a socket has places for replies. */
+/* Writes from more threads than a socket has places for replies. */
 static void write_by_threads(void) {
     unsigned numbers[THREADS] = {0};
     pthread_t threads[THREADS];
@@ -67,7 +67,7 @@ int main(void) {
     }
     read_all();
     CHECK(waitpid(child, &status, 0) == child && status == 0);
-    /* Each number now belongs to the next socket. */
+    /* After this, each descriptor number belongs to the next socket. */
     for (int s = 0; s < SOCKETS; s++) {
         copies[s] = dup(writers[s]);
     }
@@ -77,7 +77,7 @@ int main(void) {
     write_all(writers, 2 * EACH);
     read_all();
     write_by_threads();
-    /* Refusals have the right errno, too. */
+    /* Refused writes have the right errno, too. */
     FAILS(write(copies[0], &frame, 15), EINVAL);
     FAILS(write(copies[0], nowhere, sizeof frame), EFAULT);
     frame.can_dlc = 9;

@@ -1,5 +1,5 @@
-/* Facts that few programs use: results of ioctl and getsockopt, and options of CAN_ISOTP that are cut, refused or
- * stored in each frame. */
+/* Features that few programs use: results of ioctl and getsockopt, and CAN_ISOTP options that are truncated, refused or
+ * applied to each frame. */
 #include "isotp.h"
 #include <linux/sockios.h>
 

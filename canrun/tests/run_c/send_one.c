@@ -1,4 +1,4 @@
-/* Sends one frame on the named interface, and ends. */
+/* Sends one frame on the named interface, and exits. */
 #include "check.h"
 
 int main(int count, char **words) {

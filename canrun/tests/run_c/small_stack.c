@@ -1,9 +1,9 @@
-/* Threads with the smallest possible stack. After clearenv sockets and names work as before. */
+/* Threads with the smallest possible stack can use sockets. After clearenv sockets and interface names still work. */
 #include "check.h"
 #include <limits.h>
 #include <pthread.h>
 
-/* Sanitizers need more than the minimum. */
+/* Sanitizers need more stack than the minimum. */
 #ifdef __SANITIZE_ADDRESS__
 #define STACK 262144
 #else

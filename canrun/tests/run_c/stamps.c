@@ -1,10 +1,10 @@
-/* Timestamps: each way to ask for them returns the same timestamp, that of the bus. The program prints it, so that the
- * test can compare it with the server's log. */
+/* Timestamps: each way to request them returns the same timestamp, which is the one of the bus. The program prints it,
+ * so that the test can compare it with the server's log. */
 #include "check.h"
 #include <linux/net_tstamp.h>
 #include <linux/sockios.h>
 
-/* The timestamp in nanoseconds in a control message of this type; 0 without one. */
+/* Returns the timestamp in nanoseconds from a control message of this type, or 0 if there is none. */
 static int64_t stamp_of(int fd, int type) {
     char control[256];
     struct can_frame frame;
@@ -54,7 +54,7 @@ int main(void) {
         CHECK(stamp_of(plain, -1) == 0);
         printf("%lld.%06lld\n", (long long)(moment / 1000000000), (long long)(moment / 1000 % 1000000));
     }
-    /* Without room for the control message the frame comes with MSG_CTRUNC. */
+    /* Without room for the control message, the frame has the flag MSG_CTRUNC. */
     char little[4];
     struct can_frame frame;
     struct iovec part = {&frame, sizeof frame};

@@ -1,12 +1,13 @@
-/* A write waits for room that never comes: the bus sends one frame a minute and queues one. This signal ends the write,
- * whether its handler has SA_RESTART or not, and in whichever thread the handler runs. After another signal with
- * SA_RESTART the wait continues. The arguments are the signal, and how often to try. Built with -pthread. */
+/* A write waits for room that never comes, because the bus sends one frame a minute and queues only one. The signal in
+ * the first argument ends the write, whether its handler has SA_RESTART or not, and in whichever thread the handler
+ * runs. After another signal with SA_RESTART the wait continues. The second argument is the number of tries. Built with
+ * -pthread. */
 #include "check.h"
 #include <pthread.h>
 #include <sys/mman.h>
 
 static volatile sig_atomic_t is_ended, ticks;
-/* Memory that the processes share: the thread that writes. */
+/* The id of the thread that writes, in memory that the processes share. */
 static volatile pid_t *writer;
 static int number;
 
@@ -26,7 +27,7 @@ static void *write_in_vain(void *error) {
     *writer = gettid();
     FAILS(write(fd, &frame, sizeof frame), *(int *)error);
     CHECK(is_ended);
-    /* If a program ignores its flag, its next writes do not wait. */
+    /* If a program ignores that its handler has run, its next writes do not wait. */
     for (int i = 0; i < 20; i++) {
         FAILS(write(fd, &frame, sizeof frame), ENOBUFS);
     }
@@ -36,11 +37,11 @@ static void *write_in_vain(void *error) {
 static int child(bool has_thread, int flags) {
     struct itimerval often = {.it_value = {0, 1000}, .it_interval = {0, 1000}};
     struct sigaction end = {.sa_handler = on_end, .sa_flags = flags}, after;
-    /* A handler without SA_RESTART gives EINTR to its own thread. */
+    /* If a handler lacks SA_RESTART, the write of the thread that runs it returns EINTR. */
     int error = flags ? ENOBUFS : EINTR;
     struct sigaction tick = {.sa_handler = on_tick, .sa_flags = SA_RESTART};
     CHECK(sigaction(number, &end, NULL) == 0 && sigaction(SIGALRM, &tick, NULL) == 0);
-    /* Of two signals at once the first one decides whether the kernel restarts the call. */
+    /* If two signals come at once, the first one decides whether the kernel restarts the call. */
     CHECK(!flags || setitimer(ITIMER_REAL, &often, NULL) == 0);
     if (has_thread) {
         pthread_t thread;
@@ -54,7 +55,7 @@ static int child(bool has_thread, int flags) {
     return 0;
 }
 
-/* Whether this thread is in read(2), in which the write waits. */
+/* Whether this thread is in the read(2) that a waiting write uses. */
 static bool is_in_read(pid_t thread) {
     char path[64], text[16] = "";
     snprintf(path, sizeof path, "/proc/%d/syscall", thread);

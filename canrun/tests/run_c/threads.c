@@ -1,4 +1,4 @@
-/* Four threads write to one socket and four read from another: each frame arrives once. Built with -pthread. */
+/* Four threads write to one socket and four threads read from another. Each frame arrives once. Built with -pthread. */
 #include "check.h"
 #include <pthread.h>
 

@@ -1,5 +1,5 @@
-/* Writes by other calls than those of sockets. Each sends exactly the frame, or is refused as by the kernel. A write
- * that no library sees is refused by the socket's error, after a line on standard error. */
+/* Writes that do not use the functions of sockets. Each sends exactly the frame, or is refused as by the kernel. If the
+ * library does not see a write, a refusal is reported as the socket's error, after a line on standard error. */
 #include "check.h"
 #include <fcntl.h>
 #include <linux/can/isotp.h>
@@ -8,7 +8,7 @@
 #include <sys/uio.h>
 
 static int writer, reader;
-/* The sockets are the kernel's own, which refuses at once. */
+/* Whether the sockets are the kernel's own, which refuse a write at once. */
 static bool is_kernel;
 
 static int error_of(int fd) {
@@ -30,7 +30,7 @@ static ssize_t by_number_of_sendto(int fd, const void *data, size_t length) {
     return syscall(SYS_sendto, fd, data, length, 0, NULL, 0);
 }
 
-/* A refused frame stays in the pipe. */
+/* Writes by splice from a pipe. A refused frame stays in the pipe. */
 static ssize_t by_splice(int fd, const void *data, size_t length) {
     int ends[2], left = 0;
     CHECK(pipe(ends) == 0 && write(ends[1], data, length) == (ssize_t)length);
@@ -63,7 +63,7 @@ static ssize_t by_stream(int fd, const void *data, size_t length) {
     return result ? -1 : (ssize_t)length;
 }
 
-/* Not even through the C library. */
+/* Makes the system call without the C library. */
 static ssize_t by_instruction(int fd, const void *data, size_t length) {
     ssize_t result;
 #ifdef __x86_64__
@@ -108,7 +108,8 @@ static void others_are_refused(void) {
     CHECK(!comes(reader, QUIET) && close(unbound) == 0);
 }
 
-/* The kernel's Unix socket accepts any bytes, so the refusal comes a moment later. */
+/* Writes that the library does not see. The Unix socket under the CAN socket accepts any bytes, so the refusal comes a
+ * little later. */
 static void unseen(void) {
     struct can_frame frame = frame_of(0x123, 7);
     char data[72];
@@ -127,7 +128,7 @@ static void unseen(void) {
     get(reader, 0x123, 8);
 }
 
-/* Such writes to sockets of the other protocols. */
+/* Writes that the library does not see, on sockets of the other protocols. */
 static void other_protocols(void) {
     struct sockaddr_can address = address_of("can0");
     int manager = socket(PF_CAN, SOCK_DGRAM, CAN_BCM), isotp = socket(PF_CAN, SOCK_DGRAM, CAN_ISOTP);

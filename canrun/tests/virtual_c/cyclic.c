@@ -1,6 +1,6 @@
-/* cyclic NAME ID MICROSECONDS COUNT [DATA]: sends frames at exact moments, beginning at the next whole second. They
- * have these data, in hexadecimal digits, or their number in two bytes. With SENDS_ONLY its socket has an empty filter.
- * With READS it reads all frames that come meanwhile. */
+/* cyclic NAME ID MICROSECONDS COUNT [DATA]: sends frames at exact times, beginning at the next whole second. The data
+ * are in hexadecimal digits; without DATA, a frame has its number in two bytes. With SENDS_ONLY the socket has an empty
+ * filter. With READS the program reads all frames that arrive in between. */
 #include "node.h"
 
 #include <poll.h>

@@ -1,5 +1,5 @@
-/* Prints random data: from each call, from the devices, from the kernel at the start, addresses, and the order in which
- * four threads leave a barrier. */
+/* Prints random data: from each call, from the devices, and from the kernel at the start. Also prints addresses, and
+ * the order in which four threads leave a barrier. */
 #define _GNU_SOURCE
 #include <dlfcn.h>
 #include <fcntl.h>

@@ -1,7 +1,7 @@
-/* A program of a run that gives up its rights, and then writes into the run's memory:
+/* A program of a run that gives up its rights, and then writes forged data into the run's memory:
  *
- *   forger alarm PID    alarms that are due, and that would kill PID
- *   forger used         more slots than there is room for */
+ *   forger alarm PID    writes alarms that are due and would kill the process PID
+ *   forger used         writes a number of used slots that is larger than the maximum */
 #define _GNU_SOURCE
 #include "../../virtual/run.h"
 

@@ -1,5 +1,6 @@
-/* full NAME SECONDS: sends a frame every 10 ms for so long, without reading. Then reads until no frame has come for a
- * second. Prints the numbers of the other node's frames: the first and the last of each part without a gap. */
+/* full NAME SECONDS: sends a frame every 10 ms for this many seconds, without reading. Then reads until no frame has
+ * come for a second. Prints the numbers of the other node's frames: the first and the last number of each sequence
+ * without a gap. */
 #include "node.h"
 
 #include <poll.h>

@@ -1,4 +1,4 @@
-/* isotp NAME TX RX send LENGTH | receive COUNT: prints when a message was sent, was received, or failed. */
+/* isotp NAME TX RX send LENGTH | receive COUNT: prints when each message was sent, was received, or failed. */
 #include "node.h"
 
 #include <linux/can/isotp.h>

@@ -1,4 +1,4 @@
-/* A J1939 node at an address of an interface:
+/* A J1939 node on an interface, at an address:
  *
  *     j1939 INTERFACE ADDRESS receive N        prints the lengths of N messages
  *     j1939 INTERFACE ADDRESS send TO LENGTH   sends a message, and prints the time and the error of its socket, if any
@@ -43,7 +43,7 @@ static void send_to(int fd, const struct sockaddr_can *to, size_t length) {
     printf("%zu bytes: %s after %.6f s\n", length, strerror(error), since(&begun));
 }
 
-/* Tries to send each millisecond. */
+/* Tries to send every millisecond until the address can be used. */
 static void claim(int fd, const struct sockaddr_can *own) {
     struct sockaddr_can all = *own, other = *own;
     struct timespec begun;

@@ -1,4 +1,4 @@
-/* late MS COUNT: starts itself so many times, one after the other, as a program that needs so many milliseconds of
+/* late MS COUNT: starts itself this many times, one after the other. Each child uses this many milliseconds of
  * processor time before it joins the run. */
 #include <spawn.h>
 #include <stdio.h>
@@ -15,7 +15,7 @@ static long used(void) {
            (usage.ru_utime.tv_usec + usage.ru_stime.tv_usec) / 1000;
 }
 
-/* Runs before the constructors of all libraries. */
+/* Runs before the constructors of all libraries, because it is in .preinit_array. */
 static void begin_late(int count, char **words, char **settings) {
     (void)settings;
     while (count == 2 && used() < atoi(words[1])) {

@@ -1,8 +1,8 @@
-/* lent WORD: programs that only send. Their socket has an empty filter, except with `plain`.
+/* lent WORD: a program that only sends. Its socket has an empty filter, except with `plain`.
  *
  *   plain, filter   sends 40 frames at once, three times; prints the result of each write
- *   own             receives its own frames after 20 frames; prints whether each is marked as its own
- *   turns COUNT     sends so many frames, one every 1 ms
+ *   own             sends 40 frames, then receives three of its own; prints whether each is marked as its own
+ *   turns COUNT     sends this many frames, one every 1 ms
  *   many            opens 100 sockets, one after the other, and sends some frames with each
  *   fork            writes to one socket from two processes
  *   closed          closes all other descriptors between two writes

@@ -1,5 +1,5 @@
-/* many NAME COUNT: so many sockets. Each in turn sends a frame, and the others receive it with its timestamp; three
- * times. */
+/* many NAME COUNT: opens this many sockets. Each in turn sends a frame, and all others receive it with its timestamp.
+ * Does so three times. */
 #include "node.h"
 
 #define MOST 64

@@ -1,4 +1,4 @@
-/* orphans COUNT: starts so many processes. Their parents end at once, and no process waits for these. */
+/* orphans COUNT: starts this many processes. The parent of each ends at once, and no process waits for it. */
 #define _GNU_SOURCE
 #include <signal.h>
 #include <stdio.h>

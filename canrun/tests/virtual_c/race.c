@@ -1,6 +1,6 @@
-/* race: two threads of a node take an identifier for a request every 10 ms, and one of them forgets the lock. The
- * identifiers are unique if no thread waits between reading and incrementing the number. Prints the first identifier
- * that was given out twice. */
+/* race: two threads of a node each take an identifier for a request every 10 ms, without a lock. The identifiers are
+ * unique only if no thread takes one while another is between reading and incrementing the number. Prints the first
+ * identifier that was given out twice. */
 #define _GNU_SOURCE
 #include <pthread.h>
 #include <stdio.h>

@@ -1,4 +1,5 @@
-/* respond NAME ID RESPONSE COUNT: sends a frame with the second identifier 2 ms after each frame with the first. */
+/* respond NAME ID RESPONSE COUNT: sends a frame with the identifier RESPONSE 2 ms after each received frame with the
+ * identifier ID. */
 #include "node.h"
 
 int main(int count, char **words) {

@@ -1,5 +1,5 @@
 /* unseen nanosleep | futex | io_uring_enter | spin | sndtimeo | io_uring: waits that the library does not see, or that
- * have their own timeout. The first three are made like the calls of a Go program, without the C library. */
+ * have their own timeout. The first three make system calls directly, as Go programs do, without the C library. */
 #define _GNU_SOURCE
 #include <errno.h>
 #include <linux/futex.h>
@@ -12,7 +12,7 @@
 #include <time.h>
 #include <unistd.h>
 
-/* A system call that does not use the C library. */
+/* Makes a system call without the C library. */
 static long call(long number, long a, long b, long c, long d) {
     long result;
     register long r10 __asm__("r10") = d;
@@ -24,7 +24,7 @@ static long call(long number, long a, long b, long c, long d) {
     return result;
 }
 
-/* Reads the clock, and sleeps on a word for a second, like the scheduler of Go. */
+/* Reads the clock, and sleeps on a word for a second, as Go's scheduler does. */
 static int sleep_on_word(void) {
     static int word;
     struct timespec now, second = {1, 0};
@@ -32,7 +32,7 @@ static int sleep_on_word(void) {
     return call(SYS_futex, (long)&word, FUTEX_WAIT | FUTEX_PRIVATE_FLAG, 0, (long)&second) == -ETIMEDOUT ? 0 : 1;
 }
 
-/* Waits for a completion in a ring without requests. */
+/* Waits for a completion in a ring that has no requests. */
 static int wait_for_ring(void) {
     struct io_uring_params parameters = {0};
     long fd = call(SYS_io_uring_setup, 8, (long)&parameters, 0, 0);

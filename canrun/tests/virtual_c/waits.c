@@ -1,4 +1,4 @@
-/* Makes each kind of wait once. Prints how long it took by the clock, in milliseconds, and its result. */
+/* Makes each kind of wait once. Prints how many milliseconds it took by the clock, and its result. */
 #include "node.h"
 
 #include <poll.h>

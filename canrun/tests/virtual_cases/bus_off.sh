@@ -1,4 +1,5 @@
-# 32 destroyed attempts take the sender bus off; it comes back 200 ms later, by a program or (KIND=auto) by the server.
+# 32 destroyed attempts take the sender bus off. 200 ms later it is restarted by a program, or (KIND=auto) by the
+# server.
 . "$CASES/server.sh"
 printf 'next 32 from can0 id 100 skip 50 global bit\n' >"$OUT/rules"
 case $KIND in

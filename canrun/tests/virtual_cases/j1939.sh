@@ -1,4 +1,4 @@
-# J1939: an address that is claimed, messages of 8, 30 and 5,000 bytes, and one for which nobody is there.
+# J1939: an address claim, messages of 8, 30 and 5,000 bytes, and a message without a receiver.
 . "$CASES/server.sh"
 start can0,can1
 inside "$NODES/j1939" can0 80 claim >"$OUT/claimed"

@@ -1,4 +1,4 @@
-# C programs: a node that sends each 10 ms, one that responds 2 ms after each frame, and candump.
+# C programs: a node that sends every 10 ms, a node that responds 2 ms after each frame, and candump.
 . "$CASES/server.sh"
 start can0,can1,can2
 aside candump -ta can2 >"$OUT/candump"; dump=$!

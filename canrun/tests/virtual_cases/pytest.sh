@@ -1,5 +1,5 @@
-# An unchanged file of tests, with the fixture: what it keeps of each test, and its report. With jitter waits are longer than some
-# of its tests want.
+# An ordinary test file that uses the fixture. The case keeps the files of each test, and the report. With jitter some
+# tests may fail, because their waits are longer than they allow.
 mkdir "$OUT"
 cp "$CASES/tests_of_a_node.py" "$OUT/test_node.py"
 cd "$OUT"

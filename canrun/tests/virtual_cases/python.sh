@@ -1,4 +1,4 @@
-# python-can with the interface KIND: threads that send periodically, a Notifier, and receives with timeouts.
+# python-can with the interface KIND: threads that send periodically, a Notifier, and receive calls with timeouts.
 . "$CASES/server.sh"
 start can0,can1
 case $KIND in

@@ -1,5 +1,5 @@
-"""python_can.py INTERFACE A B SECONDS: a Notifier, periodic senders, receives with a timeout; prints each event with
-its time."""
+"""python_can.py INTERFACE A B SECONDS: a Notifier, periodic senders, and receive calls with a timeout. Prints each
+event with its time."""
 
 import sys
 import time

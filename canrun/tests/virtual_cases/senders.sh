@@ -1,4 +1,4 @@
-# Nodes that only send, or do not read for 3 s: queues become full, and bridges lend their sessions.
+# Nodes that only send, and a node that does not read for 3 s: queues become full, and bridges lend their sessions.
 . "$CASES/server.sh"
 start can0,can1,can2
 aside candump -ta can2,300:7FF >"$OUT/candump"; dump=$!

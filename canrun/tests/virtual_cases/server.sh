@@ -1,9 +1,10 @@
-# Sourced by the cases: a server with a bit rate, whose files and those of the case are in the folder OUT.
+# The cases source this file. It runs a server with a bit rate. Files of the server and of the case are in the folder
+# OUT.
 set -e
 mkdir "$OUT"
 export CANBUSD_ADDRESS="$OUT/socket"
 
-# start OPTION.. BUS..: its standard input stays open until `stop`.
+# start OPTION.. BUS.. starts the server. The server's standard input stays open until `stop`.
 start() {
     mkfifo "$OUT/stdin"
     "$CANBUSD" serve --until-eof --bitrate 500000 --out "$OUT" --listen "$CANBUSD_ADDRESS" "$@" \
@@ -13,7 +14,7 @@ start() {
     sleep 0.1
 }
 
-# inside PROGRAM .. and aside PROGRAM .., which does not wait for it: with CAN sockets of the server.
+# inside PROGRAM .. runs a program with CAN sockets of the server. aside PROGRAM .. does the same in the background.
 inside() {
     "$RUN" "$@" 9>&-
 }

@@ -1,4 +1,4 @@
-"""These tests know nothing about virtual time."""
+"""Tests of a node that were not written for virtual time."""
 
 import time
 

@@ -1,4 +1,4 @@
-# Tools of can-utils: cangen, candump of two kinds, and canplayer with what candump has logged.
+# Tools of can-utils: cangen, candump with two formats, and canplayer, which replays the log of candump.
 . "$CASES/server.sh"
 start can0,can1
 aside candump -ta any >"$OUT/candump"; all=$!

@@ -1,4 +1,5 @@
-# Three messages of which the second instance of the third has the worst response; the node of the lowest priority starts first.
+# Three cyclic messages. The second instance of the third message has the worst response time. The node with the lowest
+# priority starts first.
 . "$CASES/server.sh"
 start can0,can1,can2
 aside "$NODES/cyclic" can2 003 756 "$((5 * ${ROUNDS:-20}))" 5555555555557C; c=$!

@@ -1,4 +1,4 @@
-/* Waits for signals, and ways to send them. */
+/* Waits for signals, and the ways to send signals. */
 #include "waits.h"
 
 #include <pthread.h>
@@ -103,7 +103,7 @@ static void awaited_sigchld(void) {
     end(sigwaitinfo(&one, NULL));
 }
 
-/* A signal that the kernel itself sends: a descriptor can be read. */
+/* A signal that the kernel itself sends when a descriptor can be read. */
 static void awaited_sigio(void) {
     sigset_t one = only(SIGIO);
     int ends[2];

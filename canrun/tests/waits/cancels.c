@@ -27,7 +27,7 @@ static void clean(void *of) {
     cleaned = cleaned * 10 + (int)(intptr_t)of;
 }
 
-/* Cancels a thread in this wait. Notes whether the thread ended by that, and which handlers ran. */
+/* Cancels a thread in this wait. Notes whether the cancellation ended the thread, and which cleanup handlers ran. */
 static void cancel(void *(*wait)(void *)) {
     pthread_t thread;
     void *result = NULL;
@@ -42,7 +42,8 @@ static void cancel(void *(*wait)(void *)) {
     note("%d", cleaned);
 }
 
-/* The wait of a case, in a thread with two handlers. A note shows whether the code after the wait runs. */
+/* Defines a case: a thread with two cleanup handlers makes the wait. A note shows whether the code after the wait runs.
+ */
 #define CANCELS(name, wait)                     \
     static void *name##_thread(void *nothing) { \
         pthread_cleanup_push(clean, (void *)1); \
@@ -171,7 +172,8 @@ CANCELS(cancels_mq_receive, wait_for_message())
 CANCELS(cancels_msgrcv, wait_for_queue())
 CANCELS(cancels_lock, wait_for_lock())
 
-/* Waits that it does not end: the wait has its full length, and the thread ends at its next cancellation point. */
+/* Waits that pthread_cancel does not end: the wait takes its full time, and the thread ends at its next cancellation
+ * point. */
 static void *hold_mutex(void *nothing) {
     pthread_mutex_lock(&mutex);
     usleep(6 * SOON * 1000);
@@ -206,11 +208,11 @@ CANCELS(cancels_mutex, wait_for_mutex())
 CANCELS(cancels_disabled, sleep_disabled(false))
 CANCELS(cancels_enabled_later, sleep_disabled(true))
 
-/* A thread that is cancelled before a call that would not wait. */
+/* A thread that was cancelled ends at its next call, even if that call would not wait. */
 CANCELS(cancels_before, sleep_disabled(false); pthread_setcancelstate(PTHREAD_CANCEL_ENABLE, NULL);
         CHECK(write(ends[1], "x", 1)); CHECK(read(ends[0], &byte, 1) == 1))
 
-/* The asynchronous type ends a thread anywhere. */
+/* With the asynchronous type a thread can end anywhere. */
 CANCELS(cancels_asynchronous, pthread_setcanceltype(PTHREAD_CANCEL_ASYNCHRONOUS, NULL); usleep(LONG * 1000))
 static pthread_mutex_t locked = PTHREAD_MUTEX_INITIALIZER;
 CANCELS(cancels_asynchronous_mutex, pthread_setcanceltype(PTHREAD_CANCEL_ASYNCHRONOUS, NULL);

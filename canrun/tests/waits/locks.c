@@ -204,7 +204,7 @@ static void *hold_spin(void *nothing) {
     return nothing;
 }
 
-/* The length of this wait is not printed: for a thread that looks again and again, time passes in steps. */
+/* The duration of this wait is not printed, because for a thread in a busy loop virtual time passes in steps. */
 static void locks_spin(void) {
     pthread_t thread;
     pthread_spin_init(&spin, 0);

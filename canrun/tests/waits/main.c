@@ -1,5 +1,5 @@
-/* waits [NAME ..]: makes these waits, or all, at once. Prints `NAME MILLISECONDS MICROSECONDS RESULT` for each: the
- * expected length, the length by its own clock, and the result. */
+/* waits [NAME ..]: makes these waits, or all waits, at the same time. Prints `NAME MILLISECONDS MICROSECONDS RESULT`
+ * for each: the expected duration, the measured duration, and the result. */
 #include "waits.h"
 
 #include <pthread.h>
@@ -78,7 +78,7 @@ void later(int ms, void (*call)(void *), void *of) {
     sigset_t all, before;
     pthread_t thread;
     *it = (struct late){ms, call, of};
-    sigfillset(&all); /* Signals are for the thread that waits. */
+    sigfillset(&all); /* Only the waiting thread gets signals. */
     pthread_sigmask(SIG_SETMASK, &all, &before);
     CHECK(!pthread_create(&thread, NULL, be_late, it));
     pthread_sigmask(SIG_SETMASK, &before, NULL);

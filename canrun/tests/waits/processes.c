@@ -1,4 +1,4 @@
-/* Processes: ways to make them, and waits for their ends. */
+/* Ways to start processes, and waits until they end. */
 #include "waits.h"
 
 #include <fcntl.h>
@@ -46,7 +46,7 @@ static void processes_vfork(void) {
     ends_with_child(pid);
 }
 
-/* A fork without the C library's knowledge. */
+/* Forks by a direct system call, which the C library does not notice. */
 static void processes_raw_fork(void) {
     begin();
     pid_t pid = _Fork();
@@ -255,7 +255,7 @@ static void processes_thread_ends(void) {
     ends_with_child(pid);
 }
 
-/* The first thread ends before the others. */
+/* The first thread of a process ends before the other threads. */
 static void processes_main_ends(void) {
     begin();
     pid_t pid = fork();

@@ -1,4 +1,4 @@
-/* Queues and semaphores of System V, queues of POSIX. */
+/* System V message queues and semaphores, and POSIX message queues. */
 #include "waits.h"
 
 #include <fcntl.h>
@@ -111,7 +111,7 @@ static void queues_semop_zero(void) {
     semctl(set, 0, IPC_RMID);
 }
 
-/* SEM_UNDO: the end of a process undoes its operations. */
+/* SEM_UNDO: when a process ends, its operations are undone. */
 static void queues_semop_undo(void) {
     set = semget(IPC_PRIVATE, 1, 0600);
     semop(set, &(struct sembuf){0, 1, 0}, 1);

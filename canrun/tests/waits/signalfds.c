@@ -19,7 +19,7 @@ static void come_in(int ms) {
     setitimer(ITIMER_REAL, &(struct itimerval){{0, 0}, {0, ms * 1000}}, NULL);
 }
 
-/* Starts another process, which checks for the run which descriptors are ready. */
+/* Starts another process that sleeps again and again. At each sleep it polls the epoll of the run. */
 static void other_process(void) {
     if (fork() == 0) {
         for (int i = 0; i < 20; i++) {
@@ -85,7 +85,7 @@ static void signalfds_nested(void) {
     wait_with(EPOLLIN, true);
 }
 
-/* Another process sends signals, twice. */
+/* Another process sends a signal twice. */
 static void signalfds_from_parent(void) {
     int status;
     begin();
@@ -107,7 +107,7 @@ static void signalfds_from_parent(void) {
     end(WEXITSTATUS(status));
 }
 
-/* The signal came before the wait. */
+/* The signal is sent before the wait begins. */
 static void signalfds_came_before(void) {
     int fd = reader_of(SIGALRM), epoll = epoll_of(fd, EPOLLIN);
     struct epoll_event event;

@@ -1,4 +1,4 @@
-/* Signals: calls that they end, or that are restarted. */
+/* Signals: calls that they interrupt, and calls that are restarted. */
 #include "waits.h"
 
 #include <mqueue.h>
@@ -83,7 +83,7 @@ static void signals_recv_restarts(void) {
     end(recv(ends[0], &byte, 1, 0));
 }
 
-/* A call with a timeout is never restarted. */
+/* A call that has a timeout is never restarted. */
 static void signals_recv_timeout(void) {
     int ends[2];
     pair(ends, SOCK_STREAM);
@@ -257,7 +257,7 @@ static void signals_sem_timed(void) {
 static pthread_mutex_t mutex = PTHREAD_MUTEX_INITIALIZER;
 static pthread_cond_t condition = PTHREAD_COND_INITIALIZER;
 
-/* The wait continues after a handler. */
+/* The wait continues after a signal handler has run. */
 static void signals_cond_timed(void) {
     begin();
     struct timespec t = after_ms(CLOCK_REALTIME, 2 * SOON);

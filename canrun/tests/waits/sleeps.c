@@ -1,4 +1,4 @@
-/* Sleeps until a moment. */
+/* Sleeps until a point in time. */
 #include "waits.h"
 
 #include <sys/time.h>

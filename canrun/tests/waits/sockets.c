@@ -1,4 +1,4 @@
-/* Sockets: arriving data, room for data, timeouts. */
+/* Sockets: waits for data, waits for buffer room, and timeouts. */
 #include "waits.h"
 
 #include <arpa/inet.h>
@@ -11,7 +11,8 @@
 #include <sys/un.h>
 #include <sys/wait.h>
 
-/* A timeout of a socket, which the kernel stores in ticks: 40 ms are a whole number of ticks of each usual length. */
+/* A socket timeout in milliseconds. The kernel stores it in ticks, and 40 ms are a whole number of ticks at each usual
+ * tick rate. */
 #define TIMEOUT 40
 
 static char data[400000];
@@ -228,7 +229,7 @@ static void accept_late(void *fd) {
     CHECK(accept((int)(intptr_t)fd, NULL, NULL) >= 0);
 }
 
-/* A listener without room. */
+/* Connects to a listener whose queue is full. */
 static void sockets_connect_full(void) {
     struct sockaddr_un name;
     int fd = listen_at(&name, 0), client = socket(AF_UNIX, SOCK_STREAM, 0);
@@ -290,7 +291,7 @@ static void sockets_udp(void) {
     waitpid(pid, &status, 0);
 }
 
-/* The client has no address before it sends. */
+/* The client's socket has no address until it sends. */
 static void sockets_udp_connected(void) {
     struct sockaddr_in address, other;
     socklen_t length = sizeof other;

@@ -1,4 +1,4 @@
-/* Timers that are read, and their descriptors: copies, children, other programs, reused numbers. */
+/* Timers that programs read, and their descriptors: copies, children, other programs, reused numbers. */
 #include "waits.h"
 
 #include <fcntl.h>
@@ -59,7 +59,7 @@ static void timerfds_epoll(void) {
     note("%ld", times);
 }
 
-/* There is only one event until the timer is read, however often it has expired. */
+/* epoll reports only one event until the timer is read, however often it has expired. */
 static void timerfds_epoll_unread(void) {
     struct epoll_event event = {.events = EPOLLIN | EPOLLET};
     begin();
@@ -171,7 +171,7 @@ static void timerfds_child_sets(void) {
     end(times_of(fd));
 }
 
-/* Another program waits for the timer: dd reads the eight bytes. */
+/* Another program waits for the timer: dd inherits it and reads the eight bytes. */
 static void timerfds_exec(void) {
     begin();
     int fd = timer_in(SOON, 0), status;
@@ -211,7 +211,7 @@ static void timerfds_message(void) {
     end(WEXITSTATUS(status));
 }
 
-/* Another file has the descriptor's number when the timer is due; no data are written to that file. */
+/* When the timer is due, its descriptor number belongs to another file. No data are written to that file. */
 static void reuse(void (*replace)(int fd, int file)) {
     char path[] = "/tmp/waits.XXXXXX";
     struct stat status;

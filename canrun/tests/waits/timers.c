@@ -152,7 +152,7 @@ static void timers_wrong(void) {
     end(timer_settime(timer, 0, &(struct itimerspec){{0, 0}, {0, 1000000000}}, NULL));
 }
 
-/* Each clock advances by the length of a sleep. */
+/* Each clock advances by the duration of a sleep. */
 static void timers_clocks(void) {
     static const clockid_t ids[] = {CLOCK_REALTIME, CLOCK_MONOTONIC, CLOCK_MONOTONIC_RAW, CLOCK_BOOTTIME, CLOCK_TAI};
     struct timespec first[5], last;

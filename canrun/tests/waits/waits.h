@@ -1,4 +1,5 @@
-/* Kinds of waits, as tables of small cases. Each runs in a separate process, and prints its length and its result. */
+/* Kinds of waits, as tables of small cases. Each case runs in a separate process, and prints its duration and its
+ * result. */
 #ifndef WAITS_H
 #define WAITS_H
 
@@ -16,8 +17,8 @@
 #include <time.h>
 #include <unistd.h>
 
-/* The awaited event comes after SOON milliseconds. A wait without an event is as long, and a wait that must end early
- * has the timeout LONG. */
+/* The awaited event comes after SOON milliseconds. A wait without an event has the timeout SOON, and a wait that must
+ * end early has the timeout LONG. */
 #define SOON 30
 #define LONG 4000
 
@@ -27,31 +28,31 @@ struct wait {
     void (*call)(void);
 };
 
-/* The tables end with an entry without a name. */
+/* The tables of waits. Each ends with an entry without a name. */
 extern const struct wait sleeps[], polls[], signals[], awaited[], signalfds[], cancels[], locks[], conditions[],
     threads[], timers[], timerfds[], files[], queues[], sockets[], processes[], by_number[];
 
-/* `begin` starts the measurement; `end` stops it and notes the result of the call, and its errno. */
+/* `begin` starts the measurement. `end` stops it, and stores the result of the call and its errno. */
 void begin(void);
 void end(long result);
-/* Ends the measurement of a call that returns its error. */
+/* Ends the measurement of a call that returns its error number. */
 void ends_with(int error);
 
-/* Adds to the printed result. */
+/* Appends to the printed result. */
 void note(const char *format, ...) __attribute__((format(printf, 1, 2)));
 
-/* A length of time, and the moment after that time by this clock. */
+/* `in_ms` returns a duration, and `after_ms` returns the time after this duration by this clock. */
 struct timespec in_ms(int ms);
 struct timespec after_ms(clockid_t id, int ms);
 
-/* Calls this in another thread after so many milliseconds. */
+/* Calls this function in another thread after this many milliseconds. */
 void later(int ms, void (*call)(void *), void *of);
 
-/* Sends SIGALRM after so many milliseconds. The handler has these flags, and counts. */
+/* Sends SIGALRM after this many milliseconds. The handler has these flags, and counts the signals. */
 void alarm_in(int ms, int flags);
 extern volatile sig_atomic_t alarms;
 
-/* Makes a pipe; and calls for `later`. */
+/* `make_pipe` makes a pipe. `write_byte` and `close_it` are functions for `later`. */
 void make_pipe(int ends[2]);
 void write_byte(void *fd);
 void close_it(void *fd);

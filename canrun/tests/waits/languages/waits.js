@@ -1,4 +1,4 @@
-// Waits of JavaScript: prints of each `NAME MILLISECONDS MICROSECONDS RESULT`. See ../main.c.
+// Waits in JavaScript: prints `NAME MILLISECONDS MICROSECONDS RESULT` for each wait. See ../main.c.
 const { spawn, spawnSync } = require("child_process");
 const { createServer, connect } = require("net");
 const { setTimeout: later } = require("timers/promises");

@@ -1,4 +1,4 @@
-"""Waits of Python: prints `NAME MILLISECONDS MICROSECONDS RESULT` for each wait. See ../main.c."""
+"""Waits in Python: prints `NAME MILLISECONDS MICROSECONDS RESULT` for each wait. See ../main.c."""
 
 import asyncio
 import concurrent.futures
@@ -24,7 +24,7 @@ CASES = []
 
 
 def case(milliseconds=30):
-    """Registers a wait, and its length."""
+    """Registers a wait, and its expected duration."""
 
     def note(call):
         CASES.append((call.__name__, milliseconds, call))
@@ -34,27 +34,27 @@ def case(milliseconds=30):
 
 
 class Rung(Exception):
-    """The exception of an alarm."""
+    """The exception that the handler of SIGALRM raises."""
 
 
 def ring(*_):
-    """A handler that raises."""
+    """A signal handler that raises an exception."""
     raise Rung
 
 
 def alarm():
-    """Makes SIGALRM come soon, and raise an exception."""
+    """Sends SIGALRM after SOON; its handler raises an exception."""
     signal.signal(signal.SIGALRM, ring)
     signal.setitimer(signal.ITIMER_REAL, SOON)
 
 
 def late(call, *words):
-    """Makes a thread call this function soon."""
+    """Calls this function in another thread after SOON."""
     threading.Timer(SOON, call, words).start()
 
 
 def raises(kind, call, *words, **options):
-    """Returns the name of the exception that a call raises."""
+    """Makes a call, and returns the name of the exception that it raises."""
     try:
         return call(*words, **options)
     except kind as error:
@@ -261,7 +261,7 @@ def multiprocessing_queue():
     return result
 
 
-#: This wait reads the clock until no time is left, and each step takes time.
+#: This wait reads the clock until its time is over, and virtual time advances in steps.
 @case(30.01)
 def multiprocessing_join():
     child = multiprocessing.get_context("fork").Process(target=time.sleep, args=(LONG,))
@@ -363,7 +363,7 @@ def asyncio_signal():
 
 
 def main():
-    """Makes each wait in a separate process, all at once."""
+    """Makes all waits at the same time, each in a separate process."""
     children = []
     for name, milliseconds, call in CASES:
         reader, writer = os.pipe()

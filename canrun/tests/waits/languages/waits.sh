@@ -1,4 +1,4 @@
-# Waits of bash: prints of each `NAME MILLISECONDS MICROSECONDS RESULT`. See ../main.c.
+# Waits in bash: prints `NAME MILLISECONDS MICROSECONDS RESULT` for each wait. See ../main.c.
 
 now() { echo "${EPOCHREALTIME/./}"; }
 
