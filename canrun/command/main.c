@@ -47,15 +47,15 @@ static const char HELP[] =
     "\n"
     "  --date D              the date at the start: 2026-01-31, 2026-01-31T12:00:00 (UTC), seconds since 1970, or now\n"
     "                        (default: 2026-01-01)\n"
-    "  --until S             end PROGRAM after so many seconds of its clock (SIGTERM)\n"
+    "  --until S             end PROGRAM after this many seconds of its clock (SIGTERM)\n"
     "  --stall S             give up, with status 125, if nothing goes on for this many seconds of real time\n"
     "                        (default: 30; 0: never)\n"
     "  --seed N              another order of those that are due at one moment, the same for each N (default: 0, by age)\n"
-    "  --jitter MICROS       each timed wait is longer by up to so many microseconds, which N determines (default: 0); to\n"
+    "  --jitter MICROS       each timed wait is longer by up to this many microseconds, which N determines (default: 0); to\n"
     "                        find a race it has to exceed the time between the events that are to change places\n"
     "\n"
     "CANBUSD_RUN_DEBUG=1 in the environment writes each call that is refused, and why, to standard error.\n"
-    "The status is the program's; 125 where canbusd-run fails, 126 where PROGRAM can't be run, 127 where there is none.\n";
+    "The status is the program's; 125 if canbusd-run fails, 126 if PROGRAM can't be run, 127 if it does not exist.\n";
 /* clang-format on */
 
 struct words {

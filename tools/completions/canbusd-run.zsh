@@ -8,10 +8,10 @@ local -a options=(
     '--static[for programs that are linked statically or with musl, or of Go, too: another process makes their calls (Linux 5.19 or later)]'
     '--virtual[simulate the clock of PROGRAM and of all that it starts]'
     '--date=[the date at the start: 2026-01-31, 2026-01-31T12:00:00 (UTC), seconds since 1970, or now]:D:'
-    '--until=[end PROGRAM after so many seconds of its clock (SIGTERM)]:S:'
+    '--until=[end PROGRAM after this many seconds of its clock (SIGTERM)]:S:'
     '--stall=[give up, with status 125, if nothing goes on for this many seconds of real time]:S:'
     '--seed=[another order of those that are due at one moment, the same for each N]:N:'
-    '--jitter=[each timed wait is longer by up to so many microseconds, which N determines]:MICROS:'
+    '--jitter=[each timed wait is longer by up to this many microseconds, which N determines]:MICROS:'
     # end of words
 )
 _arguments -S $options '(- *)--help[show the help]' '(- *)--version[show the version]' \

@@ -46,8 +46,7 @@ Messages of a session (socketcand's raw mode), in the order of a first run:
   < status >                 Write < status STATE TEC REC >, from the error counters of the interface
   < load >                   Write < load PERMILLE MICROS BITRATE DBITRATE >: how busy a bus of a server was in the last
                              whole second and in microseconds since its start, and its --bitrate and --dbitrate; else 0
-  < restart >                Restart an interface that is bus off, before --auto-restart does, or bring one up that is
-                             down
+  < restart >                Restart an interface that is bus off (before --auto-restart does) or down
   < down >                   Take the interface down: until < restart > it takes no part
   < close >                  Close the socket, and write < closed UNREAD DROPPED >
 Once an interface is taken, with a socket or without:

@@ -18,9 +18,9 @@ OUT = "canbusd-sweep"
 OPTIONS: tuple[tuple[str, Any, str, str], ...] = (
     ("faults", str, "KINDS", f"kinds of faults in place of those of the tests: {', '.join(ALL_KINDS)}"),
     ("jobs", int, "N", "how many runs at once (default: one for each processor)"),
-    ("time", float, "S", "begin no run after so many seconds"),
-    ("pairs", int, "N", "so many second faults too, each at an attempt of the run that the first one made"),
-    ("seeds", int, "N", "so many other orders of what is due at once too (--canbusd-jitter says by how much)"),
+    ("time", float, "S", "begin no run after this many seconds"),
+    ("pairs", int, "N", "also try this many second faults, each at an attempt of the run that the first fault made"),
+    ("seeds", int, "N", "also try this many other orders of simultaneous events, apart by up to --canbusd-jitter"),
     ("check", int, "N", "carry out N placements again, and compare the records"),
     ("shard", str, "K/N", "the K-th of N parts"),
 )

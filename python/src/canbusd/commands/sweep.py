@@ -82,13 +82,13 @@ def add_arguments(parser: argparse.ArgumentParser) -> None:
     parser.add_argument(
         "--jobs", type=digits, metavar="N", help="how many runs at once (default: one for each processor)"
     )
-    parser.add_argument("--time", type=above_zero, metavar="S", help="begin no run after so many seconds")
+    parser.add_argument("--time", type=above_zero, metavar="S", help="begin no run after this many seconds")
     parser.add_argument(
         "--quick", action="store_true", help="samples of each identifier, and the rest only where these differ"
     )
-    parser.add_argument("--pairs", type=digits, default=0, metavar="N", help="so many second faults too")
+    parser.add_argument("--pairs", type=digits, default=0, metavar="N", help="also try this many second faults")
     parser.add_argument(
-        "--seeds", type=digits, default=0, metavar="N", help="so many other orders of what is due at once too"
+        "--seeds", type=digits, default=0, metavar="N", help="also try this many other orders of simultaneous events"
     )
     parser.add_argument(
         "--check", type=digits, default=0, metavar="N", help="carry out N placements again, and compare the records"
