@@ -103,8 +103,8 @@ fn word_blank(alloc: Global) -> Result<WordBlank, AllocError> {
 }
 
 impl<N: RollName> Roll<N> {
-    /// The blank as the roll of this number, with no pass, and without its scroll. The caller shows that `N` names the blank
-    /// so.
+    /// Turns the blank into the roll with this number, without passes. The blank's scroll is dropped. The caller shows that `N`
+    /// gives the blank this number.
     pub fn new(blank: RollBlank, number: u8) -> Roll<N>
         requires { blank ≡ N.roll number }
         ensures { result ≡ roll_seen number [] [] }
@@ -142,8 +142,8 @@ impl<N: RollName> Roll<N> {
         self.passes
     }
 
-    /// A slip of the next pass, with no call. Passes are numbered from 0. The caller shows that fewer than 4,096
-    /// have entered.
+    /// Hands out the slip of the next pass, with no calls. Passes are numbered from 0. The caller shows that fewer than 4,096
+    /// passes have entered.
     pub fn enter(&mut self) -> Slip<N>
         requires { length self.old.lists < 4096 }
         ensures roll { self.new ≡ roll_with_pass self.old }
@@ -161,8 +161,8 @@ impl<N: RollName> Roll<N> {
         }
     }
 
-    /// Notes a call with its reply: it comes in front of the slip's list and of the roll's list of the slip's
-    /// pass, which are the same before and after. The caller shows that the slip is of this roll's number.
+    /// Notes a call with its reply. The call is put in front of the slip's list and of the roll's list of that pass. The two lists
+    /// are equal before and after. The caller shows that the slip has this roll's number.
     pub fn note(&mut self, slip: &mut Slip<N>, event: &Event, reply: &Reply)
         requires { slip.old.number ≡ self.old.number }
         ensures roll { self.new ≡ with_call slip.old.pass (entry_of event.now reply.now) self.old }
@@ -201,8 +201,8 @@ impl<N: RollName> Roll<N> {
         slip.badge = self.send_last();
     }
 
-    /// Calls a slip's pass in, for good. Its calls are the roll's list of its pass, which had not been called in
-    /// before. The caller shows that the slip is of this roll's number.
+    /// Takes a slip back for good: its pass is called in. The slip's calls are the roll's list of that pass, and the pass was not
+    /// called in before. The caller shows that the slip has this roll's number.
     pub fn recall(&mut self, slip: Slip<N>)
         requires { slip.number ≡ self.old.number }
         ensures roll { self.new ≡ with_called_in slip.pass self.old }

@@ -5,8 +5,8 @@ use std::marker::{Brand, PhantomData};
 
 /// What one seat of the table knows. It is for contracts only: the program never makes a value of this type.
 pub enum View {
-    /// A roll's seat: the calls of each pass, the passes called in with the last at the end, and, until it is
-    /// returned, the one list of calls that the last one brought.
+    /// The seat of a roll. It knows the calls of each pass and the passes called in, oldest first. Until `Return` it also knows the
+    /// list of calls that the last pass brought.
     OfRoll(LinkedList<LinkedList<Entry>>, LinkedList<u64>, LinkedList<LinkedList<Entry>>),
     /// The seat of a slip. It knows the number of its pass and the calls of that pass.
     OfSlip(u64, LinkedList<Entry>),

@@ -70,8 +70,8 @@ impl<N: RollName> HandedOut<N> {
         self.roll.number()
     }
 
-    /// Hands out a block to the holder of the scroll. Its entries follow those handed out before,
-    /// which both sides know as the same. The caller shows that the scroll is of this number.
+    /// Hands out a block of entries to the holder of the scroll. The block is appended to the entries handed out before, which are
+    /// the same on both sides. The caller shows that the scroll has this number.
     pub fn hand_out(&mut self, scroll: &mut Scroll<N>, block: &PackedRecord)
         requires { scroll.old.number ≡ self.old.number }
         ensures before { scroll.old.entries ≡ self.old.entries }

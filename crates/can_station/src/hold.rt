@@ -26,11 +26,8 @@ use std::alloc::Global;
 use std::marker::Model;
 use std::sync::MutexGuard;
 
-/// A station's lock, held for several calls. Each call is one event of the bus, like a call of the
-/// station itself.
-///
-/// Contracts see it as the state under the lock. When the lock is free again, the threads with new
-/// work are woken.
+/// A station's lock, held for several calls. Each call is one event of the bus, like a call of the station. To a contract the hold
+/// is the state under the lock. When the lock is released, the threads that have new work are woken.
 pub struct Hold<'s, N: BusName, F: FaultSource + Drop, G: Gate + Drop, B: Journaled = RingBus> {
     pub(crate) station: &'s Station<N, F, G, B>,
     pub(crate) state: MutexGuard<'s, StationState<N, F, B>>,
@@ -67,7 +64,7 @@ impl<'s, N: BusName, F: FaultSource + Drop, G: Gate + Drop, B: Journaled> Hold<'
         self.state.has_work()
     }
 
-    /// Returns whether the bus has nine tenths or more of the entries that it may have.
+    /// Returns whether the bus has used at least nine tenths of the entries that it may have.
     pub fn is_nearly_full(&self) -> bool
         ensures { IsTrue result ↔ IsNearlyFull self.now.journal }
     {
@@ -82,7 +79,7 @@ impl<'s, N: BusName, F: FaultSource + Drop, G: Gate + Drop, B: Journaled> Hold<'
         self.state.next_head()
     }
 
-    /// Carries out an event with a pass, as the station's `call` does.
+    /// Carries out an event for a pass, like the station's `call`.
     pub fn call(
         &mut self,
         alloc: Global,
@@ -103,8 +100,8 @@ impl<'s, N: BusName, F: FaultSource + Drop, G: Gate + Drop, B: Journaled> Hold<'
             .ok_or(StationRefusal::Bus(Refusal::NoMemory))
     }
 
-    /// Carries out an event for the pass of this slip, and adds it to the calls of the pass.
-    /// Returns `None` if the bus has no place for an entry; then nothing changes.
+    /// Carries out an event for the pass of this slip, and adds the call to the calls of the pass. Returns `None` and changes
+    /// nothing if the bus has no room for another entry.
     pub(crate) fn carry_out(
         &mut self,
         alloc: Global,
@@ -127,8 +124,8 @@ impl<'s, N: BusName, F: FaultSource + Drop, G: Gate + Drop, B: Journaled> Hold<'
         Some(reply)
     }
 
-    /// Receives an item into the caller's `room`, as the station's `receive` does, and returns
-    /// whether there was one. If there was none, `room` does not change.
+    /// Receives an item into the caller's `room`, like the station's `receive`, and returns whether there was an item. If there was
+    /// none, `room` does not change.
     pub fn receive_into(
         &mut self,
         alloc: Global,
@@ -182,7 +179,7 @@ impl<'s, N: BusName, F: FaultSource + Drop, G: Gate + Drop, B: Journaled> Hold<'
         Some(outcome)
     }
 
-    /// Tries the frame that wins the bus, as the station's `step` does.
+    /// Tries the frame that wins arbitration, like the station's `step`.
     pub fn step(
         &mut self,
         alloc: Global,
@@ -204,7 +201,7 @@ impl<'s, N: BusName, F: FaultSource + Drop, G: Gate + Drop, B: Journaled> Hold<'
         reply.into_attempted().map_err(StationRefusal::Bus)
     }
 
-    /// Tries the frame that wins the bus, as `step` does, and also returns the attempt's verdict.
+    /// Tries the frame that wins arbitration, like `step`, and also returns the verdict of the attempt.
     pub fn step_judged(
         &mut self,
         alloc: Global,
@@ -228,8 +225,7 @@ impl<'s, N: BusName, F: FaultSource + Drop, G: Gate + Drop, B: Journaled> Hold<'
         with_verdict(verdict, reply.into_attempted().map_err(StationRefusal::Bus))
     }
 
-    /// Carries out an attempt at a moment for the pass of this slip, with the verdict of the source
-    /// or the plan.
+    /// Carries out an attempt at this moment for the pass of this slip. The verdict comes from the source or from the plan.
     pub(crate) fn carry_out_step(
         &mut self,
         alloc: Global,
@@ -252,7 +248,7 @@ impl<'s, N: BusName, F: FaultSource + Drop, G: Gate + Drop, B: Journaled> Hold<'
         Some(reply)
     }
 
-    /// Carries out an attempt as `carry_out_step` does, and also returns its verdict.
+    /// Carries out an attempt like `carry_out_step`, and also returns the verdict.
     fn carry_out_judged(
         &mut self,
         alloc: Global,
@@ -281,7 +277,7 @@ impl<'s, N: BusName, F: FaultSource + Drop, G: Gate + Drop, B: Journaled> Hold<'
         Some((verdict, reply))
     }
 
-    /// Takes the rule that a text spells, as the station's `inject` does.
+    /// Adds the rule that this text spells, like the station's `inject`.
     pub fn inject(&mut self, text: &[u8], names: &Names) -> Result<(), RuleRefusal>
         ensures injected { Injected names.now text.now self.old.plan result self.new.plan }
         ensures takes { TakesRule text.now self.old result self.new }
@@ -289,7 +285,7 @@ impl<'s, N: BusName, F: FaultSource + Drop, G: Gate + Drop, B: Journaled> Hold<'
         self.state.inject(text, names)
     }
 
-    /// Returns the number of rules that are left.
+    /// Returns the number of rules that are not used up.
     pub fn rules(&self) -> usize
         ensures rules { result ≡ length self.now.plan.rules }
         ensures few { result ≤ 64 }
@@ -297,7 +293,7 @@ impl<'s, N: BusName, F: FaultSource + Drop, G: Gate + Drop, B: Journaled> Hold<'
         self.state.rules()
     }
 
-    /// Ends all rules. The script lines of the plan remain.
+    /// Ends all rules. The script lines of the plan stay in force.
     pub fn end_rules(&mut self)
         ensures { self.new ≡ after_end self.old }
     {

@@ -17,8 +17,8 @@ fn leaves_entry(outcome: Result<bool, Refusal>) -> bool
     }
 }
 
-/// Adds a receive call with this outcome and `room`, if the pass keeps a list and the call is an
-/// entry. No memory is taken.
+/// Adds a receive call with this outcome and `room` to the list of the pass. It adds nothing if the pass keeps no list or the call
+/// is no entry. Nothing is allocated.
 pub(crate) fn keep_receive(
     calls: &mut Option<PackedList>,
     socket: SocketId,
