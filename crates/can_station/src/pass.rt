@@ -52,8 +52,8 @@ impl<N: RollName> Pass<N> {
         self.len() == 0
     }
 
-    /// Returns the call at this place with its reply, if the pass keeps one there. The oldest is at
-    /// 0. No memory is taken.
+    /// Returns the call at this place with its reply, or `None` if the pass keeps no call there. The oldest call is at place 0.
+    /// Nothing is allocated.
     pub fn call(&self, place: usize) -> Option<EntryRef<'_>>
         ensures { result ≡ slice_get (reverse (kept_calls self.now)) place }
     {
