@@ -15,8 +15,8 @@ use std::alloc::AllocError;
 use std::marker::Model;
 use std::sync::Wait;
 
-/// A [`PassPort`] for a few calls. Successive sends and receives share one hold of the station's
-/// lock. The first of them takes the lock; any other call, or the end of the port, frees it.
+/// A [`PassPort`] that is used for a few calls. Successive sends and receives share one hold of the station's lock. The first of
+/// them takes the lock. Any other call that needs the lock, and the end of the port, release it.
 #[derive(Drop)]
 pub struct LockedPort<'a, N: BusName, F: FaultSource + Drop, G: Gate + Drop, R: Wait> {
     port: PassPort<'a, N, F, G, R>,
@@ -33,14 +33,14 @@ impl<'a, N: BusName, F: FaultSource + Drop, G: Gate + Drop, R: Wait> Model
 }
 
 impl<'a, N: BusName, F: FaultSource + Drop, G: Gate + Drop, R: Wait> LockedPort<'a, N, F, G, R> {
-    /// Returns the same port, which has not yet taken the lock.
+    /// Makes a locked port from this port. It does not hold the lock yet.
     pub fn new(port: PassPort<'a, N, F, G, R>) -> LockedPort<'a, N, F, G, R>
         ensures { result ≡ port.entry }
     {
         LockedPort { port, hold: None }
     }
 
-    /// Frees the lock and returns the port.
+    /// Releases the lock and returns the port.
     pub fn into_port(self) -> PassPort<'a, N, F, G, R>
         ensures { result ≡ self.entry }
     {
@@ -50,8 +50,8 @@ impl<'a, N: BusName, F: FaultSource + Drop, G: Gate + Drop, R: Wait> LockedPort<
     }
 }
 
-/// Returns the hold of this station. If there is none, it drops a hold of another station and takes
-/// the lock.
+/// Returns the hold of this station's lock. If the lock of another station is held, or none, that hold is dropped and the lock of
+/// this station is taken.
 fn hold_of<'h, 'a, N: BusName, F: FaultSource + Drop, G: Gate + Drop, R: Wait>(
     rt: &R,
     station: &'a Station<N, F, G, HubBus>,
@@ -70,7 +70,7 @@ fn hold_of<'h, 'a, N: BusName, F: FaultSource + Drop, G: Gate + Drop, R: Wait>(
     taken.as_mut().unwrap()
 }
 
-/// Returns whether an event may share a hold with others: it is a send or a receive.
+/// Returns whether an event can share a hold of the lock. Only sends and receives can.
 fn is_shared(event: &Event) -> bool
     ensures { result ≡ is_shared event.now }
 {
@@ -99,7 +99,7 @@ impl<'a, N: BusName, F: FaultSource + Drop, G: Gate + Drop, R: Wait> Port
         pass_on(outcome)
     }
 
-    // The most frequent call of a session, without an event and a reply value.
+    // Receives are the most frequent calls of a session, so this method creates no event and no reply value.
     fn receive_into(&mut self, socket: SocketId, room: &mut Received) -> Result<bool, PortRefusal> {
         let port = &mut self.port;
         let Some(entered) = &mut port.entered else {
