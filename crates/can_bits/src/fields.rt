@@ -30,7 +30,7 @@ fn push_field(bits: &mut Vec<Bit>, field: Field, count: u32, number: u32) -> Res
     Ok(())
 }
 
-/// Adds data bytes.
+/// Appends data bytes.
 fn push_bytes(bits: &mut Vec<Bit>, bytes: &[u8]) -> Result<(), AllocError>
     ensures { OnOk result (bits.new.items ≡ bits.old.items ++ in_field Data (byte_bits bytes.now)) }
 {

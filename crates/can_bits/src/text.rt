@@ -156,7 +156,7 @@ fn put_time(text: &mut Vec<u8>, timing: Option<Timing>, frame: &Frame) -> Result
     }
 }
 
-/// Writes this time.
+/// Writes the line with this number of nanoseconds.
 fn put_nanos(text: &mut Vec<u8>, nanos: u64) -> Result<(), AllocError>
     ensures { OnOk result (text.new.items ≡ text.old.items ++ nanos_line nanos) }
 {

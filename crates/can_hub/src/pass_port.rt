@@ -95,7 +95,7 @@ impl<'a, N: BusName, F: FaultSource + Drop, G: Gate + Drop, R: Wait> PassPort<'a
         }
     }
 
-    /// Takes the port out of this value, and puts a port there that has entered no station.
+    /// Replaces this port with one that has entered no station, and returns the old port.
     pub fn take(&mut self) -> PassPort<'a, N, F, G, R>
         ensures { result ≡ self.old }
     {

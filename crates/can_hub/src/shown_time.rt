@@ -43,7 +43,7 @@ impl ShownTime {
         }
     }
 
-    /// Publishes a load.
+    /// Publishes the load of the bus.
     pub(crate) fn show_load(&self, load: Load) {
         self.recent.store(load.recent().word(), Ordering::SeqCst);
         self.busy.store(load.busy_micros(), Ordering::SeqCst);

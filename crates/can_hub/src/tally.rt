@@ -22,7 +22,7 @@ pub(crate) struct Counted {
 }
 
 impl Counted {
-    /// Returns what a tally needs to know about the call of this event.
+    /// Returns what a tally needs to know about the call that makes this event.
     pub(crate) fn of(event: &Event) -> Counted {
         Counted {
             is_send: matches!(event, Event::Send(_, _)),

@@ -10,7 +10,7 @@ use std::alloc::AllocError;
 /// Why a trial ended early.
 #[derive(Debug, Clone, Copy, PartialEq, Eq)]
 pub enum Stop {
-    /// There was no memory.
+    /// An allocation failed.
     NoMemory,
     /// A result differs from the result with enough memory, or a failed call changed something.
     Wrong,

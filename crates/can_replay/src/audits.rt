@@ -16,7 +16,7 @@ pub enum AuditFault {
     /// `None`.
     #[error("entry {entry}: wrong")]
     Wrong { entry: usize, legal: Option<Reply> },
-    /// Memory was refused.
+    /// An allocation failed.
     #[error("no memory")]
     NoMemory,
 }

@@ -62,7 +62,7 @@ impl TextAudit {
     }
 
     /// Returns an audit with events that also writes the wanted parts. It allocates memory for the counts of the bus that it
-    /// compares.
+    /// compares before and after an entry.
     pub fn with_events(alloc: Global, wanted: Wanted) -> Result<TextAudit, AllocError>
         ensures written { IfOk result (λ audit. HasWritten wanted [] [] audit) }
         ensures none { IfOk result (λ audit. held_events audit.events ≡ []) }

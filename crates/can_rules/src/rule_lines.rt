@@ -14,8 +14,8 @@ use std::mem;
 /// The largest number of bytes of lines that may be kept.
 const MOST_BYTES: usize = 1 << 26;
 
-/// The lines about rules that were given or ended during a run. The lines are kept here until a caller takes them. A bus whose
-/// lines nobody takes keeps none.
+/// The lines about rules that were given or ended during a run. The lines are kept here until a caller takes them. After
+/// `keep_none` no lines are kept.
 #[derive(Drop)]
 pub struct RuleLines {
     text: Vec<u8>,

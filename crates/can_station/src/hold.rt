@@ -64,7 +64,7 @@ impl<'s, N: BusName, F: FaultSource + Drop, G: Gate + Drop, B: Journaled> Hold<'
         self.state.has_work()
     }
 
-    /// Returns whether the bus has used at least nine tenths of the entries that it may have.
+    /// Returns whether the bus has at least nine tenths of the entries that its limit allows.
     pub fn is_nearly_full(&self) -> bool
         ensures { IsTrue result ↔ IsNearlyFull self.now.journal }
     {

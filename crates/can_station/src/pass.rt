@@ -74,7 +74,7 @@ impl<N: RollName> Pass<N> {
     }
 }
 
-/// What a station returns at its end: the record, or what its bus returns instead, and the number of passes.
+/// The result of settling a station: the `Left` of its bus (the record, if the bus keeps one), and the number of passes.
 #[derive(Drop)]
 pub struct Settled<L: Drop = Record> {
     pub history: L,

@@ -335,10 +335,10 @@ impl<N: BusName, F: FaultSource + Drop, G: Gate + Drop, B: Journaled> Station<N,
         self.hold(rt).take_changes()
     }
 
-    /// Takes passes and gauges back, and returns the record, or what the bus returns instead. The record is a legal history for the
-    /// station's configuration. Its entries can be assigned to passes so that the calls of each returned pass are its entries, in
-    /// order. Every counter value that a gauge read was published during this history. Returns `WrongStation` exactly if a pass or
-    /// a gauge belongs to another station; nothing is returned then.
+    /// Takes passes and gauges back, and returns the `Left` of the bus (the record, if the bus keeps one). The entries of the bus
+    /// are a legal history for the station's configuration. They can be assigned to passes so that the calls of each returned pass
+    /// are its entries, in order. Every counter value that a gauge read was published during this history. Returns `WrongStation`
+    /// exactly if a pass or a gauge belongs to another station; nothing is returned then.
     pub fn settle<R: Wait>(
         self,
         rt: &R,

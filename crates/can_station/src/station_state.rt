@@ -412,7 +412,7 @@ impl<N: BusName, F: FaultSource + Drop, B: Journaled> StationState<N, F, B> {
         self.bus.next_winner().is_some() || self.bus.is_counting()
     }
 
-    /// Returns whether the bus has used at least nine tenths of the entries that it may have.
+    /// Returns whether the bus has at least nine tenths of the entries that its limit allows.
     pub(crate) fn is_nearly_full(&self) -> bool
         ensures { IsTrue result ↔ IsNearlyFull self.now.journal }
     {
@@ -455,7 +455,7 @@ impl<N: BusName, F: FaultSource + Drop, B: Journaled> StationState<N, F, B> {
         self.stopped = true;
     }
 
-    /// Returns the record of the bus, or what the bus returns instead, and takes these passes and gauges back. Returns
+    /// Returns the `Left` of the bus (the record, if the bus keeps one), and takes these passes and gauges back. Returns
     /// `WrongStation` exactly if one of them belongs to another station.
     pub fn settle(
         self,
@@ -507,7 +507,7 @@ impl<N: BusName, F: FaultSource + Drop, B: Journaled> StationState<N, F, B> {
     }
 }
 
-/// Returns the record of a bus, or what the bus returns instead, and takes these passes and gauges back. Returns `WrongStation`
+/// Returns the `Left` of a bus (the record, if the bus keeps one), and takes these passes and gauges back. Returns `WrongStation`
 /// exactly if one of them belongs to a station other than the roll's.
 fn settle_bus<N: BusName, B: Journaled>(
     bus: B,

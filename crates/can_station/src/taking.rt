@@ -24,7 +24,7 @@ pub(crate) struct Taking {
     taken: u64,
     /// The smallest number of entries for which a thread waits, or `None` if no thread waits.
     wanted: Option<u64>,
-    /// Whether the taking of entries has ended.
+    /// Whether `end_entries` was called, so that no more entries will be taken.
     is_over: bool,
 }
 
@@ -61,7 +61,7 @@ impl<N: BusName, F: FaultSource + Drop, B: Journaled> StationState<N, F, B> {
         places < HOLD_PLACES && (places as u64) < self.held_back() && !self.taking.is_over
     }
 
-    /// Returns whether a driver has to keep waiting, because there is no work or too little room.
+    /// Returns whether a driver has to keep waiting, because there is no work or too little room in the bus's tail.
     pub(crate) fn is_idle_or_short(&self) -> bool
         ensures { result ≡ false → is_none (work_wake self.now) ≡ false }
     {
@@ -97,12 +97,12 @@ impl<N: BusName, F: FaultSource + Drop, B: Journaled> StationState<N, F, B> {
         is_over
     }
 
-    /// Returns whether the taking of entries has ended.
+    /// Returns whether `end_entries` was called.
     pub(crate) fn are_entries_over(&self) -> bool {
         self.taking.is_over
     }
 
-    /// Notes that the taking of entries has ended.
+    /// Notes that no more entries will be taken.
     pub(crate) fn end_entries(&mut self)
         ensures { self.new ≡ self.old }
     {

@@ -38,7 +38,7 @@ impl WaitQueues {
         }
     }
 
-    /// Wakes all threads.
+    /// Wakes the threads in all queues.
     pub(crate) fn wake_all(&self) {
         for queue in &self.queues {
             queue.notify_all();

@@ -71,7 +71,7 @@ impl Wakeups {
         }
     }
 
-    /// Adds a refusal.
+    /// Notes a refusal if it means that the record is full.
     pub(crate) fn add_refusal(&mut self, why: Refusal) {
         if why == Refusal::RecordFull {
             self.is_full = true;
