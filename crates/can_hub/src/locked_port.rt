@@ -16,7 +16,7 @@ use std::marker::Model;
 use std::sync::Wait;
 
 /// A [`PassPort`] that is used for a few calls. Successive sends and receives share one hold of the station's lock. The first of
-/// them takes the lock. Any other call that needs the lock, and the end of the port, release it.
+/// them takes the lock. The end of the port and any other call except `put_names` and `load` release it.
 #[derive(Drop)]
 pub struct LockedPort<'a, N: BusName, F: FaultSource + Drop, G: Gate + Drop, R: Wait> {
     port: PassPort<'a, N, F, G, R>,

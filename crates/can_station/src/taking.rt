@@ -54,8 +54,8 @@ impl<N: BusName, F: FaultSource + Drop, B: Journaled> StationState<N, F, B> {
         self.bus.len().saturating_sub(self.taking.taken)
     }
 
-    /// Returns whether calls have to wait for room. They wait if fewer than 512 places are free and more entries than that wait to
-    /// be taken.
+    /// Returns whether calls have to wait for room. They wait if fewer than 512 places are free and more entries wait to be taken
+    /// than places are free. After `end_entries` they never wait.
     pub(crate) fn is_short(&self) -> bool {
         let places = self.bus.places();
         places < HOLD_PLACES && (places as u64) < self.held_back() && !self.taking.is_over
