@@ -12,7 +12,7 @@ spaced-more buses n d lt =
     ∙ flat_map-append (λ (name : List ℕ). 32 ∷ name) (all_names (take n buses)) ((get_or buses n d).names ++ [])
     ∙ ap (λ (names : List (List ℕ)). spaced (all_names (take n buses)) ++ spaced names) (append-nil (get_or buses n d).names)
 
--- The names of one more bus.
+-- The names of the interfaces after one more bus is added.
 pub one_bus_more : (buses : List BusSeen) (n : ℕ) (bus : BusSeen) (old text more : List ℕ) → n < length buses → bus ≡ get_or buses n bus → text ≡ old ++ spaced (all_names (take n buses)) → more ≡ text ++ spaced bus.names → more ≡ old ++ spaced (all_names (take (n + 1) buses))
 one_bus_more buses n bus old text more lt at before is =
     is
@@ -21,6 +21,6 @@ one_bus_more buses n bus old text more lt at before is =
     ∙ ap (λ (b : BusSeen). old ++ (spaced (all_names (take n buses)) ++ spaced b.names)) at
     ∙ ap (λ (t : List ℕ). old ++ t) (sym (spaced-more buses n bus lt))
 
--- The names of all buses.
+-- The names of all buses are complete after the last bus.
 pub all_buses : (buses : List BusSeen) (n : ℕ) (old text : List ℕ) → length buses ≤ n → text ≡ old ++ spaced (all_names (take n buses)) → text ≡ old ++ spaced (all_names buses)
 all_buses buses n old text le h = h ∙ ap (λ (bs : List BusSeen). old ++ spaced (all_names bs)) (take_all n buses le)

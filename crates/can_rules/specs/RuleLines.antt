@@ -12,7 +12,7 @@ pub record LinesSeen : Type 0 where
   pub ended : Option ℕ
   pub kept : Bool
 
--- No lines yet.
+-- No lines are waiting yet, and new lines are kept.
 abbrev pub no_lines : LinesSeen
 no_lines = record { text = []; ended = None; kept = true }
 

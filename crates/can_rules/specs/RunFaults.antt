@@ -73,7 +73,7 @@ made_until attempt run = record run {
 abbrev pub made_ready : RunSeen → RunSeen
 made_ready run = made_until run.tried run
 
--- Successive changes.
+-- Changes that are made one at a time.
 
 -- The result of a change: a rule is accepted and gets a number, a rule is refused because the plan has 64 rules
 -- already, or all rules end.

@@ -91,7 +91,7 @@ pub booked_after : (roll roll' : RollSeen) (j j' : Journal) (p : ℕ) (e : Event
 booked_after roll roll' j j' p e r h answer below er ej =
     subst (λ (x : RollSeen × Journal). IsBooked x.0 x.1) (λ k. (sym er k, sym ej k)) (booked_as (enters r) roll j p e r refl h (legal-after j.config j.history e r h.legal answer) below)
 
--- One more pass.
+-- The entries marked with each pass are the same after one more pass enters.
 pub marked-enter : (lists : List (List Entry)) (ms : List ℕ) (past : List Entry) → IsMarked lists ms past → IsMarked (lists ++ [] ∷ []) ms past
 marked-enter lists ms past h = record {
   long = h.long;
