@@ -47,7 +47,7 @@ later keeper number j e r at is at_is enters_is i below =
     let there : i < j.config.ifaces = omega (arith, is.ifaces_are) in
     subst (λ (ps : List Status). (newest ps).at < at) (sym (is.each i there)) (omega (arith, newest-within j.config j.history i, at_is ∙ ap length (after-entered e r j.history enters_is)))
 
--- One more entry.
+-- The keeper still has published each change after one more entry enters the record.
 entered : (keeper keeper' : Readings) (number : ℕ) (j : Journal) (e : Entry) (before after : List ErrorCounts) (at : ℕ) → IsLongConfig j.config → IsPublished keeper number j
     → keeper'.number ≡ keeper.number → keeper'.ifaces ≡ keeper.ifaces → at ≡ suc (length j.history)
     → before ≡ all_counts j.config j.history → after ≡ all_counts j.config (e ∷ j.history)
