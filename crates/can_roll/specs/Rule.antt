@@ -131,7 +131,7 @@ calls_of (OfSlip p calls) = calls
 calls_of (OfRoll lists called brought) = []
 calls_of Spent = []
 
--- The view of a badge, or a spent view if the list is empty.
+-- The first view in a list, or a spent view if the list is empty. A badge has at most one view.
 abbrev pub view_in : List View → View
 view_in [] = Spent
 view_in (v ∷ vs) = v

@@ -16,7 +16,6 @@ pub record HasLeft (rules : List Rule) (place n : ℕ) : Type 0 where
   pub left : rule.left ≡ Some n
 
 -- The rule at index `place` after an attempt. The verdicts that it gave and the verdicts left add up to the verdicts
-
 -- left before the attempt.
 pub record Spends (after : List Rule) (place n : ℕ) (gave : Bool) : Type 0 where
   pub rest : ℕ

@@ -26,7 +26,6 @@ IsCount None = Unit {0}
 IsCount (Some n) = (0 < n) × (n < 10 ^ 8)
 
 -- The three kinds of filters: for an 11-bit identifier, for a 29-bit identifier, and for an identifier word and a
-
 -- mask.
 abbrev pub standard_of : ℕ → CanFilter
 standard_of n = record { id = n; mask = 2147485695 }
@@ -168,7 +167,7 @@ id-good text f e = by_test (length (mask_in text) == 0) e
     by_test true e = plain-good text f e
     by_test false e = masked-good (before_colon text) (mask_in text) f e
 
--- A rule that was read part by part is good.
+-- A rule that was read from its parts is good.
 part-good : {A : Type 0} (names : List (List ℕ)) (b : Bool) (read : Result A WrongWord) (on : A → Result Rule WrongWord) (other : Result Rule WrongWord) (rule : Rule)
     → ((a : A) → read ≡ Ok a → on a ≡ Ok rule → IsGood names rule) → (other ≡ Ok rule → IsGood names rule) → (if b then (read >>= on) else other) ≡ Ok rule → IsGood names rule
 part-good names true read on other rule with without e = let (a, first, rest) = bound read on rule e in with a first rest

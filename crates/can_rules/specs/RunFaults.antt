@@ -140,7 +140,7 @@ asked_now run head = record run { plan = plan_asked run.plan run.tried head; tri
 abbrev pub rule_given : RunSeen → Head → Verdict → Option ℕ
 rule_given run head verdict = rule_now (made_ready run) head verdict
 
--- The run after the changes due before the next attempt, and after that attempt.
+-- The run after the next attempt. All changes due before the attempt are made first.
 abbrev pub asked_run : RunSeen → Head → RunSeen
 asked_run run head = asked_now (made_ready run) head
 
