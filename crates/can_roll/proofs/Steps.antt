@@ -277,7 +277,7 @@ module _ {S : Type 0} where
       stay id lists called j (OfSlip q m) n k = (k.0, k.1, not_in_rest q called k.2)
       stay id lists called j Spent n k = tt
 
--- ---- the same facts about a view that an equation gives
+-- ---- the same facts, with the view given by an equation
 
 pub enters_as : {S : Type 0} (id : ℕ) (me : Me S View) (lists : List (List Entry)) (called : List ℕ)
     → me ≡ (OfRoll lists called [], []) → Splits (λ (s : State S View). IsRolled s.words s.views) id me.0 (pass_entered me.0) (newcomer me.0)

@@ -15,7 +15,7 @@ use Rattle.can_rules.specs.RuleWords.{standard_bits, extended_bits}
 
 -- The text written for a rule, which is read back as the same rule (own choice).
 
--- The names of the set's interfaces. The list `names` has the name of interface i first.
+-- The names of the interfaces in the set. The first name in `names` is that of interface i.
 abbrev pub members : ℕ → List (List ℕ) → IfaceSet → List (List ℕ)
 members i [] set = []
 members i (name ∷ names) set =
