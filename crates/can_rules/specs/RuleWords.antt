@@ -13,7 +13,7 @@ use Rattle.can_rules.specs.declared.rule.Rule.{Rule}
 use Rattle.can_rules.specs.declared.rule_words.WrongWord.{WrongWord}
 use Rattle.can_rules.specs.declared.rule_words.WrongWord.TheVariants as wrong
 
--- Rules as texts: `next N` or `always`, then optionally `from NAMES`, `id ID` and `skip K`, then a verdict (own choice).
+-- Rules as texts: `next N` or `always`, then optionally `from NAMES`, `id ID` and `skip K`, and a verdict (own choice).
 
 infixl 10 ◌>>=◌
 abbrev pub ◌>>=◌ : {A B : Type 0} → Result A WrongWord → (A → Result B WrongWord) → Result B WrongWord
