@@ -15,7 +15,7 @@ pub enum Field {
     RemoteRequest,
     /// The RRS bit of an FD frame, sent in place of RTR.
     RemoteSubstitution,
-    /// The reserved bits of a classic frame: r1 and r0, or r0 only.
+    /// The reserved bits of a classic frame: r1 and r0, or only r0.
     Reserved,
     /// The FDF bit, recessive in an FD frame.
     FdFormat,
@@ -45,11 +45,11 @@ pub enum Field {
     Intermission,
 }
 
-/// A bit that the sender of a frame sends.
+/// One bit that the sender of a frame sends.
 #[derive(Debug, Clone, Copy, PartialEq, Eq)]
 pub struct Bit {
-    /// The field of the bit. A stuff bit has the field of the bit before it, a fixed stuff bit the field of the bit
-    /// after it.
+    /// The field that the bit belongs to. A stuff bit has the field of the bit before it. A fixed stuff bit has the field of the
+    /// bit after it.
     pub field: Field,
     /// True for a recessive bit (1), which a dominant bit (0) overwrites.
     pub is_recessive: bool,

@@ -7,7 +7,7 @@ ghost use Rattle.can_bits.specs.inner.Checking.{IsGenerator, terms_of};
 
 use crate::bit::Bit;
 
-/// A generator polynomial: the number of terms after the first, and the mask of those terms.
+/// A generator polynomial: its degree, and the mask of all terms below the highest term.
 #[derive(Debug, Clone, Copy)]
 pub(crate) struct Generator {
     pub width: u32,
@@ -33,7 +33,7 @@ pub(crate) const CRC_21: Generator = Generator {
 };
 
 impl Generator {
-    /// Returns a shift register that holds a one followed by zeros.
+    /// Returns a shift register that contains a one followed by zeros.
     pub fn one(self) -> u32
         requires { IsGenerator self }
         ensures { low_bits self.width result ≡ 1 ∷ replicate (self.width - 1) 0 }
@@ -41,7 +41,7 @@ impl Generator {
         1 << (self.width - 1)
     }
 
-    /// Returns the shift register after one more bit.
+    /// Returns the shift register after one more bit is shifted in.
     fn after_bit(self, register: u32, is_one: bool) -> u32
         requires { IsGenerator self }
         ensures { low_bits self.width result
@@ -56,7 +56,7 @@ impl Generator {
         }
     }
 
-    /// Returns the shift register after these bits.
+    /// Returns the shift register after these bits are shifted in.
     pub fn after(self, register: u32, bits: &[Bit]) -> u32
         requires { IsGenerator self }
         ensures { low_bits self.width result

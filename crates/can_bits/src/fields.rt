@@ -13,7 +13,7 @@ use crate::checksum::{CRC_15, CRC_17, CRC_21, Generator};
 use can_frame::Frame;
 use std::alloc::{AllocError, Global};
 
-/// Adds a field: the lowest `count` bits of a number, the highest bit first.
+/// Appends a field: the lowest `count` bits of a number, most significant bit first.
 fn push_field(bits: &mut Vec<Bit>, field: Field, count: u32, number: u32) -> Result<(), AllocError>
     requires { count ≤ 32 }
     ensures { OnOk result (bits.new.items
@@ -30,7 +30,7 @@ fn push_field(bits: &mut Vec<Bit>, field: Field, count: u32, number: u32) -> Res
     Ok(())
 }
 
-/// Adds data bytes.
+/// Appends data bytes.
 fn push_bytes(bits: &mut Vec<Bit>, bytes: &[u8]) -> Result<(), AllocError>
     ensures { OnOk result (bits.new.items ≡ bits.old.items ++ in_field Data (byte_bits bytes.now)) }
 {
@@ -40,7 +40,7 @@ fn push_bytes(bits: &mut Vec<Bit>, bytes: &[u8]) -> Result<(), AllocError>
     Ok(())
 }
 
-/// Adds start of frame and the arbitration bits of a frame with 11 bits of identifier.
+/// Appends start of frame and the arbitration bits of a frame with an 11-bit identifier.
 fn push_standard(
     bits: &mut Vec<Bit>,
     number: u32,
@@ -57,7 +57,7 @@ fn push_standard(
     push_field(bits, Field::IdentifierExtension, 1, 0)
 }
 
-/// Adds start of frame and the arbitration bits of a frame with 29 bits of identifier.
+/// Appends start of frame and the arbitration bits of a frame with a 29-bit identifier.
 fn push_extended(
     bits: &mut Vec<Bit>,
     number: u32,
@@ -76,7 +76,7 @@ fn push_extended(
     push_field(bits, remote, 1, rtr)
 }
 
-/// Adds start of frame and the arbitration bits of a frame. `remote` is the field of its RTR or RRS bit.
+/// Appends start of frame and the arbitration bits of a frame. `remote` is the field of the frame's RTR or RRS bit.
 #[tactic(auto, unfolding(can_frame::specs::Arbitration::arbitration_bits))]
 fn push_first(bits: &mut Vec<Bit>, frame: &Frame, remote: Field) -> Result<(), AllocError>
     ensures { OnOk result (Adds bits.old.items bits.new.items
@@ -91,7 +91,7 @@ fn push_first(bits: &mut Vec<Bit>, frame: &Frame, remote: Field) -> Result<(), A
     }
 }
 
-/// Returns a flag as a bit.
+/// Returns a flag as a bit, 0 or 1.
 fn bit(flag: bool) -> u32
     ensures value { result ≡ bit_of flag }
     ensures below { result < 2 }
@@ -149,7 +149,7 @@ pub(crate) fn fd_rest(alloc: Global, frame: &Frame) -> Result<Vec<Bit>, AllocErr
     Ok(bits)
 }
 
-/// Returns the data length code of an FD frame.
+/// Returns the data length code of an FD frame with this number of data bytes.
 fn fd_code(len: u8) -> u32
     ensures { result ≡ fd_code len }
 {
@@ -165,8 +165,8 @@ fn fd_code(len: u8) -> u32
     }
 }
 
-/// Returns the stuff count and the CRC of an FD frame, without fixed stuff bits. The CRC covers the bits sent so far
-/// and the stuff count.
+/// Returns the stuff count and the CRC of an FD frame, without fixed stuff bits. The CRC covers the bits sent so far, including
+/// stuff bits, and the stuff count.
 pub(crate) fn fd_check(
     alloc: Global,
     len: u8,
@@ -187,7 +187,7 @@ pub(crate) fn fd_check(
     Ok(bits)
 }
 
-/// Returns the stuff count, modulo 8 in Gray code, and its parity bit.
+/// Returns the stuff count modulo 8 in Gray code, followed by its parity bit.
 fn stuff_count(alloc: Global, stuff_bits: usize) -> Result<Vec<Bit>, AllocError>
     ensures { IfOk result (λ bits. AreFields bits.items
         (replicate 4 StuffCount) (stuff_count stuff_bits)) }
@@ -199,7 +199,7 @@ fn stuff_count(alloc: Global, stuff_bits: usize) -> Result<Vec<Bit>, AllocError>
     Ok(bits)
 }
 
-/// Returns the CRC generator of an FD frame with this many bytes.
+/// Returns the CRC generator of an FD frame with this number of data bytes.
 #[tactic(auto, unfolding(can_wire::specs::Division::generator_17, can_wire::specs::Division::generator_21))]
 fn fd_generator(len: u8) -> Generator
     ensures terms { terms_of result ≡ fd_generator len }
@@ -208,7 +208,7 @@ fn fd_generator(len: u8) -> Generator
     if len <= 16 { CRC_17 } else { CRC_21 }
 }
 
-/// Adds the bits after the CRC of any frame, up to the end of intermission.
+/// Appends the bits of a frame after its CRC, up to the end of intermission.
 pub(crate) fn push_end(bits: &mut Vec<Bit>) -> Result<(), AllocError>
     ensures { OnOk result (bits.new.items ≡ bits.old.items ++ end_sent) }
 {

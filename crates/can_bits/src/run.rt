@@ -7,7 +7,7 @@ use std::marker::Model;
 /// The number of equal bits after which a stuff bit follows.
 const LONGEST: u8 = 5;
 
-/// The run of equal bits that was sent last: the field and the value of the last bit, and the length of the run.
+/// The run of equal bits at the end of the bits sent so far: the field and the value of the last bit, and the length of the run.
 #[derive(Debug, Clone, Copy)]
 pub(crate) struct Run {
     field: Field,
@@ -37,7 +37,7 @@ impl Model for Run {
 }
 
 impl Run {
-    /// Returns the run before the first bit.
+    /// Returns the empty run, before the first bit.
     pub fn new() -> Run
         ensures { result ≡ nothing_sent }
     {
@@ -63,14 +63,14 @@ impl Run {
         self.is_recessive
     }
 
-    /// Returns the stuff bit after this run, in the field of the last bit.
+    /// Returns the stuff bit that follows this run. It has the field of the last bit.
     pub fn stuff_bit(self, is_fast: bool) -> Bit
         ensures { result ≡ stuff_bit is_fast self.field self.is_recessive }
     {
         stuff_bit(self.field, self.is_recessive, is_fast)
     }
 
-    /// Returns the run after the stuff bit, if one is due.
+    /// Returns the run after the stuff bit if one is due, or the unchanged run if none is due.
     pub fn flushed(self) -> Run
         ensures last { result ≡ flushed self }
         ensures short { result.count ≤ 4 }
@@ -103,7 +103,7 @@ impl Run {
     }
 }
 
-/// Returns a stuff bit of this field that follows a bit of this value.
+/// Returns a stuff bit in this field, with the opposite value of the bit before it.
 pub(crate) fn stuff_bit(field: Field, last: bool, is_fast: bool) -> Bit
     ensures { result ≡ stuff_bit is_fast field last }
 {

@@ -5,11 +5,11 @@ use crate::bit::Bit;
 use crate::run::{Run, stuff_bit};
 use std::alloc::{AllocError, Global};
 
-/// The number of bits between two fixed stuff bits.
+/// The number of other bits between two fixed stuff bits.
 const BETWEEN_FIXED: u8 = 4;
 
-/// The bits sent so far, with their stuff bits. A stuff bit that is due after five equal bits is sent together with the
-/// next bit.
+/// The bits sent so far, including their stuff bits. A stuff bit that is due after five equal bits is sent just before the next
+/// bit.
 #[derive(Drop)]
 pub(crate) struct Sender {
     pub bits: Vec<Bit>,
@@ -28,7 +28,7 @@ impl Sender {
         }
     }
 
-    /// Sends the stuff bit, if one is due.
+    /// Sends the stuff bit if one is due.
     pub fn flush(&mut self, is_fast: bool) -> Result<(), AllocError>
         ensures bits { OnOk result (self.new.bits.items
             ≡ self.old.bits.items ++ due is_fast self.old.run) }
@@ -42,7 +42,7 @@ impl Sender {
         Ok(())
     }
 
-    /// Sends bits, with the stuff bit that is due before each.
+    /// Sends bits. Before each bit, it sends the stuff bit if one is due.
     pub fn send(&mut self, bits: &[Bit], is_fast: bool) -> Result<(), AllocError>
         ensures bits { OnOk result (self.new.bits.items
             ≡ self.old.bits.items ++ sent_all is_fast bits.now self.old.run) }
@@ -55,7 +55,7 @@ impl Sender {
         }
         Ok(())
     }
-    /// Sends bits, with a fixed stuff bit before every four of them.
+    /// Sends bits, with a fixed stuff bit before every group of four bits.
     pub fn send_fixed(&mut self, bits: &[Bit], is_fast: bool) -> Result<(), AllocError>
         ensures { OnOk result (self.new.bits.items ≡ self.old.bits.items
             ++ sent_fixed is_fast self.old.run.is_recessive 0 bits.now) }
@@ -75,7 +75,7 @@ impl Sender {
     }
 }
 
-/// Returns a bit as it is sent at either bit rate.
+/// Returns a bit as it is sent, at the data bit rate if `is_fast` is true.
 fn sent(bit: &Bit, is_fast: bool) -> Bit
     ensures { result ≡ sent is_fast bit.now }
 {

@@ -9,8 +9,8 @@ use crate::sender::Sender;
 use can_frame::Frame;
 use std::alloc::{AllocError, Global};
 
-/// Returns the bits of a frame on the wire, from start of frame to the end of intermission. The frame is acknowledged
-/// and has no fault.
+/// Returns the bits of a frame on the wire, from start of frame to the end of intermission. The frame is acknowledged, and no error
+/// occurs.
 pub fn frame_bits(alloc: Global, frame: &Frame) -> Result<Vec<Bit>, AllocError>
     ensures { IfOk result (λ bits. AreBitsOf frame.now bits.items) }
 {
@@ -30,7 +30,7 @@ fn to_check_end(alloc: Global, frame: &Frame) -> Result<Vec<Bit>, AllocError>
     }
 }
 
-/// Returns the bits of a classic frame to the end of its CRC, with stuff bits.
+/// Returns the bits of a classic frame from start of frame to the end of its CRC, with stuff bits.
 fn classic_to_check_end(alloc: Global, frame: &Frame) -> Result<Vec<Bit>, AllocError>
     requires { is_fd frame.now.payload ≡ false }
     ensures { IfOk result (λ bits. AreToCheckEnd frame.now bits.items) }
@@ -41,8 +41,8 @@ fn classic_to_check_end(alloc: Global, frame: &Frame) -> Result<Vec<Bit>, AllocE
     Ok(sender.bits)
 }
 
-/// Returns the bits of an FD frame to the end of its CRC. A fixed stuff bit follows its last data bit, never an
-/// ordinary one.
+/// Returns the bits of an FD frame from start of frame to the end of its CRC, with stuff bits. The last data bit is followed by a
+/// fixed stuff bit and never by an ordinary stuff bit.
 fn fd_to_check_end(alloc: Global, frame: &Frame) -> Result<Vec<Bit>, AllocError>
     requires { is_fd frame.now.payload ≡ true }
     ensures { IfOk result (λ bits. AreToCheckEnd frame.now bits.items) }

@@ -7,8 +7,8 @@ use crate::sending::frame_bits;
 use can_frame::Frame;
 use std::alloc::{AllocError, Global};
 
-/// Returns the bit at which the sender of another frame falls silent, if it loses arbitration to the frame with these
-/// bits. The result is the place of the bit, from 0, and its field.
+/// Returns the bit at which the sender of the frame `other` stops sending because it loses arbitration to `frame`. The result is
+/// the place of the bit, counted from 0, and its field. `bits` are the bits of `frame`.
 pub fn silence(
     alloc: Global,
     frame: &Frame,
@@ -23,7 +23,7 @@ pub fn silence(
     Ok(silent_at(bits, &frame_bits(alloc, other)?))
 }
 
-/// Returns the first bit that differs, if the sender of `others` sends a recessive bit there and sees a dominant one.
+/// Returns the first bit that differs, if the sender of `others` sends a recessive bit there and reads a dominant bit.
 fn silent_at(bits: &[Bit], others: &[Bit]) -> Option<(usize, Field)>
     ensures { result ≡ silence_after 0 bits.now (levels others.now) }
 {

@@ -10,12 +10,12 @@ use can_frame::{Frame, Item, Text, frame_text};
 use can_wire::Timing;
 use std::alloc::{AllocError, Global};
 
-/// A buffer for a line with at most three numbers.
+/// A buffer for a line that contains at most three numbers.
 type LineText = Text<128>;
 
-/// Returns the bits of a frame as text: a line for each field, with stuff bits in parentheses, and a line with the
-/// counts. If the bus has bit rates, a line gives the time to end of frame. For each other frame a line gives the bit
-/// at which its sender falls silent.
+/// Returns the bits of a frame as text: one line for each field, with stuff bits in parentheses, and one line with the numbers of
+/// bits. If the bus has bit rates, another line gives the time until end of frame. For each other frame, a line gives the bit at
+/// which its sender stops sending.
 pub fn bits_text(
     alloc: Global,
     frame: &Frame,
@@ -48,7 +48,7 @@ fn put_lines(text: &mut Vec<u8>, bits: &[Bit]) -> Result<(), AllocError>
     Ok(())
 }
 
-/// Starts a line if the next bit belongs to another field than the bit before it.
+/// Starts a new line if the next bit and the bit before it belong to different fields.
 fn start_line(text: &mut Vec<u8>, before: Option<Field>, field: Field) -> Result<(), AllocError>
     ensures { OnOk result (text.new.items ≡ text.old.items ++ line_start before field) }
 {
@@ -73,7 +73,7 @@ fn put_bit(text: &mut Vec<u8>, bit: Bit) -> Result<(), AllocError>
     }
 }
 
-/// Returns the name of a field, in 15 columns.
+/// Returns the name of a field, padded to 15 columns.
 fn name(field: Field) -> &'static str
     ensures { result.now ≡ name_of field }
 {
@@ -102,7 +102,7 @@ fn name(field: Field) -> &'static str
     }
 }
 
-/// Writes the line with the counts of bits.
+/// Writes the line with the numbers of bits.
 fn put_total(text: &mut Vec<u8>, bits: &[Bit]) -> Result<(), AllocError>
     ensures { OnOk result (text.new.items ≡ text.old.items ++ total_line bits.now) }
 {
@@ -123,7 +123,7 @@ fn fast_bits(bits: &[Bit]) -> usize
     bits.iter().filter(|bit| bit.is_fast).count()
 }
 
-/// Writes the line with these counts.
+/// Writes the line with these numbers of bits.
 fn put_counts(text: &mut Vec<u8>, all: usize, stuffs: usize, fast: usize) -> Result<(), AllocError>
     ensures { OnOk result (text.new.items ≡ text.old.items ++ counts_line all stuffs fast) }
 {
@@ -132,7 +132,7 @@ fn put_counts(text: &mut Vec<u8>, all: usize, stuffs: usize, fast: usize) -> Res
     text.extend_from_slice(line.as_bytes())
 }
 
-/// Writes the line with these counts into an empty buffer.
+/// Writes the line with these numbers of bits into an empty buffer.
 fn push_counts(line: &mut LineText, all: u64, stuffs: u64, fast: u64)
     requires { line.old ≡ [] }
     ensures { line.new ≡ counts_line all stuffs fast }
@@ -146,7 +146,7 @@ fn push_counts(line: &mut LineText, all: u64, stuffs: u64, fast: u64)
     line.push_all(b" at the data bit rate\n");
 }
 
-/// Writes the time to end of frame, if the bus has bit rates.
+/// Writes the time until end of frame if the bus has bit rates.
 fn put_time(text: &mut Vec<u8>, timing: Option<Timing>, frame: &Frame) -> Result<(), AllocError>
     ensures { OnOk result (text.new.items ≡ text.old.items ++ time_line timing frame.now) }
 {
@@ -156,7 +156,7 @@ fn put_time(text: &mut Vec<u8>, timing: Option<Timing>, frame: &Frame) -> Result
     }
 }
 
-/// Writes this time.
+/// Writes the line with this number of nanoseconds.
 fn put_nanos(text: &mut Vec<u8>, nanos: u64) -> Result<(), AllocError>
     ensures { OnOk result (text.new.items ≡ text.old.items ++ nanos_line nanos) }
 {
@@ -167,7 +167,7 @@ fn put_nanos(text: &mut Vec<u8>, nanos: u64) -> Result<(), AllocError>
     text.extend_from_slice(line.as_bytes())
 }
 
-/// Writes, for each other frame, the bit at which its sender falls silent.
+/// Writes, for each other frame, the bit at which its sender stops sending.
 fn put_silences(
     alloc: Global,
     text: &mut Vec<u8>,
@@ -185,7 +185,7 @@ fn put_silences(
     Ok(())
 }
 
-/// Writes the bit at which the sender of one other frame falls silent.
+/// Writes the bit at which the sender of one other frame stops sending.
 #[tactic(auto, unfolding(can_frame::specs::FrameText::frame_spelling))]
 fn put_silence(
     text: &mut Vec<u8>,
@@ -204,7 +204,7 @@ fn put_silence(
     Ok(())
 }
 
-/// Writes the place and the field of this bit.
+/// Writes the place and the field of a bit.
 fn put_place(text: &mut Vec<u8>, place: usize, field: Field) -> Result<(), AllocError>
     ensures { OnOk result (text.new.items ≡ text.old.items ++ silence_text (Some (place, field))) }
 {

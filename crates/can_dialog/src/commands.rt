@@ -16,7 +16,7 @@ fn refused(refusal: PortRefusal) -> Option<Answer>
     Some(Answer::Refused(refusal.cause()))
 }
 
-/// Returns the reply to a call that has no result of its own: done or refused.
+/// Returns the reply to a call that has no result of its own: `done` or a refusal.
 fn told(outcome: Result<(), PortRefusal>) -> Option<Answer>
     ensures { result ≡ Some (told_of outcome) }
 {
@@ -34,7 +34,7 @@ fn end_rules<P: Port>(dialog: Dialog, port: &mut P) -> Option<Answer>
     Some(Answer::Done)
 }
 
-/// Carries out a command before an interface is opened.
+/// Carries out a command of a client that has opened no interface yet.
 fn do_unopened<P: Port>(dialog: &mut Dialog, command: &Command, port: &mut P) -> Option<Answer>
     ensures { Replies P.step (doing_unopened dialog.old command.now)
         port.old port.new result dialog.new }
@@ -52,7 +52,7 @@ fn do_unopened<P: Port>(dialog: &mut Dialog, command: &Command, port: &mut P) ->
     }
 }
 
-/// Carries out a command once an interface is opened.
+/// Carries out a command of a client that has opened an interface but has no socket.
 fn do_opened<P: Port>(
     dialog: &mut Dialog,
     iface: Iface,
@@ -84,7 +84,7 @@ fn do_opened<P: Port>(
     }
 }
 
-/// Sends a frame. The reply is the frame's number if the client asked for numbers. A refusal is always reported.
+/// Sends a frame. The reply is the number of the frame if the client asked for such numbers. A refusal is always reported.
 pub fn send<P: Port>(dialog: Dialog, raw: RawSocket, frame: Frame, port: &mut P) -> Option<Answer>
     ensures { Replies P.step (sending_frame dialog raw frame) port.old port.new result dialog }
 {
@@ -95,7 +95,7 @@ pub fn send<P: Port>(dialog: Dialog, raw: RawSocket, frame: Frame, port: &mut P)
     }
 }
 
-/// Returns the counts of the socket and of its interface.
+/// Returns the statistics of the socket and of its interface.
 fn look_up<P: Port>(dialog: Dialog, raw: RawSocket, port: &mut P) -> Option<Answer>
     ensures { Replies P.step (looking_up dialog raw) port.old port.new result dialog }
 {
@@ -121,7 +121,7 @@ fn close<P: Port>(dialog: &mut Dialog, raw: RawSocket, port: &mut P) -> Option<A
     }
 }
 
-/// Carries out a command in raw mode.
+/// Carries out a command of a client in raw mode.
 fn do_raw<P: Port>(
     dialog: &mut Dialog,
     raw: RawSocket,
@@ -163,7 +163,7 @@ fn do_raw<P: Port>(
     }
 }
 
-/// Carries out a command other than `interfaces`, and returns the reply to the client, if any.
+/// Carries out a command other than `interfaces`, and returns the reply to the client if there is one.
 pub fn carry_out<P: Port>(
     dialog: &mut Dialog,
     command: Command,

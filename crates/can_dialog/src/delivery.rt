@@ -13,15 +13,14 @@ use can_event::Received;
 use can_proto::{Cause, ItemText, Origin, push_item, push_item_from, refusal_text};
 use std::io::Write;
 
-/// The result of one receive for a client. The item itself is in a buffer of the caller.
+/// The result of one receive for a client. A received item is in a buffer of the caller.
 #[derive(Debug, Clone, Copy, PartialEq, Eq)]
 pub enum Delivery {
     /// The socket had no item.
     Nothing,
-    /// The buffer has an item. The flag is true if the text includes the data of an error message frame.
+    /// The buffer holds an item. The flag is true if the text contains the data of an error message frame.
     Item(bool),
-    /// The buffer has an item, and its text includes the origin. `is_same` is true if the socket's own interface sent
-    /// the frame.
+    /// The buffer holds an item whose text includes its origin. `is_same` is true if the socket's own interface sent the frame.
     ItemFrom { errdata: bool, is_same: bool },
     /// The port refused the receive.
     Refused(Cause),
@@ -35,7 +34,7 @@ impl Delivery {
         matches!(self, Delivery::Item(_) | Delivery::ItemFrom { .. })
     }
 
-    /// Writes the text of the delivery, if it has one, in one call. Returns whether the writer took it.
+    /// Writes the text of the delivery in one call if it has a text. Returns false if the writer failed.
     pub fn write<W: Write>(self, room: &Received, out: &mut W) -> bool
         ensures wrote { IsTrue result →
             Wrote W.contents out.old (delivery_text self room.now) out.new }
@@ -54,7 +53,7 @@ impl Delivery {
     }
 }
 
-/// Returns the origin of a frame with this number.
+/// Returns the origin of the frame with this number.
 fn origin_of(is_same: bool, number: u64) -> Origin
     ensures { result ≡ origin_of is_same number }
 {
@@ -65,7 +64,7 @@ fn origin_of(is_same: bool, number: u64) -> Origin
     }
 }
 
-/// Writes the text of an item with its origin. Returns whether the writer took it.
+/// Writes the text of an item with its origin. Returns false if the writer failed.
 #[inline(never)]
 fn write_from<W: Write>(room: &Received, errdata: bool, is_same: bool, out: &mut W) -> bool
     ensures wrote { IsTrue result →
@@ -83,7 +82,7 @@ fn write_from<W: Write>(room: &Received, errdata: bool, is_same: bool, out: &mut
     put(out, text.as_bytes())
 }
 
-/// Writes the text of a refusal. Returns whether the writer took it.
+/// Writes the text of a refusal. Returns false if the writer failed.
 #[inline(never)]
 fn write_refusal<W: Write>(cause: Cause, out: &mut W) -> bool
     ensures wrote { IsTrue result → Wrote W.contents out.old (answer_text (Refused cause)) out.new }
@@ -93,7 +92,7 @@ fn write_refusal<W: Write>(cause: Cause, out: &mut W) -> bool
     put(out, text.as_bytes())
 }
 
-/// Receives one item into the buffer in raw mode, and makes no call in other modes. Returns the result for the client.
+/// Receives one item into the buffer in raw mode, and makes no call in other modes. Returns the result to report to the client.
 pub fn take_delivery<P: Port>(stage: Stage, port: &mut P, room: &mut Received) -> Delivery
     ensures { ReceivesInto P.step stage port.old port.new result room.new }
 {

@@ -9,7 +9,8 @@ use can_frame::Moment;
 use can_proto::{Answer, Cause, Command, Incoming};
 use std::alloc::Global;
 
-/// Takes one item of the client's stream. It adds the reply, if any, and leaves capacity for this many further replies.
+/// Processes one item of the client's stream. It appends the reply if there is one, and leaves enough capacity for `left` further
+/// replies.
 pub fn take_turn<P: Port>(
     dialog: &mut Dialog,
     alloc: Global,
@@ -39,7 +40,7 @@ pub fn take_turn<P: Port>(
     }
 }
 
-/// Carries out a command. It adds the reply, if any, and leaves capacity for this many further replies.
+/// Carries out a command. It appends the reply if there is one, and leaves enough capacity for `left` further replies.
 fn obey<P: Port>(
     dialog: &mut Dialog,
     alloc: Global,
@@ -64,7 +65,7 @@ fn obey<P: Port>(
     }
 }
 
-/// Ends a session. It closes the raw socket, if there is one, and ignores the reply of the port.
+/// Ends a session. It closes the raw socket if there is one, and ignores the port's reply.
 pub fn finish<P: Port>(dialog: &mut Dialog, port: &mut P)
     ensures { Finishes P.step dialog.old port.old port.new dialog.new }
 {

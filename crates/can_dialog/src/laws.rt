@@ -7,10 +7,10 @@ ghost use Rattle.can_dialog.specs.Lives.{Act, Lives, IsCalled, turns_of, heard_i
 use crate::port::Port;
 use can_proto::laws::every_cut_gives_the_same_messages;
 
-// Laws of sessions over every port. Each clause states one law.
+// Laws about sessions over any port. Each clause is one law.
 
-/// The cuts of a stream into pieces make no difference. Pieces fed one after another can lead a port and a session to a
-/// state and a text exactly if the whole stream, fed at once, can.
+/// It makes no difference how a stream is cut into pieces. A port and a session can reach a state and write a text from pieces fed
+/// one after another exactly if they can from the whole stream fed at once.
 pub fn every_cut_says_the_same<P: Port>()
     ensures { (moment : ℕ) (before after : Dialog) (pieces : List (List ℕ))
         (p q : P) (text : List ℕ) →
@@ -21,8 +21,8 @@ pub fn every_cut_says_the_same<P: Port>()
     every_cut_gives_the_same_messages();
 }
 
-/// A session writes exactly the text of its turns, in order, for the replies of the port. The turns are those of its
-/// calls. Their input is that of the whole stream, however the stream was cut into pieces.
+/// A session writes exactly the text of its turns, in order, given the replies of the port. The turns are those of the session's
+/// calls. Their input is the messages of the whole stream, no matter how the stream was cut into pieces.
 pub fn calls_come_to_turns<P: Port>()
     ensures texts { (before after : Dialog) (calls : List (Act (List ℕ)))
         (p q : P) (text : List ℕ) →

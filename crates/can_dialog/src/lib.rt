@@ -1,10 +1,10 @@
-//! Sessions of the protocol over any port.
+//! Sessions of the protocol, over any port.
 //!
-//! A session calls a `Port`. The law of a port is one relation of its state before a call, the call, the reply and the
-//! state after it. `Session` reads pieces of a client's stream, makes the calls for the commands, and writes the texts
-//! for the client. The next call, text and stage depend only on the port's replies: `specs/Turns.antt` has the plan of
-//! each command. Two laws hold. The cuts of the stream make no difference, and a session writes exactly the text of its
-//! turns.
+//! A session calls a `Port`. The law of a port is a relation between its state before a call, the call, the reply and the state
+//! after the call. `Session` reads pieces of a client's stream, makes the calls for the commands, and writes the texts for the
+//! client. Apart from the client's stream, the next call, text and stage depend only on the port's replies: `specs/Turns.antt`
+//! specifies the turn of each command. Two laws hold: it makes no difference how the stream is cut into pieces, and a session
+//! writes exactly the text of its turns.
 #![tactic(auto)]
 
 mod commands;

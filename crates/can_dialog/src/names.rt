@@ -1,11 +1,11 @@
-//! The reply with the names of interfaces.
+//! The reply that lists the names of the interfaces.
 ghost use Rattle.std.specs.Prelude.{◌≡◌, ◌<◌, ◌++◌, ◌∷◌, [], length, slice_index_or, OnOk};
 ghost use Rattle.can_proto.specs.Spelling.{spaced};
 
 use can_frame::{Iface, Names};
 use std::alloc::AllocError;
 
-/// Adds a space and a name for each of the names. Returns `AllocError` if there is no memory.
+/// Appends each of the names, after a space. Returns `AllocError` if an allocation fails.
 pub fn put_names(text: &mut Vec<u8>, names: &Names) -> Result<(), AllocError>
     ensures { OnOk result (text.new.items ≡ text.old.items ++ spaced names.now) }
 {
@@ -15,7 +15,7 @@ pub fn put_names(text: &mut Vec<u8>, names: &Names) -> Result<(), AllocError>
     Ok(())
 }
 
-/// Adds a space and the name of an interface.
+/// Appends a space and the name of one interface.
 fn put_name(text: &mut Vec<u8>, names: &Names, number: u8) -> Result<(), AllocError>
     requires { number < length names.now }
     ensures { OnOk result

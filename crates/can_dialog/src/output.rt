@@ -9,11 +9,11 @@ use can_proto::{Answer, Cause, reply_text};
 use std::alloc::{AllocError, Global};
 use std::io::Write;
 
-/// The largest number of bytes in a reply, except the reply with the names of interfaces.
+/// The largest number of bytes in a reply. The reply with the names of the interfaces may be longer.
 const LONGEST: usize = 256;
 
-/// Empties the text and reserves capacity for the replies to all messages that may end in a piece: those that begin in
-/// it, and one that began before.
+/// Clears the text and reserves capacity for the replies to all messages that may end in this piece: those that begin in the piece,
+/// and one that began before it.
 pub fn make_room(said: &mut Vec<u8>, piece: &[u8]) -> Result<(), AllocError>
     ensures empty { said.new.items ≡ [] }
     ensures room { OnOk result ((messages_begun piece.now + 1) * 256 ≤ vec_capacity said.new) }
@@ -25,7 +25,7 @@ pub fn make_room(said: &mut Vec<u8>, piece: &[u8]) -> Result<(), AllocError>
     said.reserve(room)
 }
 
-/// Adds the text of a reply. The text must have capacity for it.
+/// Appends the text of a reply. The text must have enough capacity.
 pub fn say(said: &mut Vec<u8>, answer: Answer)
     requires { length said.old.items + 256 ≤ vec_capacity said.old }
     ensures text { said.new.items ≡ said.old.items ++ answer_text answer }
@@ -39,8 +39,8 @@ pub fn say(said: &mut Vec<u8>, answer: Answer)
     }
 }
 
-/// Adds the names of a port's interfaces, and leaves capacity for this many further replies. If there is no memory, it
-/// adds that refusal.
+/// Appends the names of the port's interfaces, and leaves enough capacity for `left` further replies. If an allocation fails, it
+/// appends the refusal `no memory` instead.
 pub fn say_names<P: Port>(said: &mut Vec<u8>, alloc: Global, port: &P, left: usize)
     requires { length said.old.items + (left + 1) * 256 ≤ vec_capacity said.old }
     ensures names { (text : List ℕ) × ReportsNames P.step port.now text
@@ -52,7 +52,7 @@ pub fn say_names<P: Port>(said: &mut Vec<u8>, alloc: Global, port: &P, left: usi
     }
 }
 
-/// Adds the names of a port's interfaces, and reserves capacity for this many further replies.
+/// Appends the names of the port's interfaces, and reserves capacity for `left` further replies.
 fn add_names<P: Port>(
     said: &mut Vec<u8>,
     alloc: Global,
@@ -70,7 +70,7 @@ fn add_names<P: Port>(
     said.extend_from_slice(&text)
 }
 
-/// Returns the reply with the names of a port's interfaces.
+/// Returns the reply with the names of the port's interfaces.
 fn names_text<P: Port>(alloc: Global, port: &P) -> Result<Vec<u8>, AllocError>
     ensures { IfOk result (λ text. (names : List (List ℕ)) × P.step port.now Names names port.now
         × (text.items ≡ interfaces_text names)) }
@@ -82,7 +82,7 @@ fn names_text<P: Port>(alloc: Global, port: &P) -> Result<Vec<u8>, AllocError>
     Ok(text)
 }
 
-/// Writes a text in one call, or makes no call if the text is empty. Returns whether the writer took it.
+/// Writes a text in one call, or makes no call if the text is empty. Returns false if the writer failed.
 pub fn put<W: Write>(out: &mut W, text: &[u8]) -> bool
     ensures wrote { IsTrue result → Wrote W.contents out.old text.now out.new }
     ensures some { result ≡ false → text.now ≢ [] }

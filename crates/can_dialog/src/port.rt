@@ -10,19 +10,19 @@ use can_rules::RuleRefusal;
 use std::alloc::AllocError;
 use thiserror::Error;
 
-/// The cause for which a port refuses a call.
+/// Why a port refuses a call.
 #[derive(Debug, Clone, Copy, PartialEq, Eq, Error)]
 pub enum PortRefusal {
-    /// The bus refused the call, or there was no memory.
+    /// The bus refused the call, or an allocation failed.
     #[error("{0}")]
     Bus(Refusal),
-    /// Each pass of the station has already entered.
+    /// All passes of the station are in use.
     #[error("too many passes")]
     TooManyPasses,
     /// The pass belongs to another station.
     #[error("wrong station")]
     WrongStation,
-    /// The text is no fault rule.
+    /// The text is not a fault rule.
     #[error("bad rule")]
     BadRule,
     /// The bus already has 64 fault rules.
@@ -31,7 +31,7 @@ pub enum PortRefusal {
 }
 
 impl PortRefusal {
-    /// Returns the cause as a client reads it.
+    /// Returns the cause in the form that a client reads.
     pub fn cause(self) -> Cause
         ensures { result ≡ cause_of_port self }
     {
@@ -61,7 +61,7 @@ impl From<RuleRefusal> for PortRefusal {
     }
 }
 
-/// Returns a port's reply to a fault rule, given the reply of the fault plan.
+/// Converts the reply of the fault plan to a rule into the reply of a port.
 pub fn rule_reply(outcome: Result<(), RuleRefusal>) -> Result<(), PortRefusal>
     ensures { result ≡ reply_to_rule outcome }
 {
@@ -71,12 +71,11 @@ pub fn rule_reply(outcome: Result<(), RuleRefusal>) -> Result<(), PortRefusal>
     }
 }
 
-/// The interface between a session and a bus, or a connection to a bus.
+/// The interface between a session and a bus, or between a session and a connection to a bus.
 ///
-/// The relation `step` is the law of a port: it relates the state before a call, the call, its reply and the state
-/// after it. Each call is one such step. A port may allocate memory. An implementation writes `call`, `put_names`,
-/// `attach`, the two counts, the status, the load and the three calls for fault rules. The other calls make one event
-/// each and use `call`.
+/// The relation `step` is the law of a port: it relates the state before a call, the call, its reply and the state after the call.
+/// Each call is one such step. A port may allocate memory. An implementation defines `call`, `put_names`, `attach`, `socket_stats`,
+/// `iface_stats`, `status`, `load` and the three methods for fault rules. Each of the other methods makes one event with `call`.
 pub trait Port {
     ghost use Rattle.can_event.specs.Replies.{received_into};
     ghost use Rattle.can_dialog.specs.Calls.{Call, Reply, Steps};
@@ -84,25 +83,25 @@ pub trait Port {
     ghost use Rattle.can_proto.specs.Spelling.{spaced};
     ghost use Rattle.can_dialog.specs.Calls.Call.{Names, Attach, Open, Close, SetFilters, SetOption, Send, Receive, Restart, CountsOfSocket, CountsOfIface, CountersOfIface, LoadAt, Inject, CountsRules, EndsRules, Down};
 
-    /// Relates the state before a call, the call, its reply and the state after it.
+    /// Relates the state before a call, the call, its reply and the state after the call.
     ghost step: { Self → (call : Call) → Reply call → Self → Type 0 };
 
-    /// Makes an event, and returns the reply of the bus: a reply of the event's kind, or a refusal. Returns `Err` if
-    /// the event did not reach the bus.
+    /// Makes an event, and returns the reply of the bus. The reply suits the kind of event, or is a refusal. Returns `Err` if the
+    /// event did not reach the bus.
     fn call(&mut self, event: Event) -> Result<Reply, PortRefusal>
         ensures { Steps step self.old event result self.new };
 
-    /// Adds a space and the name of each interface that may be attached, in order. Returns `AllocError` if there is no
-    /// memory; some names may then have been added.
+    /// Appends the names of all interfaces that may be attached, in order, each after a space. Returns `AllocError` if an
+    /// allocation fails; some names may have been appended then.
     fn put_names(&self, text: &mut Vec<u8>) -> Result<(), AllocError>
         ensures { OnOk result ((names : List (List ℕ)) × step self.now Names names self.now
             × (text.new.items ≡ text.old.items ++ spaced names)) };
 
-    /// Returns the interface with this name.
+    /// Attaches to the interface with this name, and returns the interface.
     fn attach(&mut self, name: &[u8]) -> Result<Iface, PortRefusal>
         ensures { step self.old (Attach name.now) result self.new };
 
-    /// Opens a socket on an interface. Up to `capacity` items may wait there.
+    /// Opens a socket on an interface. At most `capacity` items can wait at the socket.
     fn open(&mut self, iface: Iface, capacity: u32) -> Result<SocketId, PortRefusal>
         ensures { step self.old (Open iface capacity) result self.new }
     {
@@ -138,7 +137,7 @@ pub trait Port {
             .map_err(PortRefusal::Bus)
     }
 
-    /// Sends a frame on a socket, and returns its number at the interface.
+    /// Sends a frame on a socket, and returns the number of the frame at the interface.
     fn send(&mut self, socket: SocketId, frame: Frame) -> Result<u64, PortRefusal>
         ensures { step self.old (Send socket frame) result self.new }
     {
@@ -147,7 +146,7 @@ pub trait Port {
             .map_err(PortRefusal::Bus)
     }
 
-    /// Takes the oldest item of a socket.
+    /// Takes the oldest item from a socket.
     fn receive(&mut self, socket: SocketId) -> Result<Option<Received>, PortRefusal>
         ensures { step self.old (Receive socket) result self.new }
     {
@@ -156,7 +155,7 @@ pub trait Port {
             .map_err(PortRefusal::Bus)
     }
 
-    /// Takes the oldest item of a socket into the buffer, and returns whether there was one.
+    /// Takes the oldest item from a socket into the buffer, and returns whether there was an item.
     fn receive_into(&mut self, socket: SocketId, room: &mut Received) -> Result<bool, PortRefusal>
         ensures { step self.old (Receive socket) (received_into room.new result) self.new }
     {
@@ -187,7 +186,7 @@ pub trait Port {
             .map_err(PortRefusal::Bus)
     }
 
-    /// Returns the counts of the items offered to an open socket.
+    /// Returns the counts of the items that were offered to an open socket.
     fn socket_stats(&mut self, socket: SocketId) -> Option<SocketStats>
         ensures { step self.old (CountsOfSocket socket) result self.new };
 
@@ -199,19 +198,17 @@ pub trait Port {
     fn status(&mut self, iface: Iface) -> Counters
         ensures { step self.old (CountersOfIface iface) result self.new };
 
-    /// Returns the load of the bus at this time and its bit rates, as far as the port knows them. The law leaves the
-    /// values to the port.
+    /// Returns the load of the bus and its bit rates at this time, as far as the port knows them. The law does not restrict the
+    /// values.
     fn load(&mut self, moment: Moment) -> BusLoad
         ensures { step self.old (LoadAt moment) result self.new };
 
-    /// Adds a fault rule to the bus, after those that it already has.
-    ///
-    /// Refusals: `BadRule`, `NoInterface` if the rule names an interface that the bus does not have, `TooManyRules`,
-    /// `NoMemory`.
+    /// Adds a fault rule to the bus, after the rules that the bus already has. Refusals: `BadRule`, `NoInterface` if the rule names
+    /// an interface that the bus does not have, `TooManyRules`, `NoMemory`.
     fn inject(&mut self, rule: &[u8]) -> Result<(), PortRefusal>
         ensures { step self.old (Inject rule.now) result self.new };
 
-    /// Returns the number of fault rules of the bus, without those that are used up.
+    /// Returns the number of the bus's fault rules that are not used up.
     fn rules(&mut self) -> u64
         ensures { step self.old CountsRules result self.new };
 

@@ -18,24 +18,24 @@ use std::io::Write;
 use std::marker::Model;
 use thiserror::Error;
 
-/// The fault for which a session did not complete a call.
+/// Why a session did not complete a call.
 #[derive(Debug, Clone, Copy, PartialEq, Eq, Error)]
 pub enum SessionFault {
-    /// The session was over before the call. Nothing was done.
+    /// The session had ended before the call. Nothing was done.
     #[error("session ended")]
     Ended,
-    /// There was no memory. Nothing was taken.
+    /// An allocation failed. Nothing was read from the piece.
     #[error("no memory")]
     NoMemory,
-    /// The writer failed. The raw socket was closed, if there was one, and the session is over.
+    /// The writer failed. The raw socket was closed if there was one, and the session has ended.
     #[error("write fault")]
     Write,
 }
 
-/// A session over any port. It reads a client's stream in pieces and writes the texts for the client.
+/// A session over any port. It reads a client's stream in pieces, and writes the texts for the client.
 ///
-/// Between calls it keeps the text of a message begun, the capacity of its socket and its stage. It writes all texts of
-/// a call in one `write_all`.
+/// Between calls it stores the text of an incomplete message, the capacity of its socket, and its stage. It writes all texts of a
+/// call in a single `write_all`.
 #[derive(Drop)]
 pub struct Session {
     reader: Reader,
@@ -55,7 +55,7 @@ impl Model for Session {
     ghost invariant = { λ s. messages_begun s.reader ≤ 1 };
 }
 
-/// Takes the turns of these items in order, and adds their texts to `said`, which must have capacity for them.
+/// Takes the turns for these items in order, and appends their texts to `said`, which must have enough capacity.
 fn take_turns<P: Port>(
     dialog: &mut Dialog,
     alloc: Global,
@@ -77,8 +77,8 @@ fn take_turns<P: Port>(
 }
 
 impl Session {
-    /// Returns a session that has just begun. Its socket will hold up to `capacity` items. It allocates the memory for
-    /// its reader.
+    /// Returns a session that has just begun. Its socket will hold up to `capacity` items. The memory of the reader is allocated
+    /// here.
     pub fn new(alloc: Global, capacity: u32) -> Result<Session, AllocError>
         ensures { IfOk result (λ s. s ≡ beginning capacity) }
     {
@@ -93,15 +93,14 @@ impl Session {
         })
     }
 
-    /// Returns the stage of the session.
+    /// Returns the current stage of the session.
     pub fn stage(&self) -> Stage
         ensures { result ≡ self.now.dialog.stage }
     {
         self.dialog.stage
     }
 
-    /// Writes the first text of a session. It must not be called in raw mode, where a frame may have been written
-    /// before.
+    /// Writes the first text of a session. It must not be called in raw mode, because a frame may already have been written then.
     ///
     /// Refusals: `Ended`, `Write`.
     pub fn greet<W: Write>(&mut self, out: &mut W) -> Result<(), SessionFault>
@@ -125,16 +124,16 @@ impl Session {
         Ok(())
     }
 
-    /// Takes the next piece of the client's stream. It carries out the messages that end in the piece, in order. It
-    /// writes all their texts in one `write_all`, or nothing if there is no text. An interface that is restarted or
-    /// taken down changes state at `moment`.
+    /// Takes the next piece of the client's stream, and carries out the messages that end in the piece, in order. It writes all
+    /// their texts in a single `write_all`, or nothing if there is no text. If an interface is restarted or taken down, this
+    /// happens at `moment`.
     ///
-    /// Refusals, in this order: `Ended`; `NoMemory`, before anything of the piece was taken; `Write`, after the
-    /// messages of the piece were carried out. If there is no memory to read a command, or the port has none, the
-    /// client receives a refusal and the session reads on.
+    /// Refusals, in order of precedence: `Ended`; `NoMemory`, before anything in the piece was read; `Write`, after the messages of
+    /// the piece were carried out. If an allocation fails while a command is read, or in the port, the client gets a refusal and
+    /// the session continues.
     ///
-    /// The time grows with the length of the piece. It allocates 256 bytes for each `<` of the piece, 256 more, and the
-    /// memory for the names of `interfaces`. It keeps this memory for the next call.
+    /// The running time grows linearly with the length of the piece. The session allocates 256 bytes, another 256 bytes for each
+    /// `<` in the piece, and the memory for the names of `interfaces`. It keeps this memory for the next call.
     pub fn feed<P: Port, W: Write>(
         &mut self,
         alloc: Global,
@@ -182,7 +181,7 @@ impl Session {
         Ok(())
     }
 
-    /// Sends a frame and writes the reply for the client, if any.
+    /// Sends a frame and writes the reply for the client if there is one.
     fn pass_on<P: Port, W: Write>(
         &mut self,
         raw: RawSocket,
@@ -208,11 +207,11 @@ impl Session {
         Ok(())
     }
 
-    /// Takes one item from the socket and writes its text. Returns whether there was one. Outside raw mode it makes no
-    /// call and returns false. It reports a refusal of the port to the client; a refusal is no item. Only the port and
-    /// the writer may allocate memory.
+    /// Takes one item from the socket and writes its text. Returns whether there was an item. Outside raw mode it makes no call and
+    /// returns false. If the port refuses, the refusal is written for the client, and the result is false. Only the port and the
+    /// writer may allocate memory.
     ///
-    /// Refusals: `Ended`; `Write`, if the item is lost.
+    /// Refusals: `Ended`; `Write`, in which case the item is lost.
     pub fn deliver<P: Port, W: Write>(
         &mut self,
         port: &mut P,
@@ -240,16 +239,16 @@ impl Session {
         Ok(delivery.is_item())
     }
 
-    /// Receives one item into the buffer, as `deliver` does, and returns the result for the client without writing it.
-    /// The caller must write its text before the session does anything else. Only raw mode makes a call.
+    /// Receives one item into the buffer, like `deliver`, but returns the result for the client without writing it. The caller must
+    /// write the text of the result before the session does anything else. Outside raw mode it makes no call.
     pub fn take<P: Port>(&self, port: &mut P, room: &mut Received) -> Delivery
         ensures { ReceivesInto P.step self.now.dialog.stage port.old port.new result room.new }
     {
         take_delivery(self.dialog.stage, port, room)
     }
 
-    /// Ends the session and closes its raw socket, if there is one. If the port refuses to close it, the session is
-    /// over nevertheless. Refusal: `Ended`.
+    /// Ends the session and closes its raw socket if there is one. Even if the port refuses to close the socket, the session ends.
+    /// Refusal: `Ended`.
     pub fn end<P: Port>(&mut self, port: &mut P) -> Result<(), SessionFault>
         ensures done { OnOk result
             (Finishes P.step self.old.dialog port.old port.new self.new.dialog) }

@@ -5,8 +5,8 @@ use can_event::SocketId;
 use can_frame::Iface;
 use can_proto::Mode;
 
-/// The socket of a session in raw mode, its interface, and the client's choices: the data of error message frames, the
-/// number of each frame sent, and the origin of each frame received.
+/// The socket of a session in raw mode, its interface, and the client's choices. The client can choose to get the data of error
+/// message frames, the number of each frame sent, and the origin of each frame received.
 #[derive(Debug, Clone, Copy, PartialEq, Eq)]
 pub struct RawSocket {
     pub iface: Iface,
@@ -16,21 +16,21 @@ pub struct RawSocket {
     pub origins: bool,
 }
 
-/// The stage of a session, with its values.
+/// The stage of a session, and the values that belong to it.
 #[derive(Debug, Clone, Copy, PartialEq, Eq)]
 pub enum Stage {
     /// The client has opened no interface.
     NoBus,
-    /// The client has opened this interface and has no socket on it.
+    /// The client has opened this interface but no socket on it.
     Opened(Iface),
     /// The client has an open socket.
     Raw(RawSocket),
-    /// The session is over.
+    /// The session has ended.
     Ended,
 }
 
 impl Stage {
-    /// Returns the mode, which decides the commands that are allowed.
+    /// Returns the mode of this stage. The mode determines which commands are allowed.
     pub fn mode(self) -> Mode
         ensures { result ≡ mode_of self }
     {

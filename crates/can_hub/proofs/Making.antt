@@ -8,7 +8,7 @@ use Rattle.can_hub.specs.Benches.{IsWithin, NamedFrom, bench_names, bus_of, buse
 use Rattle.can_event.specs.declared.bus_config.BusConfig.{BusConfig}
 use Rattle.can_hub.specs.declared.bench.Bench.{Bench}
 
--- A list is its first element and the rest.
+-- A list that is not empty consists of its first element and the rest.
 parted : {X : Type 0} (xs : List X) (x : X) → 1 ≤ length xs → x ≡ get_or xs 0 x → xs ≡ x ∷ take (length xs - 1) (drop 1 xs)
 parted [] x some is = absurd (omega (arith, some))
 parted (y ∷ ys) x some is = let rest : take (length (y ∷ ys) - 1) ys ≡ ys = take_all (length (y ∷ ys) - 1) ys (omega arith) in ap (λ z. z ∷ ys) (sym is) ∙ ap (λ zs. x ∷ zs) (sym rest)
@@ -19,11 +19,11 @@ emptied [] e = refl
 emptied (x ∷ xs) e = absurd (omega (arith, e))
 
 module _ {F G : Type 0} where
-  -- The first bench's names, and the other benches' names.
+  -- The names of all benches are those of the first bench and those of the other benches.
   pub names_parted : (bs : List (Bench F G)) (b : Bench F G) → 1 ≤ length bs → b ≡ get_or bs 0 b → bench_names bs ≡ b.names ∷ bench_names (take (length bs - 1) (drop 1 bs))
   names_parted bs b some is = ap bench_names (parted bs b some is)
 
-  -- While buses are made: the buses made so far, and those that the remaining benches will make.
+  -- The buses at each turn of the loop: those made so far, followed by those to be made from the remaining benches.
   pub made_first : (made : List BusSeen) (rest bs : List (Bench F G)) → made ≡ [] → rest ≡ bs → made ++ buses_from (length made) rest ≡ buses_from 0 bs
   made_first made rest bs none same = ap (λ (m : List BusSeen). m ++ buses_from (length m) rest) none ∙ ap (buses_from 0) same
 
@@ -56,7 +56,7 @@ module _ {F G : Type 0} where
   pub made_last : (made : List BusSeen) (rest : List (Bench F G)) (all : List BusSeen) → rest ≡ [] → made ++ buses_from (length made) rest ≡ all → made ≡ all
   made_last made rest all none h = sym (append-nil made) ∙ ap (λ (r : List (Bench F G)). made ++ buses_from (length made) r) (sym none) ∙ h
 
-  -- The buses are numbered.
+  -- The buses that are made are numbered in order.
   pub numbered : (n : ℕ) (bs : List (Bench F G)) → NumberedFrom n (buses_from n bs)
   numbered n [] = tt
   numbered n (b ∷ more) = (refl, numbered (suc n) more)

@@ -26,7 +26,7 @@ use Rattle.can_wire.specs.Times.{rates_of}
 use Rattle.can_hub.specs.Buses.{BusSeen, IsFirstNamed, config_on, items_on, names_on, rates_on}
 use Rattle.can_hub.specs.PassSteps.{EnteredSeen, PortSeen, PassStep, CountsSocket, CountsIface, entered_with, reply_of_station, refused_as, socket_room_in, with_socket_room, OnPort, SomeNamed, SomeNamedFull, Attaches, GaugeReports, ReportsCounters, ReportsRates, InjectsNamed, Injects, RulesLeft}
 
--- The port with this entered station.
+-- The port over these buses with this entered station.
 abbrev over : List BusSeen → EnteredSeen → PortSeen
 over buses e = record { buses = buses; entered = Some e }
 
@@ -35,7 +35,7 @@ module _ (F : Type 0) (buses : List BusSeen) (now : EnteredSeen) (pass : PassSee
       → OnPort told (over buses now) e (reply_of_station outcome) (over buses (record now { pass = pass }))
   on told e outcome called = ((outcome, pass, refl, called, refl), refl)
 
-  -- The event that the pass makes.
+  -- The event that the station carries out for the pass.
   abbrev made : Event → Event
   made e = with_socket_room e (socket_room_in buses (Some now))
 
@@ -57,14 +57,14 @@ module _ (F : Type 0) (buses : List BusSeen) (now : EnteredSeen) (pass : PassSee
   gives e (reply.Refused why) called fits = on done_reply _ (Err (station.Bus why)) (inr called.0, called.1)
   gives e r called fits = absurd fits
 
-  -- A receive call with `room`.
+  -- A receive call that writes the received item into `room`.
   taken : (room : Received) (socket : SocketId) (outcome : Result Bool StationRefusal) → Called (taken_reply room) now.station.number now.pass (event.Receive socket) outcome pass
       → PassStep F (over buses now) (Receive socket) (received_into room (reply_of_station outcome)) (over buses (record now { pass = pass }))
   taken room socket (Ok is_item) called = on (λ x. reply.Received x) _ (Ok (taken_item room is_item)) called
   taken room socket (Err (station.Bus why)) called = on (λ x. reply.Received x) _ (Err (station.Bus why)) called
   taken room socket (Err station.WrongStation) called = on (λ x. reply.Received x) _ (Err station.WrongStation) called
 
-  -- A refusal is the same for every call.
+  -- A refusal has the same effect on the pass, whatever the call returns on success.
   refused : {A : Type 0} (told : A → Reply) (e : Event) (why : StationRefusal) → Called same now.station.number now.pass e (Err why) pass → OnPort told (over buses now) e (Err (refused_as why)) (over buses (record now { pass = pass }))
   refused told e (station.Bus why) called = on told e (Err (station.Bus why)) called
   refused told e station.WrongStation called = on told e (Err station.WrongStation) called
@@ -82,7 +82,7 @@ module _ (F : Type 0) (buses : List BusSeen) (now : EnteredSeen) (pass : PassSee
   steps e (Ok r) called fits = gives e r called fits
   steps e (Err why) called fits = refuses e why called
 
--- A call of the entered station is a call of the port.
+-- A call on the entered station is a call on the port.
 pub on_pass : (F : Type 0) (old : PortSeen) (buses : List BusSeen) (inside : Option EnteredSeen) (now : EnteredSeen) (pass : PassSeen) (e : Event) (room : ℕ) (outcome : Result Reply StationRefusal) (answer : Result Reply PortRefusal)
     → ◌≡◌ {A = PortSeen} (record { buses = buses; entered = inside }) old → inside ≡ Some now → room ≡ items_on (slice_get buses now.station.number) → answer ≡ reply_of_station outcome
     → Called same now.station.number now.pass (with_socket_room e room) outcome pass → IfOk outcome (λ r. Suits (with_socket_room e room) r)
@@ -104,7 +104,7 @@ sent F old buses inside now pass socket frame outcome answer seen is told called
     subst (λ (o : PortSeen). PassStep F o (Send socket frame) answer after) (ap (λ (i : Option EnteredSeen). record { buses = buses; entered = i }) (sym is) ∙ seen)
     (subst (λ (a : Result ℕ PortRefusal). PassStep F (over buses now) (Send socket frame) a after) (sym told) (on F buses now pass reply.Sent (event.Send socket frame) outcome called))
 
--- A receive call of the entered station with `room` is a call of the port.
+-- A receive call with `room` on the entered station is a call on the port.
 pub received : (F : Type 0) (old : PortSeen) (buses : List BusSeen) (inside : Option EnteredSeen) (now : EnteredSeen) (pass : PassSeen) (socket : SocketId) (room : Received) (outcome : Result Bool StationRefusal) (answer : Result Bool PortRefusal)
     → ◌≡◌ {A = PortSeen} (record { buses = buses; entered = inside }) old → inside ≡ Some now → answer ≡ reply_of_station outcome
     → Called (taken_reply room) now.station.number now.pass (event.Receive socket) outcome pass
@@ -131,24 +131,24 @@ counted F old buses inside now socket iface counts seen is (held, state, found) 
     (subst (λ (o : Option EnteredSeen). CountsSocket F o socket counts.0 × CountsIface F o iface counts.1) (sym is) ((held, state, found.0), (held, state, found.1)))
 
 module _ (old : PortSeen) (buses : List BusSeen) (inside : Option EnteredSeen) (name : List ℕ) (at : ℕ × ℕ) (seen : ◌≡◌ {A = PortSeen} (record { buses = buses; entered = inside }) old) (first : IsFirstNamed buses name (Some at)) where
-  -- The bus that was found has the name.
+  -- Some bus has an interface with the name, because one was found.
   pub some_named : SomeNamed old.buses name
   some_named = subst (λ (o : PortSeen). SomeNamed o.buses name) seen (at.0, at.1, first)
 
-  -- The station of that bus had no pass left.
+  -- The station of the bus that was found had no pass left.
   pub some_named_full : (F : Type 0) (here : StationSeen) → here.number ≡ at.0 → config_on (slice_get buses at.0) ≡ Some here.config → HadNoPassLeft F here → SomeNamedFull F old.buses name
   some_named_full F here is config full =
       subst (λ (o : PortSeen). SomeNamedFull F o.buses name) seen
       (here, at.1, subst (λ (n : ℕ). IsFirstNamed buses name (Some (n, at.1))) (sym is) first, subst (λ (n : ℕ). config_on (slice_get buses n) ≡ Some here.config) (sym is) config, full)
 
-  -- The station of that bus was entered.
+  -- The station of the bus that was found was entered.
   pub attached : (F : Type 0) (here : StationSeen) (gauge : Readings) (pass : PassSeen) → here.number ≡ at.0 → config_on (slice_get buses at.0) ≡ Some here.config → gauge.number ≡ here.number → pass.number ≡ here.number
       → Attaches F old name (Ok at.1) (over buses (entered_with here gauge pass))
   attached F here gauge pass is config metered new =
       subst (λ (o : PortSeen). Attaches F o name (Ok at.1) (over buses (entered_with here gauge pass))) seen
       (here, gauge, pass, subst (λ (n : ℕ). IsFirstNamed buses name (Some (n, at.1))) (sym is) first, subst (λ (n : ℕ). config_on (slice_get buses n) ≡ Some here.config) (sym is) config, metered, new, refl)
 
--- A rule that the entered station took or refused is a call of the port.
+-- A rule that the entered station accepts or refuses is an inject call on the port.
 pub injected : (F : Type 0) (old : PortSeen) (buses : List BusSeen) (inside : Option EnteredSeen) (now : EnteredSeen) (rule : List ℕ) (found : Option (List (List ℕ))) (answer : Result (Unit {0}) PortRefusal)
     → ◌≡◌ {A = PortSeen} (record { buses = buses; entered = inside }) old → inside ≡ Some now → found ≡ names_on (slice_get buses now.station.number)
     → InjectsNamed F now.station found rule answer → Injects F old.buses old.entered rule answer
@@ -156,7 +156,7 @@ injected F old buses inside now rule found answer seen is named came =
     subst (λ (o : PortSeen). Injects F o.buses o.entered rule answer) (ap (λ (i : Option EnteredSeen). record { buses = buses; entered = i }) (sym is) ∙ seen)
     (subst (λ (ns : Option (List (List ℕ))). InjectsNamed F now.station ns rule answer) named came)
 
--- A load with the bit rates of the entered bus is a call of the port.
+-- A load with the bit rates of the entered bus is a valid answer of the port.
 pub rates_told : (old : PortSeen) (buses : List BusSeen) (inside : Option EnteredSeen) (now : EnteredSeen) (load : BusLoad)
     → ◌≡◌ {A = PortSeen} (record { buses = buses; entered = inside }) old → inside ≡ Some now → rates_of load.bitrate load.dbitrate ≡ rates_on (slice_get buses now.station.number) → ReportsRates old.buses old.entered load
 rates_told old buses inside now load seen is rates =

@@ -8,11 +8,11 @@ use Rattle.can_hub.specs.Buses.{BusSeen, AllApart}
 use Rattle.can_hub.specs.HubBuses.{IsOfLongRuns}
 use Rattle.can_hub.specs.declared.bench.Bench.{Bench}
 
--- The parts of which the buses of a hub are made.
+-- The benches: the parts from which the buses of a hub are made.
 
 module _ {F G : Type 0} where
-  -- A bus with these limits may be made of these parts. The configuration is within the limits, blanks and names are
-  -- for its number of interfaces, and a socket holds 1 to 65,536 items.
+  -- A bus may be made from this bench. The configuration is within the limits `Limits`, the blanks and the names match
+  -- its number of interfaces, the names are valid, and a socket holds 1 to 65,536 items.
   pub record IsWithin (Limits : BusConfig → Type 0) (b : Bench F G) : Type 0 where
     pub config : Limits b.config
     pub words : b.blanks.meter.words ≡ b.config.ifaces
@@ -21,36 +21,38 @@ module _ {F G : Type 0} where
     pub some_items : 1 ≤ b.rx_capacity
     pub few_items : b.rx_capacity ≤ max_rx_capacity
 
-  -- The same for a bus that keeps its whole record.
+  -- A bus that keeps its whole record may be made from this bench.
   abbrev pub IsProper : Bench F G → Type 0
   IsProper b = IsWithin IsConfig b
 
-  -- The names of each bus.
+  -- The names of each bench's interfaces.
   abbrev pub bench_names : List (Bench F G) → List (List (List ℕ))
   bench_names benches = map (λ b. b.names) benches
 
-  -- A hub of such buses may be made of these benches: 1 to 16 buses, and no name on two of them.
+  -- A hub may be made from these benches. There are 1 to 16 of them, a bus may be made from each, and no two of them
+  -- share an interface name.
   pub record MakeHubWithin (Limits : BusConfig → Type 0) (benches : List (Bench F G)) : Type 0 where
     pub some : 1 ≤ length benches
     pub few : length benches ≤ 16
     pub proper : All (λ b. IsWithin Limits b) benches
     pub apart : AllApart (bench_names benches)
 
-  -- The same for buses that keep their whole records.
+  -- A hub whose buses keep their whole records may be made from these benches.
   abbrev pub MakeHub : List (Bench F G) → Type 0
   MakeHub benches = MakeHubWithin IsConfig benches
 
-  -- The same for the buses of long runs.
+  -- A hub whose buses are for long runs may be made from these benches.
   abbrev pub MakeLongHub : List (Bench F G) → Type 0
   MakeLongHub benches = MakeHubWithin IsOfLongRuns benches
 
-  -- The blanks are named by the numbers of their buses, starting with n.
+  -- The blanks of each bench have the names that `roll` and `meter` give for its bus number. The first bench has bus
+  -- number n.
   abbrev pub NamedFrom : (ℕ → RollId) → (ℕ → TableId) → ℕ → List (Bench F G) → Type 0
   NamedFrom roll meter n [] = Unit {0}
   NamedFrom roll meter n (b ∷ more) =
       (b.blanks.roll ≡ roll n) × (b.blanks.meter ≡ meter n) × NamedFrom roll meter (suc n) more
 
-  -- The bus that is made under this number.
+  -- The bus made from this bench, with number n.
   abbrev pub bus_of : ℕ → Bench F G → BusSeen
   bus_of n b = record {
     number = n;
@@ -61,7 +63,7 @@ module _ {F G : Type 0} where
     rx_capacity = b.rx_capacity;
   }
 
-  -- The buses that are made, starting with number n.
+  -- The buses made from these benches. The first bus has number n.
   abbrev pub buses_from : ℕ → List (Bench F G) → List BusSeen
   buses_from n [] = []
   buses_from n (b ∷ more) = bus_of n b ∷ buses_from (suc n) more

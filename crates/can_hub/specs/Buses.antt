@@ -6,10 +6,10 @@ use Rattle.can_station.specs.Held.{StationSeen}
 use Rattle.can_wire.specs.Times.{BitRates, rates_of}
 use Rattle.can_wire.specs.Timings.{BusTiming}
 
--- The buses of a hub, and their names.
+-- The buses of a hub and the names of their interfaces.
 
--- A bus: number, configuration, names of its interfaces, bit rates if it has any, pause of its driver after each step
--- in milliseconds, and number of items that a socket holds.
+-- A bus: its number, its configuration, the names of its interfaces, its bit rates (if known), the pause of its driver
+-- after each step in milliseconds, and the number of items that a socket holds.
 pub record BusSeen : Type 0 where
   pub number : ℕ
   pub config : BusConfig
@@ -18,65 +18,65 @@ pub record BusSeen : Type 0 where
   pub pace_ms : ℕ
   pub rx_capacity : ℕ
 
--- The number of items that a socket holds on a bus; 0 if there is no bus.
+-- The number of items that a socket holds on a bus, or 0 if the bus does not exist.
 abbrev pub items_on : Option BusSeen → ℕ
 items_on None = 0
 items_on (Some bus) = bus.rx_capacity
 
--- The names of the interfaces of a bus, if it exists.
+-- The names of a bus's interfaces, if the bus exists.
 abbrev pub names_on : Option BusSeen → Option (List (List ℕ))
 names_on bus = option_map (λ b. b.names) bus
 
--- The bit rates of a bus; both are 0 if it has none.
+-- The bit rates of a bus, or 0 for both if the bus has no bit rates.
 abbrev pub bit_rates : Option BusTiming → BitRates
 bit_rates None = rates_of 0 0
 bit_rates (Some t) = t.rates
 
--- The bit rates of a bus; both are 0 if it has none, or there is no bus.
+-- The bit rates of a bus, or 0 for both if the bus does not exist or has no bit rates.
 abbrev pub rates_on : Option BusSeen → BitRates
 rates_on None = rates_of 0 0
 rates_on (Some bus) = bit_rates bus.timing
 
--- The configuration of a bus, if it exists.
+-- The configuration of a bus, if the bus exists.
 abbrev pub config_on : Option BusSeen → Option BusConfig
 config_on bus = option_map (λ b. b.config) bus
 
--- The station belongs to the bus with its number.
+-- The bus with the station's number exists and has the station's configuration.
 abbrev pub IsStationOn : List BusSeen → StationSeen → Type 0
 IsStationOn buses station = config_on (slice_get buses station.number) ≡ Some station.config
 
--- The buses are numbered by their places, starting with n.
+-- The buses are numbered in order, and the first has number n.
 abbrev pub NumberedFrom : ℕ → List BusSeen → Type 0
 NumberedFrom n [] = Unit {0}
 NumberedFrom n (bus ∷ more) = (bus.number ≡ n) × NumberedFrom (suc n) more
 
--- No name of the first list is in the second.
+-- The two lists have no name in common.
 abbrev pub ShareNoName : List (List ℕ) → List (List ℕ) → Type 0
 ShareNoName names others = (k : ℕ) → k < length names → ¬ Contains others (slice_index_or names k [])
 
--- No name of this list is in one of the others.
+-- The first list has no name in common with any of the other lists.
 abbrev pub ApartFrom : List (List ℕ) → List (List (List ℕ)) → Type 0
 ApartFrom names [] = Unit {0}
 ApartFrom names (others ∷ more) = ShareNoName names others × ApartFrom names more
 
--- No name is in two of the lists.
+-- No two lists have a name in common.
 abbrev pub AllApart : List (List (List ℕ)) → Type 0
 AllApart [] = Unit {0}
 AllApart (names ∷ more) = ApartFrom names more × AllApart more
 
--- The names of each bus.
+-- The names of each bus's interfaces.
 abbrev pub names_of : List BusSeen → List (List (List ℕ))
 names_of buses = map (λ b. b.names) buses
 
--- The names of all interfaces, in order.
+-- The names of the interfaces of all buses, in order.
 abbrev pub all_names : List BusSeen → List (List ℕ)
 all_names buses = flat_map (λ b. b.names) buses
 
--- No bus before the n-th has an interface of this name.
+-- None of the first n buses has an interface with this name.
 abbrev pub NoneNamed : ℕ → List BusSeen → List ℕ → Type 0
 NoneNamed n buses name = (k : ℕ) (d : BusSeen) → k < n → place_of (slice_index_or buses k d).names name ≡ None
 
--- The first bus that has an interface of this name, and that interface; or None if no bus has one.
+-- The first bus that has an interface with this name and the index of that interface, or `None` if no bus has one.
 abbrev pub IsFirstNamed : List BusSeen → List ℕ → Option (ℕ × ℕ) → Type 0
 IsFirstNamed buses name None = NoneNamed (length buses) buses name
 IsFirstNamed buses name (Some at) =

@@ -9,44 +9,44 @@ use Rattle.can_hub.specs.declared.hub_bus.AnyBus.TheVariants as bus
 use Rattle.can_hub.specs.declared.hub_bus.AnyEnd.{AnyEnd}
 use Rattle.can_hub.specs.declared.hub_bus.AnyEnd.TheVariants as end
 
--- The buses of a hub: buses that keep their whole records, and buses of long runs (own choice).
+-- The buses of a hub, which either keep their whole records or are for long runs (own choice).
 
--- The configuration of a long run's bus in a hub has a higher limit than a record.
+-- The configuration is valid for a hub's bus for long runs: its limit is higher than that of any whole record.
 abbrev pub IsOfLongRuns : BusConfig → Type 0
 IsOfLongRuns c = (max_limit < c.limit) × IsLongConfig c
 
--- The journal that others see of a bus.
+-- The journal of a bus, as callers see it.
 abbrev pub journal_in : AnyBus → Journal
 journal_in (bus.Whole b) = b
 journal_in (bus.Long b) = journal_of b
 
--- The number of entries that a bus takes before some have to be handed out. It is the largest usize for a bus with its
--- whole record.
+-- The number of entries that a bus can still take before some must be handed out. For a bus that keeps its whole record
+-- it is the largest usize.
 abbrev pub places_in : AnyBus → ℕ
 places_in (bus.Whole b) = 18446744073709551615
 places_in (bus.Long b) = places_left b
 
--- The entries that a bus has handed out, the oldest first. A bus with its whole record has handed out none.
+-- The entries that a bus has handed out, oldest first. A bus that keeps its whole record hands out no entries.
 abbrev pub handed_in : AnyBus → List Entry
 handed_in (bus.Whole b) = []
 handed_in (bus.Long b) = handed_entries b
 
--- The bus has a configuration of its kind.
+-- The configuration of the bus is valid for its kind of bus.
 abbrev pub HasItsLength : AnyBus → Type 0
 HasItsLength (bus.Whole b) = IsConfig b.config
 HasItsLength (bus.Long b) = IsOfLongRuns b.config
 
--- The journal that others see of the bus from which this remains.
+-- The journal that a bus left at its end, as callers see it.
 abbrev pub left_in : AnyEnd → Journal
 left_in (end.Whole r) = record { config = r.config; history = r.history }
 left_in (end.Long e) = journal_of e
 
--- The entries that this bus had handed out.
+-- The entries that the bus had handed out before its end.
 abbrev pub handed_by : AnyEnd → List Entry
 handed_by (end.Whole r) = []
 handed_by (end.Long e) = handed_entries e
 
--- The rest of a bus has a configuration of its kind.
+-- The configuration that a bus left at its end is valid for its kind of bus.
 abbrev pub EndsAtItsLength : AnyEnd → Type 0
 EndsAtItsLength (end.Whole r) = IsConfig r.config
 EndsAtItsLength (end.Long e) = IsOfLongRuns e.config

@@ -30,44 +30,45 @@ use Rattle.can_proto.specs.Spelling.{no_bus_load}
 use Rattle.can_proto.specs.declared.answer.BusLoad.{BusLoad}
 use Rattle.can_hub.specs.Buses.{BusSeen, IsFirstNamed, IsStationOn, items_on, names_on, rates_on, all_names}
 
--- A pass as a port. Each call is an event of the station, except look-ups and the calls about rules.
+-- A pass used as a port. Each call is an event of the station, except look-ups and the calls about rules.
 
--- An entered station, the publications that its gauge has seen, and the pass.
+-- An entered station, its gauge with the publications that the gauge has seen, and the pass.
 pub record EnteredSeen : Type 0 where
   pub station : StationSeen
   pub gauge : Readings
   pub pass : PassSeen
 
--- A port: the buses of its hub, and the entered station.
+-- A port: the buses of its hub and the station that was entered, if one was.
 pub record PortSeen : Type 0 where
   pub buses : List BusSeen
   pub entered : Option EnteredSeen
 
--- An entered station with this gauge and this pass.
+-- The entered station with this gauge and this pass.
 abbrev pub entered_with : StationSeen → Readings → PassSeen → EnteredSeen
 entered_with station gauge pass = record { station = station; gauge = gauge; pass = pass }
 
--- The number of items that a socket holds on the entered bus.
+-- The number of items that a socket holds on the entered bus, or 0 if no bus was entered.
 abbrev pub socket_room_in : List BusSeen → Option EnteredSeen → ℕ
 socket_room_in buses None = 0
 socket_room_in buses (Some e) = items_on (slice_get buses e.station.number)
 
--- The event that a pass makes: the bus sets the number of items that a socket holds.
+-- The event that the station carries out. In an open event, the number of items that a socket holds is replaced by the
+-- bus's number.
 abbrev pub with_socket_room : Event → ℕ → Event
 with_socket_room (event.Open iface asked) room = event.Open iface room
 with_socket_room e room = e
 
--- The port's refusal for a station's refusal.
+-- The refusal that the port returns for the station's refusal.
 abbrev pub refused_as : StationRefusal → PortRefusal
 refused_as (station.Bus why) = port.Bus why
 refused_as station.WrongStation = port.WrongStation
 
--- The port's reply for a station's reply.
+-- The reply that the port returns for the station's reply.
 abbrev pub reply_of_station : {A : Type 0} → Result A StationRefusal → Result A PortRefusal
 reply_of_station (Ok a) = Ok a
 reply_of_station (Err why) = Err (refused_as why)
 
--- A call of the entered station; if none was entered, there is no socket.
+-- The result of a call on the entered station. If no station was entered, the port replies `NoSocket`.
 abbrev pub OnPass :
     {A : Type 0} → (A → Reply) → Option EnteredSeen → Event → Result A PortRefusal → Option EnteredSeen → Type 0
 OnPass {A} told None e answer new = (answer ≡ Err (port.Bus refusal.NoSocket)) × (new ≡ None)
@@ -77,15 +78,15 @@ OnPass {A} told (Some old) e answer new =
     × Called told old.station.number old.pass e outcome pass
     × (new ≡ Some (record old { pass = pass }))
 
--- A call of the station through the port of a hub, whose buses do not change.
+-- The result of a call on the port. The station carries the call out, and the buses of the hub do not change.
 abbrev pub OnPort : {A : Type 0} → (A → Reply) → PortSeen → Event → Result A PortRefusal → PortSeen → Type 0
 OnPort told old e answer new = OnPass told old.entered e answer new.entered × (new.buses ≡ old.buses)
 
--- Some bus has an interface of this name.
+-- Some bus has an interface with this name.
 abbrev pub SomeNamed : List BusSeen → List ℕ → Type 0
 SomeNamed buses name = (bus : ℕ) × (iface : ℕ) × IsFirstNamed buses name (Some (bus, iface))
 
--- Some bus that has an interface of this name had no pass left.
+-- The first bus that has an interface with this name had no pass left.
 abbrev pub SomeNamedFull : Type 0 → List BusSeen → List ℕ → Type 0
 SomeNamedFull F buses name =
     (at : StationSeen) × (iface : ℕ)
@@ -93,8 +94,8 @@ SomeNamedFull F buses name =
     × IsStationOn buses at
     × HadNoPassLeft F at
 
--- The port enters the station of the bus with this name, and takes a gauge and a pass. Otherwise nothing changes: no
--- bus has the name, the gauge got no memory, or no pass was left.
+-- The port enters the station of the bus with this interface name and takes a gauge and a pass. Nothing changes if no
+-- bus has the name, if there is no memory for the gauge, or if no pass is left.
 abbrev pub Attaches : Type 0 → PortSeen → List ℕ → Result ℕ PortRefusal → PortSeen → Type 0
 Attaches F old name (Ok iface) new =
     (at : StationSeen) × (gauge : Readings) × (pass : PassSeen)
@@ -108,8 +109,8 @@ Attaches F old name (Err (port.Bus refusal.NoMemory)) new = SomeNamed old.buses 
 Attaches F old name (Err port.TooManyPasses) new = SomeNamedFull F old.buses name × (new ≡ old)
 Attaches F old name (Err _) new = ⊥
 
--- A gauge returns the newest publication that it knows of an interface's error counters, and knows at least as many as
--- before. For an interface that its meter lacks it returns 0/0.
+-- A gauge returns the newest publication of an interface's error counters that it knows, and it never forgets a
+-- publication. For an interface that its meter does not have, it returns counters of 0/0.
 abbrev pub GaugeReports : Readings → ℕ → ErrorCounts → Readings → Type 0
 GaugeReports old iface answer new =
     ((iface < old.ifaces)
@@ -118,35 +119,35 @@ GaugeReports old iface answer new =
     × (new ≡ knowing_of old iface (published new.lists iface)))
     ⊎ ((old.ifaces ≤ iface) × (answer ≡ at_start) × (new ≡ old))
 
--- The gauge of the entered station returns the error counters of an interface; if none was entered, they are 0/0.
+-- The gauge of the entered station returns the error counters of an interface. They are 0/0 if no station was entered.
 abbrev pub ReportsCounters : Option EnteredSeen → ℕ → ErrorCounts → Option EnteredSeen → Type 0
 ReportsCounters None iface answer new = (answer ≡ at_start) × (new ≡ None)
 ReportsCounters (Some old) iface answer new =
     (gauge : Readings) × GaugeReports old.gauge iface answer gauge × (new ≡ Some (record old { gauge = gauge }))
 
--- The load has the bit rates of the entered bus, or is all 0 if none was entered. The definition leaves open how busy
--- the bus was.
+-- The load has the bit rates of the entered bus, or only zeros if no bus was entered. The definition does not say how
+-- busy the bus was.
 abbrev pub ReportsRates : List BusSeen → Option EnteredSeen → BusLoad → Type 0
 ReportsRates buses None answer = answer ≡ no_bus_load
 ReportsRates buses (Some e) answer =
     rates_of answer.bitrate answer.dbitrate ≡ rates_on (slice_get buses e.station.number)
 
--- The counts of this socket in some state of the entered station; the definition leaves open which state. If none was
--- entered, the socket is not open.
+-- The counts of this socket in some state of the entered station; the definition does not say which state. If no
+-- station was entered, the socket is not open.
 abbrev pub CountsSocket : Type 0 → Option EnteredSeen → ℕ → Option SocketStats → Type 0
 CountsSocket F None socket answer = answer ≡ None
 CountsSocket F (Some e) socket answer =
     InSome F e.station (λ held. answer ≡ socket_stats_of held.journal.config held.journal.history socket)
 
--- The counts of this interface in some state of the entered station; the definition leaves open which state. If none
--- was entered, there is no such interface.
+-- The counts of this interface in some state of the entered station; the definition does not say which state. If no
+-- station was entered, the interface does not exist.
 abbrev pub CountsIface : Type 0 → Option EnteredSeen → ℕ → Option IfaceStats → Type 0
 CountsIface F None iface answer = answer ≡ None
 CountsIface F (Some e) iface answer =
     InSome F e.station (λ held. answer ≡ iface_stats_of held.journal.config held.journal.history iface)
 
--- The outcome of a rule in some state of a station whose interfaces have these names; the definition leaves open which
--- state.
+-- The reply to a rule in some state of a station whose interfaces have these names; the definition does not say which
+-- state. Without names the reply is `NoSocket`.
 abbrev pub InjectsNamed :
     Type 0 → StationSeen → Option (List (List ℕ)) → List ℕ → Result (Unit {0}) PortRefusal → Type 0
 InjectsNamed F station None rule answer = answer ≡ Err (port.Bus refusal.NoSocket)
@@ -155,19 +156,19 @@ InjectsNamed F station (Some names) rule answer =
     × InjectsIn F station names rule outcome
     × (answer ≡ reply_to_rule outcome)
 
--- The same for the entered station; if none was entered, there is no socket.
+-- The reply to a rule in some state of the entered station. If no station was entered, the reply is `NoSocket`.
 abbrev pub Injects : Type 0 → List BusSeen → Option EnteredSeen → List ℕ → Result (Unit {0}) PortRefusal → Type 0
 Injects F buses None rule answer = answer ≡ Err (port.Bus refusal.NoSocket)
 Injects F buses (Some e) rule answer =
     InjectsNamed F e.station (names_on (slice_get buses e.station.number)) rule answer
 
--- The number of rules left in some state of the entered station; the definition leaves open which state. If none was
--- entered, there are no rules.
+-- The number of rules left in some state of the entered station; the definition does not say which state. The number is
+-- 0 if no station was entered.
 abbrev pub RulesLeft : Type 0 → Option EnteredSeen → ℕ → Type 0
 RulesLeft F None answer = answer ≡ 0
 RulesLeft F (Some e) answer = InSome F e.station (λ held. answer ≡ length held.plan.rules)
 
--- A call on a port over a pass of a station whose verdicts come from an F.
+-- The effect and the answer of a call on a port that uses a pass. The source of the station's verdicts has type F.
 abbrev pub PassStep : Type 0 → PortSeen → (call : Call) → CallReply call → PortSeen → Type 0
 PassStep F old Names answer new = (answer ≡ all_names old.buses) × (new ≡ old)
 PassStep F old (Attach name) answer new = Attaches F old name answer new

@@ -2,28 +2,28 @@ use Rattle.std.specs.Prelude.{◌≡◌, ◌≤◌, ◌⊎◌, ℕ, Option, Some
 use Rattle.std.specs.Prelude.{◌++◌, All, Vec, vec_len, vec_capacity, slice_index_or}
 use Rattle.can_station.specs.Passes.{PassSeen}
 
--- The passes that the threads of a server hand back (own choice).
+-- The passes that the threads of a server give back (own choice).
 
--- A pass is appended to a list, or lost if the list is full.
+-- A pass is appended to a list. It may be lost if the list is full.
 abbrev pub AddsPass : {A : Type 0} → Vec PassSeen A → PassSeen → Vec PassSeen A → Type 0
 AddsPass old pass new =
     (new.items ≡ old.items ++ pass ∷ []) ⊎ ((vec_capacity old ≤ vec_len old) × (new.items ≡ old.items))
 
--- A pass is appended to the list of its bus in this way.
+-- A pass is appended to the list of its own bus. It may be lost if the list is full.
 abbrev pub AddsOwn : {A : Type 0} → List (Vec PassSeen A) → PassSeen → List (Vec PassSeen A) → Type 0
 AddsOwn {A} old pass new =
     (d : Vec PassSeen A) → AddsPass (slice_index_or old pass.number d) pass (slice_index_or new pass.number d)
 
--- The last pass is taken out of a list, or the list does not change.
+-- The last pass is taken out of a list, or no pass is taken and the list does not change.
 abbrev pub RemovesPass : {A : Type 0} → Vec PassSeen A → Option PassSeen → Vec PassSeen A → Type 0
 RemovesPass old (Some pass) new = old.items ≡ new.items ++ pass ∷ []
 RemovesPass old None new = new.items ≡ old.items
 
--- The same for the list of a bus.
+-- The last pass is taken out of the list of this bus, or no pass is taken and the list does not change.
 abbrev pub RemovesOwn : {A : Type 0} → List (Vec PassSeen A) → ℕ → Option PassSeen → List (Vec PassSeen A) → Type 0
 RemovesOwn {A} old bus pass new =
     (d : Vec PassSeen A) → RemovesPass (slice_index_or old bus d) pass (slice_index_or new bus d)
 
--- No list has a pass.
+-- All lists of passes are empty.
 abbrev pub AllEmpty : {A : Type 0} → List (Vec PassSeen A) → Type 0
 AllEmpty lists = All (λ own. own.items ≡ []) lists

@@ -7,29 +7,29 @@ use Rattle.can_hub.specs.Buses.{BusSeen}
 use Rattle.can_station.specs.declared.pass.Settled.{Settled}
 use Rattle.can_station.specs.Passes.{PassSeen, AllOf, SomeOther, SettlesIn}
 
--- The end of a hub: each bus is settled with its list of passes.
+-- The end of a hub. Each bus is settled with the list of its passes.
 
--- Each list has only passes of its own bus; the first list belongs to bus n.
+-- Each list has only passes of its own bus. The first list belongs to bus n.
 abbrev pub AllOwn : {A : Type 0} → ℕ → List (Vec PassSeen A) → Type 0
 AllOwn n [] = Unit {0}
 AllOwn n (own ∷ more) = AllOf n own.items × AllOwn (suc n) more
 
--- Each bus leaves a history that settles its list of passes.
+-- Each bus leaves a history that matches the calls of the passes in its list.
 abbrev pub AllSettleIn : {A L : Type 0} → (L → Journal) → List (Vec PassSeen A) → List (Settled L) → Type 0
 AllSettleIn left [] [] = Unit {0}
 AllSettleIn left (own ∷ more) (s ∷ rest) = SettlesIn (left s.history) s.passes own.items × AllSettleIn left more rest
 AllSettleIn left [] (s ∷ rest) = ⊥
 AllSettleIn left (own ∷ more) [] = ⊥
 
--- Each bus leaves a record that settles its list.
+-- Each bus leaves a record that matches the calls of the passes in its list.
 abbrev pub AllSettle : {A : Type 0} → List (Vec PassSeen A) → List (Settled Kept) → Type 0
 AllSettle passes settled = AllSettleIn (λ (r : Kept). record { config = r.config; history = r.history }) passes settled
 
--- Each bus leaves a history of its configuration.
+-- Each bus leaves a history with the configuration of the bus.
 abbrev pub AllConfigured : {L : Type 0} → (L → Journal) → List BusSeen → List (Settled L) → Type 0
 AllConfigured left buses settled = AllZip (λ bus s. (left s.history).config ≡ bus.config) buses settled
 
--- The list of this bus is the first with a pass of another station.
+-- The list of this bus is the first list that has a pass of another station.
 pub record FirstForeign {A : Type 0} (passes : List (Vec PassSeen A)) (bus : ℕ) : Type 0 where
   pub before : List (Vec PassSeen A)
   pub own : Vec PassSeen A
@@ -39,21 +39,21 @@ pub record FirstForeign {A : Type 0} (passes : List (Vec PassSeen A)) (bus : ℕ
   pub earlier : AllOwn 0 before
   pub foreign : SomeOther bus own.items
 
--- There is a new scroll for each bus, starting with bus n, and no entry was handed out.
+-- Each bus has a new scroll, to which no entry was handed out. The first scroll belongs to bus n.
 abbrev pub AreNewScrolls : ℕ → List ScrollSeen → Type 0
 AreNewScrolls n [] = Unit {0}
 AreNewScrolls n (scroll ∷ more) = (scroll ≡ scroll_seen n []) × AreNewScrolls (suc n) more
 
--- Each scroll belongs to its bus, starting with bus n.
+-- Each scroll belongs to its own bus. The first scroll belongs to bus n.
 abbrev pub AllOwnScrolls : ℕ → List ScrollSeen → Type 0
 AllOwnScrolls n [] = Unit {0}
 AllOwnScrolls n (scroll ∷ more) = (scroll.number ≡ n) × AllOwnScrolls (suc n) more
 
--- Each scroll has the entries that its bus had handed out.
+-- Each scroll has exactly the entries that its bus handed out.
 abbrev pub AllHanded : {L : Type 0} → (L → List Entry) → List ScrollSeen → List (Settled L) → Type 0
 AllHanded handed scrolls settled = AllZip (λ scroll s. scroll.entries ≡ handed s.history) scrolls settled
 
--- This bus is the first with the scroll of another station, or with a pass of another station in its list.
+-- This bus is the first whose scroll belongs to another station, or whose list has a pass of another station.
 pub record FirstForeignScroll {A : Type 0} (passes : List (Vec PassSeen A)) (scrolls : List ScrollSeen)
     (bus : ℕ) : Type 0 where
   pub before : List (Vec PassSeen A)

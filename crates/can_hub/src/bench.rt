@@ -11,31 +11,30 @@ use can_rules::Plan;
 use can_station::{Blanks, Gate};
 use can_wire::Timing;
 
-/// The parts of a bus of a hub.
+/// The parts from which one bus of a hub is made.
 #[derive(Drop)]
 pub struct Bench<F: FaultSource + Drop, G: Gate + Drop> {
-    /// The names of the bus's interfaces, one for each interface of the configuration.
+    /// The names of the bus's interfaces. There has to be one name for each interface of the configuration.
     pub names: Names,
-    /// Blanks for the same number of interfaces.
+    /// The blanks of the station. They have to be for the same number of interfaces.
     pub blanks: Blanks,
     pub config: BusConfig,
-    /// The source of verdicts for the bus's attempts, if they are faults.
+    /// The source of the bus's faults. Its verdict counts for every attempt that it makes faulty.
     pub source: F,
-    /// The faults of attempts for which the source has no fault.
+    /// The planned faults. They count for attempts for which the source has no fault.
     pub plan: Plan,
-    /// The gate where a test can hold a thread.
+    /// The gate at which a test can stop a thread.
     pub gate: G,
-    /// The bit rates of the bus, if it has any. In that case its driver makes each attempt when the
-    /// network is free.
+    /// The bit rates of the bus, or `None`. With bit rates, the driver makes each attempt when the network is free.
     pub timing: Option<Timing>,
-    /// The milliseconds that its driver sleeps after each step, if the bus has no bit rates.
+    /// The number of milliseconds that the driver of a bus without bit rates sleeps after each step.
     pub pace_ms: u32,
-    /// The number of items that a socket holds, 1 to 65,536.
+    /// The number of items that a socket can hold, from 1 to 65,536.
     pub rx_capacity: u32,
 }
 
 impl<F: FaultSource + Drop, G: Gate + Drop> Bench<F, G> {
-    /// Returns whether a bus may be made of these parts.
+    /// Returns whether a bus can be made from these parts.
     fn is_proper<L: Leaves>(&self) -> bool
         ensures { IsTrue result ↔ IsWithin L.limits self.now }
     {
@@ -48,7 +47,7 @@ impl<F: FaultSource + Drop, G: Gate + Drop> Bench<F, G> {
     }
 }
 
-/// Returns whether a hub may be made of these benches.
+/// Returns whether a hub can be made from these benches.
 pub(crate) fn make_hub<L: Leaves, F: FaultSource + Drop, G: Gate + Drop>(
     benches: &[Bench<F, G>],
 ) -> bool
@@ -60,14 +59,14 @@ pub(crate) fn make_hub<L: Leaves, F: FaultSource + Drop, G: Gate + Drop>(
         && have_distinct_names(benches)
 }
 
-/// Returns whether each of these benches may become a bus.
+/// Returns whether a bus can be made from each of these benches.
 fn are_proper<L: Leaves, F: FaultSource + Drop, G: Gate + Drop>(benches: &[Bench<F, G>]) -> bool
     ensures { IsTrue result ↔ All (λ b. IsWithin L.limits b) benches.now }
 {
     benches.iter().all(|bench| bench.is_proper::<L>())
 }
 
-/// Returns whether no name is on two of these benches.
+/// Returns whether no interface name occurs in two of these benches.
 fn have_distinct_names<F: FaultSource + Drop, G: Gate + Drop>(benches: &[Bench<F, G>]) -> bool
     ensures { IsTrue result ↔ AllApart (bench_names benches.now) }
 {
@@ -77,7 +76,7 @@ fn have_distinct_names<F: FaultSource + Drop, G: Gate + Drop>(benches: &[Bench<F
     }
 }
 
-/// Returns whether none of these names is on one of the benches.
+/// Returns whether none of these names occurs in any of the benches.
 fn is_apart<F: FaultSource + Drop, G: Gate + Drop>(names: &Names, benches: &[Bench<F, G>]) -> bool
     ensures { IsTrue result ↔ ApartFrom names.now (bench_names benches.now) }
 {
@@ -87,7 +86,7 @@ fn is_apart<F: FaultSource + Drop, G: Gate + Drop>(names: &Names, benches: &[Ben
     }
 }
 
-/// Returns whether no name is in both lists.
+/// Returns whether no name occurs in both lists.
 fn are_apart(names: &Names, others: &Names) -> bool
     ensures { IsTrue result ↔ ShareNoName names.now others.now }
 {
@@ -99,7 +98,7 @@ fn are_apart(names: &Names, others: &Names) -> bool
     true
 }
 
-/// Returns whether no interface of the other bus has this interface's name.
+/// Returns whether no interface of the other bus has the name of this interface.
 #[tactic(auto, using(crate::proofs::Places::index_of_get))]
 fn is_free(names: &Names, number: u8, others: &Names) -> bool
     requires { number < length names.now }

@@ -50,9 +50,8 @@ impl<N: BusName, F: FaultSource + Drop, G: Gate + Drop> Model for Network<N, F, 
 }
 
 impl<N: BusName, F: FaultSource + Drop, G: Gate + Drop> Network<N, F, G> {
-    /// Makes the bus of a bench under a number, and its scroll. The bus leaves an `L` at its end.
-    /// In a long run it has memory for this many entries at once. Returns `NoMemory` if memory was
-    /// refused.
+    /// Makes the bus of a bench under this number, and the scroll of the bus. `L` is the type that remains of the bus at its end.
+    /// On a long run, memory for `size` entries is allocated. Returns `NoMemory` if an allocation failed.
     fn new<L: Leaves>(
         alloc: Global,
         number: u8,
@@ -93,7 +92,7 @@ impl<N: BusName, F: FaultSource + Drop, G: Gate + Drop> Network<N, F, G> {
     }
 }
 
-/// Buses, each with its own station. A bus's number is its place.
+/// The buses of a hub, each with its own station. A bus is numbered by its place, from 0.
 #[derive(Drop)]
 pub struct Buses<N: BusName, F: FaultSource + Drop, G: Gate + Drop> {
     pub(crate) networks: Vec<Network<N, F, G>>,
@@ -113,16 +112,15 @@ impl<N: BusName, F: FaultSource + Drop, G: Gate + Drop> Model for Buses<N, F, G>
 }
 
 impl<N: BusName, F: FaultSource + Drop, G: Gate + Drop> Buses<N, F, G> {
-    /// Returns the bus that has an interface of this name, and that interface. No other bus has the
-    /// name. Returns `None` exactly if no bus has it. The search stops at the first bus with the
-    /// name.
+    /// Returns the number of the bus that has an interface with this name, and that interface. At most one bus has the name.
+    /// Returns `None` exactly if no bus has it. The search ends at the first bus found.
     pub fn find(&self, name: &str) -> Option<(usize, Iface)>
         ensures { IsFirstNamed self.now name.now result }
     {
         self.find_bytes(name.as_bytes())
     }
 
-    /// Does the same as `find` for bytes; bytes that are not UTF-8 are no name.
+    /// Does the same as `find` for bytes. Bytes that are not UTF-8 match no name.
     pub fn find_bytes(&self, name: &[u8]) -> Option<(usize, Iface)>
         ensures { IsFirstNamed self.now name.now result }
     {
@@ -134,7 +132,7 @@ impl<N: BusName, F: FaultSource + Drop, G: Gate + Drop> Buses<N, F, G> {
         None
     }
 
-    /// Returns the interface of a bus that has this name.
+    /// Returns the interface of this bus that has this name.
     #[tactic(auto, using(crate::proofs::Places::named_at))]
     fn interface(&self, bus: usize, name: &[u8]) -> Option<Iface>
         requires { bus < length self.now }
@@ -143,7 +141,7 @@ impl<N: BusName, F: FaultSource + Drop, G: Gate + Drop> Buses<N, F, G> {
         self.networks[bus].names.find_bytes(name)
     }
 
-    /// Returns the number of buses, 1 to 16.
+    /// Returns the number of buses, from 1 to 16.
     pub fn count(&self) -> usize
         ensures count { result ≡ length self.now }
         ensures few { result ≤ 16 }
@@ -161,7 +159,7 @@ impl<N: BusName, F: FaultSource + Drop, G: Gate + Drop> Buses<N, F, G> {
         &self.networks[bus].station
     }
 
-    /// Returns the bit rates of a bus, if it has any.
+    /// Returns the bit rates of a bus, or `None` if it has none.
     #[tactic(auto, using(crate::proofs::Places::timing_at))]
     pub fn timing(&self, bus: usize) -> Option<Timing>
         requires { bus < length self.now }
@@ -170,8 +168,7 @@ impl<N: BusName, F: FaultSource + Drop, G: Gate + Drop> Buses<N, F, G> {
         self.networks[bus].timing
     }
 
-    /// Returns the milliseconds that the driver of a bus sleeps after each step, if the bus has no
-    /// bit rates.
+    /// Returns the number of milliseconds that the driver of a bus without bit rates sleeps after each step.
     #[tactic(auto, using(crate::proofs::Places::pace_at))]
     pub fn pace_ms(&self, bus: usize) -> u32
         requires { bus < length self.now }
@@ -180,7 +177,7 @@ impl<N: BusName, F: FaultSource + Drop, G: Gate + Drop> Buses<N, F, G> {
         self.networks[bus].pace_ms
     }
 
-    /// Returns the number of items that a socket of a bus holds.
+    /// Returns the number of items that a socket of this bus can hold.
     #[tactic(auto, using(crate::proofs::Places::items_at, crate::proofs::Places::items_past))]
     pub fn rx_capacity(&self, bus: usize) -> u32
         ensures { result ≡ items_on (slice_get self.now bus) }
@@ -192,16 +189,16 @@ impl<N: BusName, F: FaultSource + Drop, G: Gate + Drop> Buses<N, F, G> {
         }
     }
 
-    /// Publishes the moment of an attempt on a bus, if there is a bus with this number. Call it
-    /// before any receive can return an item of the attempt.
+    /// Publishes the time of an attempt on a bus, if there is a bus with this number. The caller does this before any receive can
+    /// return an item of that attempt.
     pub fn show_end(&self, bus: usize, moment: Moment) {
         if let Some(network) = self.networks.get(bus) {
             network.shown.show_end(moment);
         }
     }
 
-    /// Returns the moment of the last published attempt on a bus, or `None` if there is none, or no
-    /// such bus. It takes no lock.
+    /// Returns the time of the last published attempt on a bus. Returns `None` if no attempt was published or there is no such bus.
+    /// It takes no lock.
     pub fn last_end(&self, bus: usize) -> Option<Moment> {
         self.networks.get(bus)?.shown.end()
     }
@@ -213,9 +210,8 @@ impl<N: BusName, F: FaultSource + Drop, G: Gate + Drop> Buses<N, F, G> {
         }
     }
 
-    /// Returns the last published load of a bus, as of this moment, and its bit rates. The load is
-    /// 0 and 0 if none was published; the bit rates are 0 if the bus has none. All are 0 if there
-    /// is no such bus. It takes no lock.
+    /// Returns the last published load of a bus, as of this moment, and the bit rates of the bus. The load is zero if none was
+    /// published, the bit rates are 0 if the bus has none, and all values are 0 if there is no such bus. It takes no lock.
     #[tactic(auto, using(crate::proofs::Places::rates_at, crate::proofs::Places::rates_past))]
     pub fn load_at(&self, bus: usize, moment: Moment) -> BusLoad
         ensures { rates_of result.bitrate result.dbitrate ≡ rates_on (slice_get self.now bus) }
@@ -228,7 +224,7 @@ impl<N: BusName, F: FaultSource + Drop, G: Gate + Drop> Buses<N, F, G> {
         }
     }
 
-    /// Returns the names of the interfaces of a bus, if there is a bus with this number.
+    /// Returns the names of the interfaces of a bus, or `None` if there is no bus with this number.
     #[tactic(auto, using(crate::proofs::Places::names_at, crate::proofs::Places::names_past))]
     pub fn names(&self, bus: usize) -> Option<&Names>
         ensures { option_map (λ n. n.now) result ≡ names_on (slice_get self.now bus) }
@@ -240,8 +236,7 @@ impl<N: BusName, F: FaultSource + Drop, G: Gate + Drop> Buses<N, F, G> {
         }
     }
 
-    /// Adds a space and a name for each interface of each bus, in order. Returns `AllocError` if
-    /// memory is refused.
+    /// Appends the names of all interfaces of all buses, in order, each after a space. Returns `AllocError` if an allocation fails.
     pub fn put_names(&self, text: &mut Vec<u8>) -> Result<(), AllocError>
         ensures { OnOk result (text.new.items ≡ text.old.items ++ spaced (all_names self.now)) }
     {
@@ -258,15 +253,15 @@ impl<N: BusName, F: FaultSource + Drop, G: Gate + Drop> Buses<N, F, G> {
         }
     }
 
-    /// Ends the waits for entries of all buses, after the last call.
+    /// Ends all waits for entries, on all buses. It is called after the last call of a pass.
     pub fn end_entries<R: Wait>(&self, rt: &R) {
         for network in &self.networks {
             network.station.end_entries(rt);
         }
     }
 
-    /// Returns another gauge of a bus's meter, which reads the error counters without the lock.
-    /// Returns `AllocError` if memory is refused. It may wait for the lock.
+    /// Returns a new gauge of a bus's meter. A gauge reads the error counters without the lock. Returns `AllocError` if an
+    /// allocation fails. It may wait for the lock.
     pub fn gauge<R: Wait>(&self, rt: &R, bus: usize) -> Result<Gauge<N>, AllocError>
         requires { bus < length self.now }
         ensures { IfOk result (λ g. g.number ≡ bus) }
@@ -275,7 +270,7 @@ impl<N: BusName, F: FaultSource + Drop, G: Gate + Drop> Buses<N, F, G> {
     }
 }
 
-/// Makes the buses of these benches, numbered from 0, and the scroll of each.
+/// Makes the buses of these benches, numbered from 0, and the scrolls of the buses.
 pub(crate) fn networks_of<N: BusName, F: FaultSource + Drop, G: Gate + Drop, L: Leaves>(
     alloc: Global,
     benches: Vec<Bench<F, G>>,

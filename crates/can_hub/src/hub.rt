@@ -17,20 +17,18 @@ use std::marker::Model;
 use std::sync::Wait;
 use thiserror::Error;
 
-/// The first bus that cannot be settled: its list has a pass of another station, or its scroll
-/// belongs to another station.
+/// The first bus that cannot be settled, because a pass in its list or its scroll belongs to another station.
 #[derive(Debug, Clone, Copy, PartialEq, Eq, Error)]
 #[error("bus {bus}: wrong station")]
 pub struct SettleFault {
     pub bus: usize,
 }
 
-/// Buses that are settled together. Each leaves a record, or in a long run the entries that were
-/// not taken.
+/// Buses that are settled together. Each bus leaves a record, or on a long run the entries that were not taken.
 #[derive(Drop)]
 pub struct Hub<N: BusName, F: FaultSource + Drop, G: Gate + Drop, L: Leaves = Record> {
     buses: Buses<N, F, G>,
-    // A buffer for the rest of each bus at its end.
+    // A buffer for what remains of each bus at its end.
     settled: Vec<Settled<L>>,
 }
 
@@ -48,14 +46,13 @@ impl<N: BusName, F: FaultSource + Drop, G: Gate + Drop, L: Leaves> Model for Hub
 }
 
 impl<N: BusName, F: FaultSource + Drop, G: Gate + Drop> Hub<N, F, G> {
-    /// Makes a station with an empty record for each bench. The buses are numbered from 0 in this
-    /// order. It takes memory for all entries of each record, and for the results of `settle`.
+    /// Makes a station with an empty record for each bench. The buses are numbered from 0, in the order of the benches. Memory for
+    /// all entries of each record and for the results of `settle` is allocated here.
     ///
-    /// Returns `BadConfig` exactly if there are no benches or more than 16, or if a bench is wrong.
-    /// A bench is wrong if its configuration is outside the limits of a bus, or its receive
-    /// capacity outside those of a socket. It is also wrong if it has another number of interfaces
-    /// than blanks or names, or shares a name with another bench. Returns `NoMemory` if memory was
-    /// refused.
+    /// Returns `BadConfig` exactly if there are no benches, if there are more than 16, or if a bench is invalid. A bench is invalid
+    /// if its configuration is outside the limits of a bus, or if its receive capacity is outside the limits of a socket. It is
+    /// also invalid if its number of interfaces differs from the number of blanks or names, or if another bench has one of its
+    /// names. Returns `NoMemory` if an allocation failed.
     pub fn new(alloc: Global, benches: Vec<Bench<F, G>>) -> Result<Hub<N, F, G>, BusFault>
         requires { NamedFrom N.roll N.meter 0 benches.items }
         ensures made { IfOk result (λ h. h ≡ buses_from 0 benches.items) }
@@ -67,12 +64,11 @@ impl<N: BusName, F: FaultSource + Drop, G: Gate + Drop> Hub<N, F, G> {
 }
 
 impl<N: BusName, F: FaultSource + Drop, G: Gate + Drop> Hub<N, F, G, LongEnd> {
-    /// Makes a hub with buses of long runs, and the scroll of each. In memory each bus keeps only
-    /// the entries that were not yet taken. It takes memory for `size` entries of each bus, which
-    /// is `TAIL_SIZE` except in tests.
+    /// Makes a hub with buses for long runs, and the scroll of each bus. Each bus keeps only the entries that were not yet taken.
+    /// Memory for `size` entries of each bus is allocated here; `size` is `TAIL_SIZE` except in tests.
     ///
-    /// Returns `BadConfig` as `new` does, but with the limits of a long run. A limit that a record
-    /// may have is refused too.
+    /// Returns `BadConfig` in the same cases as `new`, but with the limits of a long run. A limit of entries that is small enough
+    /// for a record is refused too.
     pub fn new_long(
         alloc: Global,
         benches: Vec<Bench<F, G>>,
@@ -89,8 +85,8 @@ impl<N: BusName, F: FaultSource + Drop, G: Gate + Drop> Hub<N, F, G, LongEnd> {
 }
 
 impl<N: BusName, F: FaultSource + Drop, G: Gate + Drop, L: Leaves> Hub<N, F, G, L> {
-    /// Makes a station over a new bus for each bench, and the scroll of each, for either kind of
-    /// bus. In a long run there is memory for `size` entries at once.
+    /// Makes a station over a new bus for each bench, and the scroll of each bus. The buses are of either kind. On a long run,
+    /// memory for `size` entries of each bus is allocated.
     pub fn make(
         alloc: Global,
         benches: Vec<Bench<F, G>>,
@@ -141,12 +137,12 @@ impl<N: BusName, F: FaultSource + Drop, G: Gate + Drop, L: Leaves> Hub<N, F, G, 
         self.buses.gauge(rt, bus)
     }
 
-    /// Takes the passes of each bus back, and returns the rest of each bus. It is a legal history
-    /// of the bus's configuration. Its entries can be marked with passes so that the calls of each
-    /// returned pass are its entries, in order. No memory is taken.
+    /// Takes the passes of each bus back, and returns what remains of each bus. The entries of a bus are a legal history for its
+    /// configuration. They can be assigned to passes so that the calls of each returned pass are its entries, in order. Nothing is
+    /// allocated.
     ///
-    /// Returns `SettleFault` exactly if some list has a pass of another station, with the first
-    /// such bus; then nothing is returned.
+    /// Returns `SettleFault` exactly if a list contains a pass of another station. The error gives the first such bus, and nothing
+    /// is returned.
     pub fn settle<R: Wait>(
         self,
         rt: &R,
@@ -176,10 +172,10 @@ impl<N: BusName, F: FaultSource + Drop, G: Gate + Drop, L: Leaves> Hub<N, F, G, 
         Ok(settled)
     }
 
-    /// Takes the scroll of each bus back as well. A scroll has the entries that its bus handed out:
-    /// the first entries of a long run.
+    /// Like `settle`, but also takes the scroll of each bus back. A scroll has the entries that its bus handed out, which are the
+    /// first entries of a long run.
     ///
-    /// Also returns `SettleFault` exactly if some scroll belongs to another station.
+    /// Also returns `SettleFault` exactly if a scroll belongs to another station.
     pub fn settle_scrolls<R: Wait>(
         self,
         rt: &R,
@@ -217,7 +213,7 @@ impl<N: BusName, F: FaultSource + Drop, G: Gate + Drop, L: Leaves> Hub<N, F, G, 
     }
 }
 
-/// Returns the rest of a bus as the type for its kind.
+/// Returns what remains of a bus as the type for its kind.
 fn settled_as<L: Leaves>(left: Settled<HubEnd>) -> Settled<L>
     requires { L.limits (left_in left.history).config }
     ensures history { L.journal result.history ≡ left_in left.history }

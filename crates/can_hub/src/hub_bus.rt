@@ -1,4 +1,4 @@
-//! The buses of a hub, and the rest of each at its end.
+//! The buses of a hub, and what remains of each bus at its end.
 ghost use Rattle.std.specs.Prelude.{IsTrue, ◌↔◌};
 ghost use Rattle.can_hub.specs.HubBuses.{IsOfLongRuns};
 
@@ -12,7 +12,7 @@ use can_record::PackedRecord;
 use std::alloc::Global;
 use std::marker::Model;
 
-/// A bus of a hub. It keeps its whole record, or it is the bus of a long run with a higher limit.
+/// A bus of a hub. It either keeps its whole record, or is the bus of a long run, which has a higher limit of entries.
 #[derive(Drop)]
 pub struct HubBus {
     bus: AnyBus,
@@ -35,7 +35,7 @@ impl Model for HubBus {
     ghost invariant = { λ b. HasItsLength b.bus };
 }
 
-/// The rest of a bus of a hub at its end.
+/// What remains of a hub's bus at its end.
 #[derive(Drop)]
 pub struct HubEnd {
     end: AnyEnd,
@@ -58,8 +58,7 @@ impl Model for HubEnd {
     ghost invariant = { λ e. EndsAtItsLength e.end };
 }
 
-/// Returns whether this is the configuration of a long run, with a higher limit than a record may
-/// have.
+/// Returns whether this is the configuration of a long run, with a limit of entries that is too high for a record.
 fn is_of_long_runs(config: &BusConfig) -> bool
     ensures { IsTrue result ↔ IsOfLongRuns config.now }
 {
@@ -140,8 +139,8 @@ impl Journaled for HubBus {
     }
 }
 
-/// The rest of a hub's buses at their end. The type fixes their kind: buses with records, or buses
-/// of long runs.
+/// What remains of the buses of a hub at their end. The type determines the kind of the buses: buses with records, or buses of long
+/// runs.
 pub trait Leaves: Drop {
     ghost use Rattle.std.specs.Prelude.{◌≡◌, ◌↔◌, [], List, IfErr, IfOk, IsTrue, OnOk};
     ghost use Rattle.can_bus.specs.declared.bus.BusFault.TheVariants as BusFault;
@@ -151,21 +150,21 @@ pub trait Leaves: Drop {
     ghost use Rattle.can_hub.specs.HubBuses.{handed_by, handed_in, journal_in, left_in};
     ghost use Rattle.can_record.specs.Journal.{Journal};
 
-    /// The configuration and the entries of the bus from which this value remains.
+    /// The configuration and the entries of the bus that ended.
     ghost journal: { Self → Journal };
 
-    /// The entries that the bus had handed out, the oldest first.
+    /// The entries that the bus had handed out, oldest first.
     ghost handed: { Self → List Entry };
 
-    /// The configurations that these buses may have.
+    /// The configurations that buses of this kind may have.
     ghost limits: { BusConfig → Type 0 };
 
-    /// Returns whether these buses may have this configuration.
+    /// Returns whether a bus of this kind may have this configuration.
     fn may_have(config: &BusConfig) -> bool
         ensures { IsTrue result ↔ limits config.now };
 
-    /// Returns a new bus. It takes memory for all its entries, or in a long run for this many at
-    /// once. Returns `NoMemory` if memory was refused.
+    /// Returns a new bus of this kind. Memory for all entries of the bus is allocated here, or for `size` entries on a long run.
+    /// Returns `NoMemory` if an allocation failed.
     fn bus(alloc: Global, config: BusConfig, size: u32) -> Result<HubBus, BusFault>
         requires { limits config }
         ensures made { IfOk result (λ b. journal_in b ≡ record { config = config; history = [] }) }
@@ -173,7 +172,7 @@ pub trait Leaves: Drop {
         ensures proper { OnOk result (IsLongConfig config) }
         ensures fault { IfErr result (λ e. e ≡ BusFault.NoMemory) };
 
-    /// Returns the rest of such a bus.
+    /// Returns what remains of a bus of this kind.
     fn of(end: HubEnd) -> Self
         requires { limits (left_in end).config }
         ensures left { journal result ≡ left_in end }

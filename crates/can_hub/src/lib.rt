@@ -1,10 +1,9 @@
-//! A hub of buses, and the connection of a session to the bus that it opens.
+//! A hub of buses, and the connection between a session and the bus that it opens.
 //!
-//! A [`Hub`] has a station for each bus; a bus's number is its place. A [`PassPort`] is the port of
-//! a session. It enters the station whose bus has the name that the session opens, and makes each
-//! call with the pass. A [`LockedPort`] makes its sends and receives while it holds the lock once.
-//! At the end [`Hub::settle`] takes the passes back. It returns the record of each bus, or the
-//! entries of a long run that were not taken.
+//! A [`Hub`] has one station for each bus. A bus is numbered by its place. A [`PassPort`] is the port of a session. It enters the
+//! station of the bus that has the interface name opened by the session, and makes each call with the pass. A [`LockedPort`] makes
+//! several successive sends and receives under one hold of the lock. At the end [`Hub::settle`] takes the passes back. It returns
+//! the record of each bus, or the entries of a long run that were not taken.
 #![tactic(auto)]
 
 pub mod bench;

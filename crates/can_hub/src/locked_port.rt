@@ -13,8 +13,8 @@ use std::alloc::AllocError;
 use std::marker::Model;
 use std::sync::Wait;
 
-/// A [`PassPort`] for a few calls. Successive sends and receives share one hold of the station's
-/// lock. The first of them takes the lock; any other call, or the end of the port, frees it.
+/// A [`PassPort`] that is used for a few calls. Successive sends and receives share one hold of the station's lock. The first of
+/// them takes the lock. The end of the port and any other call except `put_names` and `load` release it.
 #[derive(Drop)]
 pub struct LockedPort<'a, N: BusName, F: FaultSource + Drop, G: Gate + Drop, R: Wait> {
     port: PassPort<'a, N, F, G, R>,
@@ -31,14 +31,14 @@ impl<'a, N: BusName, F: FaultSource + Drop, G: Gate + Drop, R: Wait> Model
 }
 
 impl<'a, N: BusName, F: FaultSource + Drop, G: Gate + Drop, R: Wait> LockedPort<'a, N, F, G, R> {
-    /// Returns the same port, which has not yet taken the lock.
+    /// Makes a locked port from this port. It does not hold the lock yet.
     pub fn new(port: PassPort<'a, N, F, G, R>) -> LockedPort<'a, N, F, G, R>
         ensures { result ≡ port.entry }
     {
         LockedPort { port, hold: None }
     }
 
-    /// Frees the lock and returns the port.
+    /// Releases the lock and returns the port.
     pub fn into_port(self) -> PassPort<'a, N, F, G, R>
         ensures { result ≡ self.entry }
     {
@@ -48,8 +48,8 @@ impl<'a, N: BusName, F: FaultSource + Drop, G: Gate + Drop, R: Wait> LockedPort<
     }
 }
 
-/// Returns the hold of this station. If there is none, it drops a hold of another station and takes
-/// the lock.
+/// Returns the hold of this station's lock. If the lock of another station is held, or none, that hold is dropped and the lock of
+/// this station is taken.
 fn hold_of<'h, 'a, N: BusName, F: FaultSource + Drop, G: Gate + Drop, R: Wait>(
     rt: &R,
     station: &'a Station<N, F, G, HubBus>,

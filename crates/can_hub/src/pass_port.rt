@@ -19,7 +19,7 @@ use std::marker::Model;
 use std::mem;
 use std::sync::{Mutex, Wait};
 
-/// An entered station, with a gauge of its meter and the pass.
+/// A station that was entered, with a gauge of its meter and the pass.
 #[derive(Drop)]
 pub struct EnteredStation<'a, N: BusName, F: FaultSource + Drop, G: Gate + Drop> {
     pub(crate) station: &'a Station<N, F, G, HubBus>,
@@ -35,25 +35,23 @@ impl<'a, N: BusName, F: FaultSource + Drop, G: Gate + Drop> Model for EnteredSta
     ghost view = { λ e. record { station = e.station.now; gauge = e.gauge; pass = e.pass } };
 }
 
-/// The port of a session to the buses of a hub, with the pass of the station that the session
-/// opens.
+/// The port of a session to the buses of a hub, with the pass of the station that the session opens.
 ///
-/// `attach` enters the station whose bus has the name, and takes a gauge of it; it may use a pass
-/// that was handed back. A pass that was entered before is lost to `settle`. The refusals, in this
-/// order: `NoInterface`, `NoMemory` if the gauge gets no memory, `TooManyPasses`. The calls for
-/// names, counts, status, load and rules do not use the pass. Every other call is the station's
-/// call of that name: it uses the pass, and may wait for the lock. The bus sets the number of items
-/// that a socket holds, not the caller. If no station was entered, there is no socket and no rule.
+/// `attach` enters the station of the bus that has the name, and takes a gauge of the station. It may use a pass that was handed
+/// back. If the port had a pass already, `settle` never gets that pass. The refusals, in order of precedence: `NoInterface`,
+/// `NoMemory` if the gauge cannot be allocated, `TooManyPasses`. The calls for names, counts, status, load and rules do not use the
+/// pass. Every other call is the call of the station with the same name: it uses the pass, and may wait for the lock. The bus, not
+/// the caller, sets the number of items that a socket can hold. If no station was entered, there is no socket and no rule.
 ///
-/// `status` returns the last published error counters, as the gauge reads them. It takes no lock
-/// and waits for no thread. They are 0/0 if no station was entered, or if its bus has no such
-/// interface. `load` takes no lock either, and returns the bit rates of the entered bus.
+/// `status` returns the last published error counters, as the gauge reads them. It takes no lock and waits for no thread. The
+/// counters are 0/0 if no station was entered or its bus has no such interface. `load` takes no lock either. It returns the load
+/// and the bit rates of the bus of the entered station.
 #[derive(Drop)]
 pub struct PassPort<'a, N: BusName, F: FaultSource + Drop, G: Gate + Drop, R: Wait> {
     pub(crate) rt: &'a R,
     pub(crate) alloc: Global,
     buses: &'a Buses<N, F, G>,
-    /// Passes that were handed back and may be used again, if any.
+    /// Passes that were handed back and may be used again, or `None`.
     spares: Option<&'a Mutex<ReturnedPasses<N>>>,
     pub(crate) entered: Option<EnteredStation<'a, N, F, G>>,
     pub(crate) tally: Tally,
@@ -71,15 +69,14 @@ impl<'a, N: BusName, F: FaultSource + Drop, G: Gate + Drop, R: Wait> Model
 impl<'a, N: BusName, F: FaultSource + Drop, G: Gate + Drop, R: Wait> PassPort<'a, N, F, G, R> {
     ghost use Rattle.std.specs.Prelude.{None, option_map};
 
-    /// Returns a port over the buses of a hub, without an entered station.
+    /// Returns a port to the buses of a hub. No station is entered yet.
     pub fn new(rt: &'a R, alloc: Global, buses: &'a Buses<N, F, G>) -> PassPort<'a, N, F, G, R>
         ensures { result ≡ record { buses = buses.now; entered = None } }
     {
         PassPort::with_spares(rt, alloc, buses, None)
     }
 
-    /// Returns the same port, which may also use one of these returned passes if it belongs to the
-    /// station.
+    /// Returns a port like `new`, which may also use a returned pass if the pass belongs to the station that is entered.
     pub fn with_spares(
         rt: &'a R,
         alloc: Global,
@@ -98,7 +95,7 @@ impl<'a, N: BusName, F: FaultSource + Drop, G: Gate + Drop, R: Wait> PassPort<'a
         }
     }
 
-    /// Takes the port out, and leaves a port without an entered station.
+    /// Replaces this port with one that has entered no station, and returns the old port.
     pub fn take(&mut self) -> PassPort<'a, N, F, G, R>
         ensures { result ≡ self.old }
     {
@@ -106,7 +103,7 @@ impl<'a, N: BusName, F: FaultSource + Drop, G: Gate + Drop, R: Wait> PassPort<'a
         mem::replace(self, left)
     }
 
-    /// Returns the station that was entered.
+    /// Returns the station that was entered, or `None`.
     pub fn station(&self) -> Option<&'a Station<N, F, G, HubBus>>
         ensures { option_map (λ s. s.now) result ≡ option_map (λ e. e.station) self.now.entered }
     {
@@ -116,7 +113,7 @@ impl<'a, N: BusName, F: FaultSource + Drop, G: Gate + Drop, R: Wait> PassPort<'a
         }
     }
 
-    /// Returns a pass of a station: a returned pass if there is one, or else its next pass.
+    /// Returns a pass of a station: a returned pass if there is one, or else the next pass of the station.
     fn enter(&self, station: &Station<N, F, G, HubBus>) -> Result<Pass<N>, TooManyPasses>
         ensures ok { IfOk result (λ pass. pass.number ≡ station.now.number) }
         ensures err { OnErr result (HadNoPassLeft F station.now) }
@@ -127,7 +124,7 @@ impl<'a, N: BusName, F: FaultSource + Drop, G: Gate + Drop, R: Wait> PassPort<'a
         }
     }
 
-    /// Returns a pass of this bus that was handed back, if there is one.
+    /// Returns a pass of this bus that was handed back, or `None`.
     fn spare(&self, bus: u8) -> Option<Pass<N>>
         ensures { IfSome result (λ pass. pass.number ≡ bus) }
     {
@@ -139,23 +136,23 @@ impl<'a, N: BusName, F: FaultSource + Drop, G: Gate + Drop, R: Wait> PassPort<'a
         self.tally
     }
 
-    /// Returns the interface that a call restarted last, if any since the previous look. An
-    /// interface that was taken down later does not count.
+    /// Returns the interface that a call restarted most recently since the last call of this method, or `None`. An interface that
+    /// was taken down afterwards does not count.
     pub fn take_restarted(&mut self) -> Option<Iface>
         ensures { self.new ≡ self.old }
     {
         self.tally.take_restarted()
     }
 
-    /// Returns the interface that a call took down last, if any since the previous look. An
-    /// interface that was restarted later does not count.
+    /// Returns the interface that a call took down most recently since the last call of this method, or `None`. An interface that
+    /// was restarted afterwards does not count.
     pub fn take_downed(&mut self) -> Option<Iface>
         ensures { self.new ≡ self.old }
     {
         self.tally.take_downed()
     }
 
-    /// Returns the pass, if a station was entered.
+    /// Returns the pass, or `None` if no station was entered.
     pub fn into_pass(self) -> Option<Pass<N>>
         ensures { result ≡ option_map (λ e. e.pass) self.entry.entered }
     {
@@ -167,7 +164,8 @@ impl<'a, N: BusName, F: FaultSource + Drop, G: Gate + Drop, R: Wait> PassPort<'a
     }
 }
 
-/// Returns the event that the pass makes: the bus sets the number of items that a socket holds.
+/// Returns the event that the pass makes. In an open, the number of items that the socket can hold is replaced with the number that
+/// the bus sets.
 fn sized(event: Event, room: u32) -> Event
     ensures { result ≡ with_socket_room event room }
 {
@@ -177,7 +175,7 @@ fn sized(event: Event, room: u32) -> Event
     }
 }
 
-/// Returns a station's reply as a port's reply.
+/// Converts a station's reply into a port's reply.
 pub(crate) fn pass_on<V>(outcome: Result<V, StationRefusal>) -> Result<V, PortRefusal>
     ensures { result ≡ reply_of_station outcome }
 {
@@ -188,8 +186,7 @@ pub(crate) fn pass_on<V>(outcome: Result<V, StationRefusal>) -> Result<V, PortRe
     }
 }
 
-/// Returns the error counters that a gauge reads for an interface, or 0/0 if its meter lacks the
-/// interface.
+/// Returns the error counters that a gauge reads for an interface, or 0/0 if the meter has no such interface.
 fn read_gauge<N: MeterName>(gauge: &mut Gauge<N>, iface: Iface) -> Counters
     ensures { GaugeReports gauge.old iface result gauge.new }
 {

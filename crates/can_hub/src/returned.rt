@@ -5,11 +5,10 @@ use can_station::{BusName, Pass};
 use std::alloc::{AllocError, Global};
 use std::marker::Model;
 
-/// The largest number of buses of a hub.
+/// The largest number of buses that a hub can have.
 const MOST_BUSES: usize = 16;
 
-/// The passes that sessions and drivers hand back, in a separate list for each bus. Contracts see
-/// the lists.
+/// The passes that sessions and drivers handed back, in a separate list for each bus. To a contract this value is these lists.
 #[derive(Drop)]
 pub struct ReturnedPasses<N: BusName> {
     lists: Vec<Vec<Pass<N>>>,
@@ -28,7 +27,7 @@ impl<N: BusName> Model for ReturnedPasses<N> {
 }
 
 impl<N: BusName> ReturnedPasses<N> {
-    /// Returns a value without passes, with space for this many of each of the first buses.
+    /// Returns empty lists. For each of the first `buses` buses there is space for `room` passes.
     pub fn new(alloc: Global, buses: usize, room: usize) -> Result<ReturnedPasses<N>, AllocError>
         ensures { IfOk result (λ returned. AllEmpty returned) }
     {
@@ -40,8 +39,7 @@ impl<N: BusName> ReturnedPasses<N> {
         Ok(ReturnedPasses { lists })
     }
 
-    /// Takes a pass back, into the list of its bus. The pass is lost if that list is full. The
-    /// other lists do not change.
+    /// Puts a pass into the list of its bus. If that list is full, the pass is lost. The other lists do not change.
     pub fn take(&mut self, pass: Pass<N>)
         ensures own { pass.number < 16 → AddsOwn self.old pass self.new }
         ensures others { (bus : ℕ) → bus ≢ pass.number →
@@ -52,7 +50,7 @@ impl<N: BusName> ReturnedPasses<N> {
         }
     }
 
-    /// Takes the last pass out of the list of a bus, if there is one. The other lists do not
+    /// Removes the last pass from the list of a bus and returns it, or returns `None` if the list is empty. The other lists do not
     /// change.
     pub fn give_out(&mut self, bus: u8) -> Option<Pass<N>>
         ensures own { IfSome result (λ pass. pass.number ≡ bus) }
@@ -67,7 +65,7 @@ impl<N: BusName> ReturnedPasses<N> {
         }
     }
 
-    /// Returns the lists of this many buses.
+    /// Returns the lists of the first `buses` buses.
     pub fn into_lists(self, buses: usize) -> Vec<Vec<Pass<N>>>
         requires { buses ≤ 16 }
         ensures lists { result.items ≡ take buses self }

@@ -1,4 +1,4 @@
-//! The time on the wire of a bus, as its driver publishes it to sessions.
+//! Publishes the times on the wire of a bus, from its driver to the sessions.
 ghost use Rattle.std.specs.Prelude.{◌≡◌};
 ghost use Rattle.can_hub.specs.Buses.{bit_rates};
 ghost use Rattle.can_wire.specs.Times.{rates_of};
@@ -8,21 +8,20 @@ use can_proto::BusLoad;
 use can_wire::{Load, RecentLoad, Timing};
 use std::sync::atomic::{AtomicU64, Ordering};
 
-/// The end of the last attempt on a bus with bit rates, and the load of the bus. Threads read them
-/// without a lock. The words are written one after another, so one may be newer than the others by
-/// an attempt. No contract mentions them.
+/// The time of the last attempt on a bus with bit rates, and the load of the bus. Threads read these values without a lock. The
+/// words are written one after another, so one word may be newer than the others by one attempt. No contract mentions them.
 #[derive(Drop)]
 pub(crate) struct ShownTime {
-    /// The moment of the last attempt, in microseconds: 0 before the first.
+    /// The time of the last attempt in microseconds, or 0 before the first attempt.
     end: AtomicU64,
-    /// The load in the last seconds, as the word of a `RecentLoad`.
+    /// The load over the last few seconds, encoded as the word of a `RecentLoad`.
     recent: AtomicU64,
-    /// The number of microseconds in which the bus was busy since its start.
+    /// The number of microseconds for which the bus has been busy since its start.
     busy: AtomicU64,
 }
 
 impl ShownTime {
-    /// Returns the value before anything was published.
+    /// Returns the initial value, before anything is published.
     pub(crate) fn none() -> ShownTime {
         ShownTime {
             end: AtomicU64::new(0),
@@ -31,12 +30,12 @@ impl ShownTime {
         }
     }
 
-    /// Publishes the moment of an attempt.
+    /// Publishes the time of an attempt.
     pub(crate) fn show_end(&self, moment: Moment) {
         self.end.store(moment.micros(), Ordering::SeqCst);
     }
 
-    /// Returns the moment of the last published attempt.
+    /// Returns the time of the last published attempt, or `None` if there is none.
     pub(crate) fn end(&self) -> Option<Moment> {
         match self.end.load(Ordering::SeqCst) {
             0 => None,
@@ -44,13 +43,13 @@ impl ShownTime {
         }
     }
 
-    /// Publishes a load.
+    /// Publishes the load of the bus.
     pub(crate) fn show_load(&self, load: Load) {
         self.recent.store(load.recent().word(), Ordering::SeqCst);
         self.busy.store(load.busy_micros(), Ordering::SeqCst);
     }
 
-    /// Returns the last published load of a bus with these bit rates, as of this moment.
+    /// Returns the last published load of a bus, as of this moment. `timing` gives the bit rates of the bus.
     pub(crate) fn load_at(&self, moment: Moment, timing: Option<Timing>) -> BusLoad
         ensures { rates_of result.bitrate result.dbitrate ≡ bit_rates timing }
     {

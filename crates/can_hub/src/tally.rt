@@ -2,18 +2,18 @@ use can_bus::{Event, Reply};
 use can_frame::Iface;
 use can_station::StationRefusal;
 
-/// Counts of a session's calls for the host. No contract mentions them.
+/// Counts of a session's calls for the program that runs the session. No contract mentions them.
 #[derive(Debug, Clone, Copy)]
 pub struct Tally {
-    /// The number of refused frames in the record.
+    /// The number of frames whose send was refused, if the refusal is in the record.
     pub refused: u64,
-    /// The number of items dropped at the session's socket, which the close reports.
+    /// The number of items dropped at the sockets of the session. A socket's items are counted when it is closed.
     pub dropped: u64,
     restarted: Option<Iface>,
     downed: Option<Iface>,
 }
 
-/// The facts about a call that a tally needs.
+/// What a tally needs to know about a call.
 #[derive(Clone, Copy)]
 pub(crate) struct Counted {
     is_send: bool,
@@ -22,7 +22,7 @@ pub(crate) struct Counted {
 }
 
 impl Counted {
-    /// Returns the facts about the call that makes this event.
+    /// Returns what a tally needs to know about the call that makes this event.
     pub(crate) fn of(event: &Event) -> Counted {
         Counted {
             is_send: matches!(event, Event::Send(_, _)),
@@ -39,7 +39,7 @@ impl Counted {
 }
 
 impl Tally {
-    /// Returns the counts before any call.
+    /// Returns a tally of no calls.
     pub fn none() -> Tally {
         Tally {
             refused: 0,
@@ -49,7 +49,7 @@ impl Tally {
         }
     }
 
-    /// Adds a call with its outcome. A call that left no entry does not count.
+    /// Counts a call and its outcome. A call that left no entry is not counted.
     pub(crate) fn add(&mut self, call: Counted, outcome: &Result<Reply, StationRefusal>) {
         let Ok(reply) = outcome else {
             return;
@@ -81,21 +81,20 @@ impl Tally {
         }
     }
 
-    /// Returns the interface that was restarted last, if any since the previous look. An interface
-    /// that was taken down later does not count.
+    /// Returns the interface that was restarted most recently since the last call of this method, or `None`. An interface that was
+    /// taken down afterwards does not count.
     pub fn take_restarted(&mut self) -> Option<Iface> {
         self.restarted.take()
     }
 
-    /// Returns the interface that was taken down last, if any since the previous look. An interface
-    /// that was restarted later does not count.
+    /// Returns the interface that was taken down most recently since the last call of this method, or `None`. An interface that was
+    /// restarted afterwards does not count.
     pub fn take_downed(&mut self) -> Option<Iface> {
         self.downed.take()
     }
 }
 
-/// Notes the interface of a call, if it has one. The note replaces the opposite note for the same
-/// interface.
+/// Notes the interface of a call, if it has one, and removes the opposite note if it names the same interface.
 fn note(noted: &mut Option<Iface>, opposite: &mut Option<Iface>, iface: Option<Iface>) {
     if iface.is_some() {
         *noted = iface;

@@ -8,7 +8,7 @@ use can_filter::{Filter, FilterSet};
 use can_frame::{CanId, Frame, Iface, IfaceSet, Item, Moment};
 use std::alloc::Global;
 
-/// A bus of two interfaces.
+/// A bus with two interfaces.
 pub const TWO: BusConfig = BusConfig {
     ifaces: 2,
     ack: AckMode::Always,
@@ -22,7 +22,7 @@ fn iface(number: u8) -> Result<Iface, Stop> {
     Iface::new(number).ok_or(Stop::Wrong)
 }
 
-/// Opens a socket, and tries once more if there was no memory. The failed call must not change the bus.
+/// Opens a socket, and tries a second time if an allocation fails. The failed call must not change the bus.
 fn opened(bus: &mut RingBus, alloc: Global, number: u8, capacity: u32) -> Result<SocketId, Stop> {
     let iface = iface(number)?;
     let before = bus.record().len();
@@ -35,7 +35,7 @@ fn opened(bus: &mut RingBus, alloc: Global, number: u8, capacity: u32) -> Result
     }
 }
 
-/// Sets the filters of a socket, and tries once more if there was no memory. The failed call must not change the bus.
+/// Sets the filters of a socket, and tries a second time if an allocation fails. The failed call must not change the bus.
 fn filtered(
     bus: &mut RingBus,
     alloc: Global,
@@ -52,7 +52,7 @@ fn filtered(
     }
 }
 
-/// Sends a frame and makes one attempt, in which the frame is done.
+/// Sends a frame, and makes the attempt in which the frame is transmitted.
 fn cross(bus: &mut RingBus, sender: SocketId, id: u16) -> Result<(), Stop> {
     let frame = Frame::data(CanId::standard(id)?, b"\x01\xFF")?;
     let _ = bus.send(sender, frame)?;
@@ -60,9 +60,9 @@ fn cross(bus: &mut RingBus, sender: SocketId, id: u16) -> Result<(), Stop> {
     Ok(())
 }
 
-/// Returns the number of the frame that a socket receives.
+/// Receives an item from a socket and returns the number of its frame, or `None` if there is no item.
 fn number(bus: &mut RingBus, socket: SocketId) -> Result<Option<u64>, Stop> {
-    // The checker must meet the types inside an answer before a bus returns one.
+    // The checker has to see the types inside an answer before a bus returns such an answer.
     let _types: Option<(Item, Received)> = None;
     match bus.receive(socket)? {
         Some(received) => Ok(Some(received.number)),
@@ -76,7 +76,7 @@ pub fn calls(alloc: Global) -> Result<(), Stop> {
     crossed(&mut bus, alloc, &filters)
 }
 
-/// Sends two frames, of which one passes the filters.
+/// Sends two frames, only one of which passes the filters.
 fn crossed(bus: &mut RingBus, alloc: Global, filters: &FilterSet) -> Result<(), Stop> {
     let sender = opened(bus, alloc, 0, 256)?;
     let receiver = opened(bus, alloc, 1, 65_536)?;
@@ -88,8 +88,8 @@ fn crossed(bus: &mut RingBus, alloc: Global, filters: &FilterSet) -> Result<(), 
     demand(number(bus, receiver)? == None && bus.record().len() == 9)
 }
 
-/// Returns the reply to one event of a list. It tries once more if there was no memory; the failed call must not change
-/// the bus.
+/// Returns the reply to a list of one event. It tries a second time if an allocation fails. The failed call must not change the
+/// bus.
 fn answered(bus: &mut RingBus, alloc: Global, event: &[Event; 1]) -> Result<Reply, Stop> {
     let before = bus.record().len();
     for _ in 0..2 {
@@ -106,7 +106,7 @@ fn answered(bus: &mut RingBus, alloc: Global, event: &[Event; 1]) -> Result<Repl
 }
 
 pub fn runs(alloc: Global) -> Result<(), Stop> {
-    // The checker must meet the types inside a reply before a bus returns one.
+    // The checker has to see the types inside a reply before a bus returns such a reply.
     let _types: Option<(Attempt, Item, Received)> = None;
     let mut bus = RingBus::new(alloc, TWO)?;
     let opening = [Event::Open(iface(1)?, 16)];

@@ -1,9 +1,8 @@
-//! Library calls that allocate memory, with their usual answers and with the state that they leave if there is no
-//! memory.
+//! Tests the library calls that allocate memory: their usual results, and the state that they leave if an allocation fails.
 //!
-//! With enough memory, the program writes one line for each call, which says that its answer is the usual one.
-//! `tests/program/test_memory.py` denies this program memory once at each place. A call that fails must change nothing,
-//! and must give its usual answer when repeated. So the output of the program is always the same.
+//! With enough memory, the program writes one line for each trial, which says that the result is the usual one.
+//! `tests/program/test_memory.py` runs the program once for each allocation and makes that allocation fail. A call that fails must
+//! change nothing, and must give its usual result when it is repeated. So the output of the program is the same in every run.
 #![tactic(auto)]
 
 mod buses;
@@ -15,7 +14,7 @@ use std::alloc::Global;
 use std::process::ExitCode;
 use stops::Stop;
 
-/// The subject of a trial.
+/// The part of the library that a trial tests.
 #[derive(Clone, Copy)]
 enum Trial {
     Names,
@@ -57,7 +56,7 @@ fn main(rt: HostRuntime) -> ExitCode {
     ExitCode::from(status)
 }
 
-/// Returns whether a trial succeeds. If there was no memory for a call that changes nothing, the trial is repeated.
+/// Returns whether a trial succeeds. If an allocation fails in a call that changes nothing, the trial is repeated.
 fn is_as_ever(alloc: Global, trial: Trial) -> bool {
     match carry_out(alloc, trial) {
         Ok(()) => true,

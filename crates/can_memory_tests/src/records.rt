@@ -7,7 +7,7 @@ use can_bus::{Event, Record, SocketId};
 use can_frame::Iface;
 use std::alloc::{AllocError, Global};
 
-/// The record of docs/RECORD.md: interface 0 sends a frame, interface 1 receives it, and a socket takes it.
+/// The record in docs/RECORD.md: interface 0 sends a frame, interface 1 receives it, and a socket takes it.
 const ONE_FRAME: &str = "canbus record 1
 bus 2 always 0000 10 100
 open 0 256 = socket 0
@@ -47,7 +47,7 @@ pub fn replies(alloc: Global) -> Result<(), Stop> {
     copied(alloc, &record)
 }
 
-/// Checks that the replies to the record's events are those of the record.
+/// Checks that replaying the events of the record gives the replies in the record.
 fn replayed(alloc: Global, record: &Record) -> Result<(), Stop> {
     let replies = replies_of(alloc, &events_of(alloc, record)?, TWO)?;
     demand(replies.len() == record.len())?;
@@ -57,7 +57,7 @@ fn replayed(alloc: Global, record: &Record) -> Result<(), Stop> {
     Ok(())
 }
 
-/// Checks that one frame was queued to the second socket, and that it came from the first interface.
+/// Checks that one frame was queued on the second socket, and that it came from the first interface.
 fn copied(alloc: Global, record: &Record) -> Result<(), Stop> {
     let socket = SocketId(1);
     let first = Iface::new(0).ok_or(Stop::Wrong)?;

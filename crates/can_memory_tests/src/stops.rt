@@ -7,16 +7,16 @@ use can_proto::ProtoFault;
 use can_queue::QueueError;
 use std::alloc::AllocError;
 
-/// The cause for which a trial ended early.
+/// Why a trial ended early.
 #[derive(Debug, Clone, Copy, PartialEq, Eq)]
 pub enum Stop {
-    /// There was no memory.
+    /// An allocation failed.
     NoMemory,
-    /// An answer differs from the one with enough memory, or a failed call changed something.
+    /// A result differs from the result with enough memory, or a failed call changed something.
     Wrong,
 }
 
-/// Ends the trial if the condition is false.
+/// Ends the trial with `Wrong` if the condition is false.
 pub fn demand(is_right: bool) -> Result<(), Stop> {
     if is_right { Ok(()) } else { Err(Stop::Wrong) }
 }

@@ -30,7 +30,7 @@ pub fn filters(alloc: Global) -> Result<(), Stop> {
     demand(all.filters().len() == 1 && all.passes(0x124, true))
 }
 
-/// Checks that a copy of a set of filters has the same filters, and passes the same frame.
+/// Checks that a copy of a filter set has the same filters, and that both sets give the same result for one frame.
 fn copies_filters(alloc: Global, filters: &[Filter]) -> Result<(), Stop> {
     let set = FilterSet::from_slice(alloc, filters)?;
     let copy = set.try_copy(alloc)?;
@@ -49,7 +49,7 @@ pub fn queues(alloc: Global) -> Result<(), Stop> {
     holds_two::<RingQueue<u32>>(alloc)
 }
 
-/// Feeds a piece to a reader, and tries once more if there was no memory. The failed call must not change the reader.
+/// Feeds a piece to a reader, and tries a second time if an allocation fails. The failed call must not change the reader.
 fn fed(reader: &mut Reader, alloc: Global, piece: &[u8]) -> Result<Vec<Incoming>, Stop> {
     match reader.feed(alloc, piece) {
         Ok(given) => Ok(given),
@@ -57,7 +57,7 @@ fn fed(reader: &mut Reader, alloc: Global, piece: &[u8]) -> Result<Vec<Incoming>
     }
 }
 
-/// Returns the only message that ends in a piece.
+/// Returns the message that ends in a piece, which must contain the end of exactly one message.
 fn message(reader: &mut Reader, alloc: Global, piece: &[u8]) -> Result<Message, Stop> {
     let mut given = fed(reader, alloc, piece)?;
     match (given.pop(), given.pop()) {
@@ -66,13 +66,13 @@ fn message(reader: &mut Reader, alloc: Global, piece: &[u8]) -> Result<Message, 
     }
 }
 
-/// Checks that no message ends in a piece.
+/// Checks that a piece contains the end of no message.
 fn gives_nothing(reader: &mut Reader, alloc: Global, piece: &[u8]) -> Result<(), Stop> {
     let given = fed(reader, alloc, piece)?;
     demand(given.is_empty())
 }
 
-/// Checks that one message ends in a piece, with these bytes inside.
+/// Checks that exactly one message ends in a piece, and that the message contains these bytes.
 fn gives_message(
     reader: &mut Reader,
     alloc: Global,
@@ -83,7 +83,7 @@ fn gives_message(
     demand(message.inside() == inside)
 }
 
-/// Checks that a piece makes a message too long.
+/// Checks that a piece makes a message too long, so that the reader reports this.
 fn gives_too_long(reader: &mut Reader, alloc: Global, piece: &[u8]) -> Result<(), Stop> {
     let given = fed(reader, alloc, piece)?;
     demand(given.len() == 1 && matches!(given.first(), Some(Incoming::TooLong)))

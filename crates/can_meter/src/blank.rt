@@ -5,19 +5,17 @@ use atomic_table::{Seat, Table};
 use std::alloc::{AllocError, Global};
 use std::marker::{Brand, Model};
 
-/// The most interfaces of a meter.
+/// The largest number of interfaces that a meter can have.
 const MAX_IFACES: usize = 16;
 
-/// A word for each interface.
+/// The table of a meter, with one word for each interface.
 pub(crate) type Words = Table<(), View, usize, Law, Global>;
 
-/// The holder's knowledge of the words. It has no bytes.
+/// The seat of a keeper or gauge at the table. It has no bytes.
 pub(crate) type Place = Seat<(), View>;
 
-/// Names one meter for each number, for contracts only. It has no calls.
-///
-/// A keeper and its gauges are of a type that names their meter, so no contract takes a gauge for one of
-/// another meter.
+/// Names one meter for each number. The trait is for contracts only and has no methods. The type of a keeper and of its gauges
+/// names their meter, so a contract cannot confuse gauges of different meters.
 pub trait MeterName {
     ghost use Rattle.std.specs.Prelude.{ℕ};
     ghost use Rattle.atomic_table.specs.Seated.{TableId};
@@ -31,7 +29,7 @@ impl MeterName for Brand {
     ghost meter = { λ _. no_table };
 }
 
-/// A meter before it is named, with nothing published. To a contract it is which table of words it is.
+/// A meter before it has a number, with no publications. To a contract it is the identity of its table of words.
 #[derive(Drop)]
 pub struct MeterBlank {
     pub(crate) table: Words,
@@ -55,7 +53,7 @@ impl Model for MeterBlank {
 }
 
 impl MeterBlank {
-    /// Returns how many interfaces it has.
+    /// Returns the number of interfaces of the meter.
     pub fn ifaces(&self) -> usize
         ensures { result ≡ self.now.words }
     {
@@ -63,7 +61,7 @@ impl MeterBlank {
     }
 }
 
-/// A meter of 1 to 16 interfaces, not yet named. `AllocError` if there is no memory for its words.
+/// Makes a meter of 1 to 16 interfaces, which has no number yet. Returns `AllocError` if its words cannot be allocated.
 pub fn meter_blank(alloc: Global, ifaces: usize) -> Result<MeterBlank, AllocError>
     requires { (0 < ifaces) × (ifaces ≤ 16) }
     ensures { IfOk result (λ b. b.words ≡ ifaces) }

@@ -11,8 +11,8 @@ use std::alloc::{AllocError, Global};
 use std::marker::{Model, PhantomData};
 use std::sync::Arc;
 
-/// A side of a meter that reads. To a contract it is its meter's number and, of each interface, the
-/// publications as far as it has seen them, newest first.
+/// The reading side of a meter. To a contract it is the number of the meter and, for each interface, the publications that the
+/// gauge has seen, newest first.
 #[derive(Drop)]
 pub struct Gauge<N: MeterName> {
     pub(crate) table: Arc<Words, Global>,
@@ -38,23 +38,23 @@ impl<N: MeterName> Model for Gauge<N> {
 }
 
 impl<N: MeterName> Gauge<N> {
-    /// The number under which its meter was named.
+    /// Returns the number of the gauge's meter.
     pub fn number(&self) -> u8
         ensures { result ≡ self.now.number }
     {
         self.number
     }
 
-    /// Returns how many interfaces its meter has.
+    /// Returns the number of interfaces of the gauge's meter.
     pub fn ifaces(&self) -> usize
         ensures { result ≡ self.now.ifaces }
     {
         self.table.word_count()
     }
 
-    /// Returns the newest publication of an interface: at first 0 entries and 0/0. It is one load,
-    /// which waits for no thread. A newer status may be published before it returns, but a gauge
-    /// never goes back.
+    /// Returns the newest publication of an interface. Before the first publication this is 0 entries and the counters 0/0. The
+    /// call is one load and waits for no thread. A newer status may be published before the call returns. A gauge never reads a
+    /// publication older than one it has read before.
     pub fn status(&mut self, iface: usize) -> Status
         requires { iface < self.old.ifaces }
         ensures status { result ≡ newest (published self.new.lists iface) }
@@ -65,7 +65,7 @@ impl<N: MeterName> Gauge<N> {
         read_word(word)
     }
 
-    /// Two gauges that have seen as much as this one. Only this one comes back if `another` is refused.
+    /// Returns two gauges that have seen the same publications as this gauge. If `another` fails, it returns this gauge instead.
     pub fn split(mut self) -> Result<(Gauge<N>, Gauge<N>), Gauge<N>>
         ensures { MatchResult result
             (λ gauges. (gauges.0 ≡ self) × (gauges.1 ≡ self)) (λ gauge. gauge ≡ self) }
@@ -76,8 +76,8 @@ impl<N: MeterName> Gauge<N> {
         }
     }
 
-    /// Another gauge that has seen as much as this one, which stays as it is. `AllocError` if no
-    /// more gauges can be counted; no memory is taken.
+    /// Returns a second gauge that has seen the same publications as this gauge, which does not change. Returns `AllocError` if no
+    /// more gauges can be counted; nothing is allocated.
     pub fn another(&mut self) -> Result<Gauge<N>, AllocError>
         ensures same { self.new ≡ self.old }
         ensures another { IfOk result (λ gauge. gauge ≡ self.old) }
@@ -92,8 +92,8 @@ impl<N: MeterName> Gauge<N> {
         })
     }
 
-    /// One gauge in place of two of the same number. Of each interface the list of one is an end of the
-    /// other's, and the longer is kept.
+    /// Joins two gauges of the same number into one. For each interface one gauge's list is a suffix of the other's, and the longer
+    /// list is kept.
     pub fn join(mut self, other: Gauge<N>) -> Gauge<N>
         requires { other.number ≡ self.number }
         ensures longer { result ≡ knowing self (longer_lists self.lists other.lists) }

@@ -12,8 +12,8 @@ use std::alloc::Global;
 use std::marker::{Model, PhantomData};
 use std::sync::Arc;
 
-/// The one side of a meter that publishes. To a contract it is its meter's number and all that it has
-/// published of each interface, newest first.
+/// The publishing side of a meter. There is only one keeper. To a contract it is the number of the meter and, for each interface,
+/// all publications, newest first.
 #[derive(Drop)]
 pub struct Keeper<N: MeterName> {
     pub(crate) table: Arc<Words, Global>,
@@ -39,22 +39,22 @@ impl<N: MeterName> Model for Keeper<N> {
 }
 
 impl<N: MeterName> Keeper<N> {
-    /// The number under which its meter was named.
+    /// Returns the number of the keeper's meter.
     pub fn number(&self) -> u8
         ensures { result ≡ self.now.number }
     {
         self.number
     }
 
-    /// Returns how many interfaces its meter has.
+    /// Returns the number of interfaces of the keeper's meter.
     pub fn ifaces(&self) -> usize
         ensures { result ≡ self.now.ifaces }
     {
         self.table.word_count()
     }
 
-    /// Publishes an interface's counters and the length of the record, which is above the last
-    /// length published for this interface. It is one store, which waits for no thread.
+    /// Publishes the counters of an interface together with the length of the record. The length has to be greater than the last
+    /// one published for this interface. The call is one store and waits for no thread.
     pub fn publish(&mut self, iface: usize, at: u32, counters: Counters)
         requires iface { iface < self.old.ifaces }
         requires later { (newest (published self.old.lists iface)).at < at }
@@ -67,7 +67,7 @@ impl<N: MeterName> Keeper<N> {
             .store::<Publish>(&mut self.seat, iface, word);
     }
 
-    /// Takes in a gauge of the same number. All that the gauge has seen was published.
+    /// Takes back a gauge of the same number. Everything that the gauge has seen was published by this keeper.
     pub fn absorb(&mut self, gauge: Gauge<N>)
         requires { gauge.number ≡ self.old.number }
         ensures same { self.new ≡ self.old }

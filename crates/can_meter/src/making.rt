@@ -9,8 +9,8 @@ use std::alloc::{AllocError, Global};
 use std::marker::PhantomData;
 use std::sync::Arc;
 
-/// Names a meter: its keeper and a first gauge, neither of which knows of a publication. `N` names
-/// the blank under this number. `AllocError` if there is no memory.
+/// Makes the keeper and the first gauge of a meter from a blank. Neither of them has any publications. `N` gives the blank this
+/// number. Returns `AllocError` if an allocation fails.
 pub fn meter<N: MeterName>(
     alloc: Global,
     blank: MeterBlank,

@@ -1,21 +1,21 @@
-//! The rule of a meter's table, and the kinds of step that keep it. All of this exists only for
-//! contracts: no value of these types is made.
+//! The rule of a meter's table, and the kinds of step that keep the rule. These types exist only for contracts: no value of them is
+//! ever made.
 
 use crate::status::Status;
 use atomic_table::{Join, Play, Split, TableRule};
 use std::collections::LinkedList;
 
-/// A seat's knowledge: a list of publications for each interface, and lists that it took in.
+/// What a seat knows: for each interface a list of publications, and the lists of the gauges that it took back.
 pub enum View {
-    /// The keeper: all that it published.
+    /// The seat of the keeper, with all publications.
     Keeps(LinkedList<LinkedList<Status>>, LinkedList<LinkedList<LinkedList<Status>>>),
-    /// A gauge, with the publications that it has seen.
+    /// The seat of a gauge, with the publications that the gauge has seen.
     Watches(LinkedList<LinkedList<Status>>, LinkedList<LinkedList<LinkedList<Status>>>),
-    /// A gauge that was taken in.
+    /// The seat of a gauge that was taken back.
     Spent,
 }
 
-/// Each word keeps the newest publication of its interface. The key is the number of words.
+/// The rule: each word holds the newest publication of its interface. The key of the table is the number of words.
 pub struct Law;
 
 impl<S> TableRule<S, View, usize> for Law {
@@ -28,7 +28,7 @@ impl<S> TableRule<S, View, usize> for Law {
     ghost first = { λ _. Keeps [] [] };
 }
 
-/// A load that shows the newest publication.
+/// A load that reads the newest publication.
 pub struct Look;
 
 impl<S> Play<S, View> for Look {
@@ -37,7 +37,7 @@ impl<S> Play<S, View> for Look {
     ghost then = { LoadsPublications };
 }
 
-/// A load that returns the lists that were taken in: each is an end of the seat's own.
+/// A load that returns the lists of a gauge that was taken back. Each of these lists is a suffix of the seat's own list.
 pub struct Return;
 
 impl<S> Play<S, View> for Return {
@@ -55,7 +55,7 @@ impl<S> Play<S, View> for Publish {
     ghost then = { Stores };
 }
 
-/// A gauge that has seen nothing, besides its keeper.
+/// The step that adds the first gauge, which has seen nothing, to the keeper.
 pub struct Opens;
 
 impl Split<View> for Opens {
@@ -66,7 +66,7 @@ impl Split<View> for Opens {
     ghost right = { new_gauge };
 }
 
-/// A second gauge that has seen as much.
+/// The step that adds a second gauge, which has seen the same publications.
 pub struct Copies;
 
 impl Split<View> for Copies {
@@ -77,7 +77,7 @@ impl Split<View> for Copies {
     ghost right = { watcher };
 }
 
-/// A seat takes in a gauge.
+/// The step in which a seat takes back a gauge.
 pub struct TakesIn;
 
 impl Join<View> for TakesIn {

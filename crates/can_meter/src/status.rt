@@ -3,9 +3,8 @@ use can_confine::Counters;
 /// A publication of an interface.
 #[derive(Debug, Clone, Copy, PartialEq, Eq)]
 pub struct Status {
-    /// The number of entries of the record, with the one that changed the counters. It is 0 before
-    /// the first publication.
+    /// The number of entries in the record, including the entry that changed the counters. It is 0 before the first publication.
     pub at: u32,
-    /// The error counters after these entries.
+    /// The error counters after this number of entries.
     pub counters: Counters,
 }

@@ -4,16 +4,16 @@ ghost use Rattle.can_meter.specs.Words.{status_word, meant, Fits};
 use crate::status::Status;
 use can_confine::Counters;
 
-/// The number of values of the bit that says whether the interface is down.
+/// The number of values of the bit that marks an interface as down.
 const DOWN_VALUES: u64 = 2;
 
-/// The number of values that the receive count's bits have.
+/// The number of values of the receive error count in the word.
 const REC_VALUES: u64 = 256;
 
-/// The number of values that the transmit count's bits have.
+/// The number of values of the transmit error count in the word.
 const TEC_VALUES: u64 = 512;
 
-/// The word that keeps a publication.
+/// Encodes a publication as a word.
 pub(crate) fn word(publication: Status) -> u64
     ensures word { result ≡ status_word publication }
     ensures fits { Fits publication }
@@ -25,7 +25,7 @@ pub(crate) fn word(publication: Status) -> u64
     counts * DOWN_VALUES + u64::from(publication.counters.is_down())
 }
 
-/// The publication that a word keeps.
+/// Decodes the publication in a word.
 pub(crate) fn read_word(word: u64) -> Status
     requires { Fits (meant word) }
     ensures { result ≡ meant word }

@@ -11,17 +11,17 @@ use thiserror::Error;
 /// Why a record is not legal, or could not be audited.
 #[derive(Debug, Clone, Copy, PartialEq, Eq, Error)]
 pub enum AuditFault {
-    /// The first wrong entry, counted from 0, and the reply that would be legal there. An entry is
-    /// wrong if its reply does not follow from the entries before it, or if it is past the limit.
-    /// Past the limit, `legal` is `None`.
+    /// The place of the first wrong entry, counted from 0, and the reply that would be legal there. An entry is wrong if its reply
+    /// does not follow from the entries before it, or if it exceeds the limit of entries. If it exceeds the limit, `legal` is
+    /// `None`.
     #[error("entry {entry}: wrong")]
     Wrong { entry: usize, legal: Option<Reply> },
-    /// Memory was refused.
+    /// An allocation failed.
     #[error("no memory")]
     NoMemory,
 }
 
-/// Returns the fault of an entry if a bus gives its event this other reply.
+/// Returns the fault to report for an entry if the bus answers its event with this different reply.
 fn fault_at(entry: usize, reply: Reply) -> AuditFault
     ensures { result ≡ fault_at entry reply }
 {
@@ -35,16 +35,14 @@ fn fault_at(entry: usize, reply: Reply) -> AuditFault
     }
 }
 
-/// Returns whether a record is a legal history: each reply follows from the entries before it, and
-/// the entries are within the limit. If not, `Wrong` has the first wrong entry, and the reply that
-/// would be legal there.
+/// Checks that a record is a legal history: each reply follows from the entries before it, and the number of entries is within the
+/// limit. If not, `Wrong` gives the first wrong entry and the reply that would be legal there.
 ///
-/// So the headline (`can_bus::run`) holds for every record that this function finds legal.
+/// If the result is `Ok`, the headline property (`can_bus::run`) holds for the record.
 ///
-/// It carries out the events again on a bus that keeps no record. The time is that of the bus's
-/// calls, so it grows linearly with the entries and their filters. The bus, `open` and
-/// `set_filters` take memory. `NoMemory` means that memory was refused; then nothing is known about
-/// the record.
+/// The function carries out the events again on a bus that keeps no record. The running time is that of the bus's calls: it grows
+/// linearly with the number of entries and their filters. Only the bus, `open` and `set_filters` allocate memory. `NoMemory` means
+/// that an allocation failed; nothing is known about the record then.
 pub fn audit(alloc: Global, record: &Record) -> Result<(), AuditFault>
     ensures legal { OnOk result (HasLegalHistory «record».now) }
     ensures headline { OnOk result (Headline «record».now.config «record».now.history) }

@@ -17,17 +17,17 @@ use can_event::{Closed, Entry};
 use std::alloc::{AllocError, Global};
 use std::marker::Model;
 
-/// The state of a bus before an entry, as far as the entry can change it.
+/// The part of a bus's state that an entry can change, as it was before the entry.
 ///
-/// Call `look` before an attempt, a restart or a down. Then let the bus answer, and call `put_line`
-/// or `put_wanted_line`. All its memory is taken by `new`.
+/// Call `look` before an attempt, a restart, or taking an interface down. Then let the bus answer, and call `put_line` or
+/// `put_wanted_line`. `new` allocates all the memory.
 #[derive(Drop)]
 pub struct Before {
-    /// The error counters of all 16 places.
+    /// The error counters of the interfaces. The array always has 16 places.
     counters: [Counters; 16],
-    /// The number of frames that each interface had lost.
+    /// The number of frames lost so far by each interface.
     lost: Vec<u64>,
-    /// For each open socket, the number of waiting items and of dropped items.
+    /// For each open socket, the numbers of unread and of dropped items.
     sockets: Vec<Closed>,
 }
 
@@ -44,7 +44,7 @@ impl Model for Before {
 }
 
 impl Before {
-    /// Returns a value that has seen no bus yet, with memory for 64 sockets.
+    /// Returns a value that describes no bus yet, with memory for 64 sockets.
     pub fn new(alloc: Global) -> Result<Before, AllocError>
         ensures { IfOk result (λ b. b
             ≡ record { counters = replicate 16 at_start; lost = []; sockets = [] }) }
@@ -56,7 +56,7 @@ impl Before {
         })
     }
 
-    /// Notes the state of a bus.
+    /// Stores the state of a bus.
     pub fn look(&mut self, bus: &LeanRingBus) -> Result<(), AllocError>
         ensures { (past : List AnEntry) → IsAfter bus.now past →
             OnOk result (HasSeen bus.now.config past self.new) }
@@ -64,7 +64,7 @@ impl Before {
         self.see(bus.state())
     }
 
-    // Notes the state of a bus from its parts.
+    // Stores the parts of the bus's state that an entry can change.
     fn see(&mut self, state: &RingState) -> Result<(), AllocError>
         ensures { OnOk result (self.new ≡ seen_in state.now) }
     {
@@ -73,8 +73,8 @@ impl Before {
         see_sockets(&mut self.sockets, state)
     }
 
-    /// Writes the line of an attempt, a restart or a down as in the record, with the entry's
-    /// effects before its LF. `look` was called before the entry.
+    /// Writes the line of an attempt, a restart or a down as it is in the record, with the effects of the entry inserted before the
+    /// LF. The caller has called `look` before the entry.
     pub fn put_line(
         &self,
         out: &mut Vec<u8>,
@@ -91,8 +91,8 @@ impl Before {
         Ok(())
     }
 
-    /// Writes the same line with the wanted parts, after the lines of rules that the bus takes
-    /// there. An attempt that tried a frame asks the fault rules. So each such entry of a run has
+    /// Writes the same line as `put_line` with the wanted parts, preceded by lines for the rules that the bus takes before the
+    /// entry. An attempt that tried a frame changes the counts of the fault rules. So every attempt of a run that tried a frame has
     /// to be written with this method, in order.
     pub fn put_wanted_line(
         &self,
@@ -117,7 +117,7 @@ impl Before {
         Ok(())
     }
 
-    // Writes the line without its LF, and the effects of the entry.
+    // Writes the line without its LF, followed by the effects of the entry.
     fn put_front(&self, out: &mut Vec<u8>, bus: &LeanRingBus, line: &[u8]) -> Result<(), AllocError>
         ensures { (past : List AnEntry) (e : AnEntry) → HasSeen bus.now.config past self.now →
             IsAfter bus.now (e ∷ past) → is_step e.event ≡ true →
@@ -128,7 +128,7 @@ impl Before {
         self.put_parts(out, bus.state())
     }
 
-    // Writes the changes since `look`.
+    // Writes the changes of the bus's state since `look`.
     fn put_parts(&self, out: &mut Vec<u8>, state: &RingState) -> Result<(), AllocError>
         ensures { OnOk result (out.new.items ≡ out.old.items ++ told_parts self.now state.now) }
     {
@@ -140,7 +140,7 @@ impl Before {
     }
 }
 
-/// Notes the number of frames that each interface has lost.
+/// Stores the number of frames lost by each interface.
 fn see_lost(lost: &mut Vec<u64>, state: &RingState) -> Result<(), AllocError>
     ensures { OnOk result (lost.new.items ≡ (seen_in state.now).lost) }
 {
@@ -151,7 +151,7 @@ fn see_lost(lost: &mut Vec<u64>, state: &RingState) -> Result<(), AllocError>
     Ok(())
 }
 
-/// Does the same if the number of interfaces differs.
+/// Stores the same numbers if the number of interfaces is different from before.
 #[inline(never)]
 fn see_lost_anew(lost: &mut Vec<u64>, state: &RingState) -> Result<(), AllocError>
     ensures { OnOk result (lost.new.items ≡ (seen_in state.now).lost) }
@@ -163,7 +163,7 @@ fn see_lost_anew(lost: &mut Vec<u64>, state: &RingState) -> Result<(), AllocErro
     Ok(())
 }
 
-/// Does the same if the number of interfaces is equal.
+/// Stores the same numbers if the number of interfaces is the same as before.
 fn see_lost_again(lost: &mut [u64], state: &RingState)
     requires { length lost.old ≡ length state.now.interfaces }
     ensures { lost.new ≡ (seen_in state.now).lost }
@@ -173,7 +173,7 @@ fn see_lost_again(lost: &mut [u64], state: &RingState)
     }
 }
 
-/// Notes the number of waiting items and of dropped items for each open socket.
+/// Stores the numbers of unread and of dropped items of each open socket.
 fn see_sockets(sockets: &mut Vec<Closed>, state: &RingState) -> Result<(), AllocError>
     ensures { OnOk result (sockets.new.items ≡ (seen_in state.now).sockets) }
 {
@@ -184,7 +184,7 @@ fn see_sockets(sockets: &mut Vec<Closed>, state: &RingState) -> Result<(), Alloc
     Ok(())
 }
 
-/// Does the same if the number of open sockets differs.
+/// Stores the same numbers if the number of open sockets is different from before.
 #[inline(never)]
 fn see_sockets_anew(sockets: &mut Vec<Closed>, state: &RingState) -> Result<(), AllocError>
     ensures { OnOk result (sockets.new.items ≡ (seen_in state.now).sockets) }
@@ -197,7 +197,7 @@ fn see_sockets_anew(sockets: &mut Vec<Closed>, state: &RingState) -> Result<(), 
     Ok(())
 }
 
-/// Does the same if the number of open sockets is equal.
+/// Stores the same numbers if the number of open sockets is the same as before.
 fn see_sockets_again(sockets: &mut [Closed], state: &RingState)
     requires { length sockets.old ≡ length state.now.sockets }
     ensures { sockets.new ≡ (seen_in state.now).sockets }

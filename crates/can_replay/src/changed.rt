@@ -4,16 +4,16 @@ ghost use Rattle.can_replay.specs.inner.Seen.{dropped_in, put_in, told_dropped, 
 use can_bus::RingState;
 use can_event::Closed;
 
-/// The numbers of sockets up to the last one that has changed.
+/// How many sockets have to be examined to find every change. Sockets after these have not changed.
 #[derive(Clone, Copy)]
 pub(crate) struct Ends {
-    /// The number of sockets up to the last with newly queued items.
+    /// The number of sockets up to and including the last one with newly queued items.
     pub queued: usize,
-    /// The number of sockets up to the last with newly dropped items.
+    /// The number of sockets up to and including the last one with newly dropped items.
     pub refused: usize,
 }
 
-/// Returns how far the sockets have changed since `look`. It compares only counts.
+/// Returns how many sockets have to be examined to find every change since `look`. It compares only counts.
 #[inline(never)]
 pub(crate) fn changed_sockets(before: &[Closed], state: &RingState) -> Ends
     ensures queued { told_put (take result.queued before.now) state.now.sockets
@@ -29,7 +29,7 @@ pub(crate) fn changed_sockets(before: &[Closed], state: &RingState) -> Ends
     }
 }
 
-/// Returns the same result if as many sockets are open as before. The compiler makes this loop
+/// Returns the same result as `changed_sockets` if the number of open sockets did not change. The compiler makes this separate loop
 /// faster.
 fn last_changed(before: &[Closed], state: &RingState) -> Ends
     ensures queued { told_put (take result.queued before.now) state.now.sockets
@@ -48,7 +48,7 @@ fn last_changed(before: &[Closed], state: &RingState) -> Ends
     Ends { queued, refused }
 }
 
-/// Returns the number of all sockets.
+/// Returns the number of all sockets, for both kinds of change.
 fn all_sockets(before: &[Closed]) -> Ends
     ensures queued { take result.queued before.now ≡ before.now }
     ensures refused { take result.refused before.now ≡ before.now }
@@ -61,8 +61,7 @@ fn all_sockets(before: &[Closed]) -> Ends
     }
 }
 
-/// Returns whether items were queued to a socket since `look`, and whether items were dropped
-/// there.
+/// Returns whether items were queued on this socket since `look`, and whether items were dropped there.
 fn has_changed(seen: Closed, state: &RingState, place: usize) -> (bool, bool)
     ensures queued { result.0 ≡ false → put_in (slice_get state.now.sockets place) seen ≡ [] }
     ensures refused { result.1 ≡ false → dropped_in (slice_get state.now.sockets place) seen ≡ [] }
@@ -73,7 +72,7 @@ fn has_changed(seen: Closed, state: &RingState, place: usize) -> (bool, bool)
     }
 }
 
-/// Returns the end after this place if `is_later` holds, or else the old end.
+/// Returns the end just after this place if `is_later` is true, or else the old end.
 fn end_after(end: usize, place: usize, is_later: bool) -> usize
     requires { place + 1 < 2 ^ 64 }
     ensures { result ≡ (if is_later then place + 1 else end) }

@@ -20,15 +20,15 @@ use can_record_text::rooms::Rooms;
 use can_record_text::version::Version;
 use std::alloc::Global;
 
-/// The facts about the lines taken so far, from the second line on.
+/// The state of an audit after the second line: what is known about the lines taken so far.
 #[derive(Drop)]
 pub struct EntryAudit {
     version: Version,
     config: BusConfig,
-    /// The bus, which carries out the entries as long as they are legal.
+    /// The bus. It carries out the entries for as long as they are legal.
     bus: LeanRingBus,
     count: u32,
-    /// The features that the entries need from later versions of the text.
+    /// The features used by the entries that older versions of the text lack.
     needs: Needs,
     wrong: Option<WrongLine>,
     is_ended: bool,
@@ -64,7 +64,7 @@ impl EntryAudit {
         })
     }
 
-    /// Takes the next line: an entry or the end. Nothing may follow the end.
+    /// Takes the next line, which is an entry or the end line. No line may follow the end line.
     pub fn carry(&mut self, alloc: Global, rooms: &mut Rooms, line: &[u8]) -> Result<(), ReadFault>
         ensures taken { OnOk result (TakesOn IsGoing self.old self.new line.now) }
         ensures fault { IfErr result (FailsNext IsGoing self.old line.now) }
@@ -82,7 +82,7 @@ impl EntryAudit {
         }
     }
 
-    // Takes the line of an entry.
+    // Takes the line of one entry.
     fn carry_entry(&mut self, alloc: Global, rooms: &mut Rooms, line: &[u8]) -> Result<(), Unread>
         requires { self.old.count < 2 ^ 32 - 1 }
         ensures { Takes self.old self.new line.now result }
@@ -94,7 +94,7 @@ impl EntryAudit {
         }
     }
 
-    // Takes the line of an entry if all entries before it are legal.
+    // Takes the line of one entry, given that all entries before it are legal.
     fn carry_out(&mut self, alloc: Global, rooms: &mut Rooms, line: &[u8]) -> Result<(), Unread>
         requires legal { self.old.wrong ≡ None }
         requires few { self.old.count < 2 ^ 32 - 1 }
@@ -106,7 +106,7 @@ impl EntryAudit {
         }
     }
 
-    // Does the same for a line that is not a receive.
+    // Does the same as `carry_out` for a line that is not a receive.
     #[inline(never)]
     fn carry_attempt(&mut self, alloc: Global, rooms: &mut Rooms, line: &[u8]) -> Result<(), Unread>
         requires legal { self.old.wrong ≡ None }
@@ -121,7 +121,7 @@ impl EntryAudit {
         }
     }
 
-    // Does the same for a line that is neither a receive nor an attempt.
+    // Does the same as `carry_out` for a line that is neither a receive nor an attempt.
     #[inline(never)]
     fn carry_send(&mut self, alloc: Global, rooms: &mut Rooms, line: &[u8]) -> Result<(), Unread>
         requires legal { self.old.wrong ≡ None }
@@ -134,7 +134,7 @@ impl EntryAudit {
         }
     }
 
-    // Does the same for a line of any kind.
+    // Does the same as `carry_out` for a line of any kind.
     #[inline(never)]
     fn carry_other(&mut self, alloc: Global, rooms: &mut Rooms, line: &[u8]) -> Result<(), Unread>
         requires legal { self.old.wrong ≡ None }
@@ -147,8 +147,8 @@ impl EntryAudit {
         }
     }
 
-    // Takes a line that seems to be of this event, if all entries before it are legal. It compares
-    // the line with the line of the event and the bus's reply.
+    // Takes a line that appears to be an entry of this event, given that all entries before it are legal. It compares the line with
+    // the line for the event and the bus's reply.
     fn carry_event(
         &mut self,
         alloc: Global,
@@ -181,7 +181,7 @@ impl EntryAudit {
         Ok(())
     }
 
-    // Reports the first line past the limit.
+    // Reports the first line that exceeds the limit of entries.
     #[inline(never)]
     fn report_wrong_past(
         &mut self,
@@ -196,7 +196,7 @@ impl EntryAudit {
         self.report_wrong(alloc, rooms, line, None)
     }
 
-    // Reports the first line with another reply than this legal one.
+    // Reports the first line whose reply differs from this legal reply.
     #[inline(never)]
     fn report_wrong_reply(
         &mut self,
@@ -237,7 +237,7 @@ impl EntryAudit {
         Ok(())
     }
 
-    // Takes the line of an entry after a wrong one.
+    // Takes the line of an entry that follows a wrong entry.
     #[inline(never)]
     fn read_on(&mut self, alloc: Global, rooms: &mut Rooms, line: &[u8]) -> Result<(), Unread>
         requires wrong { IsSome self.old.wrong }
@@ -249,7 +249,7 @@ impl EntryAudit {
         Ok(())
     }
 
-    // Counts one more entry.
+    // Adds one to the number of entries, and adds the features that the entry needs.
     fn add(&mut self, needs: Needs)
         requires { self.old.count < 2 ^ 32 - 1 }
         ensures { self.new
@@ -302,21 +302,21 @@ impl EntryAudit {
         self.is_ended
     }
 
-    /// Returns whether the end line was not yet taken, and no entry is wrong so far.
+    /// Returns whether the text has no end line and no wrong entry so far.
     pub fn is_legal_yet(&self) -> bool
         ensures { result ≡ is_legal_yet self.now }
     {
         !self.is_ended && self.wrong.is_none()
     }
 
-    /// Returns the bus, which has carried out the entries as long as they were legal.
+    /// Returns the bus. It has carried out the entries for as long as they were legal.
     pub fn bus(&self) -> &LeanRingBus
         ensures { result.now ≡ self.now.bus }
     {
         &self.bus
     }
 
-    /// Returns the entry of a line that was taken before.
+    /// Reads the entry of a line that was taken before.
     pub fn read_again(&self, alloc: Global, rooms: &mut Rooms, line: &[u8]) -> Result<Entry, Unread>
         ensures { (e : AnEntry) → HasLine self.now.version self.now.config e →
             line.now ≡ entry_line e [] → IsReadAs e result }
@@ -324,7 +324,7 @@ impl EntryAudit {
         read_line(&mut rooms.long, alloc, self.version, self.config, line)
     }
 
-    /// Ends the text, and returns the number of its entries if they are legal.
+    /// Ends the text, and returns the number of its entries if all of them are legal.
     pub fn finish(self) -> Result<usize, TextFault>
         ensures found { (text : List ℕ) → IsGoing text self → Reports text result }
         ensures whole { (text : List ℕ) (g : IsGoing text self) →
@@ -351,8 +351,7 @@ impl EntryAudit {
         }
     }
 
-    /// Ends a text that may be cut off. The bytes `torn` follow the lines that were taken, and end
-    /// no line.
+    /// Ends a text that may be cut off. The bytes `torn` come after the last line that was taken. They contain no LF.
     pub fn finish_cut(self, torn: &[u8]) -> Result<Cut, TextFault>
         ensures found { (text : List ℕ) →
             IsGoing text self → EndsNoLine torn.now → ReportsCut (text ++ torn.now) result }
@@ -367,7 +366,7 @@ impl EntryAudit {
         }
     }
 
-    // Does the same for a text with its end line, after which no bytes may follow.
+    // Does the same as `finish_cut` for a text with an end line, after which no bytes may follow.
     fn finish_whole(self, torn: &[u8]) -> Result<Cut, TextFault>
         requires { self.is_ended ≡ true }
         ensures found { (text : List ℕ) → IsGoing text self → ReportsCut (text ++ torn.now) result }
@@ -384,7 +383,7 @@ impl EntryAudit {
         }
     }
 
-    // Does the same for a text without its end line.
+    // Does the same as `finish_cut` for a text without an end line.
     fn finish_off(self, torn: &[u8]) -> Result<Cut, TextFault>
         requires { self.is_ended ≡ false }
         ensures found { (text : List ℕ) →
@@ -401,7 +400,7 @@ impl EntryAudit {
     }
 }
 
-/// Returns whether the record was full.
+/// Returns whether the bus refused the event because the record was full.
 fn is_past_limit(reply: &Reply) -> bool
     ensures { IsTrue result ↔ (reply.now ≡ Reply.Refused Refusal.RecordFull) }
 {

@@ -1,4 +1,4 @@
-//! The events of a record's entries, as text.
+//! Writes the events of a record's entries as text.
 ghost use Rattle.std.specs.Prelude.{◌≡◌, ◌++◌, ◌↔◌, [], true, false, IfErr, IfOk, IsTrue, List, OnOk, ℕ};
 ghost use Rattle.can_event.specs.declared.entry.Entry.{Entry as AnEntry};
 ghost use Rattle.can_record_text.specs.Spelling.{entry_line};
@@ -17,21 +17,20 @@ use can_record_text::ReadFault;
 use can_record_text::rooms::Rooms;
 use std::alloc::{AllocError, Global};
 
-/// The text of the events of the legal entries, except the part that was cleared. It grows only by
-/// whole lines.
+/// The text of the events of the legal entries, without the part that was cleared. Only whole lines are appended.
 #[derive(Drop)]
 pub struct EventsText {
     text: Vec<u8>,
-    /// A buffer for the next line.
+    /// A buffer in which the next line is built.
     line: Vec<u8>,
     /// The state of the bus before an attempt, a restart or a down.
     before: Before,
-    /// The other wanted lines. The entries so far have asked the fault rules in it.
+    /// The other parts that are wanted in the lines. Its fault rules have been asked about all entries so far.
     wanted: Wanted,
 }
 
 impl EventsText {
-    /// Returns a value without text.
+    /// Returns a value whose text is empty.
     pub fn new(alloc: Global, wanted: Wanted) -> Result<EventsText, AllocError>
         ensures text { IfOk result (λ events. events.text.items ≡ []) }
         ensures wanted { IfOk result (λ events. events.wanted ≡ wanted) }
@@ -44,7 +43,7 @@ impl EventsText {
         })
     }
 
-    /// Returns the text that was written and not cleared.
+    /// Returns the text that was written and not yet cleared.
     pub fn text(&self) -> &[u8]
         ensures { result.now ≡ self.now.text.items }
     {
@@ -59,7 +58,7 @@ impl EventsText {
         self.text.clear();
     }
 
-    /// Writes the line of the format, this line of the bus, and the lines of the script's rules.
+    /// Writes the line that names the format, then `line`, which describes the bus, and then the lines of the script's rules.
     pub fn begin(&mut self, line: &[u8]) -> Result<(), AllocError>
         ensures begun { OnOk result (self.new.text.items ≡ self.old.text.items ++
             (events_first_line ++ line.now ++ rules_at_start self.old.wanted.faults)) }
@@ -73,8 +72,7 @@ impl EventsText {
         self.text.extend_from_slice(&self.line)
     }
 
-    /// Writes the lines of the rules that the bus takes after the last entry, and of each end of
-    /// all rules. No entry may follow.
+    /// Writes the lines of the rules that the bus takes, and of each end of all rules, after the last entry. No entry may follow.
     pub fn put_last_rules(&mut self, out: &mut Vec<u8>) -> Result<(), AllocError>
         ensures { OnOk result
             (out.new.items ≡ out.old.items ++ rules_at_end self.old.wanted.faults) }
@@ -82,8 +80,8 @@ impl EventsText {
         put_last_rules(out, &mut self.wanted.faults)
     }
 
-    /// Lets the audit take the next line, and writes the line with the events of its entry. It
-    /// writes only if this entry and all entries before it are legal.
+    /// Passes the next line to the audit, and writes the line with the events of its entry. It writes only if this entry and all
+    /// entries before it are legal.
     pub fn carry(
         &mut self,
         alloc: Global,
@@ -105,8 +103,7 @@ impl EventsText {
         }
     }
 
-    // Does the same for the line of an attempt, a restart or a down, if all entries before it are
-    // legal.
+    // Does the same as `carry` for the line of an attempt, a restart or a down. All entries before it are legal.
     fn carry_step(
         &mut self,
         alloc: Global,
@@ -134,7 +131,7 @@ impl EventsText {
         }
     }
 
-    // Does the same for a line of another kind.
+    // Does the same as `carry` for the line of any other kind of entry.
     fn carry_quiet(
         &mut self,
         alloc: Global,
@@ -159,8 +156,7 @@ impl EventsText {
         }
     }
 
-    // Writes the line of an attempt, a restart or a down with its parts. The audit has taken the
-    // line.
+    // Writes the line of an attempt, a restart or a down with its parts. The audit has taken this line already.
     fn write_step(
         &mut self,
         alloc: Global,
@@ -178,7 +174,7 @@ impl EventsText {
         }
     }
 
-    // Does the same if nothing else is wanted.
+    // Does the same as `write_step` if no other parts are wanted.
     fn write_parts(&mut self, audit: &EntryAudit, line: &[u8]) -> Result<(), AllocError>
         requires { self.old.wanted ≡ nothing_wanted }
         ensures written { OnOk result (WritesParts self.old audit.now line.now self.new) }
@@ -189,7 +185,7 @@ impl EventsText {
         self.text.extend_from_slice(&self.line)
     }
 
-    // Does the same if more is wanted. It reads the line again, because it needs the entry.
+    // Does the same as `write_step` if other parts are wanted. It reads the line again, because it needs the entry.
     #[inline(never)]
     fn write_wanted_parts(
         &mut self,
@@ -212,7 +208,7 @@ impl EventsText {
     }
 }
 
-/// Returns whether a line is that of an attempt, a restart or a down.
+/// Returns whether a line records an attempt, a restart or a down.
 fn is_step_line(line: &[u8]) -> bool
     ensures yes { IsTrue result →
         (e : AnEntry) → line.now ≡ entry_line e [] → is_step e.event ≡ true }

@@ -9,7 +9,7 @@ use can_confine::Counters;
 use can_event::{Closed, SocketId};
 use std::alloc::AllocError;
 
-/// Writes the error counts that have changed, by interface.
+/// Writes the error counts that changed, in the order of the interfaces.
 pub(crate) fn put_all_counts(
     out: &mut Vec<u8>,
     before: &[Counters; 16],
@@ -23,7 +23,7 @@ pub(crate) fn put_all_counts(
     Ok(())
 }
 
-/// Writes the numbers of frames lost since `look`, by interface.
+/// Writes the numbers of frames lost since `look`, in the order of the interfaces.
 pub(crate) fn put_all_lost(
     out: &mut Vec<u8>,
     before: &[u64],
@@ -39,7 +39,7 @@ pub(crate) fn put_all_lost(
     Ok(())
 }
 
-/// Writes the part with the items queued since `look`, by socket, if there are any.
+/// Writes the part that lists the items queued since `look`, in the order of the sockets. It writes nothing if there are none.
 pub(crate) fn put_queued(
     out: &mut Vec<u8>,
     before: &[Closed],
@@ -59,7 +59,8 @@ pub(crate) fn put_queued(
     Ok(())
 }
 
-/// Writes the part with the numbers of items dropped since `look`, by socket, if there are any.
+/// Writes the part that lists the numbers of items dropped since `look`, in the order of the sockets. It writes nothing if there
+/// are none.
 pub(crate) fn put_refused(
     out: &mut Vec<u8>,
     before: &[Closed],
@@ -79,7 +80,7 @@ pub(crate) fn put_refused(
     Ok(())
 }
 
-/// Removes the name of a part if the text ends with it.
+/// Removes the name of a part, which is at `start..end`, if nothing was written after it.
 fn drop_bare(out: &mut Vec<u8>, start: usize, end: usize)
     ensures { out.new.items ≡
         (if length out.old.items == end then take start out.old.items else out.old.items) }
@@ -99,7 +100,7 @@ fn put_all_items(out: &mut Vec<u8>, before: &[Closed], state: &RingState) -> Res
     Ok(())
 }
 
-/// Writes the items of a socket after the first ones, which were seen before.
+/// Writes the items that were queued on a socket since `look`.
 fn put_items(
     out: &mut Vec<u8>,
     state: &RingState,
@@ -118,7 +119,7 @@ fn put_items(
     Ok(())
 }
 
-/// Writes an item of a socket, if it is there.
+/// Writes one item of a socket if the socket has an item at this index.
 fn put_item_at(
     out: &mut Vec<u8>,
     state: &RingState,

@@ -8,7 +8,7 @@ use can_frame::Text;
 use can_rules::RunFaults;
 use std::alloc::AllocError;
 
-/// A buffer for the part: its name and a number.
+/// A buffer for the part that names a rule: the word and a number.
 type RuleText = Text<32>;
 
 /// Writes the lines of the script's rules.
@@ -22,8 +22,7 @@ pub fn put_first_rules(out: &mut Vec<u8>, faults: &Option<RunFaults>) -> Result<
     }
 }
 
-/// Writes the lines of the rules that the bus takes after all attempts, and of each end of all
-/// rules.
+/// Writes the lines of the rules that the bus takes, and of each end of all rules, after all attempts.
 #[tactic(auto, unfolding(crate::specs::EventsText::rules_at_end))]
 pub fn put_last_rules(out: &mut Vec<u8>, faults: &mut Option<RunFaults>) -> Result<(), AllocError>
     ensures { OnOk result (out.new.items ≡ out.old.items ++ rules_at_end faults.old) }
@@ -34,8 +33,8 @@ pub fn put_last_rules(out: &mut Vec<u8>, faults: &mut Option<RunFaults>) -> Resu
     }
 }
 
-/// Writes the lines of rules before the line of an entry. Returns the number of the rule that gave
-/// the attempt its verdict, if one did. The rules are asked if the attempt tried a frame.
+/// Writes the lines of rules that come before the line of an entry. Returns the number of the rule that gave the attempt its
+/// verdict, or `None` if no rule did. The rules are asked only if the attempt tried a frame.
 #[tactic(auto, unfolding(crate::specs::EventsText::rules_before, crate::specs::EventsText::rule_in, crate::specs::EventsText::asked_of))]
 pub(crate) fn put_rules(
     out: &mut Vec<u8>,
@@ -53,7 +52,7 @@ pub(crate) fn put_rules(
     }
 }
 
-/// Does the same with these faults.
+/// Does the same as `put_rules`, for these faults.
 fn put_rules_of(
     out: &mut Vec<u8>,
     run: &mut RunFaults,
@@ -76,7 +75,7 @@ fn put_rules_of(
     Ok(run.rule_of(tried.winner, &tried.frame, *verdict))
 }
 
-/// Writes the part with this number, if there is one.
+/// Writes the part with the number of the rule. It writes nothing if there is no number.
 #[tactic(auto, unfolding(crate::specs::Words::numbered, crate::specs::Words::parted))]
 pub(crate) fn put_rule(out: &mut Vec<u8>, rule: Option<u64>) -> Result<(), AllocError>
     ensures { OnOk result (out.new.items ≡ out.old.items ++ numbered (codes "rule") rule) }

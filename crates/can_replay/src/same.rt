@@ -3,8 +3,7 @@ ghost use Rattle.std.specs.Prelude.{◌≡◌, ◌↔◌, IsTrue};
 use can_bus::{Attempt, Closed, Received, Reply, Tried};
 use can_frame::{Frame, Item};
 
-// Equality of two replies. Each type has its own function, so that the proof treats the types one
-// by one.
+// Compares two replies. Each type has its own function, so that the proof handles one type at a time.
 
 fn same_frame(one: Frame, other: Frame) -> bool
     ensures { IsTrue result ↔ (one ≡ other) }

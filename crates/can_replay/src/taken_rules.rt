@@ -1,4 +1,4 @@
-//! The lines of the rules that a bus takes. They show which rule each number means.
+//! Writes the lines of the rules that a bus takes. The lines tell a reader which rule each number stands for.
 ghost use Rattle.std.specs.Prelude.{◌≡◌, ◌++◌, ◌∷◌, [], codes, decimal, OnOk};
 ghost use Rattle.std.specs.List.{flat_map};
 ghost use Rattle.can_rules.specs.RunFaults.{made_until};
@@ -8,18 +8,17 @@ use can_frame::{Names, Text};
 use can_rules::{Made, Rule, RunFaults, put_rule_words};
 use std::alloc::AllocError;
 
-/// A buffer for the beginning of a rule's line.
+/// A buffer for the beginning of the line of a rule.
 type FrontText = Text<32>;
 
-/// Writes the lines of the script's rules, which the bus takes at the start. No attempt or change
-/// came before.
+/// Writes the lines of the script's rules, which the bus takes at the start. No attempt and no change may come before this call.
 pub(crate) fn put_first(out: &mut Vec<u8>, faults: &RunFaults) -> Result<(), AllocError>
     ensures { OnOk result (out.new.items ≡ out.old.items ++ first_rules faults.now) }
 {
     put_rule_lines(out, faults.rules_left(), faults.names())
 }
 
-/// Makes the changes that come before the attempt with this number, and writes their lines.
+/// Makes the changes that come before the attempt with this number, and writes a line for each of them.
 pub(crate) fn put_until(
     out: &mut Vec<u8>,
     faults: &mut RunFaults,
@@ -35,7 +34,7 @@ pub(crate) fn put_until(
     Ok(())
 }
 
-// Writes the line for the result of a change.
+// Writes the line for the result of a change. A refused rule has no line.
 fn put_made(out: &mut Vec<u8>, made: &Made, names: &Names) -> Result<(), AllocError>
     ensures { OnOk result (out.new.items ≡ out.old.items ++ made_line names.now made.now) }
 {
@@ -67,7 +66,7 @@ fn put_rule_line(out: &mut Vec<u8>, rule: &Rule, names: &Names) -> Result<(), Al
     out.extend_from_slice(b"\n")
 }
 
-// Writes the beginning of the line of a rule with this number.
+// Writes the beginning of a rule's line, up to the space after this number.
 fn put_rule_front(out: &mut Vec<u8>, number: u64) -> Result<(), AllocError>
     ensures { OnOk result
         (out.new.items ≡ out.old.items ++ (codes "rule " ++ decimal number ++ 32 ∷ [])) }

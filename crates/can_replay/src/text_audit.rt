@@ -21,26 +21,24 @@ use can_record_text::rooms::Rooms;
 use can_record_text::version::Version;
 use std::alloc::{AllocError, Global};
 
-/// The progress through the lines of a text.
+/// How far an audit has come through the lines of a text.
 #[derive(Drop)]
 enum Phase {
     /// No line was taken yet.
     Start,
-    /// The first line was taken, which names the version.
+    /// The first line was taken. It names the version.
     Front(Version),
-    /// The line of the bus was taken, and maybe lines after it.
+    /// The line that describes the bus was taken, and possibly lines after it.
     Entries(EntryAudit),
     /// A line was faulty.
     Failed(ReadFault),
 }
 
-/// An audit that takes the lines of a text one after another and keeps none of them.
+/// An audit that takes the lines of a text one after another and stores none of them.
 ///
-/// Contracts name the text so far, which the taken lines make up. A line ends after its LF; a line
-/// without LF is the last of the text. After a faulty line each call returns the same fault.
-///
-/// An audit with events also writes the events of the legal entries, and holds the text that was
-/// not cleared.
+/// Contracts name the text so far, which consists of the lines taken. A line ends with its LF. A line without an LF is the last of
+/// the text. After a faulty line each call returns the same fault. An audit with events also writes the events of the legal
+/// entries, and holds the part of that text that was not cleared.
 #[derive(Drop)]
 pub struct TextAudit {
     phase: Phase,
@@ -49,7 +47,7 @@ pub struct TextAudit {
 }
 
 impl TextAudit {
-    /// Returns an audit that has taken no line.
+    /// Returns an audit that has taken no lines.
     pub fn new(alloc: Global) -> TextAudit
         ensures taken { AreTaken [] result }
         ensures written { (w : AWanted) → HasWritten w [] [] result }
@@ -63,8 +61,8 @@ impl TextAudit {
         }
     }
 
-    /// Returns an audit with events and with the other wanted lines. It takes memory for the counts
-    /// with which it compares a bus.
+    /// Returns an audit with events that also writes the wanted parts. It allocates memory for the counts of the bus that it
+    /// compares before and after an entry.
     pub fn with_events(alloc: Global, wanted: Wanted) -> Result<TextAudit, AllocError>
         ensures written { IfOk result (λ audit. HasWritten wanted [] [] audit) }
         ensures none { IfOk result (λ audit. held_events audit.events ≡ []) }
@@ -77,8 +75,8 @@ impl TextAudit {
         })
     }
 
-    /// Returns the events of the entries that were not cleared, in whole lines. The first are the
-    /// lines of the format and of the bus. A wrong entry and the lines after it add nothing.
+    /// Returns the text of the events that was not cleared, in whole lines. It begins with the line of the format and the line of
+    /// the bus. A wrong entry and the lines after it add nothing.
     pub fn events(&self) -> &[u8]
         ensures { result.now ≡ held_events self.now.events }
     {
@@ -88,7 +86,7 @@ impl TextAudit {
         }
     }
 
-    /// Clears the events of the entries so far.
+    /// Clears the text of the events so far.
     pub fn clear_events(&mut self)
         ensures phase { self.new.phase ≡ self.old.phase }
         ensures events { has_events self.new.events ≡ has_events self.old.events }
@@ -102,11 +100,9 @@ impl TextAudit {
         }
     }
 
-    /// Takes the next line of the text, with its LF if it has one. It reports a fault of a line at
-    /// once; `finish` reports faults of the whole text.
-    ///
-    /// `NoMemory` means that memory was refused, or that there are more than 4,294,967,295 entries;
-    /// then nothing is known about the text.
+    /// Takes the next line of the text, including its LF if it has one. It reports a fault in the line at once; `finish` reports
+    /// faults that concern the whole text. `NoMemory` means that an allocation failed, or that there are more than 4,294,967,295
+    /// entries; nothing is known about the text then.
     pub fn carry(&mut self, alloc: Global, line: &[u8]) -> Result<(), ReadFault>
         ensures taken { OnOk result (TakesOn AreTaken self.old self.new line.now) }
         ensures fault { IfErr result (FailsNext AreTaken self.old line.now) }
@@ -124,7 +120,7 @@ impl TextAudit {
         }
     }
 
-    // Keeps the fault of a line, and returns it.
+    // Stores the fault of a line, and returns it.
     #[inline(never)]
     fn fail(&mut self, why: ReadFault) -> Result<(), ReadFault>
         ensures failed { HasFailed why self.new }
@@ -193,8 +189,8 @@ impl TextAudit {
         Ok(())
     }
 
-    /// Ends the text, and returns the lines of the rules after the last entry, and of each end of
-    /// all rules. These lines come before the last line of the events, if there are any.
+    /// Ends the text, and returns the lines for the rules, and for each end of all rules, after the last entry. If the events have
+    /// a last line, these lines belong before it.
     pub fn last_rules(&mut self, alloc: Global) -> Result<Vec<u8>, AllocError>
         ensures lines { IfOk result (λ lines. lines.items ≡ rules_last self.old.events) }
         ensures phase { self.new.phase ≡ self.old.phase }
@@ -225,11 +221,9 @@ impl TextAudit {
         }
     }
 
-    /// Ends a text that may be cut off, and returns how far it reaches if its record is legal so
-    /// far. `torn` has the bytes after the last LF, which were not taken. If the text is cut off,
-    /// they are not examined.
-    ///
-    /// A text that is cut off within its first two lines is faulty.
+    /// Ends a text that may be cut off, and returns how much of it there is if its record is legal so far. `torn` contains the
+    /// bytes after the last LF, which were not taken. If the text is cut off, these bytes are not examined. A text that is cut off
+    /// within its first two lines is faulty.
     pub fn finish_cut(self, torn: &[u8]) -> Result<Cut, TextFault>
         ensures told { (text : List ℕ) →
             AreTaken text self → EndsNoLine torn.now → ReportsCut (text ++ torn.now) result }
@@ -249,7 +243,7 @@ impl TextAudit {
         }
     }
 
-    /// Returns the record's bus, if its line was taken and no line was faulty.
+    /// Returns the bus of the record if the line of the bus was taken and no line was faulty.
     pub fn bus(&self) -> Option<BusConfig>
         ensures { result ≡ bus_taken self.now.phase }
     {
@@ -259,7 +253,7 @@ impl TextAudit {
         }
     }
 
-    /// Returns the first line, if it was taken and no line was faulty, or else no bytes.
+    /// Returns the first line if it was taken and no line was faulty, or else no bytes.
     pub fn first_line(&self) -> &'static [u8]
         ensures { result.now ≡ first_taken self.now.phase }
     {
@@ -270,7 +264,7 @@ impl TextAudit {
         }
     }
 
-    /// Returns whether the end line was taken, after which nothing may follow.
+    /// Returns whether the end line was taken. No line may follow the end line.
     pub fn has_end_line(&self) -> bool
         ensures { result ≡ has_end_line self.now.phase }
     {
@@ -281,8 +275,7 @@ impl TextAudit {
     }
 }
 
-// Writes the lines before the events of entries, if there are events. `line` is the second line of
-// the text.
+// Writes the lines that precede the events of the entries, if the audit writes events. `line` is the second line of the text.
 fn begin_events(events: &mut Option<EventsText>, line: &[u8]) -> Result<(), ReadFault>
     ensures begun { OnOk result ((cleared : List ℕ) → Completes events.old cleared [] →
         Completes events.new cleared

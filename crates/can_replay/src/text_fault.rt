@@ -3,16 +3,15 @@ use can_record_text::ReadFault;
 use std::fmt;
 use thiserror::Error;
 
-/// The first wrong entry of a record: its reply does not follow from the entries before it, or it
-/// is past the limit.
+/// The first wrong entry of a record. Its reply does not follow from the entries before it, or it exceeds the limit of entries.
 #[derive(Debug, Drop)]
 pub struct WrongLine {
     /// The place of the entry, counted from 0.
     pub place: usize,
     pub entry: Entry,
-    /// The reply that would be legal there, or `None` past the limit.
+    /// The reply that would be legal there, or `None` if the entry exceeds the limit.
     pub legal: Option<Reply>,
-    /// The limit of entries of the bus.
+    /// The largest number of entries that the bus may have.
     pub limit: u32,
 }
 
@@ -26,19 +25,19 @@ impl fmt::Display for WrongLine {
 /// Why a text is not the text of a legal record.
 #[derive(Debug, Drop, Error)]
 pub enum TextFault {
-    /// The text is not the text of a record, or memory was refused.
+    /// The text is not a record, or an allocation failed.
     #[error("{0}")]
     Read(ReadFault),
-    /// The text is that of a record with a wrong entry.
+    /// The text is a record with a wrong entry.
     #[error("{0}")]
     Wrong(WrongLine),
 }
 
-/// How far a text that may be cut off reaches; its record is legal so far.
+/// How much of a text that may be cut off there is. The record is legal so far.
 #[derive(Debug, Clone, Copy, PartialEq, Eq)]
 pub enum Cut {
-    /// The text is whole, and its record has this many entries.
+    /// The text is complete, and its record has this many entries.
     Whole(usize),
-    /// The text ends before its last line, after the lines of this many entries.
+    /// The text is cut off before its last line, after the lines of this many entries.
     Off(usize),
 }

@@ -1,13 +1,13 @@
 use can_rules::RunFaults;
 use can_wire::Timing;
 
-/// The wanted parts of the lines of entries, besides the effects of the entries.
+/// The parts that are wanted in the lines of entries, in addition to the effects of the entries.
 #[derive(Drop)]
 pub struct Wanted {
-    /// The timing of the bus. With it each tried frame has its times and its bits on the wire.
+    /// The timing of the bus. If it is given, the line of each tried frame also has its times and its bits on the wire.
     pub timing: Option<Timing>,
-    /// The faults of the run. With them each rule that the bus takes has a line, and an attempt has
-    /// the number of the rule that gave its verdict.
+    /// The faults of the run. If they are given, each rule that the bus takes has a line, and the line of an attempt has the number
+    /// of the rule that gave its verdict.
     pub faults: Option<RunFaults>,
 }
 
@@ -15,7 +15,7 @@ impl Wanted {
     ghost use Rattle.std.specs.Prelude.{◌≡◌, IsTrue};
     ghost use Rattle.can_replay.specs.EventsText.{nothing_wanted};
 
-    /// Returns the value that adds no parts.
+    /// Returns the value that asks for no additional parts.
     pub fn nothing() -> Wanted
         ensures { result ≡ nothing_wanted }
     {
@@ -25,7 +25,7 @@ impl Wanted {
         }
     }
 
-    /// Returns whether the value adds no parts.
+    /// Returns whether no additional parts are wanted.
     pub fn is_nothing(&self) -> bool
         ensures { IsTrue result → self.now ≡ nothing_wanted }
     {

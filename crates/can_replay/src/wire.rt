@@ -10,11 +10,11 @@ use can_frame::Text;
 use can_wire::{Timing, frame_bits};
 use std::alloc::AllocError;
 
-/// A buffer for the part: its name and four numbers.
+/// A buffer for the part that describes the wire: its name and four numbers.
 type WireText = Text<96>;
 
-/// Writes the part with the times and the bits of the frame that an attempt tried. It writes
-/// nothing if no frame was tried or no timing is given.
+/// Writes the part with the times and the bits of the frame that an attempt tried. It writes nothing if no frame was tried or no
+/// timing is given.
 #[tactic(auto, unfolding(crate::specs::EventsText::wire_part))]
 pub(crate) fn put_wire(
     out: &mut Vec<u8>,
@@ -35,7 +35,7 @@ pub(crate) fn put_wire(
     put_tried(out, timing, tried, *verdict)
 }
 
-/// Writes the same part for a tried frame.
+/// Writes the same part as `put_wire`, for a tried frame.
 #[tactic(auto, unfolding(crate::specs::Words::parted))]
 fn put_tried(
     out: &mut Vec<u8>,
@@ -51,7 +51,7 @@ fn put_tried(
     out.extend_from_slice(part.as_bytes())
 }
 
-/// Writes the same part into a buffer.
+/// Appends the same part to a buffer.
 fn push_wire(part: &mut WireText, timing: Timing, tried: &Tried, verdict: Verdict)
     requires { part.old ≡ [] }
     ensures { part.new ≡ codes "; wire " ++ decimal (frame_nanos_of timing tried.now.frame) ++

@@ -6,13 +6,13 @@ use can_event::SocketId;
 use can_frame::{Item, Text, frame_text};
 use std::alloc::AllocError;
 
-/// A buffer for the longest part of an interface: a name of at most 9 bytes and three numbers.
+/// A buffer for the longest part about an interface: a name of at most 9 bytes and three numbers.
 type PartText = Text<80>;
 
-/// A buffer for a word: a number, and after a colon another number or an error message frame.
+/// A buffer for one word: a number, optionally followed by a colon and another number or an error message frame.
 type WordText = Text<192>;
 
-/// Writes the error counts of an interface, if they have changed.
+/// Writes the error counts of an interface if they changed.
 #[tactic(auto, unfolding(crate::specs::Words::counts_part, crate::specs::Words::parted))]
 pub(crate) fn put_counts(
     out: &mut Vec<u8>,
@@ -30,7 +30,7 @@ pub(crate) fn put_counts(
     out.extend_from_slice(part.as_bytes())
 }
 
-/// Writes the same part into a buffer.
+/// Appends the same part to a buffer.
 fn push_counts(part: &mut PartText, iface: usize, after: Counters)
     requires { part.old ≡ [] }
     ensures { part.new ≡ codes "; counts " ++ decimal iface ++
@@ -60,7 +60,7 @@ pub(crate) fn put_lost(out: &mut Vec<u8>, iface: usize, count: u64) -> Result<()
     out.extend_from_slice(part.as_bytes())
 }
 
-/// Writes an item that was queued to a socket.
+/// Writes an item that was queued on a socket.
 #[tactic(auto, unfolding(crate::specs::Words::parted))]
 pub(crate) fn put_item(out: &mut Vec<u8>, id: SocketId, item: &Item) -> Result<(), AllocError>
     ensures { OnOk result (out.new.items ≡ out.old.items ++ parted (put_word id.0 item.now ∷ [])) }
@@ -71,7 +71,7 @@ pub(crate) fn put_item(out: &mut Vec<u8>, id: SocketId, item: &Item) -> Result<(
     out.extend_from_slice(word.as_bytes())
 }
 
-/// Writes the same into a buffer, without the space before it.
+/// Appends the same word as `put_item` to a buffer, without the leading space.
 fn push_item(word: &mut WordText, id: SocketId, item: &Item)
     requires { length word.old ≤ 1 }
     ensures { word.new ≡ word.old ++ put_word id.0 item.now }
@@ -83,7 +83,7 @@ fn push_item(word: &mut WordText, id: SocketId, item: &Item)
     }
 }
 
-/// Writes the number of items dropped at a socket, if there are any.
+/// Writes the number of items dropped at a socket, if any were dropped.
 #[tactic(auto, unfolding(crate::specs::Words::parted))]
 pub(crate) fn put_dropped(out: &mut Vec<u8>, id: SocketId, count: u64) -> Result<(), AllocError>
     ensures { OnOk result (out.new.items ≡ out.old.items ++ parted (dropped_words id.0 count)) }

@@ -1,4 +1,4 @@
--- A roll while calls are noted: their pass is called in, the calls noted, and the pass sent out again.
+-- The three steps that note calls: the roll calls their pass in, notes the calls, and sends the pass out again.
 use Rattle.std.proofs.Common.{◌≡◌, ℕ, ◌<◌, List, [], ◌∷◌, ◌++◌, length, ap, ◌∙◌}
 use Rattle.can_event.specs.declared.entry.Entry.{Entry}
 use Rattle.can_roll.specs.declared.rule.View.{View}
@@ -8,7 +8,7 @@ use Rattle.can_roll.specs.Seen.{RollSeen, roll_seen}
 use Rattle.can_roll.proofs.Rows.{row_added_all}
 use Rattle.can_roll.proofs.Passes.{last_at_end, without_at_end}
 
--- the roll with the calls noted
+-- The roll after the calls are noted.
 pub once_noted : (old in_hand new : RollSeen) (p : ℕ) (calls : List Entry)
     → in_hand ≡ roll_seen old.number old.lists (old.called ++ p ∷ [])
     → new ≡ roll_seen in_hand.number (added_all in_hand.lists (last_pass in_hand.called) calls) in_hand.called
@@ -18,7 +18,7 @@ once_noted old in_hand new p calls came noted =
     ∙ (λ k. roll_seen (came k).number (added_all (came k).lists (last_pass (came k).called) calls) (came k).called)
     ∙ ap (λ q. roll_seen old.number (added_all old.lists q calls) (old.called ++ p ∷ [])) (last_at_end old.called p)
 
--- the roll with the pass sent out
+-- The roll after the pass is sent out.
 pub once_sent : (old in_hand new : RollSeen) (p : ℕ) (calls : List Entry)
     → in_hand ≡ roll_seen old.number (added_all old.lists p calls) (old.called ++ p ∷ [])
     → new ≡ roll_seen in_hand.number in_hand.lists (without_last in_hand.called)
@@ -28,7 +28,7 @@ once_sent old in_hand new p calls noted went =
     ∙ (λ k. roll_seen (noted k).number (noted k).lists (without_last (noted k).called))
     ∙ ap (λ ps. roll_seen old.number (added_all old.lists p calls) ps) (without_at_end old.called p)
 
--- the views of its new slip
+-- The view of the pass's new slip.
 pub slip_again : (old in_hand : RollSeen) (p : ℕ) (calls : List Entry) (views : List View)
     → in_hand ≡ roll_seen old.number (added_all old.lists p calls) (old.called ++ p ∷ [])
     → p < length old.lists

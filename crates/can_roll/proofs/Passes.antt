@@ -1,4 +1,4 @@
--- Lists of passes: one more at the end, and the last taken away.
+-- Lists of passes with one more pass at the end, or without their last pass.
 use Rattle.std.proofs.Common.{◌≡◌, ◌≢◌, ℕ, ◌+◌, ◌<◌, List, [], ◌∷◌, ◌++◌, length, refl, ap, sym, arith}
 use Rattle.can_roll.specs.Lists.{last_pass, without_last, NotIn, Distinct, AllBelow}
 
@@ -10,7 +10,7 @@ pub below_more : (n m : ℕ) (ps : List ℕ) → n < m + 1 → AllBelow n ps →
 below_more n m [] le h = tt
 below_more n m (p ∷ ps) le h = (omega (arith, h.0), below_more n m ps le h.1)
 
--- ---- one more at the end
+-- ---- one more pass at the end
 
 pub last_at_end : (ps : List ℕ) (p : ℕ) → last_pass (ps ++ p ∷ []) ≡ p
 last_at_end [] p = refl
@@ -38,7 +38,7 @@ pub below_end : (n p : ℕ) (ps : List ℕ) → AllBelow n ps → p < n → AllB
 below_end n p [] h le = (le, tt)
 below_end n p (q ∷ qs) h le = (h.0, below_end n p qs h.1 le)
 
--- ---- the last taken away
+-- ---- without the last pass
 
 pub not_the_last : (q : ℕ) (ps : List ℕ) → 0 < length ps → NotIn q ps → q ≢ last_pass ps
 not_the_last q [] some_in h = absurd (omega arith)

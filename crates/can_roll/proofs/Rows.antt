@@ -1,4 +1,4 @@
--- Lists of calls by pass.
+-- Facts about the lists of calls of the passes.
 use Rattle.std.proofs.Common.{◌≡◌, ◌≢◌, ◌⊎◌, ℕ, zero, suc, ◌<◌, List, [], ◌∷◌, ◌++◌, length, refl, ap, sym, inl, inr, ⊎_elim, arith}
 use mathlib.Core.Option.{some, some-injective, some-ne-none}
 use lib.ListN.{get_elem?}
@@ -41,7 +41,7 @@ row_added_else ls p q c n = row_added_all_else ls p q (c ∷ []) n
 pub length-added : (ls : List (List Entry)) (p : ℕ) (c : Entry) → length (call_added ls p c) ≡ length ls
 length-added ls p c = length-added_all ls p (c ∷ [])
 
--- the elements of a list with one more at its end
+-- The elements of a list after one element is added at its end.
 pub at_end : {A : Type 0} (l : List A) (a b : A) (j : ℕ) → get_elem? (l ++ a ∷ []) j ≡ some b → (get_elem? l j ≡ some b) ⊎ ((j ≡ length l) × (a ≡ b))
 at_end [] a b zero e = inr (refl, some-injective a b e)
 at_end [] a b (suc j) e = absurd (some-ne-none b (sym e))

@@ -1,4 +1,4 @@
--- Each step keeps the rule.
+-- Each step preserves the rule of a roll's table.
 use Rattle.std.proofs.Common.{◌≡◌, ◌≢◌, ℕ, zero, suc, ◌+◌, ◌<◌, List, [], ◌∷◌, ◌++◌, length, set, slice_index, refl, ap, sym, ◌∙◌, subst, ⊎_elim, arith, length-append}
 use mathlib.Core.Option.{some, none, some-injective, some-ne-none}
 use lib.ListN.{get_elem?}
@@ -13,9 +13,9 @@ use Rattle.can_roll.specs.Rule.{IsBrought, Knows, Apart, IsRolled, pass_entered,
 use Rattle.can_roll.proofs.Rows.{row_front, row_past, row_added_all_else, length-added_all, at_end}
 use Rattle.can_roll.proofs.Passes.{not_in_below, below_more, last_at_end, without_at_end, not_in_end, distinct_end, below_end, not_the_last, not_in_rest, distinct_rest, last_not_in_rest, below_rest, last_below}
 
--- ---- the rule, if the view is a roll's
+-- ---- the rule, if the view is a roll's view
 
--- the rule, in the words of that view
+-- The rule, stated with the fields of the roll's view.
 abbrev Standing : List ℕ → List View → ℕ → List (List Entry) → List ℕ → List (List Entry) → Type 0
 Standing words views id lists called brought =
     (words ≡ 0 ∷ []) × Distinct called × AllBelow (length lists) called × IsBrought lists called brought
@@ -31,7 +31,7 @@ standing words views id lists called brought h at =
     (λ k. (sym mine.0 k, sym mine.1 k, sym mine.2 k, sym mine.3 k))
     (h.4, h.5, h.6, h.7, h.8, h.9)
 
--- the seats' knowledge after the roll's view has changed, if the others know it
+-- After the roll's view is replaced, each seat's view agrees with the new view, if all other seats' views do.
 knows_set : (views : List View) (id : ℕ) (lists : List (List Entry)) (called : List ℕ) (brought : List (List Entry))
     → ((j : ℕ) (u : View) → j ≢ id → get_elem? views j ≡ some u → Knows id lists called brought j u)
     → (j : ℕ) (u : View) → get_elem? (set views id (OfRoll lists called brought)) j ≡ some u → Knows id lists called brought j u
@@ -42,7 +42,7 @@ knows_set views id lists called brought others j u e =
     (λ (x : (j ≢ id) × (get_elem? views j ≡ some u)). others j u x.0 x.1)
     (at_set views id j (OfRoll lists called brought) u e)
 
--- ---- slips stay apart
+-- ---- no two slips have the same pass
 
 roll_is_no_slip : (lists : List (List Entry)) (called : List ℕ) (brought : List (List Entry)) (p : ℕ) (calls : List Entry) → OfRoll lists called brought ≢ OfSlip p calls
 roll_is_no_slip lists called brought p calls e = absurd (cc (e))
@@ -50,7 +50,7 @@ roll_is_no_slip lists called brought p calls e = absurd (cc (e))
 spent_is_no_slip : (p : ℕ) (calls : List Entry) → Spent ≢ OfSlip p calls
 spent_is_no_slip p calls e = absurd (cc (e))
 
--- a seat that becomes no slip
+-- A seat that gets a view other than a slip.
 apart_set : (views : List View) (id : ℕ) (w : View) → ((p : ℕ) (xs : List Entry) → w ≢ OfSlip p xs) → Apart views → Apart (set views id w)
 apart_set views id w none_is apart i j p xs ys e f =
     ⊎_elim
@@ -62,7 +62,7 @@ apart_set views id w none_is apart i j p xs ys e f =
     (at_set views id j w (OfSlip p ys) f))
     (at_set views id i w (OfSlip p xs) e)
 
--- a new slip has a pass of its own
+-- A new slip whose pass no other slip has.
 apart_end : (views : List View) (q : ℕ) (l : List Entry) → ((j : ℕ) (ys : List Entry) → get_elem? views j ≢ some (OfSlip q ys)) → Apart views → Apart (views ++ OfSlip q l ∷ [])
 apart_end views q l fresh apart i j p xs ys e f =
     ⊎_elim
@@ -82,7 +82,7 @@ apart_end views q l fresh apart i j p xs ys e f =
 
 -- ---- the steps
 
--- a roll that was just made
+-- A roll that was just made.
 pub begins : IsRolled (0 ∷ []) (OfRoll [] [] [] ∷ [])
 begins = (0, [], [], [], refl, tt, tt, tt, one, two)
   where
@@ -277,7 +277,7 @@ module _ {S : Type 0} where
       stay id lists called j (OfSlip q m) n k = (k.0, k.1, not_in_rest q called k.2)
       stay id lists called j Spent n k = tt
 
--- ---- the same at a view that is known by an equation
+-- ---- the same facts, with the view given by an equation
 
 pub enters_as : {S : Type 0} (id : ℕ) (me : Me S View) (lists : List (List Entry)) (called : List ℕ)
     → me ≡ (OfRoll lists called [], []) → Splits (λ (s : State S View). IsRolled s.words s.views) id me.0 (pass_entered me.0) (newcomer me.0)
@@ -318,22 +318,22 @@ sends_as {S} id me lists called some_in is =
 
 -- ---- seats after a step
 
--- a roll's seat is at its table, which has a word
+-- A roll's seat is at its table, and the table has a word.
 pub at_table : (name table seat : TableId) → IsAtTable name table seat → (seat ≡ table) × (0 < table.words)
 at_table name table seat h = (h.1 ∙ sym h.0, omega (arith, ap (λ (t : TableId). t.words) h.0, h.2))
 
--- the seat of a slip's badge
+-- The seat of a slip's badge.
 pub seated : {S : Type 0} (views : List View) (me : Me S View) (p : ℕ) (calls : List Entry)
     → views ≡ OfSlip p calls ∷ [] → views ≡ me.0 ∷ [] → me.1 ≡ [] → me ≡ (OfSlip p calls, [])
 seated {S} views me p calls a b e = let same : me.0 ≡ OfSlip p calls = cc (a, b) in λ k. (same k, e k)
 
--- a roll's seat once a pass is called in
+-- A roll's seat after a pass is called in.
 pub joined : {S : Type 0} (new me you : Me S View) (lists : List (List Entry)) (called : List ℕ) (p : ℕ) (calls : List Entry)
     → new ≡ (called_in me.0 you.0, me.1) → me ≡ (OfRoll lists called [], []) → you ≡ (OfSlip p calls, [])
     → new ≡ (OfRoll lists (called ++ p ∷ []) (calls ∷ []), [])
 joined new me you lists called p calls e is that = e ∙ (λ k. (called_in (is k).0 (that k).0, (is k).1))
 
--- and once its calls are returned, with what that shows
+-- A roll's seat after the brought calls are returned, and the facts that the return shows.
 pub then_returned : {S : Type 0} (new me : Me S View) (lists : List (List Entry)) (called : List ℕ) (p : ℕ) (calls : List Entry)
     → me ≡ (OfRoll lists (called ++ p ∷ []) (calls ∷ []), []) → (new.0 ≡ returned me.0) × (new.1 ≡ me.1) × Shows me.0
     → (new ≡ (OfRoll lists (called ++ p ∷ []) [], [])) × (row lists p ≡ calls) × (p < length lists) × NotIn p called
@@ -346,12 +346,12 @@ then_returned {S} new me lists called p calls is t =
       subst (λ (x : ℕ × List ℕ). NotIn x.0 x.1) (λ k. (last k, without_at_end called p k)) shown.2,
     )
 
--- once calls are noted
+-- A roll's seat after calls are noted.
 pub then_noted : {S : Type 0} (calls : List Entry) (new me : Me S View) (lists : List (List Entry)) (called : List ℕ)
     → me ≡ (OfRoll lists called [], []) → (new.0 ≡ calls_noted calls me.0) × (new.1 ≡ me.1) → new ≡ (OfRoll (added_all lists (last_pass called) calls) called [], [])
 then_noted {S} calls new me lists called is t = (λ k. (t.0 k, t.1 k)) ∙ (λ k. (calls_noted calls (is k).0, (is k).1))
 
--- and once the pass is sent out
+-- A roll's seat after the pass is sent out.
 pub then_sent : {S : Type 0} (new me : Me S View) (lists : List (List Entry)) (called : List ℕ)
     → me ≡ (OfRoll lists called [], []) → new ≡ (sent_out me.0, me.1) → new ≡ (OfRoll lists (without_last called) [], [])
 then_sent {S} new me lists called is e = e ∙ (λ k. (sent_out (is k).0, (is k).1))

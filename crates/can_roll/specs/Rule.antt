@@ -1,4 +1,5 @@
--- The rule of a roll, and what each kind of step does to the views and returns.
+-- The rule that the table of a roll always obeys, and the effect of each kind of step on the views and on what is still
+-- to be returned.
 use Rattle.std.specs.Prelude.{◌≡◌, ℕ, ◌<◌, List, [], ◌∷◌, ◌++◌, length}
 use mathlib.Core.Option.{some}
 use lib.ListN.{get_elem?}
@@ -11,27 +12,29 @@ use Rattle.can_roll.specs.Lists.{row, added_all, last_pass, without_last, NotIn,
 
 -- ---- the rule
 
--- the calls that the pass called in last has brought are the roll's list of that pass; once returned, there are none
+-- The calls that the last called-in pass brought are the calls in the roll's list of that pass. Nothing is claimed
+-- after the brought calls are returned.
 abbrev pub IsBrought : List (List Entry) → List ℕ → List (List Entry) → Type 0
 IsBrought lists called [] = Unit {0}
 IsBrought lists called (calls ∷ more) = row lists (last_pass called) ≡ calls
 
--- the knowledge of the seat `by`, if the roll's view is that of the seat `seat`: no other seat has a roll's view, and a
--- slip has the roll's list of its pass, which has entered and is not called in; of a spent view nothing is said
+-- The facts that the view at seat `by` guarantees if the roll is at seat `seat`. Only seat `seat` has a roll's view. A
+-- slip has the same calls as the roll's list of its pass, and the pass has entered and is not called in. A spent view
+-- guarantees nothing.
 abbrev pub Knows : ℕ → List (List Entry) → List ℕ → List (List Entry) → ℕ → View → Type 0
 Knows seat lists called brought by (OfRoll lists' called' brought') =
     (by ≡ seat) × (lists' ≡ lists) × (called' ≡ called) × (brought' ≡ brought)
 Knows seat lists called brought by (OfSlip p calls) = (row lists p ≡ calls) × (p < length lists) × NotIn p called
 Knows seat lists called brought by Spent = Unit {0}
 
--- no two seats have a slip of the same pass
+-- No two seats have a slip of the same pass.
 abbrev pub Apart : List View → Type 0
 Apart views =
     (i j p : ℕ) (xs ys : List Entry) → get_elem? views i ≡ some (OfSlip p xs)
     → get_elem? views j ≡ some (OfSlip p ys) → i ≡ j
 
--- the rule: the word is 0, no pass is called in twice, each pass called in has entered, the calls brought are the
--- roll's, each seat knows the roll's lists, and slips are of different passes
+-- The rule of the table. Its word is 0, no pass is called in twice, and each called-in pass has entered. The brought
+-- calls are the roll's, each seat's view agrees with the roll's lists, and no two slips have the same pass.
 abbrev pub IsRolled : List ℕ → List View → Type 0
 IsRolled words views =
     (seat : ℕ) × (lists : List (List Entry)) × (called : List ℕ) × (brought : List (List Entry))
@@ -41,19 +44,19 @@ IsRolled words views =
 
 -- ---- the steps
 
--- `enter` leaves the roll with one more list, an empty one
+-- The roll's view after `enter`: it has one more list, which is empty.
 abbrev pub pass_entered : View → View
 pass_entered (OfRoll lists called brought) = OfRoll (lists ++ [] ∷ []) called brought
 pass_entered (OfSlip p calls) = OfSlip p calls
 pass_entered Spent = Spent
 
--- and gives the slip of the next pass, with no call
+-- The view of the slip that `enter` gives to the next pass: it has no calls.
 abbrev pub newcomer : View → View
 newcomer (OfRoll lists called brought) = OfSlip (length lists) []
 newcomer (OfSlip p calls) = Spent
 newcomer Spent = Spent
 
--- a pass is called in: it is appended to the passes called in, and brings its calls
+-- The roll's view after a pass is called in. The pass is appended to the called-in passes and brings its calls.
 abbrev pub called_in : View → View → View
 called_in (OfRoll lists called brought) (OfSlip p calls) = OfRoll lists (called ++ p ∷ []) (calls ∷ [])
 called_in (OfRoll lists called brought) (OfRoll lists' called' brought') = OfRoll lists called brought
@@ -61,13 +64,14 @@ called_in (OfRoll lists called brought) Spent = OfRoll lists called brought
 called_in (OfSlip p calls) other = OfSlip p calls
 called_in Spent other = Spent
 
--- the roll once the calls brought are returned: it keeps them no longer
+-- The roll's view after the brought calls are returned: the view no longer has them.
 abbrev pub returned : View → View
 returned (OfRoll lists called brought) = OfRoll lists called []
 returned (OfSlip p calls) = OfSlip p calls
 returned Spent = Spent
 
--- a returned pass: the calls brought are the roll's list of the pass, which has entered and was not called in before
+-- The facts that returning a pass shows. The brought calls are in the roll's list of the pass, and the pass has entered
+-- and was not called in before.
 abbrev pub Shows : View → Type 0
 Shows (OfRoll lists called (calls ∷ more)) =
     (row lists (last_pass called) ≡ calls)
@@ -77,31 +81,31 @@ Shows (OfRoll lists called []) = Unit {0}
 Shows (OfSlip p calls) = Unit {0}
 Shows Spent = Unit {0}
 
--- the load that returns them
+-- The load step that returns the brought calls.
 abbrev pub Returns : {S : Type 0} → Step S → Me S View → ℕ → Me S View → Type 0
 Returns step old found new = (new.0 ≡ returned old.0) × (new.1 ≡ old.1) × Shows old.0
 
--- the roll with more calls of the pass called in last, the newest first
+-- The roll's view after these calls, newest first, are added to the last called-in pass.
 abbrev pub calls_noted : List Entry → View → View
 calls_noted more (OfRoll lists called brought) = OfRoll (added_all lists (last_pass called) more) called brought
 calls_noted more (OfSlip p calls) = OfSlip p calls
 calls_noted more Spent = Spent
 
--- the load that notes calls
+-- The load step that adds these calls to the last called-in pass.
 abbrev pub Notes : List Entry → {S : Type 0} → Step S → Me S View → ℕ → Me S View → Type 0
 Notes more step old found new = (new.0 ≡ calls_noted more old.0) × (new.1 ≡ old.1)
 
--- sending out leaves the roll without the pass called in last
+-- The roll's view after the last called-in pass is sent out.
 abbrev pub sent_out : View → View
 sent_out (OfRoll lists called brought) = OfRoll lists (without_last called) brought
 sent_out (OfSlip p calls) = OfSlip p calls
 sent_out Spent = Spent
 
--- the knowledge of the slip of pass p: the roll's list of that pass
+-- The view of the slip of pass p, which has the calls in the roll's list of p.
 abbrev pub slip_view : List (List Entry) → ℕ → View
 slip_view lists p = OfSlip p (row lists p)
 
--- and gives that pass a slip again
+-- The view of the slip that a pass gets when it is sent out again.
 abbrev pub slip_sent : View → View
 slip_sent (OfRoll lists called brought) = slip_view lists (last_pass called)
 slip_sent (OfSlip p calls) = Spent
@@ -109,54 +113,55 @@ slip_sent Spent = Spent
 
 -- ---- readings of a view
 
--- the calls of each pass, in a roll's view
+-- The calls of each pass in a roll's view.
 abbrev pub lists_of : View → List (List Entry)
 lists_of (OfRoll lists called brought) = lists
 lists_of (OfSlip p calls) = []
 lists_of Spent = []
 
--- the passes called in, in a roll's view
+-- The called-in passes in a roll's view.
 abbrev pub called_of : View → List ℕ
 called_of (OfRoll lists called brought) = called
 called_of (OfSlip p calls) = []
 called_of Spent = []
 
--- the calls in a slip's view
+-- The calls in a slip's view.
 abbrev pub calls_of : View → List Entry
 calls_of (OfSlip p calls) = calls
 calls_of (OfRoll lists called brought) = []
 calls_of Spent = []
 
--- the view that a badge has, a spent one if it has none
+-- The first view in a list, or a spent view if the list is empty. A badge has at most one view.
 abbrev pub view_in : List View → View
 view_in [] = Spent
 view_in (v ∷ vs) = v
 
--- a table of one word that `name` names, and a seat of it
+-- The table and the seat both have the name `name`, and the table has one word.
 abbrev pub IsAtTable : TableId → TableId → TableId → Type 0
 IsAtTable name table seat = (table ≡ name) × (seat ≡ name) × (name.words ≡ 1)
 
--- a roll's seat between two calls: its view is a roll's of this many passes, and nothing is left to return
+-- A roll's seat between two calls. Its view is a roll's view with this number of passes, and nothing is still to be
+-- returned.
 abbrev pub IsRollSeat : {S : Type 0} → Me S View → ℕ → Type 0
 IsRollSeat me passes = (me ≡ (OfRoll (lists_of me.0) (called_of me.0) [], [])) × (length (lists_of me.0) ≡ passes)
 
--- the badge of a slip of this pass, in the table that `name` names
+-- The badge of a slip of this pass, at the table with the name `name`.
 abbrev pub IsSlipBadge : TableId → ℕ → TableId → List View → Type 0
 IsSlipBadge name pass table views = (table ≡ name) × (views ≡ OfSlip pass (calls_of (view_in views)) ∷ [])
 
--- the name of no table
+-- The name of a table that does not exist.
 abbrev pub no_table : TableId
 no_table = record { words = 0; slots = 0; views_name = 0; atom = 0; block = 0; offset = 0; slot_names = [] }
 
--- the names of a roll's table and of its scroll's
+-- The names of the table of a roll and of the table of its scroll.
 pub record RollId : Type 0 where
   pub passes : TableId
   pub scroll : TableId
 
--- those of no tables
+-- Names of tables that do not exist.
 abbrev pub no_roll : RollId
 no_roll = record { passes = no_table; scroll = no_table }
 
--- a roll whose one pass is a scroll, at the scroll's table
+-- The names of a roll at the scroll's table. The roll's only pass is the scroll.
 abbrev pub at_scroll : RollId → RollId
 at_scroll id = record { passes = id.scroll; scroll = no_table }

@@ -1,26 +1,21 @@
-//! A roll: which pass made which calls. It is a ledger for proofs only.
+//! A roll records which pass made which calls. It is a ledger for proofs only.
 //!
-//! Many callers share one bus under a lock. Each of them entered with a pass of its own, and keeps
-//! the list of its calls. The lock keeps such a list for each pass too. A caller comes back for its
-//! next call after others were under the lock, and nothing in the code says that the two lists are
-//! still the same. A roll makes it a proved fact, with no list in memory and nothing compared.
+//! Many callers share one bus under a lock. Each caller has a pass and keeps the list of the calls that it made. The lock keeps the
+//! same list for each pass. Between two calls of one caller, other callers use the lock, and nothing in the code says that the two
+//! lists are still equal. A roll makes their equality a proved fact, without a list in memory and without a comparison.
 //!
-//! A [`Roll`] is under the lock, and each pass has a [`Slip`] of it. To contracts the roll is the
-//! list of each pass's calls, and the slip is that of its own (`specs/Seen.antt`). [`Roll::enter`]
-//! hands out a slip, [`Roll::note`] puts one call in front of both lists, and [`Roll::recall`]
-//! takes a slip back for good. The last two show their caller that the slip's list is the roll's
-//! list of its pass.
+//! A [`Roll`] is under the lock, and each pass has a [`Slip`] of the roll. To contracts the roll is one list of calls for each
+//! pass, and the slip is the list of its own pass (`specs/Seen.antt`). [`Roll::enter`] hands out a slip, [`Roll::note`] puts one
+//! call in front of both lists, and [`Roll::recall`] takes a slip back for good. `note` and `recall` show the caller that the
+//! slip's list is the roll's list of the same pass.
 //!
-//! A roll also has a scroll, for entries that are handed out in blocks. [`HandedOut`] is under the
-//! lock, and the thread that takes the blocks has the [`Scroll`]. It is a roll of one pass, whose
-//! calls are the entries.
+//! A roll also has a scroll, for entries that are handed out in blocks. [`HandedOut`] is under the lock, and the thread that takes
+//! the blocks has the [`Scroll`]. A scroll is a roll of one pass, whose calls are the entries.
 //!
-//! At run time a roll is one atomic word that is always 0, with two numbers, and a slip is two
-//! numbers. Their knowledge is in the views of an `atomic_table`, and the table's rule ties the
-//! views together: slips of one roll are of different passes, and the list of each is the roll's
-//! (`specs/Rule.antt`). Each step may rely on the rule and has to keep it. The word serves only
-//! this: `note` and `recall` load it, to get the facts of the rule. Each call takes at most four
-//! loads.
+//! At run time a roll is two numbers and one atomic word that is always 0, and a slip is two numbers. What they know is in the
+//! views of an `atomic_table`. The table's rule ties the views together: different slips of one roll have different passes, and
+//! each slip's list is the roll's list of that pass (`specs/Rule.antt`). Each step may rely on the rule and has to keep it. The
+//! word has no other purpose: `note` and `recall` load it to get the facts of the rule. Each call takes at most four loads.
 #![tactic(auto)]
 
 mod roll;

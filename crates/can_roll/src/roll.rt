@@ -14,11 +14,11 @@ use std::alloc::{AllocError, Global};
 use std::marker::{Brand, Model, PhantomData};
 use std::mem;
 
-/// The table of a roll: one word, and no slot.
+/// The table of a roll. It has one word and no slots.
 type Word = Table<(), View, (), Law, Global>;
 
-/// A roll and its scroll that have no number yet. To a contract they are the identities of their tables, which a
-/// [`RollName`] can name.
+/// The tables for a roll and its scroll, before the roll has a number. To a contract this is the identities of the two tables,
+/// which a [`RollName`] can name.
 #[derive(Drop)]
 pub struct RollBlank {
     pub(crate) passes: WordBlank,
@@ -37,7 +37,7 @@ impl Model for RollBlank {
     ghost view = { λ b. record { passes = b.passes; scroll = b.scroll } };
 }
 
-/// A table without a slip that has no number yet. To a contract it is its identity.
+/// A table without a slip, before it has a number. To a contract this is the identity of the table.
 #[derive(Drop)]
 pub(crate) struct WordBlank {
     table: Word,
@@ -59,8 +59,8 @@ impl Model for WordBlank {
         × (b.seat.me ≡ (OfRoll [] [] [], [])) × (b.table.shared.table_id.words ≡ 1) };
 }
 
-/// The calls of each pass. To a contract it is its number, the list of calls of each pass with the
-/// newest in front, and the passes called in, in their order.
+/// The calls of each pass. To a contract a roll is its number, one list of calls for each pass (newest first), and the passes
+/// called in, in the order of the calls to `recall`.
 #[derive(Drop)]
 pub struct Roll<N: RollName> {
     table: Word,
@@ -87,8 +87,8 @@ impl<N: RollName> Model for Roll<N> {
         × IsRollSeat r.seat.me r.passes };
 }
 
-/// A roll without passes and its scroll, for [`Roll::new`] or
-/// [`roll_with_scroll`](crate::roll_with_scroll). It fails only if memory is refused.
+/// Makes the tables of a roll without passes and of its scroll, for [`Roll::new`] or [`roll_with_scroll`](crate::roll_with_scroll).
+/// Fails only if an allocation fails.
 pub fn roll_blank(alloc: Global) -> Result<RollBlank, AllocError> {
     Ok(RollBlank {
         passes: word_blank(alloc)?,
@@ -103,8 +103,8 @@ fn word_blank(alloc: Global) -> Result<WordBlank, AllocError> {
 }
 
 impl<N: RollName> Roll<N> {
-    /// The blank as the roll of this number, with no pass, and without its scroll. The caller shows that `N` names the blank
-    /// so.
+    /// Turns the blank into the roll with this number, without passes. The blank's scroll is dropped. The caller shows that `N`
+    /// gives the blank this number.
     pub fn new(blank: RollBlank, number: u8) -> Roll<N>
         requires { blank ≡ N.roll number }
         ensures { result ≡ roll_seen number [] [] }
@@ -113,7 +113,7 @@ impl<N: RollName> Roll<N> {
         Roll::of(passes, number)
     }
 
-    /// One of the blanks as the roll of this number.
+    /// Turns one of the two blank tables into the roll with this number.
     pub(crate) fn of(blank: WordBlank, number: u8) -> Roll<N>
         requires { blank ≡ (N.roll number).passes }
         ensures { result ≡ roll_seen number [] [] }
@@ -128,7 +128,7 @@ impl<N: RollName> Roll<N> {
         }
     }
 
-    /// Its number.
+    /// Returns the number of the roll.
     pub fn number(&self) -> u8
         ensures { result ≡ self.now.number }
     {
@@ -142,8 +142,8 @@ impl<N: RollName> Roll<N> {
         self.passes
     }
 
-    /// A slip of the next pass, with no call. Passes are numbered from 0. The caller shows that fewer than 4,096
-    /// have entered.
+    /// Hands out the slip of the next pass, with no calls. Passes are numbered from 0. The caller shows that fewer than 4,096
+    /// passes have entered.
     pub fn enter(&mut self) -> Slip<N>
         requires { length self.old.lists < 4096 }
         ensures roll { self.new ≡ roll_with_pass self.old }
@@ -161,8 +161,8 @@ impl<N: RollName> Roll<N> {
         }
     }
 
-    /// Notes a call with its reply: it comes in front of the slip's list and of the roll's list of the slip's
-    /// pass, which are the same before and after. The caller shows that the slip is of this roll's number.
+    /// Notes a call with its reply. The call is put in front of the slip's list and of the roll's list of that pass. The two lists
+    /// are equal before and after. The caller shows that the slip has this roll's number.
     pub fn note(&mut self, slip: &mut Slip<N>, event: &Event, reply: &Reply)
         requires { slip.old.number ≡ self.old.number }
         ensures roll { self.new ≡ with_call slip.old.pass (entry_of event.now reply.now) self.old }
@@ -182,7 +182,7 @@ impl<N: RollName> Roll<N> {
         slip.badge = self.send_last();
     }
 
-    /// Notes calls with their replies, which came in this order, as `note` does one.
+    /// Notes several calls with their replies, oldest first, in the same way as `note`.
     pub(crate) fn note_all(&mut self, slip: &mut Slip<N>, calls: &PackedRecord)
         requires { slip.old.number ≡ self.old.number }
         ensures roll { self.new ≡ with_calls slip.old.pass (reverse calls.now.entries) self.old }
@@ -201,8 +201,8 @@ impl<N: RollName> Roll<N> {
         slip.badge = self.send_last();
     }
 
-    /// Calls a slip's pass in, for good. Its calls are the roll's list of its pass, which had not been called in
-    /// before. The caller shows that the slip is of this roll's number.
+    /// Takes a slip back for good: its pass is called in. The slip's calls are the roll's list of that pass, and the pass was not
+    /// called in before. The caller shows that the slip has this roll's number.
     pub fn recall(&mut self, slip: Slip<N>)
         requires { slip.number ≡ self.old.number }
         ensures roll { self.new ≡ with_called_in slip.pass self.old }
@@ -223,7 +223,7 @@ impl<N: RollName> Roll<N> {
         table.shared.load::<Return>(&mut self.seat, 0);
     }
 
-    // Notes a call of the pass that was called in last.
+    // Notes a call of the pass that was called in most recently.
     fn note_last<C: Says>(&mut self, event: &Event, reply: &Reply)
         requires said { C.said ≡ entry_of event.now reply.now ∷ [] }
         requires some_in { 0 < length self.old.called }
@@ -234,7 +234,7 @@ impl<N: RollName> Roll<N> {
         table.shared.load::<Note<C>>(&mut self.seat, 0);
     }
 
-    // Notes calls of the pass that was called in last.
+    // Notes several calls of the pass that was called in most recently.
     fn note_all_last<C: Says>(&mut self, calls: &PackedRecord)
         requires said { C.said ≡ reverse calls.now.entries }
         requires some_in { 0 < length self.old.called }
@@ -245,7 +245,7 @@ impl<N: RollName> Roll<N> {
         table.shared.load::<Note<C>>(&mut self.seat, 0);
     }
 
-    // Sends the pass that was called in last out again, and gives the badge of its slip.
+    // Sends the pass that was called in most recently out again, and returns the badge for its slip.
     fn send_last(&mut self) -> Badge<View>
         requires { 0 < length self.old.called }
         ensures roll { self.new

@@ -1,6 +1,6 @@
 use std::marker::{Brand, PhantomData};
 
-/// Names one roll with its scroll for each number, 0 to 15, for contracts only: it has no calls.
+/// Names one roll and its scroll for each number from 0 to 15. The trait is for contracts only: it has no functions.
 pub trait RollName {
     ghost use Rattle.std.specs.Prelude.{ℕ};
     ghost use Rattle.can_roll.specs.Rule.{RollId};
@@ -14,7 +14,7 @@ impl RollName for Brand {
     ghost roll = { λ _. no_roll };
 }
 
-/// Names the scrolls of these rolls.
+/// Names the scrolls of the rolls that `N` names.
 #[derive(Drop)]
 pub struct ScrollName<N> {
     name: PhantomData<N>,

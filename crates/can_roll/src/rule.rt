@@ -3,15 +3,14 @@ use can_event::Entry;
 use std::collections::LinkedList;
 use std::marker::{Brand, PhantomData};
 
-/// The knowledge of a seat of the table. It is for contracts only: the program makes no value of
-/// it.
+/// What one seat of the table knows. It is for contracts only: the program never makes a value of this type.
 pub enum View {
-    /// A roll's seat: the calls of each pass, the passes called in with the last at the end, and, until it is
-    /// returned, the one list of calls that the last one brought.
+    /// The seat of a roll. It knows the calls of each pass and the passes called in, oldest first. Until `Return` it also knows the
+    /// list of calls that the last pass brought.
     OfRoll(LinkedList<LinkedList<Entry>>, LinkedList<u64>, LinkedList<LinkedList<Entry>>),
-    /// A slip's seat: its pass and its calls.
+    /// The seat of a slip. It knows the number of its pass and the calls of that pass.
     OfSlip(u64, LinkedList<Entry>),
-    /// The seat of a slip that was called in.
+    /// The seat of a slip after its pass was called in.
     Spent,
 }
 
@@ -28,7 +27,7 @@ impl<S> TableRule<S, View, ()> for Law {
     ghost first = { λ _. OfRoll [] [] [] };
 }
 
-/// The roll hands out a slip of the next pass.
+/// The step in which the roll hands out a slip of the next pass.
 pub struct Enters;
 
 impl Split<View> for Enters {
@@ -39,7 +38,7 @@ impl Split<View> for Enters {
     ghost right = { newcomer };
 }
 
-/// The roll calls a pass in, and its slip is spent.
+/// The step in which the roll calls a pass in and the slip is spent.
 pub struct CallsIn;
 
 impl Join<View> for CallsIn {
@@ -51,7 +50,7 @@ impl Join<View> for CallsIn {
     ghost spent = { Spent };
 }
 
-/// A load that returns what the pass called in last has brought.
+/// A load that returns the calls that the last pass called in has brought.
 pub struct Return;
 
 impl<S> Play<S, View> for Return {
@@ -60,7 +59,7 @@ impl<S> Play<S, View> for Return {
     ghost then = { Returns };
 }
 
-/// A load that notes calls of the pass called in last.
+/// A load that notes calls of the last pass called in.
 pub struct Note<C> {
     call: PhantomData<C>,
 }
@@ -71,7 +70,7 @@ impl<S, C: Says> Play<S, View> for Note<C> {
     ghost then = { Notes C.said };
 }
 
-/// The roll sends the pass called in last out again, with a new slip.
+/// The step in which the roll sends the last pass called in out again, with a new slip.
 pub struct Sends;
 
 impl Split<View> for Sends {
@@ -82,7 +81,7 @@ impl Split<View> for Sends {
     ghost right = { slip_sent };
 }
 
-/// Names calls with their replies, the newest first, for contracts only.
+/// Names calls with their replies, newest first, for contracts only.
 pub trait Says {
     ghost use Rattle.std.specs.Prelude.{List};
     ghost use Rattle.can_event.specs.declared.entry.Entry.{Entry};

@@ -7,8 +7,8 @@ use crate::slip::Slip;
 use can_record::PackedRecord;
 use std::marker::Model;
 
-/// The entries handed out under a roll's number, as the other side of its scroll knows them. To a
-/// contract it is the number and the entries, the oldest first.
+/// The side of a scroll that hands entries out. To a contract it is the roll's number and the entries handed out so far, oldest
+/// first.
 #[derive(Drop)]
 pub struct HandedOut<N: RollName> {
     roll: Roll<ScrollName<N>>,
@@ -26,8 +26,7 @@ impl<N: RollName> Model for HandedOut<N> {
     ghost invariant = { λ h. h.roll.lists ≡ row h.roll.lists 0 ∷ [] };
 }
 
-/// The entries handed out under a roll's number to the holder of the scroll. To a contract it is
-/// the number and the entries, the oldest first.
+/// The side of a scroll that takes entries. To a contract it is the roll's number and the entries handed out so far, oldest first.
 #[derive(Drop)]
 pub struct Scroll<N: RollName> {
     slip: Slip<ScrollName<N>>,
@@ -42,8 +41,8 @@ impl<N: RollName> Model for Scroll<N> {
     ghost view = { λ s. scroll_seen s.slip.number (reverse s.slip.calls) };
 }
 
-/// The blank as the roll of this number, with no pass, and both sides of its scroll: nothing was
-/// handed out. The caller shows that `N` names the blank in this way.
+/// Turns the blank into the roll with this number, without passes, and into both sides of its scroll, without entries. The caller
+/// shows that `N` gives the blank this number.
 pub fn roll_with_scroll<N: RollName>(
     blank: RollBlank,
     number: u8,
@@ -64,15 +63,15 @@ pub fn roll_with_scroll<N: RollName>(
 }
 
 impl<N: RollName> HandedOut<N> {
-    /// Its number.
+    /// Returns the number of the roll.
     pub fn number(&self) -> u8
         ensures { result ≡ self.now.number }
     {
         self.roll.number()
     }
 
-    /// Hands out a block to the holder of the scroll. Its entries follow those handed out before,
-    /// which both sides know as the same. The caller shows that the scroll is of this number.
+    /// Hands out a block of entries to the holder of the scroll. The block is appended to the entries handed out before, which are
+    /// the same on both sides. The caller shows that the scroll has this number.
     pub fn hand_out(&mut self, scroll: &mut Scroll<N>, block: &PackedRecord)
         requires { scroll.old.number ≡ self.old.number }
         ensures before { scroll.old.entries ≡ self.old.entries }
@@ -82,7 +81,8 @@ impl<N: RollName> HandedOut<N> {
         self.roll.note_all(&mut scroll.slip, block);
     }
 
-    /// Takes the scroll back for good: its entries are those that were handed out. The caller shows that it is of this number.
+    /// Takes the scroll back for good. Its entries are the entries that were handed out. The caller shows that the scroll has this
+    /// number.
     pub fn recall(&mut self, scroll: Scroll<N>)
         requires { scroll.number ≡ self.old.number }
         ensures entries { scroll.entries ≡ self.old.entries }
@@ -94,7 +94,7 @@ impl<N: RollName> HandedOut<N> {
 }
 
 impl<N: RollName> Scroll<N> {
-    /// The number of its roll.
+    /// Returns the number of the scroll's roll.
     pub fn number(&self) -> u8
         ensures { result ≡ self.now.number }
     {

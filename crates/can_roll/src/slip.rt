@@ -5,8 +5,8 @@ use crate::rule::View;
 use atomic_table::Badge;
 use std::marker::{Model, PhantomData};
 
-/// A pass's part of its roll. To a contract it is the roll's number, its own pass, and the calls that were
-/// noted with it, the newest in front.
+/// A pass's part of a roll. To a contract it is the roll's number, the number of the pass, and the calls noted with this slip,
+/// newest first.
 #[derive(Drop)]
 pub struct Slip<N: RollName> {
     pub(crate) badge: Badge<View>,
@@ -29,14 +29,14 @@ impl<N: RollName> Model for Slip<N> {
 }
 
 impl<N: RollName> Slip<N> {
-    /// The number of its roll.
+    /// Returns the number of the slip's roll.
     pub fn number(&self) -> u8
         ensures { result ≡ self.now.number }
     {
         self.number
     }
 
-    /// Its pass.
+    /// Returns the pass of the slip.
     pub fn pass(&self) -> u32
         ensures { result ≡ self.now.pass }
     {

@@ -5,9 +5,9 @@ use Rattle.can_rules.specs.declared.run_faults.Later.{Later}
 use Rattle.can_rules.specs.Plans.{PlanSeen}
 use Rattle.can_rules.specs.RunFaults.{RunSeen, after_change, after_next, due_of}
 
--- Successive changes of a run.
+-- Facts about the changes of a run that are made one at a time.
 
--- The next change is made.
+-- The run after its next change, which is due.
 first-made : (attempt : ℕ) (run : RunSeen) (later : List Later) (next : Later) → due_of attempt later ≡ Some next
     → after_next attempt run later ≡ record run { plan = after_change next.change run.plan; later = drop 1 later }
 first-made attempt run [] next due = absurd (cc due)
@@ -18,7 +18,7 @@ first-made attempt run (first ∷ later) next due = by_time (nat_le first.attemp
     by_time true is = let same : first ≡ next = cc in ap (λ (n : Later). record run { plan = after_change n.change run.plan; later = later }) same
     by_time false is = absurd (cc is)
 
--- The rest of a slice.
+-- The rest of a slice after its first `made` items.
 rest-of : (items all : List Later) (made : ℕ) → all ≡ items → take (length all - made) (drop made all) ≡ drop made items
 rest-of items all made is = take_all (length all - made) (drop made all) (omega (arith, length-drop made all)) ∙ ap (drop made) is
 

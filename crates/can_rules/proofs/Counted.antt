@@ -5,17 +5,18 @@ use Rattle.can_rules.specs.declared.rule.Rule.{Rule}
 
 -- How many times a rule gives its verdict.
 
--- 1 if the test is met, or else 0.
+-- 1 if the test is true, otherwise 0.
 abbrev pub once : Bool → ℕ
 once b = if b then 1 else 0
 
--- The rule at this place has `n` verdicts left.
+-- The rule at index `place` has `n` verdicts left.
 pub record HasLeft (rules : List Rule) (place n : ℕ) : Type 0 where
   pub rule : Rule
   pub there : slice_get rules place ≡ Some rule
   pub left : rule.left ≡ Some n
 
--- The rule at this place after an attempt: the verdicts given and left add up to the verdicts left before.
+-- The rule at index `place` after an attempt. The verdicts that it gave and the verdicts left add up to the verdicts
+-- left before the attempt.
 pub record Spends (after : List Rule) (place n : ℕ) (gave : Bool) : Type 0 where
   pub rest : ℕ
   pub has : HasLeft after place rest
@@ -31,7 +32,7 @@ some_left n h = grind (arith, nat_tests)
 same_rule : (one other : Rule) → Some one ≡ Some other → one ≡ other
 same_rule one other same = cc
 
--- One attempt at the first rule.
+-- The first rule of a list, after it was asked about one attempt.
 asked-left : (rule : Rule) (head : Head) (rules : List Rule) (n : ℕ) → rule.left ≡ Some n → Spends (asked_rule rule head ∷ rules) 0 n (gives rule head)
 asked-left rule head rules n has =
     let counted : Rule = record rule { left = one_less rule.left } in
@@ -46,7 +47,7 @@ asked-left rule head rules n has =
       | false ↦ λ idle. record { rest = n; has = record { rule = rule; there = refl; left = has }; together = omega arith }
     ] refl
 
--- One attempt at any rule.
+-- Any rule of a list, after one attempt.
 pub spends : (rules : List Rule) (head : Head) (place n : ℕ) → HasLeft rules place n → Spends (after_chosen rules head) place n (gives_at place rules head)
 spends [] head place n had = absurd (cc had.there)
 spends (rule ∷ rules) head zero n had = asked-left rule head (if gives rule head then rules else after_chosen rules head) n (ap (λ (r : Rule). r.left) (same_rule rule had.rule had.there) ∙ had.left)
@@ -58,7 +59,7 @@ spends (rule ∷ rules) head (suc place) n had =
           record { rest = later.rest; has = record { rule = later.has.rule; there = later.has.there; left = later.has.left }; together = later.together }
     ]
 
--- Successive attempts.
+-- A rule with n verdicts left gives at most n verdicts in successive attempts.
 pub times_given-most : (heads : List Head) (rules : List Rule) (place n : ℕ) → HasLeft rules place n → times_given place rules heads ≤ n
 times_given-most [] rules place n had = omega arith
 times_given-most (head ∷ heads) rules place n had =
@@ -67,7 +68,7 @@ times_given-most (head ∷ heads) rules place n had =
     let together : once (gives_at place rules head) + now.rest ≡ n = now.together in
     omega arith
 
--- The rule at this place gives its own verdict.
+-- The verdict of the attempt is that of the rule at index `place`, if that rule gives one.
 pub chosen-gives_at : (rules : List Rule) (head : Head) (place : ℕ) (rule : Rule) → slice_get rules place ≡ Some rule → gives_at place rules head ≡ true → chosen rules head ≡ Some rule.verdict
 chosen-gives_at [] head place rule there gave = absurd (cc there)
 chosen-gives_at (first ∷ rules) head zero rule there gave = ap (λ b. if b then Some first.verdict else chosen rules head) gave ∙ ap (λ (r : Rule). Some r.verdict) (same_rule first rule there)

@@ -48,7 +48,7 @@ spaceless-digits base count n = lacks-digits 32 base count n no-space
 pub colonless-digits : (base count n : ℕ) → Lacks 58 (digits base count n)
 colonless-digits base count n = lacks-digits 58 base count n no-colon
 
--- The text before the first such byte, and the text after it.
+-- The text before the first byte c, and the text after that byte.
 byte-at : (c : ℕ) (w rest : List ℕ) → (c == c) ≡ true → Lacks c w → position_or_len (λ b. b == c) (w ++ c ∷ rest) ≡ length w
 byte-at c [] rest same h = rw same refl
 byte-at c (b ∷ bs) rest same h = rw (h.0, byte-at c bs rest same h.1) (omega arith)
@@ -61,7 +61,7 @@ rest-cut c w rest same h =
     ap (λ (n : ℕ). drop (n + 1) (w ++ c ∷ rest)) (byte-at c w rest same h)
     ∙ ap (drop (length w + 1)) (sym (append_assoc w (c ∷ []) rest)) ∙ drop_at (w ++ c ∷ []) rest (length w + 1) (length_push w c)
 
--- A text without such a byte is not cut.
+-- A text without byte c is not cut.
 none-at : (c : ℕ) (w : List ℕ) → Lacks c w → position_or_len (λ b. b == c) w ≡ length w
 none-at c [] h = refl
 none-at c (b ∷ bs) h = rw (h.0, none-at c bs h.1) (omega arith)
@@ -69,7 +69,7 @@ none-at c (b ∷ bs) h = rw (h.0, none-at c bs h.1) (omega arith)
 pub none-cut : (c : ℕ) (w : List ℕ) → Lacks c w → after_first (λ b. b == c) w ≡ []
 none-cut c w h = ap (λ (n : ℕ). drop (n + 1) w) (none-at c w h) ∙ drop_all (length w + 1) w (omega arith)
 
--- Words.
+-- The first word of a text, and the text after that word.
 pub word-cut : (w rest : List ℕ) → Lacks 32 w → word (w ++ 32 ∷ rest) ≡ w
 word-cut w rest h = front-cut 32 w rest refl h
 

@@ -7,7 +7,7 @@ use Rattle.can_fault.specs.declared.verdict.Verdict.TheVariants.{Good}
 
 -- The rule that gives a verdict.
 
--- The verdict is that of the deciding rule.
+-- The verdict of the rules is that of the deciding rule.
 pub chosen-deciding : (rules : List Rule) (head : Head) → chosen rules head ≡ option_map (λ (rule : Rule). rule.verdict) (deciding rules head)
 chosen-deciding [] head = refl
 chosen-deciding (rule ∷ rules) head =
@@ -16,14 +16,14 @@ chosen-deciding (rule ∷ rules) head =
       | false ↦ chosen-deciding rules head
     ]
 
--- A decision has the verdict that the rules give.
+-- The verdict of a decision is the verdict of the rules.
 pub ruled-decided : (rules : List Rule) (head : Option Head) → (decided rules head).verdict ≡ ruled rules head
 ruled-decided rules None = refl
 ruled-decided rules (Some head) =
     (elim (deciding rules head) as (λ r. (decision_by r).verdict ≡ unwrap_or (option_map (λ (rule : Rule). rule.verdict) r) Good) [ None ↦ refl | Some rule ↦ refl ])
     ∙ ap (λ v. unwrap_or v Good) (sym (chosen-deciding rules head))
 
--- The deciding rule has a place, and gives the verdict there.
+-- The deciding rule is in the list, and it gives the verdict at its index.
 pub record IsAt (rules : List Rule) (head : Head) (rule : Rule) : Type 0 where
   pub place : ℕ
   pub there : slice_get rules place ≡ Some rule

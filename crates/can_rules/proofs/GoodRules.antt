@@ -25,7 +25,8 @@ abbrev pub IsCount : Option ℕ → Type 0
 IsCount None = Unit {0}
 IsCount (Some n) = (0 < n) × (n < 10 ^ 8)
 
--- The filters for an 11-bit identifier, for a 29-bit identifier, and for a word and a mask.
+-- The three kinds of filters: for an 11-bit identifier, for a 29-bit identifier, and for an identifier word and a
+-- mask.
 abbrev pub standard_of : ℕ → CanFilter
 standard_of n = record { id = n; mask = 2147485695 }
 
@@ -48,7 +49,7 @@ pub record IsGood (names : List (List ℕ)) (rule : Rule) : Type 0 where
   pub skip : rule.skip < 10 ^ 8
   pub verdict : IsVerdict names rule.verdict
 
--- Numbers.
+-- A number that was read is below a bound that depends on its base and its count of digits.
 digit-below : (base : ℕ) (o : Option ℕ) (v : ℕ) → in_base base o ≡ Some v → v < base
 digit-below base None v e = absurd (cc e)
 digit-below base (Some d) v e = by_test (nat_lt d base) refl e
@@ -57,7 +58,7 @@ digit-below base (Some d) v e = by_test (nat_lt d base) refl e
     by_test true is e = let same : d ≡ v = cc in grind (arith, nat_tests)
     by_test false is e = absurd (cc e)
 
--- The bound after `k` more digits.
+-- The bound for a number after `k` more digits.
 abbrev scaled : ℕ → ℕ → ℕ → ℕ
 scaled base zero most = most
 scaled base (suc k) most = scaled base k (most * base)
@@ -116,7 +117,7 @@ count-good text n e =
     let few = decimal-below text m read in
     (parts.0, omega (arith, few, parts.1))
 
--- Filters.
+-- A filter that was read is valid.
 standard-good : (n : ℕ) (f : CanFilter) → of_standard n ≡ Some f → IsFilter f
 standard-good n f e = by_test (nat_lt n (2 ^ 11)) refl e
   where
@@ -166,7 +167,7 @@ id-good text f e = by_test (length (mask_in text) == 0) e
     by_test true e = plain-good text f e
     by_test false e = masked-good (before_colon text) (mask_in text) f e
 
--- The parts of a rule.
+-- A rule that was read from its parts is good.
 part-good : {A : Type 0} (names : List (List ℕ)) (b : Bool) (read : Result A WrongWord) (on : A → Result Rule WrongWord) (other : Result Rule WrongWord) (rule : Rule)
     → ((a : A) → read ≡ Ok a → on a ≡ Ok rule → IsGood names rule) → (other ≡ Ok rule → IsGood names rule) → (if b then (read >>= on) else other) ≡ Ok rule → IsGood names rule
 part-good names true read on other rule with without e = let (a, first, rest) = bound read on rule e in with a first rest

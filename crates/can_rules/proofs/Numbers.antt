@@ -7,14 +7,14 @@ use Rattle.can_rules.specs.Rules.{Head, won_by, after_chosen, asked_rule, gives,
 use Rattle.can_rules.specs.Plans.{PlanSeen, NumbersGrow, HasOwnNumbers, numbered, with_rule, plan_after, after_planned, head_in}
 use Rattle.can_rules.specs.declared.rule.Rule.{Rule}
 
--- The numbers of rules.
+-- The rules of a plan keep increasing numbers.
 
--- Numbers that increase from above a bound also increase from above a smaller bound.
+-- Increasing numbers that are all above a bound are also above a smaller bound.
 grow-lower : (rules : List Rule) (low mid high : ℕ) → low ≤ mid → NumbersGrow mid rules high → NumbersGrow low rules high
 grow-lower [] low mid high below h = omega (arith, below, h)
 grow-lower (rule ∷ rules) low mid high below h = (omega (arith, below, h.0), h.1)
 
--- The numbers still increase with one more rule at the end.
+-- The numbers still increase after one more rule is appended.
 grow-push : (rules : List Rule) (rule : Rule) (low high n : ℕ) → high < n → NumbersGrow low rules high → NumbersGrow low (rules ++ numbered n rule ∷ []) n
 grow-push [] rule low high n above h = (omega (arith, above, h), omega arith)
 grow-push (first ∷ rules) rule low high n above h = (h.0, grow-push rules rule first.number high n above h.1)

@@ -37,7 +37,7 @@ feed-append xs ys h k = list_any-append (λ (b : ℕ). b == 10) xs ys ∙ ap (λ
 feed-cons : (b : ℕ) (bs : List ℕ) → (b == 10) ≡ false → has_feed bs ≡ false → has_feed (b ∷ bs) ≡ false
 feed-cons b bs h k = ap (λ (t : Bool). t || has_feed bs) h ∙ k
 
--- A byte is no line feed if a test treats them differently.
+-- A byte is not a line feed if a test is true for the byte and false for a line feed.
 unlike : (test : ℕ → Bool) (b : ℕ) → test 10 ≡ false → test b ≡ true → (b == 10) ≡ false
 unlike test b none some = by_test (b == 10) (Decides-eqb b 10).0
   where
@@ -45,7 +45,7 @@ unlike test b none some = by_test (b == 10) (Decides-eqb b 10).0
     by_test false is = refl
     by_test true is = let bad : true ≡ false = sym some ∙ ap test (is refl) ∙ none in absurd (cc bad)
 
--- A text that is cut at a byte.
+-- A text contains no line feed if neither the part before a byte c nor the part after that byte contains one.
 pub feed-cut : (c : ℕ) (text : List ℕ) → (c == 10) ≡ false → has_feed (before_first (λ b. b == c) text) ≡ false → has_feed (after_first (λ b. b == c) text) ≡ false → has_feed text ≡ false
 feed-cut c text other front rest = ⊎_elim inside (λ h. ap has_feed (sym (take_all (position_or_len (λ b. b == c) text) text h)) ∙ front) (cases_lt (position_or_len (λ b. b == c) text) (length text))
   where
@@ -58,7 +58,7 @@ feed-cut c text other front rest = ⊎_elim inside (λ h. ap has_feed (sym (take
 pub feed-words : (text : List ℕ) → has_feed (word text) ≡ false → has_feed (after text) ≡ false → has_feed text ≡ false
 feed-words text front rest = feed-cut 32 text refl front rest
 
--- The value that was read.
+-- The value that a successful choice has read.
 chosen-some : {A : Type 0} (b : Bool) (o : Option A) (a : A) → (if b then o else None) ≡ Some a → o ≡ Some a
 chosen-some true o a h = h
 chosen-some false o a h = absurd (cc h)
@@ -67,7 +67,7 @@ pub then-some : {A B : Type 0} (f : A → Option B) (o : Option A) (x : B) → o
 then-some f (Some a) x h = (a, refl)
 then-some f None x h = absurd (cc h)
 
--- Numbers.
+-- The text of a number contains no line feed.
 digit-feed : (base d : ℕ) → (d == 10) ≡ true → digit_in base d ≡ None
 digit-feed base d is = ap (digit_in base) ((Decides-eqb d 10).0 is)
 
@@ -84,7 +84,7 @@ after-one-line base (Some m) (d ∷ ds) n h =
 pub number-one-line : (base most : ℕ) (text : List ℕ) (n : ℕ) → number_in base most text ≡ Some n → has_feed text ≡ false
 number-one-line base most text n h = after-one-line base (Some 0) text n (chosen-some _ (number_after base (Some 0) text) n h)
 
--- Names.
+-- The text of names contains no line feed.
 bytes-one-line : (name : List ℕ) → list_all is_name_byte name ≡ true → has_feed name ≡ false
 bytes-one-line [] h = refl
 bytes-one-line (b ∷ bs) h =
@@ -109,7 +109,7 @@ set-one-line names text set h =
     all true r e = refl
     all false r e = absurd (cc e)
 
--- Verdicts.
+-- The text of a verdict contains no line feed.
 kind-one-line : (text : List ℕ) (kind : LocalKind) → kind_spelling text ≡ Some kind → has_feed text ≡ false
 kind-one-line text kind h = choice _ _ _ h (bytes_eq-Decides text (codes "stuff")).0 (bytes_eq-Decides text (codes "crc")).0 (bytes_eq-Decides text (codes "form")).0
   where

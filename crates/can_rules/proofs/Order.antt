@@ -2,7 +2,7 @@ use Rattle.std.proofs.Common.{◌≡◌, Bool, true, false, not, ◌&&◌, List,
 use Rattle.can_rules.specs.Rules.{Head, chosen, after_chosen, asked_rule, gives, is_rule_due, is_used_up, one_less, rule_matches, verdicts, AreSwapped}
 use Rattle.can_rules.specs.declared.rule.Rule.{Rule}
 
--- Two neighbouring rules are swapped.
+-- Swapping two neighbouring rules does not change the verdicts if no attempt matches both.
 
 -- Asking a rule does not change which attempts it matches.
 matches-asked : (rule : Rule) (now head : Head) → rule_matches (asked_rule rule now) head ≡ rule_matches rule head
@@ -35,7 +35,7 @@ gives-other rule head other = never (not (is_used_up rule)) (rule_matches rule h
   never true false c h = refl
   never false b c h = refl
 
--- The first rule gives the verdict, or the rest decide.
+-- The first rule gives the verdict. If it does not, the other rules decide.
 chosen-gives : (rule : Rule) (rules : List Rule) (head : Head) → gives rule head ≡ true → chosen (rule ∷ rules) head ≡ Some rule.verdict
 chosen-gives rule rules head gave = ap (λ b. if b then Some rule.verdict else chosen rules head) gave
 
@@ -60,11 +60,11 @@ apart-back first second apart = λ head. turned (rule_matches first head) (rule_
   turned false true h = refl
   turned false false h = refl
 
--- If one of two such rules gives a verdict, the other does not match.
+-- If no attempt matches both rules and one gives a verdict, the other does not match.
 other-apart : (first second : Rule) (head : Head) → AreApart first second → gives first head ≡ true → rule_matches second head ≡ false
 other-apart first second head apart gave = ap (λ b. b && rule_matches second head) (sym (gives-matches first head gave)) ∙ apart head
 
--- Two neighbours at the front.
+-- Two neighbouring rules at the front of the list.
 front_chosen : (first second : Rule) (back : List Rule) (head : Head) → AreApart first second → chosen (first ∷ second ∷ back) head ≡ chosen (second ∷ first ∷ back) head
 front_chosen first second back head apart = elim (gives first head) as (λ b. gives first head ≡ b → chosen (first ∷ second ∷ back) head ≡ chosen (second ∷ first ∷ back) head) [
   | true ↦ λ gave.
@@ -113,7 +113,7 @@ front_after first second back head apart =
       ] refl
     ] refl
 
--- Two neighbours anywhere.
+-- Two neighbouring rules anywhere in the list.
 place_chosen : (front : List Rule) (first second : Rule) (back : List Rule) (head : Head) → AreApart first second → chosen (front ++ first ∷ second ∷ back) head ≡ chosen (front ++ second ∷ first ∷ back) head
 place_chosen [] first second back head apart = front_chosen first second back head apart
 place_chosen (rule ∷ front) first second back head apart = ap (λ given. if gives rule head then Some rule.verdict else given) (place_chosen front first second back head apart)

@@ -12,9 +12,9 @@ use Rattle.can_rules.specs.declared.plan.PlanError.TheVariants as plan
 use Rattle.can_rules.specs.Plans.{PlanSeen, SpellsRule, GivesRule, Injected, has_bytes, gone_on, lines_taken, plan_spelling, ReadsPlan, TakesPlanLine}
 use Rattle.can_rules.specs.RunFaults.{RunSeen, run_lines, run_spelling, ReadsRunFaults, TakesRunLine}
 
--- Plans that grow by a rule or by a line.
+-- Facts about plans after one more rule or one more line.
 
--- A plan is given a rule that bytes spell.
+-- Giving a plan the rule that some bytes spell injects those bytes.
 pub injected : (names : List (List ℕ)) (bytes : List ℕ) (old new : PlanSeen) (rule : Rule) (result : Result (Unit {0}) RuleRefusal) → SpellsRule names bytes (Ok rule) → GivesRule rule old result new
     → Injected names bytes old result new
 injected names bytes old new rule (Ok done) spelled h = (rule, spelled, h.0, h.1)
@@ -23,7 +23,7 @@ injected names bytes old new rule (Err refusal.NoMemory) spelled h = (rule, spel
 injected names bytes old new rule (Err refusal.BadRule) spelled h = absurd h
 injected names bytes old new rule (Err refusal.UnknownInterface) spelled h = absurd h
 
--- The lines from place n on begin with line n.
+-- The lines from index n onwards are line n and the lines after it.
 pub line-turn : {Y : Type 0} (f : List (List ℕ) → Y) (lines : List (List ℕ)) (n : ℕ) (line : List ℕ) → (n < length lines) × (line ≡ get_or lines n line) → f (drop n lines) ≡ f (line ∷ drop (n + 1) lines)
 line-turn f lines n line h = at_drop_more f lines n line h.0 ∙ ap (λ (l : List ℕ). f (l ∷ drop (n + 1) lines)) (sym h.1)
 
@@ -35,18 +35,18 @@ or_true : (a b : Bool) → IsTrue b → IsTrue (a || b)
 or_true true b h = refl
 or_true false b h = h
 
--- A line that is not empty makes the text one with such a line.
+-- If the first line is not empty, some line is not empty.
 pub any-first : (line : List ℕ) (more : List (List ℕ)) → IsTrue (has_bytes line) → IsTrue (list_any has_bytes (line ∷ more))
 any-first line more h = either_true (has_bytes line) (list_any has_bytes more) h
 
 pub any-later : (line : List ℕ) (more : List (List ℕ)) → IsTrue (list_any has_bytes more) → IsTrue (list_any has_bytes (line ∷ more))
 any-later line more h = or_true (has_bytes line) (list_any has_bytes more) h
 
--- A fault ends the reading of lines.
+-- An error ends the reading of lines.
 pub ends : {A B : Type 0} (read : Result B PlanError) (step : Result A PlanError) (on : A → Result B PlanError) (why : PlanError) → read ≡ gone_on step on → step ≡ Err why → read ≡ Err why
 ends read step on why spelled fault = spelled ∙ ap (λ r. gone_on r on) fault
 
--- A refused line ends the reading.
+-- A refused line ends the reading of a plan with the error of that line.
 pub ReadsPlan-turn : (names : List (List ℕ)) (text : List ℕ) (known new : PlanSeen) (n : ℕ) (line : List ℕ) (more : List (List ℕ)) (why : PlanError)
     → plan_spelling names text ≡ lines_taken names known n (line ∷ more) → (IsTrue (has_bytes line) → IsTrue (list_any has_bytes (lines_in text)))
     → TakesPlanLine names line n known (Err why) new → ReadsPlan names text (Err why)
@@ -56,7 +56,7 @@ ReadsPlan-turn names text known new n line more (plan.Script (script.UnknownInte
 ReadsPlan-turn names text known new n line more (plan.Script (script.RepeatedAttempt m)) spelled memory h = ends _ _ (λ next. lines_taken names next (n + 1) more) _ spelled h
 ReadsPlan-turn names text known new n line more (plan.TooManyRules m) spelled memory h = ends _ _ (λ next. lines_taken names next (n + 1) more) _ spelled h
 
--- The same for a run.
+-- A refused line ends the reading of a run with the error of that line.
 pub ReadsRunFaults-turn : (names : List (List ℕ)) (text : List ℕ) (known new : RunSeen) (n : ℕ) (line : List ℕ) (more : List (List ℕ)) (why : PlanError)
     → run_spelling names text ≡ run_lines names known n (line ∷ more) → (IsTrue (has_bytes line) → IsTrue (list_any has_bytes (lines_in text)))
     → TakesRunLine names line n known (Err why) new → ReadsRunFaults names text (Err why)

@@ -19,9 +19,9 @@ use Rattle.can_rules.specs.RuleWords.{◌>>=◌, second, beyond, rule_spelling}
 use Rattle.can_rules.specs.RunFaults.{attempt_spelling, change_spelling, later_spelling}
 use Rattle.can_rules.proofs.Cuts.{lacks-decimal, word-cut, after-cut}
 
--- The lines for a rule and for the end of all rules are read back.
+-- The lines written for a rule and for the end of all rules are read back as the same change.
 
--- The number of an attempt.
+-- The number of an attempt is read back.
 within : (some few : Bool) (o : Option ℕ) → some ≡ true → few ≡ true → (if some && few then o else None) ≡ o
 within some few o h k = rw (h, k) refl
 
@@ -39,7 +39,7 @@ number-again most n some few small =
 attempt-again : (n : ℕ) → n < 10 ^ 10 → attempt_spelling (decimal n) ≡ Some n
 attempt-again n few = number-again 10 n (omega arith) few (omega arith)
 
--- A number and a change.
+-- A line is read as the number of an attempt and a change.
 abbrev later_from : Option ℕ → Result Change WrongWord → Result Later WrongWord
 later_from number read = do
   attempt ← ok_or number wrong.Attempt
@@ -57,7 +57,7 @@ later-again names attempt words change few read =
     let rest : change_spelling names (beyond line) ≡ Ok change = ap (λ (t : List ℕ). change_spelling names (after t)) past ∙ ap (change_spelling names) (after-cut (decimal attempt) words digits) ∙ read in
     ap (λ (o : Option ℕ). later_from o (change_spelling names (beyond line))) number ∙ ap (later_from (Some attempt)) rest
 
--- The words of a rule are never `nofaults`.
+-- The text of a rule is never `nofaults`.
 no-end : (names : List (List ℕ)) (words : List ℕ) (rule : Rule) → rule_spelling names words ≡ Ok rule → bytes_eq words (codes "nofaults") ≡ false
 unfolding rule_spelling
 no-end names words rule read = by_test (bytes_eq words (codes "nofaults")) (bytes_eq-Decides words (codes "nofaults")).0

@@ -33,7 +33,7 @@ ended-again names known verdict text read = ap (λ (r : Result Verdict LineFault
 
 -- ---- how many attempts a rule skips
 
--- The words from `skip` on, after their space.
+-- The text from `skip` to the end of the rule, without the space before it.
 pub record SkipText (names : List (List ℕ)) (k : ℕ) (rest : List ℕ) : Type 0 where
   pub text : List ℕ
   pub written : skip_words k ++ 32 ∷ rest ≡ 32 ∷ text
@@ -88,7 +88,7 @@ lt-from a b h = grind (arith, nat_tests)
 le-from : (a b : ℕ) → nat_le a b ≡ true → a ≤ b
 le-from a b h = grind (arith, nat_tests)
 
--- Digits without a mask.
+-- An identifier that is written without a mask is read back.
 plain-read : (text : List ℕ) → Lacks 58 text → id_spelling text ≡ plain_spelling text
 plain-read text lacks = ap (λ (t : List ℕ). if length t == 0 then plain_spelling text else masked_spelling (before_colon text) t) (none-cut 58 text lacks)
 
@@ -104,7 +104,7 @@ eight-read n h =
     let read : number_in 16 8 (digits 16 8 n) ≡ Some n = value-digits 16 8 n (omega arith) (omega arith) (omega (arith, h)) in
     ap (option_and_then of_extended) read ∙ ap (λ (b : Bool). if b then Some (extended_of n) else None) (lt-true n (2 ^ 29) h)
 
--- Digits with a mask.
+-- An identifier word that is written with a mask is read back.
 number-read : (n : ℕ) → n < 2 ^ 32 → number_in 16 8 (digits 16 8 n) ≡ Some n
 number-read n h = value-digits 16 8 n (omega arith) (omega arith) (omega (arith, h))
 
@@ -123,7 +123,7 @@ masked-read id mask lacks some =
     ∙ ap (λ (b : Bool). if b then plain_spelling text else masked_spelling (before_colon text) mask) some
     ∙ ap (λ (t : List ℕ). masked_spelling t mask) (front-cut 58 id mask refl lacks)
 
--- The words of a filter.
+-- The text of a filter is read back as the same filter.
 filter-read : (f : CanFilter) → IsFilter f → id_spelling (filter_words f) ≡ Some f
 unfolding filter_words
 filter-read f g = by_kind (is_standard f) (is_one_extended_id f) refl refl
@@ -256,7 +256,7 @@ start-read names (Some n) rest count =
 
 -- ---- a rule
 
--- Four texts, each followed by the rest.
+-- A text of five parts, in which each part after the first begins with a space.
 rest-joined : (a b c d e t1 t2 t3 t4 : List ℕ) → e ≡ 32 ∷ t1 → d ++ 32 ∷ t1 ≡ 32 ∷ t2 → c ++ 32 ∷ t2 ≡ 32 ∷ t3 → b ++ 32 ∷ t3 ≡ 32 ∷ t4 → a ++ b ++ c ++ d ++ e ≡ a ++ 32 ∷ t4
 rest-joined a b c d e t1 t2 t3 t4 e1 e2 e3 e4 =
     ap (λ (x : List ℕ). a ++ b ++ c ++ d ++ x) e1

@@ -16,7 +16,7 @@ use Rattle.can_rules.proofs.OneLine.{has_feed, feed-cut, feed-words, then-some, 
 
 -- The words of a rule contain no line feed.
 
--- The value that was read.
+-- If both steps of a reading succeed, the first step has read a value.
 pub bound : {A B : Type 0} (r : Result A WrongWord) (f : A → Result B WrongWord) (x : B) → (r >>= f) ≡ Ok x → (a : A) × (r ≡ Ok a) × (f a ≡ Ok x)
 bound (Ok a) f x h = (a, refl, h)
 bound (Err e) f x h = absurd (cc h)
@@ -32,7 +32,7 @@ word-read which (Err fault) a h = absurd (cc h)
 count-one-line : (text : List ℕ) (n : ℕ) → count_spelling text ≡ Some n → has_feed text ≡ false
 count-one-line text n h = let (m, read) = then-some some_of (small_spelling text) n h in number-one-line 10 8 text m read
 
--- Identifiers.
+-- The text of an identifier contains no line feed.
 plain-one-line : (text : List ℕ) (f : CanFilter) → plain_spelling text ≡ Some f → has_feed text ≡ false
 unfolding plain_spelling
 plain-one-line text f h = by_length (length text == 3) (length text == 8) h
@@ -60,7 +60,7 @@ id-one-line text f h = by_test (length (mask_in text) == 0) h
     by_test true e = plain-one-line text f e
     by_test false e = let parts = masked-one-line (before_colon text) (mask_in text) f e in feed-cut 58 text refl parts.0 parts.1
 
--- The parts of a rule; each has its keyword, if the part is there.
+-- An optional part of a rule, which begins with a keyword if the part is present.
 part : {A : Type 0} (text key : List ℕ) (read : Result A WrongWord) (on : A → Result Rule WrongWord) (other : Result Rule WrongWord) (rule : Rule) → has_feed key ≡ false
     → ((a : A) → read ≡ Ok a → has_feed (second text) ≡ false) → ((a : A) → on a ≡ Ok rule → has_feed (beyond text) ≡ false) → (other ≡ Ok rule → has_feed text ≡ false)
     → (if bytes_eq (word text) key then (read >>= on) else other) ≡ Ok rule → has_feed text ≡ false

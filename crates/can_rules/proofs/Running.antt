@@ -20,9 +20,9 @@ use Rattle.can_rules.specs.declared.rule.Rule.{Rule}
 use Rattle.can_rules.specs.declared.rule.Decision.{Decision}
 use Rattle.can_rules.proofs.Deciding.{IsAt, deciding-at, ruled-decided}
 
--- Runs that decide attempts.
+-- Facts about the verdicts that a run gives to its attempts.
 
--- Verdicts are equal if the test finds them the same.
+-- Two verdicts are equal if the test `same_verdict` is true for them.
 global-same : (one other : GlobalKind) → same_global one other ≡ true → one ≡ other
 global-same global.Bit global.Bit h = refl
 global-same global.Form global.Form h = refl
@@ -70,7 +70,7 @@ verdict-same (Local s k) Good h = absurd (cc h)
 verdict-same (Local s k) LastBit h = absurd (cc h)
 verdict-same (Local s k) (Global l) h = absurd (cc h)
 
--- The test finds a verdict the same as itself.
+-- The test `same_verdict` is true for a verdict and itself.
 number-itself : (n : ℕ) → (n == n) ≡ true
 number-itself n = grind (arith, nat_tests)
 
@@ -86,7 +86,7 @@ verdict-itself (Global global.Bit) = refl
 verdict-itself (Global global.Form) = refl
 verdict-itself (Local seen kind) = ap (λ b. b && same_local kind kind) (number-itself seen.0) ∙ local-itself kind
 
--- The rule whose number is reported.
+-- The rule whose number is reported gave the verdict.
 same_number : (one other : ℕ) → Some one ≡ Some other → one ≡ other
 same_number one other same = cc
 
@@ -115,14 +115,14 @@ named-with None rules head verdict number h = named-by rules head verdict number
 pub named : (run : RunSeen) (head : Head) (verdict : Verdict) (number : ℕ) → rule_given run head verdict ≡ Some number → GivesAs (made_ready run).plan.rules head verdict number
 named run head verdict number h = named-with (get (made_ready run).plan.lines run.tried) (made_ready run).plan.rules head verdict number h
 
--- A run without pending changes.
+-- A run without pending changes decides as its plan does.
 ready-none : (run : RunSeen) → run.later ≡ [] → (made_ready run).plan ≡ run.plan
 ready-none run none = ap (λ later. changed run.plan run.tried later) none
 
 pub asked-none : (run : RunSeen) (winner : ℕ) (frame : CanFrame) → run.later ≡ [] → (asked_run run (won_by winner (word_of frame))).plan ≡ plan_after Good run.plan run.tried (Some (winner, frame))
 asked-none run winner frame none = ap (λ plan. plan_asked plan run.tried (won_by winner (word_of frame))) (ready-none run none)
 
--- A decision has the verdict that the plan gives.
+-- The verdict of a decision is the plan's verdict.
 decided-given : (line : Option Verdict) (rules : List Rule) (head : Option Head) → (decided_with line rules head).verdict ≡ planned line rules head
 decided-given (Some verdict) rules head = refl
 decided-given None rules head = ruled-decided rules head
@@ -138,12 +138,12 @@ rule-none run winner frame none =
     ap (λ plan. rule_for verdict (decided_at plan run.tried head)) (ready-none run none)
     ∙ for-itself verdict (decided_at run.plan run.tried head) (decided-given (get run.plan.lines run.tried) run.plan.rules (Some head))
 
--- A text without change lines.
+-- A text without lines of changes.
 neither : (a b : Bool) → (a || b) ≡ false → (a ≡ false) × (b ≡ false)
 neither false b h = (refl, h)
 neither true b h = absurd (cc h)
 
--- The run with only this plan.
+-- The run that has this plan and no changes.
 abbrev pub only_plan : List (List ℕ) → PlanSeen → RunSeen
 only_plan names plan = record (no_run names) { plan = plan }
 

@@ -83,7 +83,7 @@ all-known names (name ∷ rest) k h =
     let parts = and_parts (stands_first names (k, name)) (list_all (stands_first names) (enumerate_from (k + 1) rest)) h in
     ap (λ (o : Option ℕ). is_some o && are_known names rest) (same-place (place_of names name) k parts.0) ∙ all-known names rest (k + 1) parts.1
 
--- A piece of the text names interface i.
+-- The piece of the text is the name of interface i.
 abbrev is_at : List (List ℕ) → ℕ → List ℕ → Bool
 is_at names i piece = option_eq nat_eq (place_of names piece) (Some i)
 
@@ -131,7 +131,7 @@ any-members names i k (name ∷ rest) set h low high =
 
 -- ---- the set
 
--- The set with these bits.
+-- The set whose bits are the bits of n.
 abbrev of_bits : ℕ → IfaceSet
 of_bits n = record { 0 = n }
 
@@ -151,7 +151,7 @@ named-again names pieces are =
     (bits-same (λ i. list_any (is_at names i) (members 0 names set)) (λ i. list_any (is_at names i) pieces) (length names)
     (λ i h. any-members names i 0 names set places (omega arith) (omega (arith, h)) ∙ is_in-set_named names pieces i h))
 
--- A set that is given by names has a member.
+-- A set that is given by at least one name has a member.
 some-member : (names : List (List ℕ)) (piece : List ℕ) (pieces : List (List ℕ)) (i : ℕ) → AreNames names → place_of names piece ≡ Some i → list_any (is_at names i) (members 0 names (set_named names (piece ∷ pieces))) ≡ true
 some-member names piece pieces i are at =
     let set = set_named names (piece ∷ pieces) in
@@ -161,7 +161,7 @@ some-member names piece pieces i are at =
     ∙ ap (λ (o : Option ℕ). option_eq nat_eq o (Some i) || list_any (is_at names i) pieces) at
     ∙ ap (λ (b : Bool). b || list_any (is_at names i) pieces) (eq-eqb i i refl)
 
--- The text of a set's names, which is read back as the set.
+-- The text of the names of a set is read back as the same set.
 abbrev SetText : List (List ℕ) → IfaceSet → Type 0
 SetText names set = (list : List ℕ) × (set_words names set ≡ 32 ∷ list) × Lacks 32 list × (set_spelling names list ≡ Ok set)
 

@@ -21,9 +21,9 @@ use Rattle.can_rules.proofs.RuleOneLine.{rule-one-line}
 use Rattle.can_rules.proofs.Cuts.{word-cut}
 use Rattle.can_rules.proofs.Reading.{given-again, ended-again}
 
--- Lines that follow a text of whole lines.
+-- Lines that are appended to a text of whole lines are read after that text.
 
--- The lines of a text that continues after a line feed.
+-- The lines of a text that goes on after a line feed.
 some-lines : (text : List ℕ) → 0 < length (lines_in text)
 some-lines text = omega (arith, length-slice_split (λ (b : ℕ). b == 10) text)
 
@@ -66,7 +66,7 @@ lines-of text whole = ⊎_elim (λ none. let parts = ended none in ([], parts.0,
       ap lines_in is ∙ lines-more front [],
     )
 
--- The line of a change after other changes.
+-- A run text with the line of one more change has one more change.
 same-run : (one other : RunSeen) → ◌≡◌ {A = Result RunSeen PlanError} (Ok one) (Ok other) → one ≡ other
 same-run one other h = cc
 
@@ -93,7 +93,7 @@ after-text names text line run next whole read may lacks is later =
     let before : run_lines names (no_run names) 1 (lines ++ [] ∷ []) ≡ Ok run = sym (ap (run_lines names (no_run names) 1) all) ∙ read in
     ap (run_lines names (no_run names) 1) (more line lacks) ∙ change-after names lines (no_run names) run 1 line next is later may before
 
--- These lines contain no line feed.
+-- The written lines of changes contain no line feed.
 no-feed : (b : ℕ) → 10 < b → has_feed (b ∷ []) ≡ false
 no-feed b h = let other : (b == 10) ≡ false = grind (arith, nat_tests) in ap (λ (t : Bool). t || false) other
 

@@ -5,21 +5,21 @@ use Rattle.can_rules.specs.declared.rule.Decision.{Decision}
 use Rattle.can_rules.specs.declared.rule.Rule.{Rule}
 use Rattle.can_fault.specs.declared.verdict.Verdict.{Verdict}
 
--- The loop over the rules.
+-- The loop that asks the rules in order.
 
--- The rules before place i were asked and gave no verdict.
+-- The rules before index i were asked, and none gave a verdict.
 pub record AreLookedAt (before items : List Rule) (i : ℕ) (head : Head) : Type 0 where
   pub deciding : deciding before head ≡ deciding (drop i items) head
   pub counts : after_chosen before head ≡ take i items ++ after_chosen (drop i items) head
 
--- The rule gives a verdict exactly if the answer has one.
+-- The rule gives a verdict exactly if its answer contains a verdict.
 pub gives-is_some : (rule : Rule) (head : Head) (given : Option Verdict) → given ≡ verdict_by_rule rule head → gives rule head ≡ is_some given
 gives-is_some rule head given is = elim (gives rule head) as (λ b. given ≡ (if b then Some rule.verdict else None) → b ≡ is_some given) [
   | true ↦ λ e. sym (ap is_some e)
   | false ↦ λ e. sym (ap is_some e)
 ] is
 
--- The rule at place i gave no verdict.
+-- One turn of the loop if the rule at index i gave no verdict.
 pub looked_on : (before items : List Rule) (i : ℕ) (head : Head) (blank : Rule) (given : Option Verdict) (next : Rule) → AreLookedAt before items i head → i < length items
     → given ≡ verdict_by_rule (get_or items i blank) head → next ≡ asked_rule (get_or items i blank) head → is_some given ≡ false → AreLookedAt before (set items i next) (i + 1) head
 looked_on before items i head blank given next at below gave is was_none =
@@ -46,11 +46,11 @@ given_with verdict number = record { verdict = verdict; rule = Some number }
 same_some : (one other : Verdict) → Some one ≡ Some other → one ≡ other
 same_some one other h = cc
 
--- A rule that gave a verdict gave its own verdict.
+-- If a rule gave a verdict, that verdict is its own.
 gave_its_own : (rule : Rule) (verdict : Verdict) → Some verdict ≡ Some rule.verdict → given_with verdict rule.number ≡ decision_by (Some rule)
 gave_its_own rule verdict same = ap (λ v. given_with v rule.number) (same_some verdict rule.verdict same)
 
--- The rule at place i gave its verdict.
+-- The end of the loop if the rule at index i gave its verdict.
 pub looked_end : (before items : List Rule) (i : ℕ) (head : Head) (blank : Rule) (verdict : Verdict) (next : Rule) → AreLookedAt before items i head → i < length items
     → Some verdict ≡ verdict_by_rule (get_or items i blank) head → next ≡ asked_rule (get_or items i blank) head
     → (given_with verdict (get_or items i blank).number ≡ decision_by (deciding before head)) × (set items i next ≡ after_chosen before head)

@@ -2,7 +2,7 @@ use Rattle.std.proofs.Common.{◌≡◌, Bool, true, false, not, ◌&&◌, List,
 use Rattle.can_rules.specs.Rules.{Head, chosen, after_chosen, asked_rule, gives, is_used_up, rule_matches, usable, verdicts}
 use Rattle.can_rules.specs.declared.rule.Rule.{Rule}
 
--- Used-up rules.
+-- Used-up rules do not affect later verdicts.
 
 -- A used-up rule gives no verdict.
 pub gives-used_up : (rule : Rule) (head : Head) → is_used_up rule ≡ true → gives rule head ≡ false
@@ -12,7 +12,7 @@ gives-used_up rule head spent = ap (λ b. (not b && rule_matches rule head) && (
 pub asked-used_up : (rule : Rule) (head : Head) → is_used_up rule ≡ true → asked_rule rule head ≡ rule
 asked-used_up rule head spent = rw spent refl
 
--- Removing used-up rules drops a first rule that is used up, and keeps any other.
+-- Removing used-up rules removes the first rule if it is used up, and keeps it otherwise.
 pub unused-used_up : (rule : Rule) (rules : List Rule) → is_used_up rule ≡ true → usable (rule ∷ rules) ≡ usable rules
 unused-used_up rule rules spent = ap (λ b. if not b then rule ∷ usable rules else usable rules) spent
 
@@ -28,7 +28,7 @@ unused-unused (rule ∷ rules) =
       | false ↦ λ fresh. ap usable (unused-fresh rule rules fresh) ∙ unused-fresh rule (usable rules) fresh ∙ ap (λ rs. rule ∷ rs) (unused-unused rules) ∙ sym (unused-fresh rule rules fresh)
     ] refl
 
--- Without the used-up rules the verdict is the same.
+-- The verdict is the same after the used-up rules are removed.
 pub chosen-unused : (rules : List Rule) (head : Head) → chosen (usable rules) head ≡ chosen rules head
 chosen-unused [] head = refl
 chosen-unused (rule ∷ rules) head =
@@ -37,11 +37,11 @@ chosen-unused (rule ∷ rules) head =
       | false ↦ λ fresh. ap (λ rs. chosen rs head) (unused-fresh rule rules fresh) ∙ ap (λ given. if gives rule head then Some rule.verdict else given) (chosen-unused rules head)
     ] refl
 
--- Two lists that agree apart from used-up rules still agree with the same rule in front.
+-- Two lists that differ only in used-up rules still differ only in them after the same rule is added in front.
 same-front : (rule : Rule) (one other : List Rule) → usable one ≡ usable other → usable (rule ∷ one) ≡ usable (rule ∷ other)
 same-front rule one other same = ap (λ rs. if not (is_used_up rule) then rule ∷ rs else rs) same
 
--- The remaining rules are the same too.
+-- The usable rules after an attempt are the same if the used-up rules were removed before it.
 pub after_chosen-unused : (rules : List Rule) (head : Head) → usable (after_chosen (usable rules) head) ≡ usable (after_chosen rules head)
 after_chosen-unused [] head = refl
 after_chosen-unused (rule ∷ rules) head =
@@ -61,7 +61,7 @@ after_chosen-unused (rule ∷ rules) head =
           ])
     ] refl
 
--- Two lists that agree apart from used-up rules give the same verdicts.
+-- Two lists that differ only in used-up rules give the same verdicts.
 same_verdicts : (heads : List Head) (one other : List Rule) → usable one ≡ usable other → verdicts one heads ≡ verdicts other heads
 same_verdicts [] one other same = refl
 same_verdicts (head ∷ heads) one other same =

@@ -15,13 +15,13 @@ use Rattle.can_rules.proofs.SetAgain.{set-again}
 
 -- The words written for a verdict are read back as that verdict.
 
--- Words that begin no other part of a rule.
+-- The text does not begin with the keyword of an optional part of a rule.
 pub record IsLast (text : List ℕ) : Type 0 where
   pub from : bytes_eq (word text) (codes "from") ≡ false
   pub id : bytes_eq (word text) (codes "id") ≡ false
   pub skip : bytes_eq (word text) (codes "skip") ≡ false
 
--- The words of a verdict after their space.
+-- The words written for a verdict, without the space before them.
 pub record VerdictText (names : List (List ℕ)) (verdict : Verdict) : Type 0 where
   pub text : List ℕ
   pub written : verdict_words names verdict ≡ 32 ∷ text

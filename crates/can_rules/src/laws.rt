@@ -22,7 +22,7 @@ pub fn without_rules_nothing_is_given()
     ensures counts { (head : Head) → after_chosen [] head ≡ [] }
 {}
 
-/// Without rules, a plan gives the verdicts of its script lines, and attempts do not change it.
+/// A plan without rules gives the verdicts of its script lines, and attempts do not change it.
 pub fn a_plan_without_rules_gives_what_its_lines_give()
     ensures verdict { (plan : PlanSeen) (attempt : ℕ) (head : Option (ℕ × CanFrame)) →
         plan.rules ≡ [] → given Good plan attempt head ≡ verdict_in plan.lines attempt }
@@ -31,7 +31,7 @@ pub fn a_plan_without_rules_gives_what_its_lines_give()
         plan.rules ≡ [] → plan_after source plan attempt head ≡ plan }
 {}
 
-/// A used-up rule has no effect: the verdicts are the same without it.
+/// A used-up rule has no effect: removing it changes no verdict.
 pub fn a_used_up_rule_changes_nothing()
     ensures verdict { (rules : List Rule) (head : Head) →
         chosen (usable rules) head ≡ chosen rules head }
@@ -41,7 +41,7 @@ pub fn a_used_up_rule_changes_nothing()
         verdicts (usable rules) heads ≡ verdicts rules heads }
 {}
 
-/// If the rule at a place decides an attempt, the attempt gets that rule's verdict.
+/// If the rule at a given place decides an attempt, the attempt gets that rule's verdict.
 pub fn the_rule_that_gives_gives_its_own()
     ensures { (rules : List Rule) (head : Head) (place : ℕ) (rule : Rule) →
         slice_get rules place ≡ Some rule → gives_at place rules head ≡ true →
@@ -83,16 +83,15 @@ pub fn numbers_are_not_used_again()
     ensures ended { (plan : PlanSeen) → HasOwnNumbers plan → HasOwnNumbers (without_rules plan) }
 {}
 
-/// The rule with the reported number gave the attempt its verdict: it is the first of the current
-/// rules that gives one.
+/// If a run reports the number of a rule, that rule is the first of the current rules that gives the attempt a verdict, and its
+/// verdict is the one reported.
 pub fn the_rule_that_is_named_gave_the_verdict()
     ensures { (run : RunSeen) (head : Head) (verdict : Verdict) (number : ℕ) →
         rule_given run head verdict ≡ Some number →
         GivesAs (made_ready run).plan.rules head verdict number }
 {}
 
-/// A run without pending changes decides exactly as its plan does, and reports the same rule
-/// number.
+/// A run without pending changes decides an attempt exactly as its plan does, and reports the same rule number.
 pub fn a_run_without_changes_asks_as_its_plan()
     ensures after { (run : RunSeen) (winner : ℕ) (frame : CanFrame) → run.later ≡ [] →
         (asked_run run (won_by winner (word_of frame))).plan
@@ -103,15 +102,15 @@ pub fn a_run_without_changes_asks_as_its_plan()
         ≡ (decided_at run.plan run.tried (won_by winner (word_of frame))).rule }
 {}
 
-/// A text without change lines is read as a run with the plan that the text spells.
+/// A text without change lines is read as a run that has the plan written in the text.
 pub fn a_text_without_changes_spells_its_plan()
     ensures { (names : List (List ℕ)) (text : List ℕ) →
         list_any is_later (lines_in text) ≡ false →
         run_spelling names text ≡ run_with_plan (no_run names) (plan_spelling names text) }
 {}
 
-/// The line of a rule is read as that rule, given before its attempt. A `nofaults` line is read as
-/// the end of all rules.
+/// The line written when a rule is given is read back as that rule, given before the same attempt. A `nofaults` line is read back
+/// as the end of all rules.
 pub fn lines_are_read_as_what_they_are_of()
     ensures given { (names : List (List ℕ)) (words : List ℕ) (rule : Rule) (attempt : ℕ) →
         attempt < 10 ^ 10 → rule_spelling names words ≡ Ok rule →
@@ -122,14 +121,14 @@ pub fn lines_are_read_as_what_they_are_of()
         ≡ Ok (record { attempt = attempt; change = change.End }) }
 {}
 
-/// The words of a rule are one line: they contain no line feed.
+/// The words of a rule form one line: they contain no line feed.
 pub fn what_spells_a_rule_is_one_line()
     ensures { (names : List (List ℕ)) (words : List ℕ) (rule : Rule) →
         rule_spelling names words ≡ Ok rule → lines_in words ≡ words ∷ [] }
 {}
 
-/// The words written for a numbered rule are read back as that rule, and are one line. This holds
-/// for any words from which the rule was first read.
+/// The words written for a numbered rule form one line, and are read back as that rule. This holds for any text from which the rule
+/// was first read.
 pub fn a_written_rule_is_read_again()
     ensures again { (names : List (List ℕ)) (given : List ℕ) (rule : Rule) (number : ℕ) →
         AreNames names → rule_spelling names given ≡ Ok rule →
@@ -140,8 +139,8 @@ pub fn a_written_rule_is_read_again()
         rule_words names (numbered number rule) ∷ [] }
 {}
 
-/// A rule line that follows a text of whole lines adds that rule after the changes of the text. A
-/// `nofaults` line adds the end of all rules in the same way.
+/// A rule line appended to a text of whole lines adds that rule after the changes in the text. A `nofaults` line adds the end of
+/// all rules in the same way.
 pub fn lines_after_a_text_are_read_after_it()
     ensures given { (names : List (List ℕ)) (text words : List ℕ) (run : RunSeen) (rule : Rule)
         (attempt : ℕ) →

@@ -1,9 +1,8 @@
-//! Fault rules: they choose verdicts by sender and identifier. The plan of a bus has script lines
-//! and rules.
+//! Fault rules choose the verdicts of attempts by sender and identifier.
 //!
-//! A rule gives a verdict to the next attempts, or to all, of some senders or with some
-//! identifiers. A bus asks its plan once for each attempt that tries a frame, and the plan counts
-//! the verdicts of its rules. The text written for a rule is read back as that rule.
+//! The plan of a bus has script lines and rules. A rule gives a verdict to the next attempts, or to all attempts, and can be
+//! limited to some senders or some identifiers. A bus asks its plan once for each attempt that tries a frame, and the plan counts
+//! the verdicts of its rules. The text written for a rule is read back as the same rule.
 #![tactic(auto)]
 
 pub mod laws;

@@ -13,18 +13,18 @@ use std::marker::Model;
 use std::str;
 use thiserror::Error;
 
-/// Why a text does not spell a plan. Lines are numbered from 1.
+/// Why a text is not a plan. Lines are numbered from 1.
 #[derive(Debug, Clone, Copy, PartialEq, Eq, Error)]
 pub enum PlanError {
-    /// A line fits neither a script nor a rule, or memory was refused.
+    /// A line is neither a script line nor a rule, or an allocation failed.
     #[error("{0}")]
     Script(ScriptError),
-    /// The line with this number is a rule, and 64 rules come before it.
+    /// The line with this number is a rule, but 64 rules come before it.
     #[error("script line {0}: too many rules")]
     TooManyRules(usize),
 }
 
-/// The planned faults of a bus: script lines, which give verdicts by attempt number, and rules.
+/// The planned faults of a bus: the script lines, which give verdicts by attempt number, and the rules.
 #[derive(Drop)]
 pub struct Plan {
     script: Script,
@@ -46,7 +46,7 @@ impl Model for Plan {
 }
 
 impl Plan {
-    /// Returns the plan without lines and rules: each attempt is good.
+    /// Returns a plan without script lines and rules, in which every attempt is good.
     pub fn new(alloc: Global) -> Plan
         ensures { result ≡ no_plan }
     {
@@ -57,8 +57,8 @@ impl Plan {
         }
     }
 
-    /// Reads a plan from a text, for a bus with these names, or returns the first fault of the
-    /// text. Each line is a script line or a rule. The time is that of `Script::read`.
+    /// Reads a plan from a text, for a bus whose interfaces have these names. Returns an error for the first fault in the text.
+    /// Each line is a script line or a rule. The running time is the same as for `Script::read`.
     pub fn read(alloc: Global, text: &str, names: &Names) -> Result<Plan, PlanError>
         ensures { ReadsPlan names.now text.now result }
     {
@@ -73,7 +73,7 @@ impl Plan {
         Ok(plan)
     }
 
-    /// Takes a line that has this number in its text. After an error, do not use the plan.
+    /// Adds the line of a text that has this number. After an error, the plan must not be used.
     pub(crate) fn take_line(
         &mut self,
         line: &str,
@@ -91,7 +91,7 @@ impl Plan {
         }
     }
 
-    // Takes a line that is a rule and has this number.
+    // Adds the rule in the line with this number.
     fn take_rule(&mut self, line: &str, number: usize, names: &Names) -> Result<(), PlanError>
         requires { is_rule line.now ≡ true }
         ensures { TakesPlanLine names.now line.now number self.old result self.new }
@@ -107,8 +107,8 @@ impl Plan {
         }
     }
 
-    /// Adds a rule after the others and numbers it. Returns `TooManyRules` exactly if there are 64
-    /// rules. A refusal changes nothing.
+    /// Adds a rule after all other rules and numbers it. Returns `TooManyRules` exactly if there are 64 rules. A refusal changes
+    /// nothing.
     pub fn give(&mut self, mut rule: Rule) -> Result<(), RuleRefusal>
         ensures { GivesRule rule self.old result self.new }
     {
@@ -119,9 +119,9 @@ impl Plan {
         Ok(())
     }
 
-    /// Returns the verdict of an attempt if it depends on no rule. A fault of the source comes
-    /// first, then the verdict of the script line, even if it is good. Without a line and without
-    /// rules the verdict is `Good`. Returns `None` if the rules decide.
+    /// Returns the verdict of an attempt if the verdict does not depend on rules, or `None` if the rules decide. A fault of the
+    /// source takes precedence, then the verdict of the script line, even if it is good. Without a script line and without rules
+    /// the verdict is `Good`.
     pub fn verdict_without_rules(&self, source: Verdict, attempt: u64) -> Option<Verdict>
         ensures settled { IfSome result (λ v. IsSettled source self.now attempt v) }
         ensures open { IfNone result (IsUpToRules source self.now attempt) }
@@ -132,7 +132,7 @@ impl Plan {
         }
     }
 
-    // The same, for a source without a fault.
+    // Returns the same verdict as `verdict_without_rules` for a source without a fault.
     fn line_or_good(&self, attempt: u64) -> Option<Verdict>
         ensures settled { IfSome result (λ v. IsSettled Verdict.Good self.now attempt v) }
         ensures open { IfNone result (IsUpToRules Verdict.Good self.now attempt) }
@@ -144,8 +144,8 @@ impl Plan {
         line
     }
 
-    /// Returns the verdict of the first rule that gives one to an attempt with this head, or
-    /// `Good`. It asks each rule at most once.
+    /// Returns the verdict of the first rule that gives one to an attempt with this head, or `Good` if none does. Each rule is
+    /// asked at most once.
     pub fn verdict_of_rules(&mut self, head: Option<(Iface, Frame)>) -> Verdict
         ensures verdict { result ≡ ruled self.old.rules (head_in head) }
         ensures after { self.new ≡ with_rules (after_ruled self.old.rules (head_in head)) self.old }
@@ -153,7 +153,7 @@ impl Plan {
         self.decision_of_rules(head).verdict
     }
 
-    /// Returns the same verdict, with the number of the rule that gives it.
+    /// Returns the same verdict as `verdict_of_rules`, with the number of the rule that gives it.
     pub fn decision_of_rules(&mut self, head: Option<(Iface, Frame)>) -> Decision
         ensures decision { result ≡ decided self.old.rules (head_in head) }
         ensures after { self.new ≡ with_rules (after_ruled self.old.rules (head_in head)) self.old }
@@ -164,9 +164,8 @@ impl Plan {
         }
     }
 
-    /// Returns the decision for the attempt with this number, if no source has a fault. This
-    /// interface wins it with a frame of this identifier word. A script line comes before the
-    /// rules.
+    /// Returns the decision for the attempt with this number if the source has no fault. `winner` is the interface that wins the
+    /// attempt, and `word` is the identifier word of its frame. A script line takes precedence over the rules.
     pub(crate) fn decision(&mut self, attempt: u64, winner: Iface, word: u32) -> Decision
         ensures decision { result ≡ decided_at self.old attempt (won_by winner word) }
         ensures after { self.new ≡ plan_asked self.old attempt (won_by winner word) }
@@ -177,10 +176,9 @@ impl Plan {
         }
     }
 
-    /// Reads a rule from the bytes of a text, for a bus with these names, and adds it after the
-    /// others. A refusal changes nothing. The refusals, in this order: `BadRule` or
-    /// `UnknownInterface`, by the first wrong word; `TooManyRules`, if there are 64 rules;
-    /// `NoMemory`.
+    /// Reads a rule from a text, for a bus whose interfaces have these names, and adds it after all other rules. A refusal changes
+    /// nothing. The refusals, in order of precedence: `BadRule` or `UnknownInterface` for the first wrong word; `TooManyRules` if
+    /// there are 64 rules; `NoMemory`.
     pub fn inject(&mut self, text: &[u8], names: &Names) -> Result<(), RuleRefusal>
         ensures { Injected names.now text.now self.old result self.new }
     {
@@ -188,7 +186,7 @@ impl Plan {
         self.give(rule)
     }
 
-    /// Returns the number of rules that are left.
+    /// Returns the number of rules that are not used up.
     pub fn rules(&self) -> usize
         ensures rules { result ≡ length self.now.rules }
         ensures few { result ≤ 64 }
@@ -196,14 +194,14 @@ impl Plan {
         self.rules.len()
     }
 
-    /// Returns the rules that are left, in their order.
+    /// Returns the rules that are not used up, in the order in which they were given.
     pub(crate) fn rules_left(&self) -> &[Rule]
         ensures { result.now ≡ self.now.rules }
     {
         self.rules.as_slice()
     }
 
-    /// Returns the number of rules taken so far, which is the number of the last rule.
+    /// Returns the number of rules taken so far. It is also the number of the last rule taken.
     pub(crate) fn taken(&self) -> u64
         ensures { result ≡ self.now.taken }
     {
@@ -218,8 +216,8 @@ impl Plan {
     }
 }
 
-/// Reads a rule from the bytes of a text, for a bus with these names. Returns `BadRule` or
-/// `UnknownInterface` by the first wrong word.
+/// Reads a rule from a text, for a bus whose interfaces have these names. Returns `BadRule` or `UnknownInterface` for the first
+/// wrong word.
 pub fn spelled_rule(text: &[u8], names: &Names) -> Result<Rule, RuleRefusal>
     ensures { SpellsRule names.now text.now result }
 {
@@ -233,7 +231,7 @@ pub fn spelled_rule(text: &[u8], names: &Names) -> Result<Rule, RuleRefusal>
 }
 
 impl WrongWord {
-    // Returns the refusal for this wrong word.
+    // Returns the refusal that reports this wrong word.
     fn refusal(self) -> RuleRefusal
         ensures { result ≡ refusal_of self }
     {
@@ -243,7 +241,7 @@ impl WrongWord {
         }
     }
 
-    /// Returns the error for this wrong word in the line with this number.
+    /// Returns the error that reports this wrong word in the line with this number.
     pub(crate) fn at(self, number: usize) -> PlanError
         ensures { result ≡ at_word number self }
     {

@@ -1,4 +1,4 @@
-//! Changes to the rules of a running bus, as lines that [`RunFaults`](crate::RunFaults) reads.
+//! Changes to the rules of a running bus, written as lines that [`RunFaults`](crate::RunFaults) reads.
 ghost use Rattle.std.specs.Prelude.{◌≡◌, ◌++◌, Some, IfOk, OnErr, OnOk};
 ghost use Rattle.can_rules.specs.Plans.{GivesRule};
 ghost use Rattle.can_rules.specs.RuleLines.{never_lines, no_lines, nofaults_line, given_line, text_of_lines, with_end, with_given, with_none_left};
@@ -11,16 +11,16 @@ use std::io::Write;
 use std::marker::Model;
 use std::mem;
 
-/// The most bytes of lines that may wait.
+/// The largest number of bytes of lines that may be kept.
 const MOST_BYTES: usize = 1 << 26;
 
-/// Lines about rules that were given or ended during a run. They wait here until a caller takes
-/// them. If no caller takes lines, none are kept.
+/// The lines about rules that were given or ended during a run. The lines are kept here until a caller takes them. After
+/// `keep_none` no lines are kept.
 #[derive(Drop)]
 pub struct RuleLines {
     text: Vec<u8>,
-    // The attempt before which all rules ended, if no rule was given since. With this field an end
-    // needs no memory.
+    // The attempt before which all rules ended, if no rule was given since then. Because of this field, ending the rules needs no
+    // allocation.
     ended: Option<u64>,
     kept: bool,
 }
@@ -34,7 +34,7 @@ impl Model for RuleLines {
 }
 
 impl RuleLines {
-    /// Returns a value without lines.
+    /// Returns an empty list of lines.
     pub fn new(alloc: Global) -> RuleLines
         ensures { result ≡ no_lines }
     {
@@ -45,7 +45,7 @@ impl RuleLines {
         }
     }
 
-    /// Drops the lines, and keeps none from now on.
+    /// Drops all lines, and keeps no lines from now on.
     pub fn keep_none(&mut self)
         ensures { self.new ≡ never_lines }
     {
@@ -55,10 +55,9 @@ impl RuleLines {
         self.kept = false;
     }
 
-    /// Adds a rule to a plan, after the others. If lines are kept, it also adds the line of the
-    /// rule: the rule came in these words, before the attempt with this number. Attempts count if
-    /// they try a frame. A refusal changes nothing. The refusals, in this order: `TooManyRules`, if
-    /// there are 64 rules; `NoMemory`, also if 64 MiB of lines wait.
+    /// Adds a rule to a plan, after all other rules. If lines are kept, it also adds a line for the rule, with these words and the
+    /// number of the attempt that follows. Only attempts that try a frame are numbered. A refusal changes nothing. The refusals, in
+    /// order of precedence: `TooManyRules` if there are 64 rules; `NoMemory`, also if 64 MiB of lines are kept.
     pub fn give(
         &mut self,
         plan: &mut Plan,
@@ -90,7 +89,7 @@ impl RuleLines {
         Ok(())
     }
 
-    // The pending end line, if there is one, and the line of this rule after it.
+    // Returns the pending end line, if there is one, followed by the line of this rule.
     fn with_line(&self, attempt: u64, words: &[u8]) -> Result<Vec<u8>, AllocError>
         ensures { IfOk result (λ lines.
             lines.items ≡ nofaults_line self.now.ended ++ given_line attempt words.now) }
@@ -105,8 +104,8 @@ impl RuleLines {
         Ok(lines)
     }
 
-    /// Ends all rules before the attempt with this number. Nothing changes if no lines are kept, or
-    /// if all rules have ended and none was given since.
+    /// Records that all rules end before the attempt with this number. Nothing changes if no lines are kept, or if all rules have
+    /// ended already and none was given since then.
     pub fn end(&mut self, attempt: u64)
         ensures { self.new ≡ with_end attempt self.old }
     {
@@ -115,7 +114,7 @@ impl RuleLines {
         }
     }
 
-    /// Takes the lines out. Returns `AllocError` if memory is refused; then the lines remain.
+    /// Takes all lines out. Returns `AllocError` if an allocation fails; the lines are then still kept.
     pub fn take(&mut self) -> Result<Vec<u8>, AllocError>
         ensures taken { IfOk result (λ lines. lines.items ≡ text_of_lines self.old) }
         ensures after { OnOk result (self.new ≡ with_none_left self.old) }
@@ -129,7 +128,7 @@ impl RuleLines {
     }
 }
 
-// The line for the end of all rules, if they ended.
+// Returns the line for the end of all rules, or no bytes if they did not end.
 fn end_of(alloc: Global, ended: Option<u64>) -> Result<Vec<u8>, AllocError>
     ensures { IfOk result (λ line. line.items ≡ nofaults_line ended) }
 {
@@ -139,7 +138,7 @@ fn end_of(alloc: Global, ended: Option<u64>) -> Result<Vec<u8>, AllocError>
     }
 }
 
-// The line for the end of all rules before this attempt.
+// Returns the line for the end of all rules before this attempt.
 fn end_before(alloc: Global, attempt: u64) -> Result<Vec<u8>, AllocError>
     ensures { IfOk result (λ line. line.items ≡ nofaults_line (Some attempt)) }
 {

@@ -1,4 +1,4 @@
-//! Rules as text that is read back as the same rule.
+//! Writes rules as text that is read back as the same rule.
 ghost use Rattle.std.specs.Prelude.{◌≡◌, ◌≤◌, ◌<◌, ◌++◌, ◌∷◌, [], decimal, length, slice_index_or, OnOk};
 ghost use Rattle.can_frame.specs.FrameText.{digits};
 ghost use Rattle.can_rules.specs.RuleText.{count_words, filter_words, id_words, is_one_extended_id, is_standard, local_words, rule_words, senders_words, set_words, skip_words, verdict_words};
@@ -9,17 +9,17 @@ use can_filter::Filter;
 use can_frame::{Iface, IfaceSet, Names, Text};
 use std::alloc::AllocError;
 
-/// A buffer for a word of at most 12 bytes and a number.
+/// A buffer for a word of at most 12 bytes followed by a number.
 type WordText = Text<32>;
 
-/// The masks of filters for one 11-bit identifier and for one 29-bit identifier.
+/// The filter masks that select a single 11-bit identifier and a single 29-bit identifier.
 const STANDARD_MASK: u32 = 0x8000_07ff;
 
 const EXTENDED_MASK: u32 = 0x9fff_ffff;
-/// The flag of a 29-bit identifier.
+/// The bit of an identifier word that marks a 29-bit identifier.
 const EXTENDED: u32 = 0x8000_0000;
 
-/// Writes the words of a rule, for a bus with these names.
+/// Writes the words of a rule, for a bus whose interfaces have these names.
 #[tactic(auto, unfolding(crate::specs::RuleText::rule_words))]
 pub fn put_rule_words(out: &mut Vec<u8>, rule: &Rule, names: &Names) -> Result<(), AllocError>
     ensures { OnOk result (out.new.items ≡ out.old.items ++ rule_words names.now rule.now) }
@@ -41,7 +41,7 @@ fn put_count_words(out: &mut Vec<u8>, left: Option<u32>) -> Result<(), AllocErro
     }
 }
 
-/// Writes a word and a number.
+/// Writes a word followed by a number.
 fn put_counted(out: &mut Vec<u8>, word: &[u8], count: u32) -> Result<(), AllocError>
     requires { length word.now ≤ 12 }
     ensures { OnOk result (out.new.items ≡ out.old.items ++ (word.now ++ decimal count)) }
@@ -66,7 +66,7 @@ fn put_senders_words(
     }
 }
 
-/// Writes words, a space, and the names of a set's interfaces with commas between them.
+/// Writes words, a space, and the names of the interfaces in a set, separated by commas.
 #[tactic(auto, unfolding(crate::specs::RuleText::set_words))]
 fn put_set_words(
     out: &mut Vec<u8>,
@@ -91,7 +91,7 @@ fn put_set_words(
     Ok(())
 }
 
-/// Writes a byte and the name of this interface.
+/// Writes a byte followed by the name of this interface.
 fn put_marked_name(
     out: &mut Vec<u8>,
     mark: u8,
@@ -135,14 +135,14 @@ fn put_identifiers(out: &mut Vec<u8>, filter: Filter) -> Result<(), AllocError>
     put_digits(out, 8, filter.mask())
 }
 
-/// Returns whether the filter passes one 11-bit identifier only.
+/// Returns whether the filter passes exactly one 11-bit identifier.
 fn is_standard(filter: Filter) -> bool
     ensures { result ≡ is_standard filter }
 {
     filter.mask() == STANDARD_MASK && filter.id() < 0x800
 }
 
-/// Returns whether the filter passes one 29-bit identifier only.
+/// Returns whether the filter passes exactly one 29-bit identifier.
 fn is_extended(filter: Filter) -> bool
     ensures { result ≡ is_one_extended_id filter }
 {

@@ -8,8 +8,7 @@ use can_filter::Filter;
 use can_frame::{Names, read_decimal, read_hexadecimal};
 use thiserror::Error;
 
-/// The first wrong word of a rule, or of its `at` line. The text of each error is the form of that
-/// word.
+/// The first wrong word of a rule, or of the `at` line that contains it. Each error message gives the correct form of the word.
 #[derive(Debug, Clone, Copy, PartialEq, Eq, Error)]
 pub enum WrongWord {
     /// The text begins with neither `next` nor `always`.
@@ -33,12 +32,12 @@ pub enum WrongWord {
     /// The word after `skip` is not a number.
     #[error("skip K: K has 1 to 8 digits")]
     Skip,
-    /// The rest of the rule is not a verdict.
+    /// The end of the rule is not a verdict.
     #[error("after next N or always come from NAMES, id ID and skip K, in this order, each or none, and then VERDICT, with one space between words: good, lastbit, global bit, global form, local stuff NAMES, local crc NAMES or local form NAMES")]
     Verdict,
 }
 
-/// Returns whether a line begins as a rule does.
+/// Returns whether a line begins like a rule.
 pub fn begins_as_rule(line: &str) -> bool
     ensures { result ≡ is_rule line.now }
 {
@@ -46,12 +45,11 @@ pub fn begins_as_rule(line: &str) -> bool
     first == "next" || first == "always"
 }
 
-/// Reads a rule from a text, for a bus with these names.
+/// Reads a rule from a text, for a bus whose interfaces have these names.
 ///
-/// A rule begins with `next N` or `always`. The parts `from NAMES`, `id ID` and `skip K` may follow
-/// in this order. A verdict as in a script ends the rule. One space separates words. `ID` has 3
-/// hexadecimal digits, or 8. With a colon and a mask, `ID` and mask have 1 to 8 digits each, as the
-/// words of `filter`.
+/// A rule begins with `next N` or `always`. The parts `from NAMES`, `id ID` and `skip K` may follow in this order. The rule ends
+/// with a verdict, written as in a script. Words are separated by one space. `ID` has 3 or 8 hexadecimal digits. If `ID` is
+/// followed by a colon and a mask, each of the two has 1 to 8 digits, as in the words of `filter`.
 #[tactic(auto, unfolding(crate::specs::RuleWords::rule_spelling))]
 pub fn read_rule(text: &str, names: &Names) -> Result<Rule, WrongWord>
     ensures { result ≡ rule_spelling names.now text.now }
@@ -140,7 +138,7 @@ fn read_end(mut rule: Rule, text: &str, names: &Names) -> Result<Rule, WrongWord
     }
 }
 
-// Returns the wrong word for a fault in this part.
+// Returns the wrong word that corresponds to a fault in this part of the line.
 fn wrong_word(which: WrongWord, fault: LineFault) -> WrongWord
     ensures { result ≡ wrong_word_of which fault }
 {
@@ -181,7 +179,7 @@ fn read_filter(text: &str) -> Option<Filter>
     }
 }
 
-// Splits a text at its first colon. Without a colon, the second part is empty.
+// Splits a text at the first colon. Without a colon, the second part is empty.
 fn cut_colon(text: &str) -> (&str, &str)
     ensures id { result.0.now ≡ before_colon text.now }
     ensures mask { result.1.now ≡ mask_in text.now }
@@ -189,7 +187,7 @@ fn cut_colon(text: &str) -> (&str, &str)
     text.split_once(':').unwrap_or((text, ""))
 }
 
-// Reads 3 hexadecimal digits, or 8.
+// Reads an identifier of 3 or 8 hexadecimal digits.
 #[tactic(auto, unfolding(crate::specs::RuleWords::plain_spelling))]
 fn read_plain(text: &str) -> Option<Filter>
     ensures { result ≡ plain_spelling text.now }
@@ -209,7 +207,7 @@ fn read_plain(text: &str) -> Option<Filter>
     }
 }
 
-// Returns the filter for this 11-bit identifier.
+// Returns the filter that passes only this 11-bit identifier.
 fn standard(number: u32) -> Option<Filter>
     ensures { result ≡ of_standard number }
 {
@@ -220,7 +218,7 @@ fn standard(number: u32) -> Option<Filter>
     }
 }
 
-// Returns the filter for this 29-bit identifier.
+// Returns the filter that passes only this 29-bit identifier.
 fn extended(number: u32) -> Option<Filter>
     ensures { result ≡ of_extended number }
 {

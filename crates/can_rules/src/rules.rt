@@ -7,16 +7,16 @@ use std::alloc::Global;
 use std::marker::Model;
 use thiserror::Error;
 
-/// The largest number of rules of a bus.
+/// The largest number of rules that a bus can have.
 pub const MAX_RULES: usize = 64;
 
-/// Why a rule was not taken.
+/// Why a rule was refused.
 #[derive(Debug, Clone, Copy, PartialEq, Eq, Error)]
 pub enum RuleRefusal {
     /// The text is not a rule.
     #[error("bad rule")]
     BadRule,
-    /// The text names an interface that the bus does not have, and is a valid rule up to this name.
+    /// The text names an interface that the bus does not have. Everything before that name is valid.
     #[error("no such interface")]
     UnknownInterface,
     /// There are already 64 rules.
@@ -26,7 +26,7 @@ pub enum RuleRefusal {
     NoMemory,
 }
 
-/// At most 64 rules, in the order in which they were given. No used-up rule is kept.
+/// At most 64 rules, in the order in which they were given. Used-up rules are removed.
 #[derive(Drop)]
 pub struct Rules {
     rules: Vec<Rule>,
@@ -44,7 +44,7 @@ impl Model for Rules {
 }
 
 impl Rules {
-    /// Returns a value without rules.
+    /// Returns an empty list of rules.
     pub fn new(alloc: Global) -> Rules
         ensures { result ≡ [] }
     {
@@ -53,8 +53,7 @@ impl Rules {
         }
     }
 
-    /// Returns the decision of the rules about an attempt. A rule that this attempt uses up is
-    /// removed.
+    /// Returns the decision of the rules about an attempt. If the attempt uses up a rule, that rule is removed.
     pub fn decision(&mut self, winner: Iface, word: u32) -> Decision
         ensures decision { result ≡ decision_by (deciding self.old (won_by winner word)) }
         ensures counts { self.new ≡ usable (after_chosen self.old (won_by winner word)) }
@@ -64,7 +63,7 @@ impl Rules {
         given
     }
 
-    /// Adds a rule after the others. Returns `TooManyRules` exactly if there are 64 rules.
+    /// Adds a rule after all other rules. Returns `TooManyRules` exactly if there are 64 rules.
     pub fn add(&mut self, rule: Rule) -> Result<(), RuleRefusal>
         ensures { AddsRule rule self.old result self.new }
     {
@@ -85,7 +84,7 @@ impl Rules {
         self.rules.len()
     }
 
-    /// Returns all rules in their order.
+    /// Returns all rules, in the order in which they were given.
     pub fn as_slice(&self) -> &[Rule]
         ensures { result.now ≡ self.now }
     {
@@ -107,7 +106,7 @@ impl Rules {
     }
 }
 
-// Returns the decision of the first rule that gives a verdict to an attempt.
+// Returns the decision of the first of these rules that gives the attempt a verdict.
 fn decision_among(rules: &mut [Rule], winner: Iface, word: u32) -> Decision
     ensures decision { result ≡ decision_by (deciding rules.old (won_by winner word)) }
     ensures counts { rules.new ≡ after_chosen rules.old (won_by winner word) }

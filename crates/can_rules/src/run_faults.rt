@@ -13,7 +13,7 @@ use can_frame::{Frame, Iface, Names, read_decimal};
 use std::alloc::{AllocError, Global};
 use std::marker::Model;
 
-/// A change to the rules of a plan during its run.
+/// A change to the rules of a plan during a run.
 #[derive(Debug, Clone, Copy, PartialEq, Eq)]
 pub enum Change {
     /// This rule was given.
@@ -22,37 +22,37 @@ pub enum Change {
     End,
 }
 
-/// A change, with its place in the run.
+/// A change and its place in the run.
 #[derive(Debug, Clone, Copy, PartialEq, Eq)]
 pub struct Later {
-    /// The number of the attempt that follows the change. Attempts that try a frame count, from 0.
+    /// The number of the attempt that follows the change. Only attempts that try a frame are numbered, from 0.
     pub attempt: u64,
     /// The change.
     pub change: Change,
 }
 
-/// The result of a change in a run.
+/// The result of a change during a run.
 #[derive(Debug, Clone, Copy, PartialEq, Eq)]
 pub enum Made {
-    /// The bus took this rule, which now has its number.
+    /// The plan took this rule and gave it its number.
     Taken(Rule),
-    /// The bus did not take the rule, since 64 rules were left.
+    /// The plan refused the rule, because it already had 64 rules.
     Refused,
     /// All rules ended.
     Ended,
 }
 
-/// The faults of a finished run: its plan, and the rules that were given or ended during the run.
-/// It repeats these changes in order, and finds which rule gave an attempt its verdict.
+/// The faults of a finished run: its plan, and the rules that were given or ended during the run. The value repeats these changes
+/// in order, and finds the rule that gave an attempt its verdict.
 #[derive(Drop)]
 pub struct RunFaults {
     names: Names,
     plan: Plan,
-    // The changes, in the order in which they came.
+    // The changes, in the order in which they happened.
     changes: Vec<Later>,
-    // The number of changes made so far.
+    // The number of changes that were repeated so far.
     made: usize,
-    // The number of attempts so far that tried a frame.
+    // The number of attempts that tried a frame so far.
     tried: u64,
 }
 
@@ -77,7 +77,7 @@ impl Model for RunFaults {
 }
 
 impl RunFaults {
-    /// Returns a run without lines, rules and changes, for a bus with these names.
+    /// Returns a run without script lines, rules and changes, for a bus whose interfaces have these names.
     pub fn new(alloc: Global, names: Names) -> RunFaults
         ensures { result ≡ no_run names }
     {
@@ -90,10 +90,12 @@ impl RunFaults {
         }
     }
 
-    /// Reads the faults of a run from a text, for a bus with these names, or returns the first
-    /// fault of the text. A line is a plan line, `at N RULE` or `at N nofaults`. The rule was
-    /// given, or all rules ended, before attempt `N`; attempts that try a frame count, from 0. `N`
-    /// has 1 to 10 decimal digits, and does not decrease. The time is that of `Script::read`.
+    /// Reads the faults of a run from a text, for a bus whose interfaces have these names. Returns an error for the first fault in
+    /// the text.
+    ///
+    /// Each line is a line of a plan, `at N RULE`, or `at N nofaults`. The last two mean that the rule was given, or that all rules
+    /// ended, before attempt `N`. Only attempts that try a frame are numbered, from 0. `N` has 1 to 10 decimal digits, and does not
+    /// decrease from line to line. The running time is the same as for `Script::read`.
     pub fn read(alloc: Global, text: &str, names: Names) -> Result<RunFaults, PlanError>
         ensures { ReadsRunFaults names text.now result }
     {
@@ -108,7 +110,7 @@ impl RunFaults {
         Ok(faults)
     }
 
-    // Takes a line that has this number in its text.
+    // Adds the line of the text that has this number.
     fn take_line(&mut self, line: &str, number: usize) -> Result<(), PlanError>
         ensures taken { TakesRunLine self.old.names line.now number self.old result self.new }
         ensures names { self.new.names ≡ self.old.names }
@@ -120,7 +122,7 @@ impl RunFaults {
         }
     }
 
-    // Takes a line that is a change and has this number.
+    // Adds the change in the line with this number.
     fn take_later(&mut self, line: &str, number: usize) -> Result<(), PlanError>
         requires { is_later line.now ≡ true }
         ensures taken { TakesRunLine self.old.names line.now number self.old result self.new }
@@ -139,31 +141,30 @@ impl RunFaults {
         }
     }
 
-    /// Returns the names of the bus.
+    /// Returns the names of the interfaces of the bus.
     pub fn names(&self) -> &Names
         ensures { result.now ≡ self.now.names }
     {
         &self.names
     }
 
-    /// Returns the rules that are left, in their order. Before the first attempt and change these
-    /// are the rules of the plan.
+    /// Returns the rules that are not used up, in the order in which they were given. Before the first attempt and the first change
+    /// these are the rules of the plan.
     pub fn rules_left(&self) -> &[Rule]
         ensures { result.now ≡ self.now.plan.rules }
     {
         self.plan.rules_left()
     }
 
-    /// Returns the number of attempts so far that tried a frame, which is the number of the next
-    /// one.
+    /// Returns the number of attempts that tried a frame so far. It is also the number of the next attempt.
     pub fn tried(&self) -> u64
         ensures { result ≡ self.now.tried }
     {
         self.tried
     }
 
-    /// Makes the next change if it comes before the attempt with this number, and returns its
-    /// result. After an error, do not use the value.
+    /// Makes the next change if it comes before the attempt with this number, and returns the result of the change. After an error,
+    /// the value must not be used.
     pub fn make_next(&mut self, attempt: u64) -> Result<Option<Made>, AllocError>
         ensures made { IfOk result (λ made.
             made ≡ next_made attempt self.old.plan self.old.later) }
@@ -177,9 +178,8 @@ impl RunFaults {
         Ok(Some(made))
     }
 
-    /// Returns the number of the rule that gave the next attempt this verdict, if a rule did. Call
-    /// it for each attempt that tried a frame, in order, after the changes before that attempt are
-    /// made.
+    /// Returns the number of the rule that gave the next attempt this verdict, or `None` if no rule did. The caller asks about each
+    /// attempt that tried a frame, in order, after making the changes before that attempt.
     pub fn rule_of(&mut self, winner: Iface, frame: &Frame, verdict: Verdict) -> Option<u64>
         ensures rule { result ≡ rule_now self.old (won_by winner (word_of frame.now)) verdict }
         ensures after { self.new ≡ asked_now self.old (won_by winner (word_of frame.now)) }
@@ -194,7 +194,7 @@ impl RunFaults {
     }
 }
 
-// Returns the first of these changes, if it comes before the attempt with this number.
+// Returns the first of these changes if it comes before the attempt with this number.
 fn due(later: &[Later], attempt: u64) -> Option<Later>
     ensures { result ≡ due_of attempt later.now }
 {
@@ -205,7 +205,7 @@ fn due(later: &[Later], attempt: u64) -> Option<Later>
 }
 
 impl Change {
-    // Makes the change in a plan, and returns its result.
+    // Makes this change in a plan, and returns the result of the change.
     fn make(self, plan: &mut Plan) -> Result<Made, AllocError>
         ensures made { IfOk result (λ made. made ≡ made_of self plan.old) }
         ensures after { OnOk result (plan.new ≡ after_change self plan.old) }
@@ -220,7 +220,7 @@ impl Change {
     }
 }
 
-// Gives a rule to a plan, which refuses it if 64 rules are left.
+// Gives a rule to a plan. The plan refuses the rule if 64 rules are not used up.
 fn give(plan: &mut Plan, rule: &Rule) -> Result<Made, AllocError>
     ensures made { IfOk result (λ made. made ≡ made_of (Change.Give rule.now) plan.old) }
     ensures after { OnOk result (plan.new ≡ after_change (Change.Give rule.now) plan.old) }
@@ -236,7 +236,7 @@ fn give(plan: &mut Plan, rule: &Rule) -> Result<Made, AllocError>
     }
 }
 
-/// Returns whether a line begins with `at`, as the line of a change does.
+/// Returns whether a line begins with `at`, like the line of a change.
 pub fn begins_as_later(line: &str) -> bool
     ensures { result ≡ is_later line.now }
 {
@@ -244,7 +244,7 @@ pub fn begins_as_later(line: &str) -> bool
     first == "at"
 }
 
-/// Reads the line of a change: `at`, a number, and a rule or `nofaults`.
+/// Reads the line of a change: `at`, a number, and then a rule or `nofaults`.
 #[tactic(auto, unfolding(crate::specs::RunFaults::later_spelling))]
 pub fn read_later(line: &str, names: &Names) -> Result<Later, WrongWord>
     ensures { result ≡ later_spelling names.now line.now }

@@ -7,7 +7,7 @@ use Rattle.can_station.specs.Passes.{Answered, IsAnsweredIn, InSome, ReportsRepl
 use Rattle.can_station.specs.declared.refusals.StationRefusal.{StationRefusal}
 use Rattle.can_station.specs.declared.refusals.StationRefusal.TheVariants as station
 
--- The caller's part of a reply, if the reply enters the record.
+-- The caller's result matches the reply, if the reply enters the record.
 
 module _ (F : Type 0) {A : Type 0} (told : A → Reply) (seen : StationSeen) (e : Event) (r : Reply) where
   pub answered : (outcome : Result A StationRefusal) → ReportsReply told outcome r → InSome F seen (λ held. IsAnsweredIn held e r) → Answered F told seen e outcome

@@ -24,7 +24,7 @@ module _ (slip slip' : SlipSeen) (listed listed' : Option (List Entry)) (e : Eve
   kept_after kept noted longer =
       subst (λ (x : Option (List Entry) × SlipSeen). AreListedCalls x.0 x.1.calls) (λ k. (sym longer k, sym noted k)) (kept_longer listed slip.calls e r kept)
 
-  -- Contracts see one more call.
+  -- The contract's view of the pass has one more call.
   pub seen_after : slip' ≡ slip_after e r slip → listed' ≡ listed_after e r listed → pass_seen slip' listed' ≡ pass_after e r (pass_seen slip listed)
   seen_after noted longer =
       (λ k. pass_seen (noted k) (longer k)) ∙ ap (λ b. record { number = slip.number; pass = slip.pass; calls = history_after e r slip.calls; keeps = b }) (still_keeps listed e r)

@@ -24,7 +24,7 @@ use Rattle.can_station.specs.Passes.{PassSeen, AllMatch, AllMarked}
 use Rattle.std.proofs.lemmas.List.Elements.{All-weaker}
 use Rattle.can_station.proofs.Replies.{after-entered, after-kept}
 
--- Marks of a history with one more entry.
+-- The marks of a history with one more entry.
 
 if_same : (p : ℕ) (x y : List Entry) → (if p == p then x else y) ≡ x
 if_same p x y = rw (same p) refl
@@ -38,7 +38,7 @@ if_other p q x y n = rw (no p q n) refl
     no : (p q : ℕ) → p ≢ q → (p == q) ≡ false
     no p q n = grind (arith, nat_tests)
 
--- One more entry, marked with p, in the list of p.
+-- One more entry marked with p is one more entry in the roll's list for p.
 pub marked-more : (lists : List (List Entry)) (ms : List ℕ) (past : List Entry) (p : ℕ) (e : Entry) → IsMarked lists ms past → p < length lists → IsMarked (call_added lists p e) (p ∷ ms) (e ∷ past)
 marked-more lists ms past p e h lt =
     let len : length (call_added lists p e) ≡ length lists = length-added lists p e in
@@ -50,7 +50,7 @@ marked-more lists ms past p e h lt =
           (λ (n : q ≢ p). row_added_else lists p q e n ∙ (h.each q ∙ sym (if_other p q (e ∷ marked q ms past) (marked q ms past) (λ is. n (sym is)))));
     }
 
--- A new station has noted no call.
+-- A new station has not noted any call.
 pub booked_first : (number : ℕ) (j : Journal) → IsLongConfig j.config → j.history ≡ [] → IsBooked (roll_seen number [] []) j
 booked_first number j proper empty = subst (λ (past : List Entry). IsBooked (roll_seen number [] []) (record { config = j.config; history = past })) (sym empty) (record {
   proper = proper;
@@ -85,13 +85,13 @@ booked_as true roll j p e r is h legal below =
     (sym (after-entered e r j.history is)) (booked_more roll j p (entry_of e r) h (subst (IsLegal j.config) (after-entered e r j.history is) legal) (below is))
 booked_as false roll j p e r is h legal below = subst (λ (past : List Entry). IsBooked (roll_seen roll.number roll.lists roll.called) (record { config = j.config; history = past })) (sym (after-kept e r j.history is)) h
 
--- The state under the lock, one call later.
+-- The state under the lock is still consistent after one more call.
 pub booked_after : (roll roll' : RollSeen) (j j' : Journal) (p : ℕ) (e : Event) (r : Reply) → IsBooked roll j → IsAnswer j.config j.history e r → (enters r ≡ true → p < length roll.lists)
     → roll' ≡ roll_after p e r roll → j' ≡ record j { history = history_after e r j.history } → IsBooked roll' j'
 booked_after roll roll' j j' p e r h answer below er ej =
     subst (λ (x : RollSeen × Journal). IsBooked x.0 x.1) (λ k. (sym er k, sym ej k)) (booked_as (enters r) roll j p e r refl h (legal-after j.config j.history e r h.legal answer) below)
 
--- One more pass.
+-- The entries marked with each pass are the same after one more pass enters.
 pub marked-enter : (lists : List (List Entry)) (ms : List ℕ) (past : List Entry) → IsMarked lists ms past → IsMarked (lists ++ [] ∷ []) ms past
 marked-enter lists ms past h = record {
   long = h.long;
@@ -109,6 +109,6 @@ booked_enter roll roll' j h few er = subst (λ (x : RollSeen). IsBooked x j) (sy
   marked = marked-enter roll.lists h.marks j.history h.marked;
 })
 
--- Passes whose calls are the roll's lists are marked in this way.
+-- If the calls of the passes match the roll's lists, they are exactly the entries marked with each pass.
 pub marked-all : (lists : List (List Entry)) (marks : List ℕ) (past : List Entry) (own : List PassSeen) → IsMarked lists marks past → AllMatch lists own → AllMarked marks past own
 marked-all lists marks past own m = All-weaker (λ (v : PassSeen). row lists v.pass ≡ v.calls) (λ (v : PassSeen). marked v.pass marks past ≡ v.calls) (λ v match. sym (m.each v.pass) ∙ match) own

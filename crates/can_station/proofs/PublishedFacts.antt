@@ -26,7 +26,7 @@ use Rattle.can_station.specs.Passes.{PassSeen}
 use Rattle.can_station.specs.Published.{are_same, published_after, publications_of, counts_before, counters_at, IsPublished, AllEarlier, Publishes, AllSeen, AreTrue, TakesBack, TakesBackScroll}
 use Rattle.can_station.proofs.Replies.{after-entered, after-kept}
 
--- Publications of a history with one more entry.
+-- Facts about the publications of a history with one more entry.
 
 -- The newest publication comes from an entry of the history.
 newest_after : (b : Bool) (at n : ℕ) (counts : ErrorCounts) (before : List Status) → at ≤ n → (newest before).at ≤ n
@@ -41,13 +41,13 @@ newest-within c (e ∷ past) i =
     let new = counts_of c (e ∷ past) i in
     newest_after (are_same old new) (suc (length past)) (suc (length past)) new (publications_of c past i) (omega arith) (omega (arith, newest-within c past i))
 
--- So the next entry may publish again.
+-- The keeper has published only for shorter records, so the next entry may publish again.
 pub later : (keeper : Readings) (number : ℕ) (j : Journal) (e : Event) (r : Reply) (at : ℕ) → IsPublished keeper number j → at ≡ length (history_after e r j.history) → enters r ≡ true → AllEarlier keeper at
 later keeper number j e r at is at_is enters_is i below =
     let there : i < j.config.ifaces = omega (arith, is.ifaces_are) in
     subst (λ (ps : List Status). (newest ps).at < at) (sym (is.each i there)) (omega (arith, newest-within j.config j.history i, at_is ∙ ap length (after-entered e r j.history enters_is)))
 
--- One more entry.
+-- The keeper still has published each change after one more entry enters the record.
 entered : (keeper keeper' : Readings) (number : ℕ) (j : Journal) (e : Entry) (before after : List ErrorCounts) (at : ℕ) → IsLongConfig j.config → IsPublished keeper number j
     → keeper'.number ≡ keeper.number → keeper'.ifaces ≡ keeper.ifaces → at ≡ suc (length j.history)
     → before ≡ all_counts j.config j.history → after ≡ all_counts j.config (e ∷ j.history)
@@ -64,7 +64,7 @@ entered keeper keeper' number j e before after at proper is number_same ifaces_s
       ∙ (λ k. published_after (old k) (new k) (at_is k) (is.each i below k));
 }
 
--- After a call the keeper has published the history with that call.
+-- After a call, the keeper has published the history that includes the call.
 published_as : (b : Bool) (keeper keeper' : Readings) (number : ℕ) (j : Journal) (e : Event) (r : Reply) (before after : List ErrorCounts) (at : ℕ) → enters r ≡ b → IsLongConfig j.config → IsPublished keeper number j
     → keeper'.number ≡ keeper.number → keeper'.ifaces ≡ keeper.ifaces → at ≡ length (history_after e r j.history)
     → before ≡ all_counts j.config j.history → after ≡ all_counts j.config (history_after e r j.history)
@@ -88,7 +88,7 @@ published_after_call keeper keeper' number number' j j' e r before after at prop
     subst (λ (x : ℕ × Journal). IsPublished keeper' x.0 x.1) (λ k. (sym number_is k, sym journal_is k))
     (published_as (enters r) keeper keeper' number j e r before after at refl proper is number_same ifaces_same (at_is ∙ ap (λ (x : Journal). length x.history) journal_is) before_is (after_is ∙ ap (λ (x : Journal). all_counts x.config x.history) journal_is) lists still)
 
--- The counters kept before an event are those of the history.
+-- The counters kept before an event are the counters of the history.
 pub kept_before : (j : Journal) (e : Event) (told : Option (List ErrorCounts)) (before : List ErrorCounts) → told ≡ counts_before j e → told ≡ Some before → before ≡ all_counts j.config j.history
 kept_before j (event.Open i n) told before is kept = absurd (cc (is, kept))
 kept_before j (event.Close s) told before is kept = absurd (cc (is, kept))
@@ -100,7 +100,7 @@ kept_before j (event.Attempt m v) told before is kept = cc (is, kept)
 kept_before j (event.Restart i m) told before is kept = cc (is, kept)
 kept_before j (event.Down i m) told before is kept = cc (is, kept)
 
--- An event for which no counters were kept changes none.
+-- An event for which no counters were kept does not change the counters.
 unchanged : (j : Journal) (e : Event) (r : Reply) (i : ℕ) → counts_before j e ≡ None → counts_of j.config (entry_of e r ∷ j.history) i ≡ counts_of j.config j.history i
 unchanged j (event.Open k n) r i none = refl
 unchanged j (event.Close s) r i none = refl
@@ -112,7 +112,7 @@ unchanged j (event.Attempt m v) r i none = absurd (cc (none))
 unchanged j (event.Restart k m) r i none = absurd (cc (none))
 unchanged j (event.Down k m) r i none = absurd (cc (none))
 
--- Such an event publishes nothing.
+-- An event that leaves the counters the same publishes nothing.
 published_same : (k : ErrorCounts) (at : ℕ) (before : List Status) → published_after k k at before ≡ before
 published_same k at before = rw (both k.tec k.rec k.down) refl
   where
@@ -151,7 +151,7 @@ short c past n proper legal is =
     let few : length past ≤ c.limit = legal-short c past legal in
     omega (arith, proper.few_entries)
 
--- The same if the station also has a scroll.
+-- `TakesBackScroll` follows from `TakesBack` if the scroll belongs to the station.
 pub with_scroll : {A E : Type 0} (number scroll : ℕ) (passes : List PassSeen) (gauges : List Readings) (result : Result A E) → scroll ≡ number → TakesBack number passes gauges result
     → TakesBackScroll number scroll passes gauges result
 with_scroll number scroll passes gauges (Ok left) own back = (own, back.0, back.1)

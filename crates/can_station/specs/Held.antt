@@ -16,7 +16,7 @@ use Rattle.can_roll.specs.Seen.{RollSeen, SlipSeen, roll_seen, slip_seen}
 
 -- A station, and the state under its lock (own).
 
--- A station: its number, and the configuration of its bus.
+-- A station: its number and the configuration of its bus.
 pub record StationSeen : Type 0 where
   pub number : ℕ
   pub config : BusConfig
@@ -25,8 +25,8 @@ pub record StationSeen : Type 0 where
 abbrev pub station_seen : ℕ → BusConfig → StationSeen
 station_seen number config = record { number = number; config = config }
 
--- The state under the lock: the station's number, its bus, the calls of each pass, the source of verdicts, the plan of
--- faults, the lines about its rules, and whether waits end.
+-- The state under the station's lock: the station's number, its bus, the calls of each pass, the source of verdicts,
+-- the plan of faults, the lines about the plan's rules, and whether the station was stopped.
 pub record Held (F : Type 0) : Type 0 where
   pub number : ℕ
   pub journal : Journal
@@ -36,11 +36,11 @@ pub record Held (F : Type 0) : Type 0 where
   pub changes : LinesSeen
   pub stopped : Bool
 
--- A bus with this journal has no place for an entry until some are taken.
+-- A bus with this journal exists that has no free place for an entry.
 abbrev pub HasNoPlace : {B : Type 0} → (B → Journal) → (B → ℕ) → Journal → Type 0
 HasNoPlace {B} journal places j = (bus : B) × (journal bus ≡ j) × (places bus ≡ 0)
 
--- The state of a new station: no pass has entered, and waits do not end.
+-- The state of a new station: no pass has entered, and the station is not stopped.
 abbrev pub new_held : {F : Type 0} → ℕ → Journal → F → PlanSeen → Held F
 new_held number journal source plan = record {
   number = number;
@@ -52,32 +52,34 @@ new_held number journal source plan = record {
   stopped = false;
 }
 
--- The same state with this plan of faults, and these lines about its rules.
+-- The same state with the plan of faults and the lines about its rules replaced by these.
 abbrev pub with_plan_lines : {F : Type 0} → PlanSeen → LinesSeen → Held F → Held F
 with_plan_lines plan changes h = record h { plan = plan; changes = changes }
 
--- The number of attempts that tried a frame, which is the number of the next such attempt.
+-- The number of attempts that have tried a frame, which is also the number of the next attempt, because numbers start
+-- at 0.
 abbrev pub next_number : {F : Type 0} → Held F → ℕ
 next_number h = length (tape h.journal.history)
 
--- A rule with this text is taken, and its line follows the others; or nothing changes.
+-- If a rule with this text is accepted, the plan may change and a line for the rule is appended. Otherwise nothing
+-- changes.
 abbrev pub TakesRule : {F : Type 0} → List ℕ → Held F → Result (Unit {0}) RuleRefusal → Held F → Type 0
 TakesRule words old (Ok done) new = new ≡ with_plan_lines new.plan (with_given (next_number old) words old.changes) old
 TakesRule words old (Err why) new = new ≡ old
 
--- All rules end; if there were any, a line for their end follows the others.
+-- The state after all rules end. If there were any rules, a line for their end is appended.
 abbrev pub after_end : {F : Type 0} → Held F → Held F
 after_end h =
     if length h.plan.rules == 0 then h
     else with_plan_lines (without_rules h.plan) (with_end (next_number h) h.changes) h
 
--- The lines about the rules are taken out, or none if memory is refused.
+-- All lines about the rules are taken out, or no lines if memory is refused.
 abbrev pub LinesTaken : {F : Type 0} → Held F → List ℕ → Held F → Type 0
 LinesTaken old lines new =
     ((lines ≡ text_of_lines old.changes) × (new ≡ with_plan_lines old.plan (with_none_left old.changes) old))
     ⊎ ((lines ≡ []) × (new ≡ old))
 
--- The calls of each pass, after a call of pass p.
+-- The calls of each pass after a call of pass p.
 abbrev pub lists_after : ℕ → Event → Reply → List (List Entry) → List (List Entry)
 lists_after p e r lists = if enters r then call_added lists p (entry_of e r) else lists
 
@@ -85,7 +87,7 @@ lists_after p e r lists = if enters r then call_added lists p (entry_of e r) els
 abbrev pub roll_after : ℕ → Event → Reply → RollSeen → RollSeen
 roll_after p e r roll = roll_seen roll.number (lists_after p e r roll.lists) roll.called
 
--- The state after a call of pass p, which is one event of the bus.
+-- The state after a call of pass p; the call is one event of the bus.
 abbrev pub held_after : {F : Type 0} → ℕ → Event → Reply → Held F → Held F
 held_after p e r h = record {
   number = h.number;
@@ -97,19 +99,19 @@ held_after p e r h = record {
   stopped = h.stopped;
 }
 
--- A pass's part of the roll after its own call.
+-- The slip after a call of its own pass.
 abbrev pub slip_after : Event → Reply → SlipSeen → SlipSeen
 slip_after e r s = record { number = s.number; pass = s.pass; calls = history_after e r s.calls }
 
--- The state with one more pass, which has made no call.
+-- The state with one more pass, which has not made a call yet.
 abbrev pub with_pass : {F : Type 0} → Held F → Held F
 with_pass h = record h { lists = h.lists ++ [] ∷ [] }
 
--- No pass is left: 4,096 passes have entered.
+-- No further pass can enter, because 4,096 passes have entered.
 abbrev pub NoPassLeft : {F : Type 0} → Held F → Type 0
 NoPassLeft h = 4096 ≤ length h.lists
 
--- The next pass enters with this slip; passes are numbered from 0.
+-- The next pass has entered and has this slip. Passes are numbered from 0.
 pub record HasEntered {F : Type 0} (old : Held F) (slip : SlipSeen) (new : Held F) : Type 0 where
   pub left : length old.lists < 4096
   pub next : slip ≡ slip_seen old.number (length old.lists) []

@@ -10,51 +10,52 @@ use Rattle.can_station.specs.Held.{Held}
 use Rattle.can_station.specs.declared.waits.WakeReason.{WakeReason}
 use Rattle.can_station.specs.declared.waits.WakeReason.TheVariants as wake
 
--- The ends of waits, and the reports of a station that are no events (own).
+-- The conditions that end a wait, and reports of a station that are not events (own).
 
--- The signal of a stop to all waiting threads.
+-- The reason `Stopped`, which ends every wait, if the station was stopped.
 abbrev pub stopped_wake : Bool → Option WakeReason
 stopped_wake stopped = if stopped then Some wake.Stopped else None
 
--- A wait for an item ends if the socket is not open, an item is left to take, or the station was stopped.
+-- The reason, if any, that a wait for an item ends: the socket is not open, an item is ready to be taken, or the
+-- station was stopped.
 abbrev pub item_wake : Option SocketStats → Bool → Option WakeReason
 item_wake None stopped = Some wake.Closed
 item_wake (Some counts) stopped = if nat_lt counts.taken counts.queued then Some wake.Ready else stopped_wake stopped
 
--- The same for socket s of a station.
+-- The reason, if any, that a wait for an item at socket s of a station ends.
 abbrev pub frame_wake : {F : Type 0} → Held F → ℕ → Option WakeReason
 frame_wake h s = item_wake (socket_stats_of h.journal.config h.journal.history s) h.stopped
 
--- A bus has work for its driver: an interface has a frame to send, or counts towards its restart.
+-- The bus has work for its driver: an interface has a frame to send, or counts towards its automatic restart.
 abbrev pub has_work : Journal → Bool
 has_work j = is_some (winner j.config j.history) || is_counting j.config j.history
 
--- The bus has nine tenths or more of the entries that it may have.
+-- The bus has at least nine tenths of the maximum number of entries.
 abbrev pub IsNearlyFull : Journal → Type 0
 IsNearlyFull j = j.config.limit - j.config.limit / 10 ≤ length j.history
 
--- A wait for work ends if there is work, or if the station was stopped.
+-- The reason, if any, that a wait for work ends: there is work, or the station was stopped.
 abbrev pub work_wake : {F : Type 0} → Held F → Option WakeReason
 work_wake h = if has_work h.journal then Some wake.Ready else stopped_wake h.stopped
 
--- There is no work and the station was stopped, so a driver ends.
+-- There is no work and the station was stopped, so its driver ends.
 abbrev pub IsIdleAndStopped : {F : Type 0} → Held F → Type 0
 IsIdleAndStopped h = (has_work h.journal ≡ false) × (h.stopped ≡ true)
 
--- The number of items that were queued and not taken.
+-- The number of items that are queued and not yet taken, 0 if the socket is not open.
 abbrev pub items_left : Option SocketStats → ℕ
 items_left None = 0
 items_left (Some counts) = counts.queued - counts.taken
 
--- The number of items that wait at socket s.
+-- The number of items that are waiting at socket s.
 abbrev pub items_waiting_at : Journal → ℕ → ℕ
 items_waiting_at j s = items_left (socket_stats_of j.config j.history s)
 
--- A wait for an item of socket s ends with this reason and this number of waiting items.
+-- A wait for an item at socket s ends with this reason and this number of waiting items.
 abbrev pub EndsItemWait : {F : Type 0} → Held F → ℕ → WakeReason × ℕ → Type 0
 EndsItemWait h s end = (frame_wake h s ≡ Some end.0) × (end.1 ≡ items_waiting_at h.journal s)
 
--- The counts of socket s and of interface i.
+-- The counts are those of socket s and of interface i.
 abbrev pub AreCounts : Journal → ℕ → ℕ → Option SocketStats × Option IfaceStats → Type 0
 AreCounts j s i counts =
     (counts.0 ≡ socket_stats_of j.config j.history s) × (counts.1 ≡ iface_stats_of j.config j.history i)

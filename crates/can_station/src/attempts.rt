@@ -5,7 +5,7 @@ use crate::refusals::StationRefusal;
 use can_bus::Attempt;
 use can_fault::Verdict;
 
-/// Returns the outcome of an attempt, with its verdict.
+/// Adds this verdict to the outcome of an attempt.
 pub(crate) fn with_verdict(
     verdict: Verdict,
     outcome: Result<Attempt, StationRefusal>,

@@ -15,9 +15,9 @@ use can_frame::{Frame, Iface, Moment};
 use std::alloc::Global;
 use std::sync::Wait;
 
-// The nine calls of a pass. Each call is one event of the bus. The station refuses before the bus
-// does: `NoMemory` if the pass's list of calls cannot grow, `WrongStation` if the pass belongs to
-// another station. These refusals change nothing.
+// The nine calls that a pass can make. Each call is one event of the bus. The station checks before the bus does: it returns
+// `NoMemory` if the pass's list of calls cannot grow, and `WrongStation` if the pass belongs to another station. These two refusals
+// change nothing.
 impl<N: BusName, F: FaultSource + Drop, G: Gate + Drop, B: Journaled> Station<N, F, G, B> {
     /// Opens a socket on an interface, with room for `capacity` waiting items. Refusals of the bus:
     /// `RecordFull`, `NoInterface`, `BadCapacity`, `TooManySockets`, `NoMemory`.
@@ -38,8 +38,8 @@ impl<N: BusName, F: FaultSource + Drop, G: Gate + Drop, B: Journaled> Station<N,
             .map_err(StationRefusal::Bus)
     }
 
-    /// Closes a socket, and returns the number of its unread items and of its dropped items.
-    /// Refusals of the bus: `RecordFull`, `NoSocket`.
+    /// Closes a socket, and returns its number of unread items and its number of dropped items. Refusals of the bus: `RecordFull`,
+    /// `NoSocket`.
     pub fn close<R: Wait>(
         &self,
         rt: &R,
@@ -56,8 +56,7 @@ impl<N: BusName, F: FaultSource + Drop, G: Gate + Drop, B: Journaled> Station<N,
             .map_err(StationRefusal::Bus)
     }
 
-    /// Sets the filters of a socket to a copy of these. Refusals of the bus: `RecordFull`,
-    /// `NoMemory`, `NoSocket`.
+    /// Replaces the filters of a socket with a copy of these filters. Refusals of the bus: `RecordFull`, `NoMemory`, `NoSocket`.
     pub fn set_filters<R: Wait>(
         &self,
         rt: &R,
@@ -97,7 +96,7 @@ impl<N: BusName, F: FaultSource + Drop, G: Gate + Drop, B: Journaled> Station<N,
             .map_err(StationRefusal::Bus)
     }
 
-    /// Sends a frame on a socket, and returns its number at the interface. Refusals of the bus: `RecordFull`,
+    /// Sends a frame on a socket, and returns the number of the frame at the interface. Refusals of the bus: `RecordFull`,
     /// `NoSocket`, `FdOff`, `BusOff`, `Down`, `NoBuffers`.
     pub fn send<R: Wait>(
         &self,
@@ -116,8 +115,7 @@ impl<N: BusName, F: FaultSource + Drop, G: Gate + Drop, B: Journaled> Station<N,
             .map_err(StationRefusal::Bus)
     }
 
-    /// Takes the oldest item of a socket, or returns `None` if no item waits. Refusals of the bus:
-    /// `RecordFull`, `NoSocket`.
+    /// Takes the oldest item from a socket, or returns `None` if no item waits. Refusals of the bus: `RecordFull`, `NoSocket`.
     pub fn receive<R: Wait>(
         &self,
         rt: &R,
@@ -134,10 +132,10 @@ impl<N: BusName, F: FaultSource + Drop, G: Gate + Drop, B: Journaled> Station<N,
             .map_err(StationRefusal::Bus)
     }
 
-    /// Tries the frame that wins the bus, with this verdict instead of the source's. Returns `Idle`
-    /// if no live interface has a frame to send. Interfaces whose count has run out are restarted.
-    /// An attempt that tries a frame takes the next number, and the source's verdict for that
-    /// number is never used. Refusal of the bus: `RecordFull`.
+    /// Tries the frame that wins arbitration, with this verdict instead of the verdict of the source. Returns `Idle` if no live
+    /// interface has a frame to send. Interfaces whose restart count has run out are restarted first. An attempt that tries a frame
+    /// takes the next attempt number, and the source's verdict for that number is then never used. Refusal of the bus:
+    /// `RecordFull`.
     pub fn attempt<R: Wait>(
         &self,
         rt: &R,
@@ -156,8 +154,8 @@ impl<N: BusName, F: FaultSource + Drop, G: Gate + Drop, B: Journaled> Station<N,
             .map_err(StationRefusal::Bus)
     }
 
-    /// Restarts an interface that is bus off or down, at a moment. Refusals of the bus:
-    /// `RecordFull`, `NoInterface`, `NotBusOff`.
+    /// Restarts an interface that is bus off or down, at this moment. Refusals of the bus: `RecordFull`, `NoInterface`,
+    /// `NotBusOff`.
     pub fn restart<R: Wait>(
         &self,
         rt: &R,
@@ -175,8 +173,8 @@ impl<N: BusName, F: FaultSource + Drop, G: Gate + Drop, B: Journaled> Station<N,
             .map_err(StationRefusal::Bus)
     }
 
-    /// Takes an interface down, at a moment. The interface takes no part until its restart, and the
-    /// frames in its transmit queue are lost. Refusals of the bus: `RecordFull`, `NoInterface`.
+    /// Takes an interface down, at this moment. The interface takes no part in traffic until it is restarted, and the frames in its
+    /// transmit queue are lost. Refusals of the bus: `RecordFull`, `NoInterface`.
     pub fn down<R: Wait>(
         &self,
         rt: &R,

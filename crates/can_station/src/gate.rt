@@ -1,21 +1,21 @@
 /// The points at which a station calls its gate.
 #[derive(Debug, Clone, Copy, PartialEq, Eq)]
 pub enum Point {
-    /// In `step` and `hold_work`, before the lock is taken.
+    /// Before `step` and `hold_work` take the lock.
     BeforeStep,
-    /// In each step, while the lock is held.
+    /// During each step, while the lock is held.
     InStep,
-    /// In each call of a pass that takes the lock itself, after the lock is free again.
+    /// After a call of a pass that takes the lock itself, once the lock is free again.
     AfterReply,
 }
 
-/// A gate, where a test can hold a thread.
+/// A gate at which a test can stop a thread.
 pub trait Gate {
-    /// Returns when the thread may continue.
+    /// Blocks until the thread may continue.
     fn at(&self, point: Point);
 }
 
-/// The gate of production. It holds no thread.
+/// The gate for production use. It never stops a thread.
 #[derive(Debug, Clone, Copy, PartialEq, Eq)]
 pub struct Open;
 

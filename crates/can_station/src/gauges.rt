@@ -10,7 +10,7 @@ pub(crate) fn are_gauges_of<N: MeterName>(gauges: &[Gauge<N>], number: u8) -> bo
     gauges.iter().all(|gauge| gauge.number() == number)
 }
 
-/// Takes all gauges back. Each gauge has seen only publications of the keeper.
+/// Takes all gauges back. Every counter value that a gauge read was published by the keeper.
 pub(crate) fn take_back_gauges<N: MeterName>(keeper: &mut Keeper<N>, gauges: Vec<Gauge<N>>)
     requires { GaugesOf keeper.old.number gauges.items }
     ensures same { keeper.new ≡ keeper.old }

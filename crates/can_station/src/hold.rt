@@ -27,11 +27,8 @@ use std::alloc::Global;
 use std::marker::Model;
 use std::sync::MutexGuard;
 
-/// A station's lock, held for several calls. Each call is one event of the bus, like a call of the
-/// station itself.
-///
-/// Contracts see it as the state under the lock. When the lock is free again, the threads with new
-/// work are woken.
+/// A station's lock, held for several calls. Each call is one event of the bus, like a call of the station. To a contract the hold
+/// is the state under the lock. When the lock is released, the threads that have new work are woken.
 pub struct Hold<'s, N: BusName, F: FaultSource + Drop, G: Gate + Drop, B: Journaled = RingBus> {
     pub(crate) station: &'s Station<N, F, G, B>,
     pub(crate) state: MutexGuard<'s, StationState<N, F, B>>,
@@ -68,7 +65,7 @@ impl<'s, N: BusName, F: FaultSource + Drop, G: Gate + Drop, B: Journaled> Hold<'
         self.state.has_work()
     }
 
-    /// Returns whether the bus has nine tenths or more of the entries that it may have.
+    /// Returns whether the bus has at least nine tenths of the entries that its limit allows.
     pub fn is_nearly_full(&self) -> bool
         ensures { IsTrue result ↔ IsNearlyFull self.now.journal }
     {
@@ -83,7 +80,7 @@ impl<'s, N: BusName, F: FaultSource + Drop, G: Gate + Drop, B: Journaled> Hold<'
         self.state.next_head()
     }
 
-    /// Carries out an event with a pass, as the station's `call` does.
+    /// Carries out an event for a pass, like the station's `call`.
     pub fn call(
         &mut self,
         alloc: Global,
@@ -104,8 +101,8 @@ impl<'s, N: BusName, F: FaultSource + Drop, G: Gate + Drop, B: Journaled> Hold<'
             .ok_or(StationRefusal::Bus(Refusal::NoMemory))
     }
 
-    /// Carries out an event for the pass of this slip, and adds it to the calls of the pass.
-    /// Returns `None` if the bus has no place for an entry; then nothing changes.
+    /// Carries out an event for the pass of this slip, and adds the call to the calls of the pass. Returns `None` and changes
+    /// nothing if the bus has no room for another entry.
     pub(crate) fn carry_out(
         &mut self,
         alloc: Global,
@@ -178,8 +175,8 @@ impl<'s, N: BusName, F: FaultSource + Drop, G: Gate + Drop, B: Journaled> Hold<'
         Some(outcome)
     }
 
-    /// Receives an item into the caller's `room`, as the station's `receive` does, and returns
-    /// whether there was one. If there was none, `room` does not change.
+    /// Receives an item into the caller's `room`, like the station's `receive`, and returns whether there was an item. If there was
+    /// none, `room` does not change.
     pub fn receive_into(
         &mut self,
         alloc: Global,
@@ -233,7 +230,7 @@ impl<'s, N: BusName, F: FaultSource + Drop, G: Gate + Drop, B: Journaled> Hold<'
         Some(outcome)
     }
 
-    /// Tries the frame that wins the bus, as the station's `step` does.
+    /// Tries the frame that wins arbitration, like the station's `step`.
     pub fn step(
         &mut self,
         alloc: Global,
@@ -255,7 +252,7 @@ impl<'s, N: BusName, F: FaultSource + Drop, G: Gate + Drop, B: Journaled> Hold<'
         reply.into_attempted().map_err(StationRefusal::Bus)
     }
 
-    /// Tries the frame that wins the bus, as `step` does, and also returns the attempt's verdict.
+    /// Tries the frame that wins arbitration, like `step`, and also returns the verdict of the attempt.
     pub fn step_judged(
         &mut self,
         alloc: Global,
@@ -279,8 +276,7 @@ impl<'s, N: BusName, F: FaultSource + Drop, G: Gate + Drop, B: Journaled> Hold<'
         with_verdict(verdict, reply.into_attempted().map_err(StationRefusal::Bus))
     }
 
-    /// Carries out an attempt at a moment for the pass of this slip, with the verdict of the source
-    /// or the plan.
+    /// Carries out an attempt at this moment for the pass of this slip. The verdict comes from the source or from the plan.
     pub(crate) fn carry_out_step(
         &mut self,
         alloc: Global,
@@ -303,7 +299,7 @@ impl<'s, N: BusName, F: FaultSource + Drop, G: Gate + Drop, B: Journaled> Hold<'
         Some(reply)
     }
 
-    /// Carries out an attempt as `carry_out_step` does, and also returns its verdict.
+    /// Carries out an attempt like `carry_out_step`, and also returns the verdict.
     fn carry_out_judged(
         &mut self,
         alloc: Global,
@@ -332,7 +328,7 @@ impl<'s, N: BusName, F: FaultSource + Drop, G: Gate + Drop, B: Journaled> Hold<'
         Some((verdict, reply))
     }
 
-    /// Takes the rule that a text spells, as the station's `inject` does.
+    /// Adds the rule that this text spells, like the station's `inject`.
     pub fn inject(&mut self, text: &[u8], names: &Names) -> Result<(), RuleRefusal>
         ensures injected { Injected names.now text.now self.old.plan result self.new.plan }
         ensures takes { TakesRule text.now self.old result self.new }
@@ -340,7 +336,7 @@ impl<'s, N: BusName, F: FaultSource + Drop, G: Gate + Drop, B: Journaled> Hold<'
         self.state.inject(text, names)
     }
 
-    /// Returns the number of rules that are left.
+    /// Returns the number of rules that are not used up.
     pub fn rules(&self) -> usize
         ensures rules { result ≡ length self.now.plan.rules }
         ensures few { result ≤ 64 }
@@ -348,7 +344,7 @@ impl<'s, N: BusName, F: FaultSource + Drop, G: Gate + Drop, B: Journaled> Hold<'
         self.state.rules()
     }
 
-    /// Ends all rules. The script lines of the plan remain.
+    /// Ends all rules. The script lines of the plan stay in force.
     pub fn end_rules(&mut self)
         ensures { self.new ≡ after_end self.old }
     {

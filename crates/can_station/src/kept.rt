@@ -30,8 +30,8 @@ fn send_enters(outcome: Result<u64, Refusal>) -> bool
     }
 }
 
-/// Adds a receive call with this outcome and `room`, if the pass keeps a list and the call is an
-/// entry. No memory is taken.
+/// Adds a receive call with this outcome and `room` to the list of the pass. It adds nothing if the pass keeps no list or the call
+/// is no entry. Nothing is allocated.
 pub(crate) fn keep_receive(
     calls: &mut Option<PackedList>,
     socket: SocketId,
@@ -49,8 +49,8 @@ pub(crate) fn keep_receive(
     }
 }
 
-/// Adds a send with this outcome, if the pass keeps a list and the call is an entry. No memory is
-/// taken.
+/// Adds a send with this outcome to the list of the pass. It adds nothing if the pass keeps no list or the call is no entry. Nothing
+/// is allocated.
 pub(crate) fn keep_send(
     calls: &mut Option<PackedList>,
     socket: SocketId,

@@ -1,22 +1,19 @@
 //! A bus that several threads share.
 //!
-//! A caller enters the station and gets a pass. Each call with a pass is one event of the bus, made
-//! under the station's lock. The pass keeps each call with its reply; a light pass keeps no list,
-//! and only contracts see its calls. A [`Hold`] of the lock makes several calls. At the end
-//! `settle` takes the passes back and returns the record. The record is a legal history in which
-//! the calls of each pass are in order.
+//! A caller enters the station and gets a pass. Each call with a pass is one event of the bus, made under the station's lock. A
+//! pass keeps a list of its calls with their replies. A light pass keeps no list: only contracts see its calls. A [`Hold`] keeps
+//! the lock for several calls. At the end `settle` takes the passes back and returns the record. The record is a legal history that
+//! contains the calls of each pass in order.
 //!
-//! A station works over any [`Journaled`](can_bus::Journaled) bus, by default over one with its
-//! whole record. On the bus of a long run (`new_long`) another thread takes the entries, a
-//! [`Block`] at a time. Calls wait if that thread is late. The thread holds the station's
-//! [`Scroll`]. By the contract of `settle_scroll`, all its blocks together are the first entries of
-//! the history.
+//! A station works over any [`Journaled`](can_bus::Journaled) bus. By default the bus keeps its whole record. On the bus of a long
+//! run (`new_long`) another thread takes the entries in blocks ([`Block`]) and holds the station's [`Scroll`]. If that thread is
+//! late, calls wait. The contract of `settle_scroll` states that all blocks together are the first entries of the history.
 //!
-//! The lock holds a [`StationState`], whose methods carry the proofs. A [`Station`] adds the lock
-//! and the waiting. A waiting thread sleeps, and only a call that can matter to it wakes it.
+//! The lock protects a [`StationState`], whose methods are proved. A [`Station`] adds the lock and the waiting. A waiting thread
+//! sleeps until a call that can matter to it wakes it.
 //!
-//! There is no promise about the time that a call waits for the lock, or about the order of the
-//! threads. Deadlock between threads is not excluded either.
+//! There is no guarantee about how long a call waits for the lock, or about the order in which threads get it. Deadlock between
+//! threads is not ruled out.
 #![tactic(auto)]
 
 mod attempts;

@@ -1,4 +1,4 @@
-//! Stations of long runs: the methods of `Station` that make one and take its record in blocks.
+//! Stations for long runs: the methods of `Station` that make such a station and take its record in blocks.
 
 ghost use Rattle.std.specs.Prelude.{◌≡◌, ◌≢◌, [], Err, IfOk, OnErr, OnOk, ◌↔◌};
 ghost use Rattle.can_event.specs.Events.{IsLongConfig};
@@ -20,20 +20,20 @@ use std::alloc::{AllocError, Global};
 use std::sync::Wait;
 use std::time::{Clock, Duration};
 
-/// Entries that a station handed out, in order, and the lines about its fault rules.
+/// Entries that a station handed out, in order, with the lines about its fault rules.
 #[derive(Drop)]
 pub struct Block {
-    /// The number of the station's entries before this block.
+    /// The number of entries that come before this block.
     pub start: u64,
     pub entries: PackedRecord,
-    /// The lines about rules since the previous block, as `take_changes` returns them. They include
-    /// all lines that matter for these entries. If memory is refused, a later block has them.
+    /// The lines about rules since the previous block, in the form that `take_changes` returns. All lines that matter for the
+    /// entries of the block are included. If an allocation fails, the lines come with a later block instead.
     pub changes: Vec<u8>,
 }
 
 impl Block {
-    /// Returns a block without entries and with memory for this many: 32 bytes for each, and 76 for
-    /// its FD frame. Returns `AllocError` if memory is refused.
+    /// Returns an empty block with memory for `size` entries: 32 bytes for each entry and 76 bytes for its FD frame. Returns
+    /// `AllocError` if an allocation fails.
     pub fn new(alloc: Global, size: u32) -> Result<Block, AllocError>
         ensures { IfOk result (λ b. b.entries.entries ≡ []) }
     {
@@ -46,13 +46,11 @@ impl Block {
 }
 
 impl<N: BusName, F: FaultSource + Drop, G: Gate + Drop> Station<N, F, G, LongRingBus> {
-    /// Returns a station over the bus of a long run, and the scroll for the thread that takes its
-    /// entries. In memory it keeps only the entries that were not yet taken. It takes memory for
-    /// `size` entries, which is `TAIL_SIZE` except in tests.
+    /// Returns a station over the bus of a long run, and the scroll for the thread that takes its entries. The station keeps only
+    /// the entries that were not yet taken. It allocates memory for `size` entries, which is `TAIL_SIZE` except in tests.
     ///
-    /// Returns `BadConfig` exactly if the configuration is outside the limits of a long run, or its
-    /// number of interfaces differs from that of the blanks. Returns `NoMemory` if memory was
-    /// refused.
+    /// Returns `BadConfig` exactly if the configuration is outside the limits of a long run, or if its number of interfaces differs
+    /// from the number in the blanks. Returns `NoMemory` if an allocation failed.
     pub fn new_long(
         alloc: Global,
         blanks: Blanks,
@@ -79,16 +77,15 @@ impl<N: BusName, F: FaultSource + Drop, G: Gate + Drop> Station<N, F, G, LongRin
 }
 
 impl<N: BusName, F: FaultSource + Drop, G: Gate + Drop, B: Journaled> Station<N, F, G, B> {
-    /// Takes the entries that were not yet taken into a block, in order, and appends them to those
-    /// of the scroll. The block's own entries are dropped, and it gets the lines about the rules.
-    /// Calls that wait for a place continue. A bus with its whole record hands out no entries.
+    /// Moves the entries that were not yet taken into a block, in order, and appends them to the entries of the scroll. The block's
+    /// previous entries are dropped, and the block gets the lines about the rules. Calls that wait for room continue. A bus that
+    /// keeps its whole record hands out no entries.
     ///
-    /// Returns `WrongStation` exactly if the scroll belongs to another station; then nothing
-    /// changes.
+    /// Returns `WrongStation` exactly if the scroll belongs to another station; nothing changes then.
     ///
-    /// The lock is held only while two pointers are swapped. No memory is taken, except for a
-    /// `nofaults` line. From then on the station's entries use the memory of the block. If the
-    /// block had no memory, each call is refused with `NoMemory`.
+    /// The lock is held only while two pointers are swapped. Nothing is allocated, except for a `nofaults` line. Afterwards the
+    /// station writes its entries to the memory that the block had. If the block had no memory, each call is refused with
+    /// `NoMemory`.
     pub fn take_entries<R: Wait>(
         &self,
         rt: &R,
@@ -112,9 +109,8 @@ impl<N: BusName, F: FaultSource + Drop, G: Gate + Drop, B: Journaled> Station<N,
         Ok(())
     }
 
-    /// Waits until this many entries can be taken, until there are too few places for a call, or
-    /// for this long. Returns `Stopped` after `end_entries`, or else `Ready`. A bus with its whole
-    /// record always has places.
+    /// Waits until this many entries can be taken, until there is too little room for a call, or until this duration is over.
+    /// Returns `Stopped` after `end_entries`, and `Ready` otherwise. A bus that keeps its whole record always has room.
     pub fn wait_entries<R: Wait + Clock>(
         &self,
         rt: &R,
@@ -132,8 +128,8 @@ impl<N: BusName, F: FaultSource + Drop, G: Gate + Drop, B: Journaled> Station<N,
         }
     }
 
-    /// Ends the waits for entries, now and from now on, after the last call. A later call does not
-    /// wait for a place: if there is none, it is refused with `NoMemory`.
+    /// Ends all waits for entries, now and in the future. It is called after the last call of a pass. A later call does not wait
+    /// for room: if there is none, it is refused with `NoMemory`.
     pub fn end_entries<R: Wait>(&self, rt: &R) {
         self.state.lock(rt).end_entries();
         self.written.notify_all();

@@ -9,8 +9,8 @@ use can_roll::{Roll, RollName, Slip};
 use std::alloc::{AllocError, Global};
 use std::marker::Model;
 
-/// A caller's pass, with the calls made with it; each call takes 32 bytes. A light pass keeps no
-/// list, but contracts still see its calls.
+/// A caller's pass, with the calls that were made with it. Each call takes 32 bytes. A light pass keeps no list of calls, but
+/// contracts still see its calls.
 #[derive(Drop)]
 pub struct Pass<N: RollName> {
     pub(crate) slip: Slip<N>,
@@ -45,15 +45,15 @@ impl<N: RollName> Pass<N> {
         }
     }
 
-    /// Returns whether the pass keeps no call.
+    /// Returns whether the pass keeps no calls.
     pub fn is_empty(&self) -> bool
         ensures { result ≡ (length (kept_calls self.now) == 0) }
     {
         self.len() == 0
     }
 
-    /// Returns the call at this place with its reply, if the pass keeps one there. The oldest is at
-    /// 0. No memory is taken.
+    /// Returns the call at this place with its reply, or `None` if the pass keeps no call there. The oldest call is at place 0.
+    /// Nothing is allocated.
     pub fn call(&self, place: usize) -> Option<EntryRef<'_>>
         ensures { result ≡ slice_get (reverse (kept_calls self.now)) place }
     {
@@ -74,15 +74,15 @@ impl<N: RollName> Pass<N> {
     }
 }
 
-/// The rest of a station at its end: the record or other rest of its bus, and the number of passes.
+/// The result of settling a station: the `Left` of its bus (the record, if the bus keeps one), and the number of passes.
 #[derive(Drop)]
 pub struct Settled<L: Drop = Record> {
     pub history: L,
     pub passes: u32,
 }
 
-/// Takes the memory for a call other than a close. It leaves a place for a close, so the close of a
-/// socket that the pass opened is never refused for lack of memory. A light pass takes no memory.
+/// Allocates memory for a call that is not a close. It also reserves memory for one close, so that closing a socket opened with the
+/// pass never fails for lack of memory. A light pass allocates nothing.
 pub(crate) fn make_ready(calls: &mut Option<PackedList>, alloc: Global) -> Result<(), AllocError>
     ensures same { calls_listed calls.new ≡ calls_listed calls.old }
     ensures ready { OnOk result (HasMemoryForCall calls.new) }
@@ -94,7 +94,7 @@ pub(crate) fn make_ready(calls: &mut Option<PackedList>, alloc: Global) -> Resul
     list.reserve_spare(alloc)
 }
 
-/// Takes the memory that was left for a close.
+/// Uses the memory that was reserved for a close.
 fn make_ready_for_close(calls: &mut Option<PackedList>) -> Result<(), AllocError>
     ensures same { calls_listed calls.new ≡ calls_listed calls.old }
     ensures ready { OnOk result (HasPlaceForCall calls.new) }
@@ -106,7 +106,7 @@ fn make_ready_for_close(calls: &mut Option<PackedList>) -> Result<(), AllocError
     }
 }
 
-/// Takes the memory for a call. A close takes the memory that was left for it.
+/// Prepares the memory for a call. A close uses the memory that was reserved for it.
 pub(crate) fn make_ready_for(
     calls: &mut Option<PackedList>,
     alloc: Global,
@@ -122,8 +122,8 @@ pub(crate) fn make_ready_for(
     }
 }
 
-/// Adds a call with its reply, if the pass keeps a list and the call is an entry. No memory is
-/// taken.
+/// Adds a call with its reply to the list of the pass. It adds nothing if the pass keeps no list or the call is no entry. Nothing
+/// is allocated.
 pub(crate) fn keep(calls: &mut Option<PackedList>, event: Event, reply: &Reply)
     requires ready { IsReadyFor event calls.old }
     requires suits { Suits event reply.now }
@@ -144,7 +144,7 @@ pub(crate) fn are_all_of<N: RollName>(passes: &[Pass<N>], number: u8) -> bool
     passes.iter().all(|pass| pass.number() == number)
 }
 
-/// Takes all passes back. The calls of each pass are the roll's list for it.
+/// Takes all passes back. The calls of each pass are the roll's list for that pass.
 pub(crate) fn recall_all<N: RollName>(roll: &mut Roll<N>, passes: Vec<Pass<N>>)
     requires number { AllOf roll.old.number passes.items }
     requires none { roll.old.called ≡ [] }

@@ -7,8 +7,8 @@ use can_bus::{Event, Journaled, Reply};
 use can_confine::Counters;
 use can_meter::{Keeper, MeterName};
 
-/// Returns the error counters of a bus before an event that can change them: an attempt, a restart
-/// or a down.
+/// Returns the error counters of a bus before an event, if the event can change them: an attempt, a restart, or taking an interface
+/// down.
 pub(crate) fn counters_before<B: Journaled>(bus: &B, event: &Event) -> Option<[Counters; 16]>
     ensures { result ≡ counts_before (B.journal bus.now) event.now }
 {
@@ -18,8 +18,8 @@ pub(crate) fn counters_before<B: Journaled>(bus: &B, event: &Event) -> Option<[C
     }
 }
 
-/// Publishes the counters that a call changed, if it left an entry. Each publication has the
-/// record's length with that entry.
+/// Publishes the counters that a call changed, if the call left an entry. Each publication carries the length of the record,
+/// including that entry.
 pub(crate) fn publish_changes<N: MeterName>(
     keeper: &mut Keeper<N>,
     reply: &Reply,
@@ -40,7 +40,7 @@ pub(crate) fn publish_changes<N: MeterName>(
     }
 }
 
-/// Publishes the counters of each interface that changed.
+/// Publishes the counters of each interface whose counters changed.
 fn publish_all<N: MeterName>(
     keeper: &mut Keeper<N>,
     at: u32,

@@ -1,10 +1,10 @@
 use can_bus::Refusal;
 use thiserror::Error;
 
-/// Why a station refuses a call.
+/// Why a station refused a call.
 #[derive(Debug, Clone, Copy, PartialEq, Eq, Error)]
 pub enum StationRefusal {
-    /// The bus refused, or memory was refused.
+    /// The bus refused the call, or an allocation failed.
     #[error("{0}")]
     Bus(Refusal),
     /// The pass belongs to another station.
@@ -12,7 +12,7 @@ pub enum StationRefusal {
     WrongStation,
 }
 
-/// All 4,096 passes of the station have been given out.
+/// All 4,096 passes of the station are in use.
 #[derive(Debug, Clone, Copy, PartialEq, Eq, Error)]
 #[error("too many passes")]
 pub struct TooManyPasses;

@@ -27,7 +27,7 @@ use std::marker::Model;
 use std::sync::atomic::AtomicU8;
 use std::sync::{Condvar, Mutex, MutexGuard, Wait};
 
-/// The parts of a station before it has a name: the blanks of its roll and of its meter.
+/// The blanks from which a station is made: the blank of its roll and the blank of its meter.
 #[derive(Drop)]
 pub struct Blanks {
     pub roll: RollBlank,
@@ -35,7 +35,7 @@ pub struct Blanks {
 }
 
 impl Blanks {
-    /// Returns blanks for a bus of 1 to 16 interfaces, or `AllocError` if memory is refused.
+    /// Returns blanks for a bus of 1 to 16 interfaces, or `AllocError` if an allocation fails.
     pub fn new(alloc: Global, ifaces: usize) -> Result<Blanks, AllocError>
         requires { (0 < ifaces) × (ifaces ≤ 16) }
         ensures { IfOk result (λ b. b.meter.words ≡ ifaces) }
@@ -47,27 +47,26 @@ impl Blanks {
     }
 }
 
-/// A bus that several threads share. Contracts see it as its number and its configuration.
+/// A bus that several threads share. To a contract a station is its number and its configuration.
 ///
-/// Each call of a pass, and each `step`, is one event of the bus and holds the lock once. The lock
-/// holds a [`StationState`].
+/// Each call of a pass, and each `step`, is one event of the bus and takes the lock once. The lock protects a [`StationState`].
 #[derive(Drop)]
 pub struct Station<N: BusName, F: FaultSource + Drop, G: Gate + Drop, B: Journaled = RingBus> {
     pub(crate) state: Mutex<StationState<N, F, B>>,
-    /// Drivers wait here for frames to send and interfaces to restart.
+    /// Drivers wait here for frames to send and for interfaces to restart.
     pub(crate) work: Condvar,
     /// Receivers wait here for items.
     pub(crate) items: WaitQueues,
-    /// Sleeping threads wait here for the end.
+    /// Sleeping threads wait here for the station to stop.
     pub(crate) ends: Condvar,
-    /// Calls wait here for a place in the bus's tail.
+    /// Calls wait here for room in the bus's tail.
     pub(crate) room: Condvar,
-    /// The threads that take entries wait here.
+    /// Threads that take entries wait here.
     pub(crate) written: Condvar,
     pub(crate) gate: G,
     pub(crate) number: u8,
     config: BusConfig,
-    /// Whether a call met a full record, and whether this was reported.
+    /// Whether a call found the record full, and whether this was reported: `ROOM`, `FULL` or `REPORTED`.
     pub(crate) fullness: AtomicU8,
 }
 
@@ -81,13 +80,11 @@ impl<N: BusName, F: FaultSource + Drop, G: Gate + Drop, B: Journaled> Model
 }
 
 impl<N: BusName, F: FaultSource + Drop, G: Gate + Drop> Station<N, F, G> {
-    /// Returns a station with an empty record, named by `N` under this number. It has no plan of
-    /// faults: the source gives the verdicts of its attempts. It takes memory for all `limit`
-    /// entries.
+    /// Returns a station with an empty record, which `N` names under this number. It has no plan of faults: the source gives the
+    /// verdicts of its attempts. Memory for all `limit` entries is allocated here.
     ///
-    /// Returns `BadConfig` exactly if the configuration is outside the limits of a bus, or its
-    /// number of interfaces differs from that of the blanks. Returns `NoMemory` if memory was
-    /// refused.
+    /// Returns `BadConfig` exactly if the configuration is outside the limits of a bus, or if its number of interfaces differs from
+    /// the number in the blanks. Returns `NoMemory` if an allocation failed.
     pub fn new(
         alloc: Global,
         blanks: Blanks,
@@ -113,8 +110,8 @@ impl<N: BusName, F: FaultSource + Drop, G: Gate + Drop> Station<N, F, G> {
 }
 
 impl<N: BusName, F: FaultSource + Drop, G: Gate + Drop, B: Journaled> Station<N, F, G, B> {
-    /// Returns a station over a new bus with this configuration and this plan of faults, and the
-    /// scroll for the thread that takes its entries. Returns `NoMemory` if memory was refused.
+    /// Returns a station over a new bus with this configuration and this plan of faults, and the scroll for the thread that takes
+    /// its entries. Returns `NoMemory` if an allocation failed.
     pub fn over(
         alloc: Global,
         blanks: Blanks,
@@ -171,15 +168,15 @@ impl<N: BusName, F: FaultSource + Drop, G: Gate + Drop, B: Journaled> Station<N,
         self.config
     }
 
-    /// Locks the state. Since `new` it has the station's number and configuration, but no type
-    /// guarantees this: on any other state this method would wait for ever.
+    /// Locks the state. The state has had the station's number and configuration since `new`, but no type guarantees this: if it
+    /// had others, this method would wait forever.
     pub(crate) fn hold<R: Wait>(&self, rt: &R) -> MutexGuard<'_, StationState<N, F, B>>
         ensures { IsStateOf self.now (mutex_guard_value result) }
     {
         self.own(rt, self.state.lock(rt))
     }
 
-    /// Locks the state, which is the station's.
+    /// Returns this guard if it guards this station's state. For any other state the method waits forever.
     pub(crate) fn own<'s, R: Wait>(
         &'s self,
         rt: &R,
@@ -195,11 +192,9 @@ impl<N: BusName, F: FaultSource + Drop, G: Gate + Drop, B: Journaled> Station<N,
         unreachable!()
     }
 
-    /// Takes the lock for several calls. All other calls of the station wait until the hold is
-    /// dropped.
-    ///
-    /// On the bus of a long run it first waits for places in the tail: 512, or half of a smaller
-    /// tail. If a call of the hold still finds no place, it is refused with `NoMemory`.
+    /// Takes the lock for several calls. All other calls of the station wait until the hold is dropped. On the bus of a long run
+    /// this method first waits for room in the tail: 512 entries, or half of a smaller tail. If a call of the hold still finds no
+    /// room, it is refused with `NoMemory`.
     pub fn lock<R: Wait>(&self, rt: &R) -> Hold<'_, N, F, G, B>
         ensures { IsStateOf self.now result }
     {
@@ -213,8 +208,8 @@ impl<N: BusName, F: FaultSource + Drop, G: Gate + Drop, B: Journaled> Station<N,
         }
     }
 
-    /// Returns the next pass, which has made no call. Passes are numbered from 0; the 4,097th call
-    /// returns `TooManyPasses`.
+    /// Returns the next pass, which has made no calls. Passes are numbered from 0; the 4,097th call of `enter` returns
+    /// `TooManyPasses`.
     pub fn enter<R: Wait>(&self, rt: &R, alloc: Global) -> Result<Pass<N>, TooManyPasses>
         ensures ok { IfOk result (λ pass. IsNewPass F self.now pass) }
         ensures err { OnErr result (HadNoPassLeft F self.now) }
@@ -226,8 +221,7 @@ impl<N: BusName, F: FaultSource + Drop, G: Gate + Drop, B: Journaled> Station<N,
         })
     }
 
-    /// Returns the next pass, as `enter` does, but this pass keeps no list: its calls take no
-    /// memory.
+    /// Returns the next pass, like `enter`, but without a list of calls: its calls allocate nothing.
     pub fn enter_light<R: Wait>(&self, rt: &R) -> Result<Pass<N>, TooManyPasses>
         ensures ok { IfOk result (λ pass. IsNewLightPass F self.now pass) }
         ensures err { OnErr result (HadNoPassLeft F self.now) }
@@ -236,17 +230,17 @@ impl<N: BusName, F: FaultSource + Drop, G: Gate + Drop, B: Journaled> Station<N,
         Ok(Pass { slip, calls: None })
     }
 
-    /// Returns another gauge of the station's meter, which reads the error counters without the
-    /// lock. Returns `AllocError` if memory is refused.
+    /// Returns a new gauge of the station's meter. A gauge reads the error counters without the lock. Returns `AllocError` if an
+    /// allocation fails.
     pub fn gauge<R: Wait>(&self, rt: &R) -> Result<Gauge<N>, AllocError>
         ensures { IfOk result (λ g. g.number ≡ self.now.number) }
     {
         self.hold(rt).gauge()
     }
 
-    /// Carries out an event with a pass under the lock, and returns the bus's reply. The reply is
-    /// of the event's kind, or a refusal. Returns `Err` if the event did not reach the bus:
-    /// `NoMemory` if the pass's list of calls cannot grow, or else `WrongStation`.
+    /// Carries out an event for a pass under the lock, and returns the bus's reply. The reply suits the kind of event, or is a
+    /// refusal. Returns `Err` if the event did not reach the bus: `NoMemory` if the pass's list of calls cannot grow, or else
+    /// `WrongStation`.
     pub fn call<R: Wait>(
         &self,
         rt: &R,
@@ -274,12 +268,10 @@ impl<N: BusName, F: FaultSource + Drop, G: Gate + Drop, B: Journaled> Station<N,
         Ok(reply)
     }
 
-    /// Tries the frame that wins the bus: `Idle` if no live interface has a frame to send. Its
-    /// verdict is the source's for this attempt if that is a fault, else the plan's. Interfaces
-    /// whose count has run out are restarted.
+    /// Tries the frame that wins arbitration, or returns `Idle` if no live interface has a frame to send. A fault of the source for
+    /// this attempt takes precedence over the verdict of the plan. Interfaces whose restart count has run out are restarted.
     ///
-    /// Refusals, in this order: `NoMemory` if the pass's list of calls can't grow, `WrongStation`,
-    /// `RecordFull`.
+    /// Refusals, in order of precedence: `NoMemory` if the pass's list of calls cannot grow, `WrongStation`, `RecordFull`.
     pub fn step<R: Wait>(
         &self,
         rt: &R,
@@ -303,19 +295,19 @@ impl<N: BusName, F: FaultSource + Drop, G: Gate + Drop, B: Journaled> Station<N,
         reply.into_attempted().map_err(StationRefusal::Bus)
     }
 
-    /// Takes the rule with this text, whose interfaces have these names. It counts from the next
-    /// attempt on, after the rules that are left. It is no event, and wakes no thread.
+    /// Adds the rule that this text spells, for interfaces with these names. The rule applies from the next attempt on, after the
+    /// rules that are not used up. This is not an event of the bus, and it wakes no thread.
     ///
-    /// The errors, in this order: `BadRule` if a word is wrong, `UnknownInterface` if only a name
-    /// is unknown, `TooManyRules` if 64 rules are left, `NoMemory`. `NoMemory` also means that 64
-    /// MiB of lines wait for `take_changes`. An error changes nothing.
+    /// The errors, in order of precedence: `BadRule` if a word is wrong, `UnknownInterface` if only a name is unknown,
+    /// `TooManyRules` if 64 rules are not used up, `NoMemory`. `NoMemory` can also mean that 64 MiB of lines are waiting for
+    /// `take_changes`. An error changes nothing.
     pub fn inject<R: Wait>(&self, rt: &R, text: &[u8], names: &Names) -> Result<(), RuleRefusal>
         ensures { InjectsIn F self.now names.now text.now result }
     {
         self.hold(rt).inject(text, names)
     }
 
-    /// Returns the number of rules that are left, at most 64.
+    /// Returns the number of rules that are not used up, at most 64.
     pub fn rules<R: Wait>(&self, rt: &R) -> usize
         ensures rules { InSome F self.now (λ held. result ≡ length held.plan.rules) }
         ensures few { result ≤ 64 }
@@ -323,21 +315,19 @@ impl<N: BusName, F: FaultSource + Drop, G: Gate + Drop, B: Journaled> Station<N,
         self.hold(rt).rules()
     }
 
-    /// Ends all rules. The script lines of the plan remain.
+    /// Ends all rules. The script lines of the plan stay in force.
     pub fn end_rules<R: Wait>(&self, rt: &R) {
         self.hold(rt).end_rules();
     }
 
-    /// Drops the waiting lines about the rules, and keeps none from now on. Without a thread that
-    /// takes them the lines would accumulate.
+    /// Drops the lines about the rules, and keeps no such lines from now on. If no thread took them, they would accumulate.
     pub fn keep_no_changes<R: Wait>(&self, rt: &R) {
         self.hold(rt).keep_no_changes();
     }
 
-    /// Takes out the lines about the rules since the start or the last such call, as
-    /// [`RunFaults`](can_rules::RunFaults) reads them. There is a line for each rule taken and for
-    /// each end of all rules. Each line has the number of the next attempt that tries a frame.
-    /// Returns `AllocError` if memory is refused; then the lines remain.
+    /// Takes out the lines about the rules since the start or the last call of this method, in the form that
+    /// [`RunFaults`](can_rules::RunFaults) reads. There is one line for each rule taken and for each end of all rules, with the
+    /// number of the next attempt that tries a frame. Returns `AllocError` if an allocation fails; the lines are then kept.
     pub fn take_changes<R: Wait>(&self, rt: &R) -> Result<Vec<u8>, AllocError>
         ensures { IfOk result (λ lines.
             InSome F self.now (λ held. lines.items ≡ text_of_lines held.changes)) }
@@ -345,13 +335,10 @@ impl<N: BusName, F: FaultSource + Drop, G: Gate + Drop, B: Journaled> Station<N,
         self.hold(rt).take_changes()
     }
 
-    /// Takes passes and gauges back, and returns the record, or the other rest of the bus. It is a
-    /// legal history of the station's configuration. Its entries can be marked with passes so that
-    /// the calls of each returned pass are its entries, in order. The gauges have seen publications
-    /// of that history.
-    ///
-    /// Returns `WrongStation` exactly if a pass or gauge belongs to another station; then nothing
-    /// is returned.
+    /// Takes passes and gauges back, and returns the `Left` of the bus (the record, if the bus keeps one). The entries of the bus
+    /// are a legal history for the station's configuration. They can be assigned to passes so that the calls of each returned pass
+    /// are its entries, in order. Every counter value that a gauge read was published during this history. Returns `WrongStation`
+    /// exactly if a pass or a gauge belongs to another station; nothing is returned then.
     pub fn settle<R: Wait>(
         self,
         rt: &R,
@@ -366,10 +353,9 @@ impl<N: BusName, F: FaultSource + Drop, G: Gate + Drop, B: Journaled> Station<N,
         self.into_state(rt).settle(passes, gauges)
     }
 
-    /// Takes the scroll back as well. The scroll has the entries that the bus handed out, from the
-    /// same history that settles all passes. So its entries are the first entries of a long run.
-    ///
-    /// Also returns `WrongStation` exactly if the scroll belongs to another station.
+    /// Like `settle`, but also takes the scroll back. The scroll has the entries that the bus handed out, and they belong to the
+    /// same history. So its entries are the first entries of a long run. Also returns `WrongStation` exactly if the scroll belongs
+    /// to another station.
     pub fn settle_scroll<R: Wait>(
         self,
         rt: &R,
@@ -387,7 +373,7 @@ impl<N: BusName, F: FaultSource + Drop, G: Gate + Drop, B: Journaled> Station<N,
         self.into_state(rt).settle_scroll(scroll, passes, gauges)
     }
 
-    /// Returns the state that the lock kept, which is the station's state, as in `own`.
+    /// Takes the state out of the lock. Like `own`, it returns only this station's state.
     fn into_state<R: Wait>(self, rt: &R) -> StationState<N, F, B>
         ensures { IsStateOf self result }
     {

@@ -39,13 +39,12 @@ use std::marker::Model;
 /// The largest number of passes of a station.
 const MAX_PASSES: u32 = 4096;
 
-/// The state under a station's lock: the bus, the source of its verdicts, the plan of its faults,
-/// the lines about its rules, the roll, and the keeper of its meter.
+/// The state under a station's lock: the bus, the source of its verdicts, the plan of its faults, the lines about its rules, the
+/// roll, and the keeper of its meter.
 ///
-/// Whenever the lock is free, four things hold. The record is a legal history. Its entries can be
-/// marked with passes so that the roll's list of each pass is the entries marked with it. The
-/// keeper has published each change of an interface's error counters. The scroll got what the bus
-/// has handed out.
+/// Four facts hold whenever the lock is free. The record is a legal history. Its entries can be assigned to passes so that the
+/// roll's list of each pass is the list of its entries. The keeper has published each change of an interface's error counters. The
+/// scroll contains everything that the bus has handed out.
 #[derive(Drop)]
 pub struct StationState<N: BusName, F: FaultSource + Drop, B: Journaled = RingBus> {
     pub(crate) bus: B,
@@ -92,8 +91,7 @@ impl<N: BusName, F: FaultSource + Drop, B: Journaled> Model for StationState<N, 
 }
 
 impl<N: BusName, F: FaultSource + Drop> StationState<N, F> {
-    /// Returns the record: a legal history whose entries can be marked with the passes that made
-    /// them.
+    /// Returns the record. It is a legal history whose entries can be assigned to the passes that made them.
     pub fn record(&self) -> &Record
         ensures config { result.now.config ≡ self.now.journal.config }
         ensures history { result.now.history ≡ self.now.journal.history }
@@ -105,7 +103,7 @@ impl<N: BusName, F: FaultSource + Drop> StationState<N, F> {
 }
 
 impl<N: BusName, F: FaultSource + Drop, B: Journaled> StationState<N, F, B> {
-    /// Returns the state of a station whose bus has no entry, and its scroll.
+    /// Returns the state of a station whose bus has no entries, and the station's scroll.
     pub(crate) fn new(
         alloc: Global,
         blank: RollBlank,
@@ -158,8 +156,7 @@ impl<N: BusName, F: FaultSource + Drop, B: Journaled> StationState<N, F, B> {
         self.roll.number() == number && self.config == *config
     }
 
-    /// Returns the number of entries. They are a legal history, and can be marked with the passes
-    /// that made them.
+    /// Returns the number of entries. The entries are a legal history, and can be assigned to the passes that made them.
     pub fn count(&self) -> u64
         ensures count { result ≡ length self.now.journal.history }
         ensures legal { IsLegal self.now.journal.config self.now.journal.history }
@@ -176,8 +173,8 @@ impl<N: BusName, F: FaultSource + Drop, B: Journaled> StationState<N, F, B> {
         &self.keeper
     }
 
-    /// Returns the next pass, numbered from 0, which has made no call. Returns `TooManyPasses`
-    /// exactly if there are 4,096.
+    /// Returns the next pass, which has made no calls. Passes are numbered from 0. Returns `TooManyPasses` exactly if there are
+    /// 4,096 passes.
     pub fn enter(&mut self) -> Result<Slip<N>, TooManyPasses>
         ensures ok { IfOk result (λ slip. HasEntered self.old slip self.new) }
         ensures err { OnErr result (NoPassLeft self.old × (self.new ≡ self.old)) }
@@ -188,7 +185,7 @@ impl<N: BusName, F: FaultSource + Drop, B: Journaled> StationState<N, F, B> {
         Ok(self.roll.enter())
     }
 
-    /// Returns another gauge of the station's meter, or `AllocError` if memory is refused.
+    /// Returns a new gauge of the station's meter, or `AllocError` if an allocation fails.
     pub fn gauge(&mut self) -> Result<Gauge<N>, AllocError>
         ensures same { self.new ≡ self.old }
         ensures gauge { IfOk result (λ g. g.number ≡ self.old.number) }
@@ -196,9 +193,9 @@ impl<N: BusName, F: FaultSource + Drop, B: Journaled> StationState<N, F, B> {
         self.spare.another()
     }
 
-    /// Carries out an event for the pass of this slip. The bus gives its reply, and both are noted
-    /// in the record and in the pass's list. Changes of the error counters are published. Returns
-    /// `None` if the bus has no place for an entry until some are taken; then nothing changes.
+    /// Carries out an event for the pass of this slip, and returns the reply of the bus. The event and its reply are noted in the
+    /// record and in the pass's list, and changes of the error counters are published. Returns `None` and changes nothing if the
+    /// bus has no room for an entry until some entries are taken.
     pub fn call(&mut self, alloc: Global, slip: &mut Slip<N>, event: &Event) -> Option<Reply>
         requires { slip.old.number ≡ self.old.number }
         ensures carried { IfSome result (λ r.
@@ -244,9 +241,8 @@ impl<N: BusName, F: FaultSource + Drop, B: Journaled> StationState<N, F, B> {
         Some(outcome)
     }
 
-    /// Receives an item into the caller's `room` for the pass of this slip, as `call` does, and
-    /// returns whether there was one. If there was none, `room` does not change. No error counter
-    /// changes. Returns `None` as `call` does.
+    /// Receives an item into the caller's `room` for the pass of this slip, like `call`, and returns whether there was an item. If
+    /// there was none, `room` does not change. No error counter changes. Returns `None` in the same case as `call`.
     pub fn receive_into(
         &mut self,
         slip: &mut Slip<N>,
@@ -270,9 +266,9 @@ impl<N: BusName, F: FaultSource + Drop, B: Journaled> StationState<N, F, B> {
         Some(outcome)
     }
 
-    /// Carries out an attempt at a moment, and returns its verdict and the reply. A fault of the
-    /// source for this number comes first, then the verdict of the plan, whose rules count the
-    /// attempt. Returns `None` as `call` does; then neither was asked.
+    /// Carries out an attempt at this moment, and returns its verdict and the reply. A fault of the source for this attempt takes
+    /// precedence over the verdict of the plan, whose rules count the attempt. Returns `None` in the same case as `call`; source
+    /// and plan are not asked then.
     pub fn step(
         &mut self,
         alloc: Global,
@@ -306,10 +302,10 @@ impl<N: BusName, F: FaultSource + Drop, B: Journaled> StationState<N, F, B> {
         Some((verdict, reply))
     }
 
-    /// Takes the rule with this text, whose interfaces have these names. It applies from the next
-    /// attempt on, after the rules that are left. The errors, in this order: `BadRule`,
-    /// `UnknownInterface`, `TooManyRules` if 64 are left, `NoMemory`. `NoMemory` also means that 64
-    /// MiB of lines wait to be taken. An error changes nothing.
+    /// Adds the rule that this text spells, for interfaces with these names. The rule applies from the next attempt on, after the
+    /// rules that are not used up. The errors, in order of precedence: `BadRule`, `UnknownInterface`, `TooManyRules` if 64 rules
+    /// are not used up, `NoMemory`. `NoMemory` can also mean that 64 MiB of lines are waiting to be taken. An error changes
+    /// nothing.
     pub fn inject(&mut self, text: &[u8], names: &Names) -> Result<(), RuleRefusal>
         ensures injected { Injected names.now text.now self.old.plan result self.new.plan }
         ensures takes { TakesRule text.now self.old result self.new }
@@ -319,7 +315,7 @@ impl<N: BusName, F: FaultSource + Drop, B: Journaled> StationState<N, F, B> {
         self.changes.give(&mut self.plan, rule, attempt, text)
     }
 
-    /// Returns the number of rules that are left.
+    /// Returns the number of rules that are not used up.
     pub fn rules(&self) -> usize
         ensures rules { result ≡ length self.now.plan.rules }
         ensures few { result ≤ 64 }
@@ -327,7 +323,7 @@ impl<N: BusName, F: FaultSource + Drop, B: Journaled> StationState<N, F, B> {
         self.plan.rules()
     }
 
-    /// Ends all rules. The script lines of the plan remain.
+    /// Ends all rules. The script lines of the plan stay in force.
     pub fn end_rules(&mut self)
         ensures { self.new ≡ after_end self.old }
     {
@@ -338,16 +334,15 @@ impl<N: BusName, F: FaultSource + Drop, B: Journaled> StationState<N, F, B> {
         self.changes.end(self.bus.next_attempt());
     }
 
-    /// Drops the waiting lines about the rules, and keeps none from now on, since no thread takes
-    /// them.
+    /// Drops the lines about the rules, and keeps no such lines from now on. It is for a station without a thread that takes them.
     pub fn keep_no_changes(&mut self)
         ensures { self.new ≡ with_plan_lines self.old.plan never_lines self.old }
     {
         self.changes.keep_none();
     }
 
-    /// Takes out the lines about the rules since the start or the last such call. Returns
-    /// `AllocError` if memory is refused; then the lines remain.
+    /// Takes out the lines about the rules since the start or the last call of this method. Returns `AllocError` if an allocation
+    /// fails; the lines are then kept.
     pub fn take_changes(&mut self) -> Result<Vec<u8>, AllocError>
         ensures taken { IfOk result (λ lines. lines.items ≡ text_of_lines self.old.changes) }
         ensures after { OnOk result (self.new
@@ -357,7 +352,7 @@ impl<N: BusName, F: FaultSource + Drop, B: Journaled> StationState<N, F, B> {
         self.changes.take()
     }
 
-    /// Returns the counts of a socket and of an interface.
+    /// Returns the statistics of a socket and of an interface.
     pub(crate) fn stats(
         &self,
         socket: SocketId,
@@ -368,7 +363,7 @@ impl<N: BusName, F: FaultSource + Drop, B: Journaled> StationState<N, F, B> {
         (self.bus.socket_stats(socket), self.bus.iface_stats(iface))
     }
 
-    /// Returns the number of items that wait on this socket, or 0 if it is not open.
+    /// Returns the number of items that wait on this socket, or 0 if the socket is not open.
     pub(crate) fn waiting(&self, socket: SocketId) -> u64
         ensures { result ≡ items_waiting_at self.now.journal socket.0 }
     {
@@ -378,8 +373,8 @@ impl<N: BusName, F: FaultSource + Drop, B: Journaled> StationState<N, F, B> {
         }
     }
 
-    /// Returns why a wait for an item of this socket ends. If it does not end, the thread is noted
-    /// as waiting.
+    /// Returns why a wait for an item of this socket ends, or `None` if it continues. If it continues, the thread is noted as
+    /// waiting.
     pub(crate) fn frame_wake_or_sleep(&mut self, socket: SocketId) -> Option<WakeReason>
         ensures wake { result ≡ frame_wake self.old socket.0 }
         ensures same { self.new ≡ self.old }
@@ -391,8 +386,7 @@ impl<N: BusName, F: FaultSource + Drop, B: Journaled> StationState<N, F, B> {
         wake
     }
 
-    /// Returns the queues in which a wait for an item may be over. From now on no thread counts as
-    /// waiting there.
+    /// Returns the queues in which a wait for an item may be over. These queues are then noted as having no waiting threads.
     pub(crate) fn take_woken(&mut self) -> QueueSet
         ensures { self.new ≡ self.old }
     {
@@ -416,7 +410,7 @@ impl<N: BusName, F: FaultSource + Drop, B: Journaled> StationState<N, F, B> {
         woken
     }
 
-    /// Returns why a wait for an item of this socket ends, if it does.
+    /// Returns why a wait for an item of this socket ends, or `None` if it continues.
     pub(crate) fn frame_wake(&self, socket: SocketId) -> Option<WakeReason>
         ensures { result ≡ frame_wake self.now socket.0 }
     {
@@ -427,7 +421,7 @@ impl<N: BusName, F: FaultSource + Drop, B: Journaled> StationState<N, F, B> {
         }
     }
 
-    /// Returns the interface and the frame that the next attempt tries, if there is one.
+    /// Returns the interface and the frame that the next attempt tries, or `None` if no live interface has a frame to send.
     pub(crate) fn next_head(&self) -> Option<(Iface, Frame)>
         ensures { result ≡ next_head self.now.journal.config self.now.journal.history }
     {
@@ -442,14 +436,14 @@ impl<N: BusName, F: FaultSource + Drop, B: Journaled> StationState<N, F, B> {
         self.bus.next_winner().is_some() || self.bus.is_counting()
     }
 
-    /// Returns whether the bus has nine tenths or more of the entries that it may have.
+    /// Returns whether the bus has at least nine tenths of the entries that its limit allows.
     pub(crate) fn is_nearly_full(&self) -> bool
         ensures { IsTrue result ↔ IsNearlyFull self.now.journal }
     {
         self.bus.len() >= u64::from(self.config.limit - self.config.limit / 10)
     }
 
-    /// Returns why a wait for work ends, if it does.
+    /// Returns why a wait for work ends, or `None` if it continues.
     pub(crate) fn work_wake(&self) -> Option<WakeReason>
         ensures { result ≡ work_wake self.now }
     {
@@ -460,7 +454,7 @@ impl<N: BusName, F: FaultSource + Drop, B: Journaled> StationState<N, F, B> {
         }
     }
 
-    /// Returns the signal of a stop to all waiting threads, if the station was stopped.
+    /// Returns `Stopped` if the station was stopped, or `None` otherwise.
     fn stopped_wake(&self) -> Option<WakeReason>
         ensures { result ≡ stopped_wake self.now.stopped }
     {
@@ -471,21 +465,21 @@ impl<N: BusName, F: FaultSource + Drop, B: Journaled> StationState<N, F, B> {
         }
     }
 
-    /// Returns whether waits end.
+    /// Returns whether the station was stopped, so that all waits end.
     pub(crate) fn is_stopped(&self) -> bool
         ensures { result ≡ self.now.stopped }
     {
         self.stopped
     }
 
-    /// Ends all waits, now and from now on.
+    /// Stops the station: all waits end, now and in the future.
     pub(crate) fn stop(&mut self)
         ensures { self.new ≡ record self.old { stopped = true } }
     {
         self.stopped = true;
     }
 
-    /// Returns the rest of the bus, and takes all these passes and gauges back. Returns
+    /// Returns the `Left` of the bus (the record, if the bus keeps one), and takes these passes and gauges back. Returns
     /// `WrongStation` exactly if one of them belongs to another station.
     pub fn settle(
         self,
@@ -507,9 +501,8 @@ impl<N: BusName, F: FaultSource + Drop, B: Journaled> StationState<N, F, B> {
         settle_bus(bus, roll, keeper, passes, gauges)
     }
 
-    /// Returns the rest of the bus, as `settle` does, and also takes the scroll back. The scroll
-    /// has the entries that the bus handed out: the first entries of its history. Also returns
-    /// `WrongStation` exactly if the scroll belongs to another station.
+    /// Like `settle`, but also takes the scroll back. The scroll has the entries that the bus handed out, which are the first
+    /// entries of its history. Also returns `WrongStation` exactly if the scroll belongs to another station.
     pub fn settle_scroll(
         self,
         scroll: Scroll<N>,
@@ -538,8 +531,8 @@ impl<N: BusName, F: FaultSource + Drop, B: Journaled> StationState<N, F, B> {
     }
 }
 
-/// Returns the rest of a bus, and takes all these passes and gauges back. Returns `WrongStation`
-/// exactly if one of them belongs to another station than the roll.
+/// Returns the `Left` of a bus (the record, if the bus keeps one), and takes these passes and gauges back. Returns `WrongStation`
+/// exactly if one of them belongs to a station other than the roll's.
 fn settle_bus<N: BusName, B: Journaled>(
     bus: B,
     mut roll: Roll<N>,
@@ -570,8 +563,8 @@ fn settle_bus<N: BusName, B: Journaled>(
     })
 }
 
-/// Returns the verdict of the bus's next attempt, which has this number. The source has this
-/// verdict for it, and the plan counts the attempt.
+/// Returns the verdict of the bus's next attempt, which has the number `attempt`. `source` is the source's verdict for that
+/// attempt. The rules of the plan count the attempt.
 fn next_verdict<B: Journaled>(plan: &mut Plan, bus: &B, attempt: u64, source: Verdict) -> Verdict
     ensures verdict { result ≡ given source plan.old attempt (next_try (B.journal bus.now)) }
     ensures after { plan.new ≡ plan_after source plan.old attempt (next_try (B.journal bus.now)) }
@@ -582,8 +575,8 @@ fn next_verdict<B: Journaled>(plan: &mut Plan, bus: &B, attempt: u64, source: Ve
     }
 }
 
-/// Carries out an event for the pass of a slip, on a bus that has a place for it. The event is
-/// noted in the roll, and changes of the error counters are published.
+/// Carries out an event for the pass of a slip. The bus must have room for an entry. The event is noted in the roll, and changes of
+/// the error counters are published.
 fn answer_and_book<N: BusName, B: Journaled>(
     alloc: Global,
     bus: &mut B,
@@ -615,7 +608,7 @@ fn answer_and_book<N: BusName, B: Journaled>(
     reply
 }
 
-/// Notes a call of a slip's pass, if it left an entry.
+/// Notes a call of a slip's pass in the roll if the call left an entry.
 #[inline(always)]
 fn book<N: RollName>(roll: &mut Roll<N>, slip: &mut Slip<N>, event: &Event, reply: &Reply)
     requires { slip.old.number ≡ roll.old.number }

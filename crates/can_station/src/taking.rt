@@ -14,22 +14,22 @@ use can_bus::Journaled;
 use can_fault::FaultSource;
 use can_roll::Scroll;
 
-/// The number of places for which a call waits. A hold of a server makes fewer entries.
+/// The number of free places in the tail for which a call waits. While a server holds the lock, it makes fewer entries.
 const HOLD_PLACES: usize = 512;
 
-/// The threads that take entries, as far as a station knows them.
+/// What a station knows about the threads that take entries.
 #[derive(Drop)]
 pub(crate) struct Taking {
     /// The number of entries taken so far.
     taken: u64,
-    /// The smallest number of entries for which a thread waits, if one waits.
+    /// The smallest number of entries for which a thread waits, or `None` if no thread waits.
     wanted: Option<u64>,
-    /// Whether no more entries will be taken.
+    /// Whether `end_entries` was called, so that no more entries will be taken.
     is_over: bool,
 }
 
 impl Taking {
-    /// Returns a value for no entries taken and no waiting thread.
+    /// Returns the initial value: no entries are taken and no thread waits.
     pub(crate) fn none() -> Taking {
         Taking {
             taken: 0,
@@ -47,22 +47,21 @@ impl Taking {
     }
 }
 
-// Places for entries, and the threads that take entries. Contracts see none of this.
+// The methods that concern free places in the tail and the threads that take entries. Contracts see none of this.
 impl<N: BusName, F: FaultSource + Drop, B: Journaled> StationState<N, F, B> {
     /// Returns the number of entries that were not yet taken.
     fn held_back(&self) -> u64 {
         self.bus.len().saturating_sub(self.taking.taken)
     }
 
-    /// Returns whether calls wait for a place: there are fewer than 512 places, and fewer than
-    /// entries to take.
+    /// Returns whether calls have to wait for room. They wait if fewer than 512 places are free and more entries wait to be taken
+    /// than places are free. After `end_entries` they never wait.
     pub(crate) fn is_short(&self) -> bool {
         let places = self.bus.places();
         places < HOLD_PLACES && (places as u64) < self.held_back() && !self.taking.is_over
     }
 
-    /// Returns whether a driver continues to wait: there is no work, or there are too few places
-    /// for it.
+    /// Returns whether a driver has to keep waiting, because there is no work or too little room in the bus's tail.
     pub(crate) fn is_idle_or_short(&self) -> bool
         ensures { result ≡ false → is_none (work_wake self.now) ≡ false }
     {
@@ -73,8 +72,7 @@ impl<N: BusName, F: FaultSource + Drop, B: Journaled> StationState<N, F, B> {
         }
     }
 
-    /// Returns whether a thread continues to wait for this many entries. If so, it notes the thread
-    /// as waiting.
+    /// Returns whether a thread has to keep waiting for this many entries. If so, the thread is noted as waiting.
     pub(crate) fn waits_for(&mut self, many: u64) -> bool
         ensures { self.new ≡ self.old }
     {
@@ -85,8 +83,7 @@ impl<N: BusName, F: FaultSource + Drop, B: Journaled> StationState<N, F, B> {
         waits
     }
 
-    /// Returns whether to wake the threads that wait for entries. From now on no thread counts as
-    /// waiting.
+    /// Returns whether to wake the threads that wait for entries. If so, no thread is noted as waiting from then on.
     pub(crate) fn take_awaited(&mut self) -> bool
         ensures { self.new ≡ self.old }
     {
@@ -100,7 +97,7 @@ impl<N: BusName, F: FaultSource + Drop, B: Journaled> StationState<N, F, B> {
         is_over
     }
 
-    /// Returns whether no more entries will be taken.
+    /// Returns whether `end_entries` was called.
     pub(crate) fn are_entries_over(&self) -> bool {
         self.taking.is_over
     }
@@ -112,9 +109,8 @@ impl<N: BusName, F: FaultSource + Drop, B: Journaled> StationState<N, F, B> {
         self.taking.is_over = true;
     }
 
-    /// Hands out the entries that were not yet handed out, in order, to the holder of the scroll,
-    /// in a block without entries. The block also gets the lines about the rules, unless memory is
-    /// refused.
+    /// Hands out all entries that were not yet handed out to the holder of the scroll, in order, in an empty block. The block also
+    /// gets the lines about the rules, unless an allocation fails.
     pub(crate) fn take_entries(&mut self, scroll: &mut Scroll<N>, block: &mut Block)
         requires own { scroll.old.number ≡ self.old.number }
         requires empty { block.old.entries.entries ≡ [] }

@@ -4,11 +4,11 @@ use can_bus::SocketId;
 use std::array;
 use std::sync::Condvar;
 
-/// The number of queues, which is the number of sockets that can be open at once.
+/// The number of queues. It equals the number of sockets that can be open at once.
 pub(crate) const QUEUES: usize = 64;
 
-/// The queues in which receivers wait for items. A call wakes only the receivers whose sockets got
-/// an item. Each socket has a queue, which it shares with the sockets opened 64 before or after it.
+/// The queues in which receivers wait for items. A call wakes only receivers whose socket got an item. Each socket has a queue.
+/// Sockets whose numbers differ by a multiple of 64 share a queue.
 #[derive(Drop)]
 pub(crate) struct WaitQueues {
     queues: [Condvar; QUEUES],
@@ -38,7 +38,7 @@ impl WaitQueues {
         }
     }
 
-    /// Wakes all threads.
+    /// Wakes the threads in all queues.
     pub(crate) fn wake_all(&self) {
         for queue in &self.queues {
             queue.notify_all();
@@ -46,14 +46,14 @@ impl WaitQueues {
     }
 }
 
-/// Returns the place of a socket's queue.
+/// Returns the place of a socket's queue in the array.
 fn place_of(socket: SocketId) -> usize
     ensures { result < 64 }
 {
     socket.0 as usize % QUEUES
 }
 
-/// A set of queues: bit 0 is the first.
+/// A set of queues. Bit 0 is the first queue.
 #[derive(Debug, Clone, Copy, PartialEq, Eq)]
 pub(crate) struct QueueSet(u64);
 
@@ -75,7 +75,7 @@ impl QueueSet {
     }
 }
 
-/// The threads that wait in a queue.
+/// The threads that wait in one queue.
 #[derive(Debug, Clone, Copy, PartialEq, Eq)]
 pub(crate) enum Waiter {
     Nobody,

@@ -15,20 +15,19 @@ use std::sync::Wait;
 use std::sync::atomic::Ordering::SeqCst;
 use std::time::{Clock, Duration};
 
-/// No call met a full record.
+/// No call found the record full.
 pub(crate) const ROOM: u8 = 0;
 
-/// A call met a full record.
+/// A call found the record full.
 const FULL: u8 = 1;
 
-/// A call met a full record, and this was reported.
+/// A call found the record full, and this was reported.
 const REPORTED: u8 = 2;
 
 /// Why a wait ended.
 #[derive(Debug, Clone, Copy, PartialEq, Eq)]
 pub enum WakeReason {
-    /// There is something to do: an item or a frame waits, or an interface counts towards its
-    /// restart.
+    /// There is something to do: an item is queued, a frame waits to be sent, or an interface counts towards its restart.
     Ready,
     /// The socket is not open.
     Closed,
@@ -36,14 +35,14 @@ pub enum WakeReason {
     Stopped,
 }
 
-/// Changes by calls that can matter to waiting threads.
+/// The changes made by calls that can matter to waiting threads.
 #[derive(Debug, Clone, Copy, PartialEq, Eq)]
 pub(crate) struct Wakeups {
-    /// There may be a frame to send.
+    /// Whether there may be a new frame to send.
     has_work: bool,
-    /// There may be an item, or a socket is closed.
+    /// Whether a socket may have a new item or was closed.
     has_items: bool,
-    /// A call met a full record.
+    /// Whether a call found the record full.
     is_full: bool,
 }
 
@@ -57,10 +56,9 @@ impl Wakeups {
         }
     }
 
-    /// Adds the possible changes by a call. Only `send` adds a frame to send. Attempts and restarts
-    /// add items, and `close` closes a socket. An interface begins to count towards its restart
-    /// when a frame is tried, and the `send` of that frame has woken the driver. An interface that
-    /// goes down only reduces the work.
+    /// Adds the changes that a call may have made. Only `send` adds a frame to send. Attempts and restarts add items, and `close`
+    /// closes a socket. An interface begins to count towards its restart when a frame is tried; the `send` of that frame has
+    /// already woken the driver. Taking an interface down only reduces the work.
     pub(crate) fn add(&mut self, event: &Event, reply: &Reply) {
         match (event, reply) {
             (_, Reply::Refused(why)) => self.add_refusal(*why),
@@ -81,7 +79,7 @@ impl Wakeups {
         }
     }
 
-    /// Adds a refusal.
+    /// Notes a refusal if it means that the record is full.
     pub(crate) fn add_refusal(&mut self, why: Refusal) {
         if why == Refusal::RecordFull {
             self.is_full = true;
@@ -90,7 +88,7 @@ impl Wakeups {
 }
 
 impl Wakeups {
-    /// Returns the queues of the threads that have an item, or whose socket is closed.
+    /// Returns the queues of threads whose socket has an item or is closed.
     pub(crate) fn woken<N: BusName, F: FaultSource + Drop, B: Journaled>(
         self,
         state: &mut StationState<N, F, B>,
@@ -105,10 +103,10 @@ impl Wakeups {
     }
 }
 
-// Methods of a station that are no events. Each of them may wait for the lock.
+// Methods of a station that are not events of the bus. Each of them may wait for the lock.
 impl<N: BusName, F: FaultSource + Drop, G: Gate + Drop, B: Journaled> Station<N, F, G, B> {
-    /// Returns the counts of a socket and of an interface, both of one moment. The first is `None`
-    /// exactly if the socket is not open, the second exactly if there is no such interface.
+    /// Returns the statistics of a socket and of an interface, both taken at the same time. The first is `None` exactly if the
+    /// socket is not open. The second is `None` exactly if there is no such interface.
     pub fn stats<R: Wait>(
         &self,
         rt: &R,
@@ -120,18 +118,16 @@ impl<N: BusName, F: FaultSource + Drop, G: Gate + Drop, B: Journaled> Station<N,
         self.hold(rt).stats(socket, iface)
     }
 
-    /// Waits until an item is queued to the socket. Returns `Closed` if the socket is not open,
-    /// `Ready` if an item is queued, or `Stopped` after `stop`. Otherwise it sleeps until a call
-    /// changes this.
+    /// Waits until an item is queued on the socket. Returns `Ready` if an item is queued, `Closed` if the socket is not open, or
+    /// `Stopped` after `stop`. Otherwise it sleeps until a call changes one of these conditions.
     pub fn wait_frame<R: Wait>(&self, rt: &R, socket: SocketId) -> WakeReason
         ensures { InSome F self.now (λ held. frame_wake held socket.0 ≡ Some result) }
     {
         self.wait_items(rt, socket).0
     }
 
-    /// Waits as `wait_frame` does, and returns the number of items queued to the socket at that
-    /// moment. There is at least one if the result is `Ready`, and none if it is `Closed` or
-    /// `Stopped`.
+    /// Waits like `wait_frame`, and also returns the number of items queued on the socket at the end of the wait. The number is at
+    /// least one if the result is `Ready`, and 0 if it is `Closed` or `Stopped`.
     pub fn wait_items<R: Wait>(&self, rt: &R, socket: SocketId) -> (WakeReason, u64)
         ensures { InSome F self.now (λ held. EndsItemWait held socket.0 result) }
     {
@@ -149,9 +145,8 @@ impl<N: BusName, F: FaultSource + Drop, G: Gate + Drop, B: Journaled> Station<N,
         (wake, state.waiting(socket))
     }
 
-    /// Waits until a live interface has a frame to send, or an interface counts towards its
-    /// restart. Returns `Ready` in that case, or `Stopped` after `stop`. Otherwise it sleeps until
-    /// a call changes this.
+    /// Waits until a live interface has a frame to send, or an interface counts towards its restart. Returns `Ready` in these
+    /// cases, or `Stopped` after `stop`. Otherwise it sleeps until a call changes one of these conditions.
     pub fn wait_work<R: Wait>(&self, rt: &R) -> WakeReason
         ensures { InSome F self.now (λ held. work_wake held ≡ Some result) }
     {
@@ -169,9 +164,8 @@ impl<N: BusName, F: FaultSource + Drop, G: Gate + Drop, B: Journaled> Station<N,
         wake
     }
 
-    /// Waits as `wait_work` does, and keeps the lock for the driver's steps. Returns `None` after
-    /// `stop` if there is no work. If there is work, it also waits for places in the bus's tail, as
-    /// `lock` does.
+    /// Waits like `wait_work`, and keeps the lock for the driver's steps. Returns `None` after `stop` if there is no work. If there
+    /// is work, it also waits for room in the bus's tail, like `lock`.
     pub fn hold_work<R: Wait>(&self, rt: &R) -> Option<Hold<'_, N, F, G, B>>
         ensures state { IfSome result (λ h. IsStateOf self.now h) }
         ensures work { IfSome result (λ h. has_work h.journal ≡ true) }
@@ -196,8 +190,8 @@ impl<N: BusName, F: FaultSource + Drop, G: Gate + Drop, B: Journaled> Station<N,
         })
     }
 
-    /// Waits this long, or until `stop`. If the duration is 0, it returns at once, without the
-    /// lock. No call of a pass ends the wait.
+    /// Waits for this duration or until `stop`. If the duration is 0, it returns at once without taking the lock. Calls of passes
+    /// do not end the wait.
     pub fn rest<R: Wait + Clock>(&self, rt: &R, duration: Duration) {
         if !duration.is_zero() {
             self.ends
@@ -207,8 +201,7 @@ impl<N: BusName, F: FaultSource + Drop, G: Gate + Drop, B: Journaled> Station<N,
         }
     }
 
-    /// Returns whether a call was refused because the record is full. It returns true only once, to
-    /// the first thread that asks, and never waits.
+    /// Returns true if a call was refused because the record is full, but only the first time that it is asked. It never waits.
     pub fn became_full(&self) -> bool {
         self.fullness
             .compare_exchange(FULL, REPORTED, SeqCst, SeqCst)
@@ -220,7 +213,7 @@ impl<N: BusName, F: FaultSource + Drop, G: Gate + Drop, B: Journaled> Station<N,
         self.fullness.load(SeqCst) != ROOM
     }
 
-    /// Ends all waits, now and from now on. The replies to calls do not change.
+    /// Ends all waits, now and in the future. The replies to calls do not change.
     pub fn stop<R: Wait>(&self, rt: &R) {
         self.state.lock(rt).stop();
         self.work.notify_all();
@@ -228,8 +221,8 @@ impl<N: BusName, F: FaultSource + Drop, G: Gate + Drop, B: Journaled> Station<N,
         self.ends.notify_all();
     }
 
-    /// Wakes the threads with new work: the threads that wait for work, and the threads that wait
-    /// for items in these queues. The lock has to be free.
+    /// Wakes the threads that wait for work if there may be new work, and the threads that wait for items in these queues. The lock
+    /// has to be free.
     pub(crate) fn wake(&self, wakeups: Wakeups, woken: QueueSet) {
         if wakeups.is_full {
             let _ = self.fullness.compare_exchange(ROOM, FULL, SeqCst, SeqCst);

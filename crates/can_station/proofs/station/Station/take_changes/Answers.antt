@@ -3,7 +3,7 @@ use Rattle.can_station.specs.Held.{Held}
 use Rattle.can_station.specs.Passes.{IsStateOf}
 use Rattle.can_station.proofs.station.Station.take_changes.Goals as goal
 
--- The claim holds for every value, so also for this one.
+-- A claim that holds for every value also holds for the returned value.
 on_ok : {A E : Type 0} {P Q : A → Type 0} (r : Result A E) → ((a : A) → P a → Q a) → IfOk r P → IfOk r Q
 on_ok (Ok a) follows p = follows a p
 on_ok (Err e) follows p = tt
