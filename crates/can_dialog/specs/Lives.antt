@@ -66,12 +66,12 @@ abbrev pub UnlessOver : {P : Type 0} → (P → (call : Call) → Reply call →
 UnlessOver {P} step Ended d kept act p q text after = (q ≡ p) × (text ≡ []) × (after ≡ d)
 UnlessOver {P} step _ d kept act p q text after = CallDoes step d kept act p q text after
 
--- the text kept after a call
+-- the text of an incomplete message that is kept after a call
 abbrev pub kept_after : List ℕ → Act (List ℕ) → List ℕ
 kept_after kept (Hear moment piece) = kept_of (kept ++ piece)
 kept_after kept _ = kept
 
--- the effect of calls one after another, and the text of all of them
+-- the calls in order take the port from p to q; `text` is the text of all of them
 abbrev pub IsCalled : {P : Type 0} → (P → (call : Call) → Reply call → P → Type 0) → Dialog → List ℕ
     → List (Act (List ℕ)) → P → P → List ℕ → Dialog → Type 0
 IsCalled {P} step d kept [] p q text after = (q ≡ p) × (text ≡ []) × (after ≡ d)
@@ -81,7 +81,7 @@ IsCalled {P} step d kept (act ∷ acts) p q text after =
     × IsCalled step mid (kept_after kept act) acts port q others after
     × (text ≡ first ++ others)
 
--- the turns of calls; each message of a piece is a turn, with the text kept before
+-- the turns that these calls make; each message in the kept text and the piece together is a turn
 abbrev pub turns_of : List ℕ → List (Act (List ℕ)) → List (Act Incoming)
 turns_of kept [] = []
 turns_of kept (Greet ∷ acts) = Greet ∷ turns_of kept acts
