@@ -18,7 +18,7 @@ pub record Mark : Type 0 where
 abbrev pub plain : Field → Mark
 plain field = record { field = field; is_stuff = false }
 
--- a stuff bit
+-- the mark of a stuff bit
 abbrev pub stuff : Field → Mark
 stuff field = record { field = field; is_stuff = true }
 
