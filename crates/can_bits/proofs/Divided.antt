@@ -15,7 +15,8 @@ use Rattle.can_wire.proofs.Divided.{register}
 use Rattle.can_bits.specs.declared.bit.Bit.{Bit}
 use Rattle.can_bits.specs.Sent.{levels}
 
--- The shift registers of all three generators compute long division. They start with zeros, or with a one followed by zeros.
+-- The shift registers of all three generators compute long division. They start with zeros, or with a one followed by
+-- zeros.
 
 -- ---- a register as a number
 
@@ -112,7 +113,8 @@ from_zeros g bits n some gb long h =
     let start : subtracted zeros (bits ++ zeros) ≡ bits ++ zeros = zeros-subtracted n (bits ++ zeros) (padded bits n h) within in
     rw long (sym (register g bits zeros n some gb h (bits-zeros n) long (length-replicate n zero)) ∙ ap (remainder g (length bits)) start)
 
--- if the register starts with a one and zeros, it ends with the check sequence of the bits with their first bit inverted
+-- if the register starts with a one and zeros, it ends with the check sequence of the bits with their first bit
+-- inverted
 pub from_one : (g bits : List ℕ) (n : ℕ) → 0 < n → IsBits g → length g ≡ n → IsBits bits → 0 < length bits → shifted_all g bits (1 ∷ replicate (n - 1) 0) ≡ check_from_one g bits
 unfolding check_of
 from_one g [] n some gb long h any = absurd (omega (arith, any))

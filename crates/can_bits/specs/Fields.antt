@@ -4,10 +4,11 @@ use Rattle.can_wire.specs.FrameBits.{fd_generator}
 use Rattle.can_bits.specs.declared.bit.Field.{Field}
 use Rattle.can_bits.specs.declared.bit.Field.TheVariants as field
 
--- The fields of a frame in the order of sending, without stuff bits. Each field is repeated once per bit (Bosch CAN Specification
--- 2.0, section 3.2.1; for FD frames ISO 11898-1:2015). can_wire defines the values of the bits.
+-- The fields of a frame in the order of sending, without stuff bits. Each field is repeated once per bit (Bosch CAN
+-- Specification 2.0, section 3.2.1; for FD frames ISO 11898-1:2015). can_wire defines the values of the bits.
 
--- start of frame and the fields of the arbitration bits, up to IDE or, if the identifier has 29 bits, up to RTR or RRS (`remote`)
+-- start of frame and the fields of the arbitration bits, up to IDE or, if the identifier has 29 bits, up to RTR or RRS
+-- (`remote`)
 abbrev pub first_fields : Bool → Field → List Field
 first_fields extended remote =
     if extended

@@ -22,9 +22,9 @@ plain field = record { field = field; is_stuff = false }
 abbrev pub stuff : Field → Mark
 stuff field = record { field = field; is_stuff = true }
 
--- the marks of bits with their stuff bits, in these fields. The last `run` bits before them have the value `last`, and the last bit
--- belongs to the field `before`. A stuff bit follows five bits of one value and has the field of the bit before it (Bosch CAN
--- Specification 2.0, section 6)
+-- the marks of bits with their stuff bits, in these fields. The last `run` bits before them have the value `last`, and
+-- the last bit belongs to the field `before`. A stuff bit follows five bits of one value and has the field of the bit
+-- before it (Bosch CAN Specification 2.0, section 6)
 abbrev pub marks_after : Field → ℕ → ℕ → List Field → List ℕ → List Mark
 marks_after before last run fields [] = []
 marks_after before last run fields (b ∷ bits) =

@@ -15,7 +15,8 @@ levels bits = map (λ b. bit_of b.is_recessive) bits
 abbrev pub mark_of : Bit → Mark
 mark_of b = record { field = b.field; is_stuff = b.is_stuff }
 
--- These are the bits of a frame on the wire, from start of frame to the end of intermission, if no node sends anything else.
+-- These are the bits of a frame on the wire, from start of frame to the end of intermission, if no node sends anything
+-- else.
 pub record AreBitsOf (f : CanFrame) (bits : List Bit) : Type 0 where
   pub wire : levels bits ≡ wire_of f ++ replicate intermission 1
   pub marks : map mark_of bits ≡ marks_of f

@@ -12,8 +12,8 @@ use Rattle.can_bits.specs.declared.bit.Field.{Field}
 use Rattle.can_bits.specs.declared.bit.Field.TheVariants as field
 use Rattle.can_bits.specs.Sent.{AreBitsOf}
 
--- The text of a frame's bits (own choice). It has a line for each field, with stuff bits in parentheses; the counts of bits; and,
--- for each other frame, the bit at which its sender falls silent if it loses arbitration.
+-- The text of a frame's bits (own choice). It has a line for each field, with stuff bits in parentheses; the counts of
+-- bits; and, for each other frame, the bit at which its sender falls silent if it loses arbitration.
 
 -- the name of a field, padded to 15 columns
 abbrev pub name_of : Field → List ℕ
@@ -116,8 +116,9 @@ time_line (Some t) f = nanos_line (frame_nanos_of t f)
 abbrev pub sent_values : CanFrame → List ℕ
 sent_values f = wire_of f ++ replicate intermission 1
 
--- The bit at which the sender of `values` falls silent, after `k` equal bits. It is the first bit that differs, if that sender
--- sends a recessive bit there (Bosch CAN Specification 2.0, section 2: it sends a recessive bit and sees a dominant one)
+-- The bit at which the sender of `values` falls silent, after `k` equal bits. It is the first bit that differs, if that
+-- sender sends a recessive bit there (Bosch CAN Specification 2.0, section 2: it sends a recessive bit and sees a
+-- dominant one)
 abbrev pub silence_after : ℕ → List Bit → List ℕ → Option (ℕ × Field)
 silence_after k [] values = None
 silence_after k (b ∷ bits) [] = None

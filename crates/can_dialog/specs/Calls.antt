@@ -26,8 +26,8 @@ use Rattle.can_dialog.specs.declared.port.PortRefusal.TheVariants as port
 
 -- The calls of a port, and the replies that it may give (own choice).
 
--- A call of a port with its arguments. Interfaces and timestamps are numbers, and a fault rule is its text. `Names` returns the
--- names of all interfaces that may be attached, in order. No session calls `Attempt`.
+-- A call of a port with its arguments. Interfaces and timestamps are numbers, and a fault rule is its text. `Names`
+-- returns the names of all interfaces that may be attached, in order. No session calls `Attempt`.
 pub data Call : Type 0 where
   Names : Call
   Attach : List ℕ → Call

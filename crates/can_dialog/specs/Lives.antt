@@ -29,8 +29,8 @@ abbrev pub first_text : Stage → List ℕ
 first_text Ended = []
 first_text _ = greeting
 
--- a turn takes the port from p to q, has this text and leaves the dialog `after`; `forgot` is true if there was no memory for its
--- command
+-- a turn takes the port from p to q, has this text and leaves the dialog `after`; `forgot` is true if there was no
+-- memory for its command
 abbrev pub TurnDoes : {P : Type 0} → (P → (call : Call) → Reply call → P → Type 0) → Bool → Dialog → Act Incoming
     → P → P → List ℕ → Dialog → Type 0
 TurnDoes {P} step forgot d Greet p q text after = (q ≡ p) × (text ≡ first_text d.stage) × (after ≡ d)

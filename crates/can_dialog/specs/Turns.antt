@@ -38,8 +38,8 @@ use Rattle.can_dialog.specs.Calls.Call.{CountersOfIface, LoadAt, Inject, CountsR
 use Rattle.can_dialog.specs.Plans.{Plan}
 use Rattle.can_dialog.specs.Plans.Plan.{Tell, Ask}
 
--- The turns of a session: the calls of each command, a text for the client, and the state after the command (socketcand's raw mode;
--- filter and the later commands are own choice).
+-- The turns of a session: the calls of each command, a text for the client, and the state after the command
+-- (socketcand's raw mode; filter and the later commands are own choice).
 
 -- the mode of a stage
 abbrev pub mode_of : Stage → Mode
@@ -86,8 +86,8 @@ entered d iface (Ok socket) =
     (at_stage (Raw (record { iface = iface; socket = socket; errdata = false; acks = false; origins = false })) d)
 entered d iface (Err why) = refused why d
 
--- the plan after the port's reply to `Send`: the frame's number is reported if the client asked for numbers, and a refusal is
--- always reported
+-- the plan after the port's reply to `Send`: the frame's number is reported if the client asked for numbers, and a
+-- refusal is always reported
 abbrev pub sent : Dialog → RawSocket → Result ℕ PortRefusal → Plan Dialog
 sent d raw (Ok number) = if raw.acks then tells (answer.Sent number) d else silent d
 sent d raw (Err why) = refused why d
@@ -110,8 +110,8 @@ abbrev pub counted : Dialog → SocketStats → Option IfaceStats → Plan Dialo
 counted d s None = refused (port.Bus refusal.NoInterface) d
 counted d s (Some i) = tells (answer.Stats s i) d
 
--- the plan after the port's reply to `CountsOfSocket`; if there is no such socket, the plan does not ask for the counts of the
--- interface
+-- the plan after the port's reply to `CountsOfSocket`; if there is no such socket, the plan does not ask for the counts
+-- of the interface
 abbrev pub looked_up : Dialog → ℕ → Option SocketStats → Plan Dialog
 looked_up d iface None = refused (port.Bus refusal.NoSocket) d
 looked_up d iface (Some s) = Ask (CountsOfIface iface) (counted d s)
@@ -216,8 +216,8 @@ abbrev pub read_as : Bool → Result Command ProtoFault → Result Command Proto
 read_as false read = read
 read_as true read = without_memory read
 
--- the plan for a command or a fault: `interfaces` does the same at each stage, and all other commands depend on the stage. A fault
--- of a message is reported and does nothing else.
+-- the plan for a command or a fault: `interfaces` does the same at each stage, and all other commands depend on the
+-- stage. A fault of a message is reported and does nothing else.
 abbrev pub answering : ℕ → Dialog → Result Command ProtoFault → Plan Dialog
 answering moment d (Ok command.Interfaces) = naming d
 answering moment d (Ok c) = doing moment d d.stage c

@@ -1,4 +1,5 @@
--- The proof that each call must give to the table, and the facts that the call gets, at a seat whose view is known by an equation.
+-- The proof that each call must give to the table, and the facts that the call gets, at a seat whose view is known by
+-- an equation.
 use Rattle.std.proofs.Common.{◌≡◌, ℕ, ◌<◌, List, [], ◌∷◌, ap, sym, ◌∙◌, subst}
 use mathlib.Core.List.{IsSuffix}
 use mathlib.Core.Option.{none}

@@ -10,8 +10,8 @@ use Rattle.can_meter.specs.declared.rule.View.TheVariants.{Keeps, Watches, Spent
 use Rattle.can_meter.specs.Publications.{newest, published, with_list, with_newest, longer_lists, AreEndsOf}
 use Rattle.can_meter.specs.Words.{meant, Fits}
 
--- The rule that holds for a meter's words and seats between any two steps, and the result of each step. No caller's contract
--- mentions it.
+-- The rule that holds for a meter's words and seats between any two steps, and the result of each step. No caller's
+-- contract mentions it.
 
 -- each publication fits in a word, and its record is longer than the record of the publication before it
 abbrev pub AreRising : List Status → Type 0
@@ -23,7 +23,8 @@ abbrev pub AllEnd : List (List (List Status)) → List (List Status) → Type 0
 AllEnd [] lists = Unit {0}
 AllEnd (older ∷ olds) lists = AreEndsOf older lists × AllEnd olds lists
 
--- The one keeper knows all publications, and a gauge knows an end of each list. The lists that a seat took in are ends too.
+-- The one keeper knows all publications, and a gauge knows an end of each list. The lists that a seat took in are ends
+-- too.
 abbrev pub KnowsPublications : ℕ → List (List Status) → ℕ → View → Type 0
 KnowsPublications keeper all seat (Keeps lists olds) = (seat ≡ keeper) × (lists ≡ all) × AllEnd olds all
 KnowsPublications keeper all seat (Watches lists olds) = AreEndsOf lists all × AllEnd olds all
@@ -58,7 +59,8 @@ watcher v = Watches (seat_lists v) []
 abbrev pub new_gauge : View → View
 new_gauge v = Watches [] []
 
--- a seat after it took in another seat's lists: a keeper's lists stay the same, a gauge has the longer list of each interface
+-- a seat after it took in another seat's lists: a keeper's lists stay the same, a gauge has the longer list of each
+-- interface
 abbrev pub seat_taken_in : View → View → View
 seat_taken_in (Keeps lists olds) w = Keeps lists (seat_lists w ∷ olds)
 seat_taken_in (Watches lists olds) w = Watches (longer_lists lists (seat_lists w)) (lists ∷ seat_lists w ∷ olds)
@@ -70,7 +72,8 @@ without_old_lists (Keeps lists olds) = Keeps lists []
 without_old_lists (Watches lists olds) = Watches lists []
 without_old_lists Spent = Spent
 
--- A load: the gauge's list of this interface may get more publications in front. The word that was found stores the newest one.
+-- A load: the gauge's list of this interface may get more publications in front. The word that was found stores the
+-- newest one.
 abbrev pub LoadsPublications : {S : Type 0} → Step S → Me S View → ℕ → Me S View → Type 0
 LoadsPublications s v found w =
     (seen : List Status)

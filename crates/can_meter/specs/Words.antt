@@ -7,8 +7,8 @@ use Rattle.can_meter.specs.declared.status.Status.{Status}
 abbrev pub down_bit : Bool → ℕ
 down_bit on = if on then 1 else 0
 
--- the word of a publication, from the lowest bit: 1 bit that is set if the interface is down, 8 bits of receive error count, 9 bits
--- of transmit error count, and the length of the record
+-- the word of a publication, from the lowest bit: 1 bit that is set if the interface is down, 8 bits of receive error
+-- count, 9 bits of transmit error count, and the length of the record
 abbrev pub status_word : Status → ℕ
 status_word p = ((p.at * 512 + p.counters.tec) * 256 + p.counters.rec) * 2 + down_bit p.counters.down
 

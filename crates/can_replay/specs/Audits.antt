@@ -12,8 +12,8 @@ use Rattle.can_replay.specs.Histories.{before}
 
 -- Whether these entries, the oldest first, are a legal history, and which entry is the first wrong one if they are not.
 
--- Entry k is the first wrong entry. The entries before it are a legal history. Entry k is past the limit, or its reply does not
--- follow from that history (own choice).
+-- Entry k is the first wrong entry. The entries before it are a legal history. Entry k is past the limit, or its reply
+-- does not follow from that history (own choice).
 pub record IsFirstWrongEntry (c : BusConfig) (entries : List Entry) (k : ℕ) : Type 0 where
   pub entry : Entry
   pub there : slice_get entries k ≡ Some entry

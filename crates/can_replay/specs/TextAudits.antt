@@ -64,7 +64,8 @@ HasBus text c = (v : Version) × (rest : List ℕ) × HasBusLine v c × (text �
 abbrev pub LacksFront : List ℕ → Type 0
 LacksFront text = (v : Version) (c : BusConfig) (rest : List ℕ) → HasBusLine v c → text ≢ front_lines v c rest
 
--- The text is cut off: it is the front of a legal record's text and ends after the lines of this many entries, or in the next line.
+-- The text is cut off: it is the front of a legal record's text and ends after the lines of this many entries, or in
+-- the next line.
 pub record IsCutText (text : List ℕ) (count : ℕ) : Type 0 where
   pub config : BusConfig
   pub entries : List Entry
@@ -83,8 +84,8 @@ pub record IsWrongCut (text : List ℕ) (w : WrongLine) : Type 0 where
 abbrev pub IsUncut : List ℕ → Type 0
 IsUncut text = (count : ℕ) → IsCutText text count → ⊥
 
--- The facts that follow from a faulty line, if the text may be cut off: the text is neither the text of a record nor the front of a
--- legal record's text. Lack of memory implies nothing.
+-- The facts that follow from a faulty line, if the text may be cut off: the text is neither the text of a record nor
+-- the front of a legal record's text. Lack of memory implies nothing.
 abbrev pub FaultsUncut : List ℕ → ReadFault → Type 0
 FaultsUncut text read.NoMemory = Unit {0}
 FaultsUncut text why = Reads text (Err why) × IsUncut text

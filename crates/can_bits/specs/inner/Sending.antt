@@ -62,8 +62,8 @@ abbrev pub last_after : List Bit → Last → Last
 last_after [] l = l
 last_after (b ∷ bits) l = last_after bits (added b (flushed l))
 
--- all bits that are sent for these bits with fixed stuff bits; `last` is the value of the bit before them, and the first stuff bit
--- follows `due` bits
+-- all bits that are sent for these bits with fixed stuff bits; `last` is the value of the bit before them, and the
+-- first stuff bit follows `due` bits
 abbrev pub sent_fixed : Bool → Bool → ℕ → List Bit → List Bit
 sent_fixed fast last due [] = []
 sent_fixed fast last due (b ∷ bits) =

@@ -14,10 +14,11 @@ use Rattle.can_bus.specs.Transmit.{lost_count}
 use Rattle.can_replay.specs.EventsText.{put_words}
 use Rattle.can_replay.specs.Words.{counts_part, lost_part, part_named, dropped_words}
 
--- The state of a bus that is noted before an entry. The effects of the entry follow from this state and the state after the entry.
+-- The state of a bus that is noted before an entry. The effects of the entry follow from this state and the state after
+-- the entry.
 
--- The error counts of the 16 interface numbers, the number of lost frames of each interface, and the numbers of waiting and dropped
--- items of each open socket.
+-- The error counts of the 16 interface numbers, the number of lost frames of each interface, and the numbers of waiting
+-- and dropped items of each open socket.
 pub record Seen : Type 0 where
   pub counters : List ErrorCounts
   pub lost : List ℕ

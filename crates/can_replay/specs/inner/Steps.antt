@@ -23,8 +23,8 @@ Takes old new line (Err unread.Bad) =
     × ((text : List ℕ) → IsGoing text old → old.is_ended ≡ false → LacksEntry old.version old.config line)
 Takes old new line (Err unread.NoMemory) = Unit {0}
 
--- A wrong entry's line was taken, and `legal` is the reply that would be legal there. If the line is not the line of an entry, the
--- audit did not change.
+-- A wrong entry's line was taken, and `legal` is the reply that would be legal there. If the line is not the line of an
+-- entry, the audit did not change.
 abbrev pub ReportsWrong : {A : Type 0} → EntryAudit → EntryAudit → List ℕ → Option Reply → Result A Unread → Type 0
 ReportsWrong old new line legal (Ok u) =
     (text : List ℕ) (read : IsRead text old) → old.is_ended ≡ false → old.bus.config ≡ old.config → IsLine line
