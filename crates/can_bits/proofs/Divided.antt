@@ -66,7 +66,7 @@ shifted_same w n g x some fits e =
     let none = first_test x (bit_at n (w - 1)) (bit_at-lt n (w - 1)) (e ∙ seen_first w n) in
     moved_on w n some fits ∙ sym (ap (shifted g (bit_of x)) (first_bit w n some) ∙ rw none refl)
 
--- after another
+-- the register after a bit that differs from its first bit
 pub shifted_other : (w n terms : ℕ) (x : Bool) → 1 ≤ w → w ≤ 31 → (x ≡ (bit_and (n / 2 ^ (w - 1)) 1 == 1) → ⊥) → low_bits w (bit_xor (n * 2 % 4294967296) terms) ≡ shifted (low_bits w terms) (bit_of x) (low_bits w n)
 shifted_other w n terms x some fits ne =
     let one = other_test x (bit_at n (w - 1)) (bit_at-lt n (w - 1)) (λ e. ne (e ∙ sym (seen_first w n))) in

@@ -38,7 +38,7 @@ field_step field n place all old new x some is more before =
     let same : x ≡ bit = is ∙ ap (λ (b : ℕ). record { field = field; is_recessive = b == 1; is_stuff = false; is_fast = false }) (and_mask (n / 2 ^ (place - 1)) 1) in
     rw (more, same) (append_assoc old (bit ∷ []) rest ∙ rw (low_bits_step place n some) at before)
 
--- a byte more
+-- one more byte
 pub byte_step : (bytes : List ℕ) (i : ℕ) (all old new : List Bit) → i < length bytes → new ≡ old ++ in_field Data (low_bits 8 (get_or bytes i 0)) →
     old ++ in_field Data (byte_bits (drop i bytes)) ≡ all → new ++ in_field Data (byte_bits (drop (i + 1) bytes)) ≡ all
 byte_step bytes i all old new inside more before =
@@ -117,7 +117,7 @@ covered_laid f a b c d e reserved len none first second reserved_is third len_is
     let values : (0 ∷ arbitration_bits f) ++ low_bits (1 + reserved) 0 ++ low_bits 4 len ++ byte_bits (payload_bytes f.payload) ≡ covered_bits f = rw (reserved_is, len_is) (ap (λ (l : List ℕ). l ++ byte_bits (payload_bytes f.payload)) (classic_sent f)) in
     record { fields = all.fields ∙ fields; values = all.values ∙ values }
 
--- with its CRC
+-- a classic frame with its CRC
 pub classic_laid : (f : CanFrame) (covered all : List Bit) (crc : ℕ) → AreFields covered (covered_fields f) (covered_bits f) →
     low_bits 15 crc ≡ shifted_all (low_bits 15 17817) (levels covered) (low_bits 15 0) → all ≡ covered ++ in_field Crc (low_bits 15 crc) → AreFields all (classic_fields f) (checked_bits f)
 classic_laid f covered all crc are check added =

@@ -52,7 +52,7 @@ fd_sent fast head rest = sent_all false head nothing_sent ++ sent_all fast rest 
 pub data_levels : (f : CanFrame) (fast : Bool) (head rest : List Bit) → levels head ≡ fd_head f → levels rest ≡ fd_rest f → levels (fd_sent fast head rest) ≡ fd_to_data_end f
 data_levels f fast head rest h r = both_levels fast head rest ∙ (ap (λ (l : List ℕ). stuffed_inside (l ++ levels rest)) h ∙ ap (λ (l : List ℕ). stuffed_inside (fd_head f ++ l)) r)
 
--- there is some
+-- at least as many bits are sent as there are bits
 sent_some : (fast : Bool) (bits : List Bit) (l : Last) → length bits ≤ length (sent_all fast bits l)
 sent_some fast [] l = omega arith
 sent_some fast (b ∷ bits) l =
@@ -73,7 +73,7 @@ data_some f fast head rest h =
     let first : length head ≡ length (fd_head f) = sym (length-levels head) ∙ ap (λ (l : List ℕ). length l) h in
     omega (arith, first, head_some f, data_least fast head rest)
 
--- its last bit
+-- the last bit of an FD frame before the stuff count
 pub data_last : (f : CanFrame) (fast : Bool) (head rest : List Bit) → levels head ≡ fd_head f → levels rest ≡ fd_rest f → bit_of (last_after rest (last_after head nothing_sent)).is_recessive ≡ last_of 1 (fd_to_data_end f)
 data_last f fast head rest h r =
     let l : Last = last_after head nothing_sent in
@@ -146,7 +146,7 @@ fd_begun fast head rest a b d r s t none begun first one second two = record {
   run = rw (two, one, begun) refl;
 }
 
--- its check sequence
+-- the CRC of an FD frame
 check_is : (f : CanFrame) (fast : Bool) (head rest all check : List Bit) (n : ℕ) → levels head ≡ fd_head f → levels rest ≡ fd_rest f → all ≡ fd_sent fast head rest →
     n ≡ length all - length head - length rest →
     AreFields check (check_fields (fd_generator (payload_len f.payload))) (stuff_count n ++ check_from_one (fd_generator (payload_len f.payload)) (levels all ++ stuff_count n)) →

@@ -11,7 +11,8 @@ use Rattle.can_dialog.specs.Sessions.{TakesTurns}
 
 -- A whole session: its turns, and the calls that make these turns.
 
--- An act of a session: a call or a turn. At its time, a call reads a piece of the stream, and a turn reads one item.
+-- An act of a session: a call or a turn. `Hear` has a time, and a piece of the stream (in a call) or one item (in a
+-- turn).
 pub data Act (A : Type 0) : Type 0 where
   Greet : Act A
   Hear : ℕ → A → Act A

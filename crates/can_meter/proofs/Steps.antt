@@ -110,7 +110,7 @@ module _ {S : Type 0} (count : ℕ) where
       let both = longer_ends a b h.1 mine.1.0 mine.1.1.0 in
       (Watches ls [], keeps, tt, stays s h word id (Watches ls []) (mine.0, tt), (refl, refl, (both.0, (both.1, tt))))
 
-  -- one seat more
+  -- one more seat
   splits : (s : State S View) (h : Holds s) (id : ℕ) (v new : View) → get_elem? s.views id ≡ some v → ((j : ℕ) → KnowsPublications h.0 h.1 j new) → Metered count s.words (set s.views id v ++ new ∷ [])
   splits s h id v new at k = (
     h.0,

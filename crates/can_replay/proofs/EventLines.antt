@@ -339,7 +339,7 @@ plain_more w text line old new g h cleared before after now one plain wrote comp
   wanted_more w text line old new g h one now now wanted (ap (λ (x : Option RunSeen). record now { faults = x }) (sym (plain_asked now.faults one.entry plain))),
 )
 
--- The line of an entry is written with its effects.
+-- The line of an entry is written with its effects and the other wanted parts.
 pub step_more : (w : Wanted) (text line : List ℕ) (old new : EntryAudit) (g : IsGoing text old) (h : IsGoing (text ++ line) new) (cleared : List ℕ) (before after : EventsText) (one : OneMore text line old new g h) → is_step one.entry.event ≡ true
     → HasSeen old.bus.config one.past before.before → WritesParts before new line after → cleared ++ before.text.items ≡ events_of w text old g → before.wanted ≡ wanted_after w (legal_past text old g)
     → IsUpTo w (text ++ line) new h (cleared ++ after.text.items) after.wanted

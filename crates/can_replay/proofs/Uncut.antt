@@ -67,7 +67,7 @@ some_after (x ∷ xs) ys some is = absurd cc
 
 -- ---- a faulty text
 
--- If the first wrong line is the same, whatever bytes follow these whole lines, the text is not cut off.
+-- If the first wrong line after p is the same, whatever bytes follow p, no text that begins with p is cut off.
 wrong_uncut : (p after : List ℕ) (n : ℕ) → EndsLine p → ((more : List ℕ) → more ≢ [] → IsFirstWrong (p ++ more) n) → (c : BusConfig) (es : List Entry) → IsFrontOf (p ++ after) c es → ⊥
 wrong_uncut p after n end wrong c es front =
     let v = front.version in

@@ -67,7 +67,7 @@ cut_line count = spell (cut_words count) []
 
 -- ---- the lines after the first
 
--- `is_none` holds if no entry is wrong so far, and `is_legal_yet` if moreover the end line was not taken.
+-- `is_none` holds if no entry is wrong so far, and `is_legal_yet` if also the end line was not taken.
 abbrev pub is_none : Option WrongLine → Bool
 is_none None = true
 is_none (Some w) = false
@@ -102,8 +102,8 @@ abbrev pub IsReadAs : Entry → Result Entry Unread → Type 0
 IsReadAs e (Ok read) = read ≡ e
 IsReadAs e (Err why) = why ≡ unread.NoMemory
 
--- The line of an attempt, a restart or a down was written with its effects. They follow from the state of the bus
--- before the entry. The faults are updated to the faults after the entry.
+-- The line of an attempt, a restart or a down was written with its effects and the other wanted parts. The effects
+-- follow from the state of the bus before the entry. The faults are updated to the faults after the entry.
 abbrev pub WritesParts : EventsText → EntryAudit → List ℕ → EventsText → Type 0
 WritesParts old audit line new =
     (past : List Entry) (e : Entry) → HasSeen audit.bus.config past old.before → IsAfter audit.bus (e ∷ past)
@@ -118,8 +118,8 @@ pub record IsWhole (text : List ℕ) (b : EntryAudit) (g : IsGoing text b) (coun
   pub legal : b.wrong ≡ None
   pub counted : count ≡ length g.read.entries
 
--- The text is cut off in its last bytes, `torn`: it is the front of a legal record's text, with the lines of this many
--- entries.
+-- The text, followed by the bytes `torn`, is cut off: it is the front of a legal record's text, with the lines of this
+-- many entries.
 pub record IsOff (text torn : List ℕ) (b : EntryAudit) (g : IsGoing text b) (count : ℕ) : Type 0 where
   pub front : IsFrontOf (text ++ torn) b.config g.read.entries
   pub version : front.version ≡ b.version
