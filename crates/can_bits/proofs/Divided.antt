@@ -15,11 +15,12 @@ use Rattle.can_wire.proofs.Divided.{register}
 use Rattle.can_bits.specs.declared.bit.Bit.{Bit}
 use Rattle.can_bits.specs.Sent.{levels}
 
--- The shift registers of all three generators are long division, from zeros and from a one.
+-- The shift registers of all three generators compute long division. They start with zeros, or with a one followed by
+-- zeros.
 
 -- ---- a register as a number
 
--- the first of its bits
+-- the first bit of the register
 first_bit : (w n : ℕ) → 1 ≤ w → low_bits w n ≡ bit_at n (w - 1) ∷ low_bits (w - 1) n
 first_bit w n some = low_bits_step w n some
 
@@ -42,7 +43,7 @@ subtracted_low (suc k) m g =
     let here : xor (bit_at m k) (bit_at g k) ≡ bit_at (bit_xor m g) k = xor_sum (bit_at m k) (bit_at g k) (bit_at-lt m k) (bit_at-lt g k) ∙ sym (bit_at_xor m g k) in
     ap (λ x. x ∷ subtracted (low_bits k g) (low_bits k m)) here ∙ ap (λ l. bit_at (bit_xor m g) k ∷ l) (subtracted_low k m g)
 
--- whether a bit is the first of the register
+-- whether a bit equals the first bit of the register
 first_test : (x : Bool) (t : ℕ) → t < 2 → x ≡ (t == 1) → (xor (bit_of x) t == 0) ≡ true
 first_test x zero h e = rw e refl
 first_test x (suc zero) h e = rw e refl
@@ -59,19 +60,19 @@ other_test false (suc (suc t)) h e = absurd (omega (arith, h))
 seen_first : (w n : ℕ) → (bit_and (n / 2 ^ (w - 1)) 1 == 1) ≡ (bit_at n (w - 1) == 1)
 seen_first w n = ap (λ (b : ℕ). b == 1) (and_mask (n / 2 ^ (w - 1)) 1)
 
--- after a bit like the first
+-- the register after a bit that equals its first bit
 pub shifted_same : (w n : ℕ) (g : List ℕ) (x : Bool) → 1 ≤ w → w ≤ 31 → x ≡ (bit_and (n / 2 ^ (w - 1)) 1 == 1) → low_bits w (n * 2 % 4294967296) ≡ shifted g (bit_of x) (low_bits w n)
 shifted_same w n g x some fits e =
     let none = first_test x (bit_at n (w - 1)) (bit_at-lt n (w - 1)) (e ∙ seen_first w n) in
     moved_on w n some fits ∙ sym (ap (shifted g (bit_of x)) (first_bit w n some) ∙ rw none refl)
 
--- after another
+-- the register after a bit that differs from its first bit
 pub shifted_other : (w n terms : ℕ) (x : Bool) → 1 ≤ w → w ≤ 31 → (x ≡ (bit_and (n / 2 ^ (w - 1)) 1 == 1) → ⊥) → low_bits w (bit_xor (n * 2 % 4294967296) terms) ≡ shifted (low_bits w terms) (bit_of x) (low_bits w n)
 shifted_other w n terms x some fits ne =
     let one = other_test x (bit_at n (w - 1)) (bit_at-lt n (w - 1)) (λ e. ne (e ∙ sym (seen_first w n))) in
     sym (subtracted_low w (n * 2 % 4294967296) terms) ∙ (ap (subtracted (low_bits w terms)) (moved_on w n some fits) ∙ sym (ap (shifted (low_bits w terms) (bit_of x)) (first_bit w n some) ∙ rw one refl))
 
--- a one, and zeros after it
+-- the bits below a one are zeros
 zeros_below : (k j : ℕ) → k ≤ j → low_bits k (2 ^ j) ≡ replicate k 0
 zeros_below zero j h = refl
 zeros_below (suc k) j h =
@@ -83,7 +84,7 @@ one_first w some fits =
     let k : ℕ = w - 1 in
     ap (low_bits w) (one_shl k 32 (omega (arith, fits))) ∙ (first_bit w (2 ^ k) some ∙ (ap (λ (b : ℕ). b ∷ low_bits k (2 ^ k)) (bit_at-pow_same k) ∙ ap (λ (l : List ℕ). 1 ∷ l) (zeros_below k k (omega arith))))
 
--- ---- what it holds in the end
+-- ---- what the register holds in the end
 
 zero_xor : (b : ℕ) → b < 2 → xor b 0 ≡ b
 zero_xor zero h = refl
@@ -99,11 +100,11 @@ zeros-subtracted zero xs bits h = refl
 zeros-subtracted (suc n) [] bits h = absurd (omega (arith, h))
 zeros-subtracted (suc n) (x ∷ xs) bits h = ap (λ y. y ∷ subtracted (replicate n 0) xs) (zero_xor x bits.0) ∙ ap (λ l. x ∷ l) (zeros-subtracted n xs bits.1 (omega (arith, h)))
 
--- bits, and zeros after them
+-- bits that are followed by zeros
 padded : (bits : List ℕ) (n : ℕ) → IsBits bits → IsBits (bits ++ replicate n 0)
 padded bits n h = IsBits-append bits (replicate n 0) h (bits-zeros n)
 
--- from zeros it is the check sequence
+-- if the register starts with zeros, it ends with the check sequence
 pub from_zeros : (g bits : List ℕ) (n : ℕ) → 0 < n → IsBits g → length g ≡ n → IsBits bits → shifted_all g bits (replicate n 0) ≡ check_of g bits
 unfolding check_of
 from_zeros g bits n some gb long h =
@@ -112,7 +113,8 @@ from_zeros g bits n some gb long h =
     let start : subtracted zeros (bits ++ zeros) ≡ bits ++ zeros = zeros-subtracted n (bits ++ zeros) (padded bits n h) within in
     rw long (sym (register g bits zeros n some gb h (bits-zeros n) long (length-replicate n zero)) ∙ ap (remainder g (length bits)) start)
 
--- from a one it is that of the bits whose first is turned
+-- if the register starts with a one and zeros, it ends with the check sequence of the bits with their first bit
+-- inverted
 pub from_one : (g bits : List ℕ) (n : ℕ) → 0 < n → IsBits g → length g ≡ n → IsBits bits → 0 < length bits → shifted_all g bits (1 ∷ replicate (n - 1) 0) ≡ check_from_one g bits
 unfolding check_of
 from_one g [] n some gb long h any = absurd (omega (arith, any))

@@ -22,13 +22,13 @@ use Rattle.can_bits.proofs.Levels.{levels-append}
 use Rattle.can_bits.proofs.Marked.{fields-append}
 use Rattle.can_bits.proofs.Divided.{from_zeros, from_one, low_15, values_are_bits}
 
--- Fields one after another.
+-- The bits of fields, one field after another.
 
 pub in_field-append : (field : Field) (xs ys : List ℕ) → in_field field (xs ++ ys) ≡ in_field field xs ++ in_field field ys
 in_field-append field [] ys = refl
 in_field-append field (x ∷ xs) ys = ap (λ (bits : List Bit). record { field = field; is_recessive = x == 1; is_stuff = false; is_fast = false } ∷ bits) (in_field-append field xs ys)
 
--- a bit more of a field
+-- one more bit of a field
 pub field_step : (field : Field) (n place : ℕ) (all old new : List Bit) (x : Bit) → 0 < place →
     x ≡ record { field = field; is_recessive = bit_and (n / 2 ^ (place - 1)) 1 == 1; is_stuff = false; is_fast = false } →
     new ≡ old ++ x ∷ [] → old ++ in_field field (low_bits place n) ≡ all → new ++ in_field field (low_bits (place - 1) n) ≡ all
@@ -38,7 +38,7 @@ field_step field n place all old new x some is more before =
     let same : x ≡ bit = is ∙ ap (λ (b : ℕ). record { field = field; is_recessive = b == 1; is_stuff = false; is_fast = false }) (and_mask (n / 2 ^ (place - 1)) 1) in
     rw (more, same) (append_assoc old (bit ∷ []) rest ∙ rw (low_bits_step place n some) at before)
 
--- a byte more
+-- one more byte
 pub byte_step : (bytes : List ℕ) (i : ℕ) (all old new : List Bit) → i < length bytes → new ≡ old ++ in_field Data (low_bits 8 (get_or bytes i 0)) →
     old ++ in_field Data (byte_bits (drop i bytes)) ≡ all → new ++ in_field Data (byte_bits (drop (i + 1) bytes)) ≡ all
 byte_step bytes i all old new inside more before =
@@ -47,7 +47,7 @@ byte_step bytes i all old new inside more before =
     let rest : List ℕ = byte_bits (drop (suc i) bytes) in
     rw (next, more) (append_assoc old (in_field Data byte) (in_field Data rest) ∙ (ap (λ (bits : List Bit). old ++ bits) (sym (in_field-append Data byte rest)) ∙ rw (drop-cons bytes i 0 inside) at before))
 
--- ---- what is said of them
+-- ---- the fields and the values of bits
 
 one_value : (x : ℕ) → x < 2 → bit_of (x == 1) ≡ x
 one_value zero h = refl
@@ -77,21 +77,21 @@ pub adds_bytes : (bytes : List ℕ) (old new : List Bit) → new ≡ old ++ in_f
 adds_bytes bytes old new is =
     subst (λ (m : ℕ). Adds old new (replicate m Data) (byte_bits bytes)) (length-byte_bits bytes) (adds_bits Data (byte_bits bytes) old new (IsBits-byte_bits bytes) is)
 
--- and others after them
+-- the bits of two lists of fields are added, one after the other
 pub adds_both : (a b c : List Bit) (fs gs : List Field) (xs ys : List ℕ) → Adds a b fs xs → Adds b c gs ys → Adds a c (fs ++ gs) (xs ++ ys)
 adds_both a b c fs gs xs ys one two = record {
   fields = two.fields ∙ (ap (λ (l : List Field). l ++ gs) one.fields ∙ append_assoc (fields_in a) fs gs);
   values = two.values ∙ (ap (λ (l : List ℕ). l ++ ys) one.values ∙ append_assoc (levels a) xs ys);
 }
 
--- they are all that there is
+-- the added bits are all bits, because there was none before
 pub all_added : (a b : List Bit) (fs : List Field) (xs : List ℕ) → a ≡ [] → Adds a b fs xs → AreFields b fs xs
 all_added a b fs xs none adds = record {
   fields = adds.fields ∙ ap (λ (l : List Bit). fields_in l ++ fs) none;
   values = adds.values ∙ ap (λ (l : List Bit). levels l ++ xs) none;
 }
 
--- fields and others after them
+-- bits with known fields, and bits that are added after them
 pub fields_then : (a b : List Bit) (fs gs : List Field) (xs ys : List ℕ) → AreFields a fs xs → Adds a b gs ys → AreFields b (fs ++ gs) (xs ++ ys)
 fields_then a b fs gs xs ys are adds = record {
   fields = adds.fields ∙ ap (λ (l : List Field). l ++ gs) are.fields;
@@ -117,7 +117,7 @@ covered_laid f a b c d e reserved len none first second reserved_is third len_is
     let values : (0 ∷ arbitration_bits f) ++ low_bits (1 + reserved) 0 ++ low_bits 4 len ++ byte_bits (payload_bytes f.payload) ≡ covered_bits f = rw (reserved_is, len_is) (ap (λ (l : List ℕ). l ++ byte_bits (payload_bytes f.payload)) (classic_sent f)) in
     record { fields = all.fields ∙ fields; values = all.values ∙ values }
 
--- with its CRC
+-- a classic frame with its CRC
 pub classic_laid : (f : CanFrame) (covered all : List Bit) (crc : ℕ) → AreFields covered (covered_fields f) (covered_bits f) →
     low_bits 15 crc ≡ shifted_all (low_bits 15 17817) (levels covered) (low_bits 15 0) → all ≡ covered ++ in_field Crc (low_bits 15 crc) → AreFields all (classic_fields f) (checked_bits f)
 classic_laid f covered all crc are check added =
@@ -127,7 +127,7 @@ classic_laid f covered all crc are check added =
     let same : low_bits 15 crc ≡ check_of generator_15 (covered_bits f) = check ∙ (ap (λ (g : List ℕ). shifted_all g (levels covered) (replicate 15 0)) low_15 ∙ (from_zeros generator_15 (levels covered) 15 (omega arith) bits long (values_are_bits covered) ∙ ap (check_of generator_15) are.values)) in
     record { fields = laid.fields; values = laid.values ∙ ap (λ (l : List ℕ). covered_bits f ++ l) same }
 
--- an FD frame to BRS
+-- an FD frame from start of frame to BRS
 pub head_laid : (f : CanFrame) (a b c d e : List Bit) (brs : ℕ) → a ≡ [] → Adds a b (first_fields f.id.extended RemoteSubstitution) (0 ∷ arbitration_bits f) →
     c ≡ b ++ in_field FdFormat (low_bits 1 1) → d ≡ c ++ in_field FdReserved (low_bits 1 0) → e ≡ d ++ in_field BitRateSwitch (low_bits 1 brs) → brs ≡ bit_of (payload_flags f.payload).brs →
     AreFields e (fd_head_fields f) (fd_head f)
@@ -142,7 +142,7 @@ head_laid f a b c d e brs none first second third fourth brs_is =
     let values : front ++ low_bits 1 1 ++ low_bits 1 0 ++ low_bits 1 brs ≡ fd_head f = ap (λ (l : List ℕ). l ++ low_bits 1 brs) (append_assoc front (low_bits 1 1) (low_bits 1 0)) ∙ (ap (λ (n : ℕ). front ++ low_bits 2 2 ++ low_bits 1 n) brs_is ∙ fd_sent f) in
     record { fields = all.fields ∙ fields; values = all.values ∙ values }
 
--- the rest of it to its last data bit
+-- an FD frame from ESI to its last data bit
 pub rest_laid : (f : CanFrame) (a b c d : List Bit) (esi code : ℕ) → a ≡ [] → b ≡ a ++ in_field ErrorState (low_bits 1 esi) → esi ≡ bit_of (payload_flags f.payload).esi →
     c ≡ b ++ in_field LengthCode (low_bits 4 code) → code ≡ fd_code (payload_len f.payload) → d ≡ c ++ in_field Data (byte_bits (payload_bytes f.payload)) → AreFields d (fd_rest_fields f) (fd_rest f)
 rest_laid f a b c d esi code none first esi_is second code_is third =
@@ -152,7 +152,7 @@ rest_laid f a b c d esi code none first esi_is second code_is third =
     let control : low_bits 1 esi ++ low_bits 4 code ≡ bit_of (payload_flags f.payload).esi ∷ low_bits 4 (fd_code (payload_len f.payload)) = rw (esi_is, code_is) (control_sent (payload_flags f.payload).esi (fd_code (payload_len f.payload))) in
     record { fields = all.fields; values = all.values ∙ ap (λ (l : List ℕ). l ++ byte_bits (payload_bytes f.payload)) control }
 
--- and its CRC, after the number of its stuff bits
+-- the stuff count and the CRC of an FD frame
 pub check_laid : (terms : List ℕ) (w t n one sent_in crc : ℕ) (sent counted all : List Bit) → 1 ≤ w → low_bits w t ≡ terms → 0 < length sent → AreFields counted (replicate 4 StuffCount) (stuff_count n) →
     low_bits w one ≡ 1 ∷ replicate (w - 1) 0 → low_bits w sent_in ≡ shifted_all (low_bits w t) (levels sent) (low_bits w one) → low_bits w crc ≡ shifted_all (low_bits w t) (levels counted) (low_bits w sent_in) →
     all ≡ counted ++ in_field Crc (low_bits w crc) → AreFields all (check_fields terms) (stuff_count n ++ check_from_one terms (levels sent ++ stuff_count n))

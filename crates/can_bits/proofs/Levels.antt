@@ -11,12 +11,12 @@ use Rattle.can_bits.specs.declared.bit.Field.{Field}
 use Rattle.can_bits.specs.Sent.{levels}
 use Rattle.can_bits.specs.inner.Sending.{Last, nothing_sent, sent, stuff_bit, due, flushed, is_same, added, sent_all, last_after, sent_fixed}
 
--- What is sent has the values of can_wire's stuffed lists.
+-- The bits that are sent have the values of can_wire's stuffed lists.
 
 pub levels-append : (xs ys : List Bit) → levels (xs ++ ys) ≡ levels xs ++ levels ys
 levels-append xs ys = map-append (λ (b : Bit). bit_of b.is_recessive) xs ys
 
--- ---- bits after others
+-- ---- two lists of bits, one after the other
 
 pub sent_all-append : (fast : Bool) (xs ys : List Bit) (l : Last) → sent_all fast (xs ++ ys) l ≡ sent_all fast xs l ++ sent_all fast ys (last_after xs l)
 sent_all-append fast [] ys l = refl
@@ -44,7 +44,7 @@ added_short b l h = elim (cases_Bool (is_same b.is_recessive l.is_recessive)) [
   | inr other ↦ rw other (omega arith)
 ]
 
--- one bit more, and the stuff bit after it
+-- one more bit, and the stuff bit that may follow it
 step : (fast : Bool) (field : Field) (x y : Bool) (c : ℕ) (values : List ℕ) → c ≤ 4 →
     let l : Last = record { field = field; is_recessive = x; count = if is_same x y then c + 1 else 1 } in
     bit_of x ∷ (levels (due fast l) ++ stuffed_after (bit_of (flushed l).is_recessive) (flushed l).count values) ≡ stuffed_after (bit_of y) c (bit_of x ∷ values)
@@ -59,7 +59,7 @@ step fast field false false c values h = elim (cases_Bool (c == 4)) [
 step fast field true false c values h = refl
 step fast field false true c values h = refl
 
--- all bits, also the stuff bit after the last
+-- all bits, including a stuff bit after the last one
 pub sent_levels : (fast : Bool) (bits : List Bit) (l : Last) → l.count ≤ 5 → levels (sent_all fast bits l) ++ levels (due fast (last_after bits l)) ≡ levels (due fast l) ++ stuffed_after (bit_of (flushed l).is_recessive) (flushed l).count (levels bits)
 sent_levels fast [] l h = sym (append-nil (levels (due fast l)))
 sent_levels fast (b ∷ bits) l h =
@@ -84,7 +84,7 @@ started (b ∷ bits) = from_start b.is_recessive (levels bits)
 pub whole_levels : (fast : Bool) (bits : List Bit) → levels (sent_all fast bits nothing_sent ++ due fast (last_after bits nothing_sent)) ≡ stuffed (levels bits)
 whole_levels fast bits = levels-append (sent_all fast bits nothing_sent) (due fast (last_after bits nothing_sent)) ∙ (sent_levels fast bits nothing_sent (omega arith) ∙ started bits)
 
--- all but a stuff bit after the last
+-- all bits without a stuff bit after the last one
 inside_split : (xs ys : List ℕ) → length ys ≡ 1 → stuffed_inside (xs ++ ys) ≡ stuffed xs ++ ys
 inside_split xs ys one =
     let k : length (xs ++ ys) - 1 ≡ length xs = omega (arith, length-append xs ys, one) in
@@ -119,7 +119,7 @@ same_levels a b (x ∷ bits) l =
     let next : Last = added x (flushed l) in
     levels-append (due a l) (sent a x ∷ sent_all a bits next) ∙ (ap (λ (v : List ℕ). v ++ levels (sent a x ∷ sent_all a bits next)) (due_levels a b l) ∙ (ap (λ (v : List ℕ). levels (due b l) ++ bit_of x.is_recessive ∷ v) (same_levels a b bits next) ∙ sym (levels-append (due b l) (sent b x ∷ sent_all b bits next))))
 
--- those of two calls, at two rates
+-- the values of two lists that are sent in two calls, at two bit rates
 pub both_levels : (fast : Bool) (head rest : List Bit) → levels (sent_all false head nothing_sent ++ sent_all fast rest (last_after head nothing_sent)) ≡ stuffed_inside (levels head ++ levels rest)
 both_levels fast head rest =
     let l : Last = last_after head nothing_sent in
@@ -139,7 +139,7 @@ fixed_levels fast last d (b ∷ bits) = elim (cases_Bool (d == 0)) [
   | inr later ↦ rw later (ap (λ (v : List ℕ). bit_of b.is_recessive ∷ v) (fixed_levels fast b.is_recessive (d - 1) bits))
 ]
 
--- the value of the last bit, after which they begin
+-- the value of the last bit before the fixed stuff bits
 last_of-append : (v : ℕ) (xs : List ℕ) (y : ℕ) (ys : List ℕ) → last_of v (xs ++ y ∷ ys) ≡ last_of y ys
 last_of-append v [] y ys = refl
 last_of-append v (x ∷ xs) y ys = last_of-append x xs y ys
@@ -150,7 +150,7 @@ last_level fast (b ∷ bits) l =
     let next : Last = added b (flushed l) in
     ap (last_of (bit_of l.is_recessive)) (levels-append (due fast l) (sent fast b ∷ sent_all fast bits next)) ∙ (last_of-append (bit_of l.is_recessive) (levels (due fast l)) (bit_of b.is_recessive) (levels (sent_all fast bits next)) ∙ last_level fast bits next)
 
--- it is that of some bit where there is one
+-- if there is at least one value, the value before the list makes no difference
 pub some_last : (v w : ℕ) (values : List ℕ) → 0 < length values → last_of v values ≡ last_of w values
 some_last v w [] some = absurd (omega (arith, some))
 some_last v w (x ∷ values) some = refl

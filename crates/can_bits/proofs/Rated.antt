@@ -4,7 +4,7 @@ use Rattle.std.proofs.lemmas.Bool.{cases_Bool}
 use Rattle.can_bits.specs.declared.bit.Bit.{Bit}
 use Rattle.can_bits.specs.inner.Sending.{Last, sent, stuff_bit, due, flushed, added, sent_all, sent_fixed}
 
--- The bit rates of what is sent.
+-- The bit rates of the bits that are sent.
 
 abbrev pub rates : List Bit → List Bool
 rates bits = map (λ b. b.is_fast) bits

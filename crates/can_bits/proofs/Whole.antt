@@ -17,13 +17,13 @@ use Rattle.can_bits.proofs.Rated.{rates, rates-append, rates_two, sent_rates, du
 
 -- The bits of whole frames.
 
--- as many values as bits
+-- there are as many values as bits
 length-levels : (bits : List Bit) → length (levels bits) ≡ length bits
 length-levels bits = length-map bits (λ (b : Bit). bit_of b.is_recessive)
 
 -- ---- classic frames
 
--- all at the nominal bit rate
+-- all bits of a classic frame are sent at the nominal bit rate
 slow_rates : (f : CanFrame) → is_fd f.payload ≡ false → check_rates f ≡ replicate (length (to_check_end f)) false
 unfolding bits_to_check_end
 slow_rates f classic = rw classic (append-nil (replicate (length (stuffed (checked_bits f))) false))
@@ -45,14 +45,14 @@ classic_whole f bits classic are =
 
 -- ---- FD frames
 
--- what is sent of one, by its parts
+-- the bits that are sent for the two parts of an FD frame
 abbrev pub fd_sent : Bool → List Bit → List Bit → List Bit
 fd_sent fast head rest = sent_all false head nothing_sent ++ sent_all fast rest (last_after head nothing_sent)
 
 pub data_levels : (f : CanFrame) (fast : Bool) (head rest : List Bit) → levels head ≡ fd_head f → levels rest ≡ fd_rest f → levels (fd_sent fast head rest) ≡ fd_to_data_end f
 data_levels f fast head rest h r = both_levels fast head rest ∙ (ap (λ (l : List ℕ). stuffed_inside (l ++ levels rest)) h ∙ ap (λ (l : List ℕ). stuffed_inside (fd_head f ++ l)) r)
 
--- there is some
+-- at least as many bits are sent as there are bits
 sent_some : (fast : Bool) (bits : List Bit) (l : Last) → length bits ≤ length (sent_all fast bits l)
 sent_some fast [] l = omega arith
 sent_some fast (b ∷ bits) l =
@@ -73,7 +73,7 @@ data_some f fast head rest h =
     let first : length head ≡ length (fd_head f) = sym (length-levels head) ∙ ap (λ (l : List ℕ). length l) h in
     omega (arith, first, head_some f, data_least fast head rest)
 
--- its last bit
+-- the last bit of an FD frame before the stuff count
 pub data_last : (f : CanFrame) (fast : Bool) (head rest : List Bit) → levels head ≡ fd_head f → levels rest ≡ fd_rest f → bit_of (last_after rest (last_after head nothing_sent)).is_recessive ≡ last_of 1 (fd_to_data_end f)
 data_last f fast head rest h r =
     let l : Last = last_after head nothing_sent in
@@ -83,7 +83,7 @@ data_last f fast head rest h r =
     let some : 0 < length all = omega (arith, length-levels (fd_sent false head rest), data_some f false head rest h) in
     ap (λ (m : Last). bit_of m.is_recessive) (sym (last_after-append head rest nothing_sent)) ∙ (sym (last_level false (head ++ rest) nothing_sent) ∙ (ap (last_of 0) whole ∙ (some_last 0 1 all some ∙ ap (last_of 1) is)))
 
--- as many stuff bits as are counted
+-- the number of stuff bits is the number that `fd_stuff_bits` counts
 pub stuff_bits_counted : (f : CanFrame) (fast : Bool) (head rest : List Bit) → levels head ≡ fd_head f → levels rest ≡ fd_rest f → length (fd_sent fast head rest) - length head - length rest ≡ fd_stuff_bits f
 stuff_bits_counted f fast head rest h r =
     let all : length (fd_sent fast head rest) ≡ length (fd_to_data_end f) = sym (length-levels (fd_sent fast head rest)) ∙ ap (λ (l : List ℕ). length l) (data_levels f fast head rest h r) in
@@ -91,7 +91,7 @@ stuff_bits_counted f fast head rest h r =
     let second : length rest ≡ length (fd_rest f) = sym (length-levels rest) ∙ ap (λ (l : List ℕ). length l) r in
     omega (arith, all, first, second, length-append (fd_head f) (fd_rest f))
 
--- the bit rates of its parts
+-- the bit rates of the parts of an FD frame
 fd_rates : (f : CanFrame) (fast : Bool) (first second third : List Bit) → is_fd f.payload ≡ true → fast ≡ (payload_flags f.payload).brs → length first ≡ fd_bits_to_brs f →
     length (first ++ second ++ third) ≡ length (fd_to_check_end f) → rates first ≡ replicate (length first) false → rates second ≡ replicate (length second) fast → rates third ≡ replicate (length third) fast →
     rates (first ++ second ++ third) ≡ check_rates f
@@ -127,7 +127,7 @@ fd_whole f fast head rest check fd brs h r k =
       rates = fd_rates f fast first second third fd brs few all (sent_rates false head nothing_sent) (sent_rates fast rest l) (fixed_rates fast last 0 check);
     }
 
--- ---- what is sent, step by step
+-- ---- the bits that are sent, step by step
 
 pub classic_done : (f : CanFrame) (bits a b d : List Bit) (r s : Last) → is_fd f.payload ≡ false → AreFields bits (classic_fields f) (checked_bits f) → a ≡ [] → r ≡ nothing_sent →
     b ≡ a ++ sent_all false bits r → s ≡ last_after bits r → d ≡ b ++ due false s → AreToCheckEnd f d
@@ -146,7 +146,7 @@ fd_begun fast head rest a b d r s t none begun first one second two = record {
   run = rw (two, one, begun) refl;
 }
 
--- its check sequence
+-- the CRC of an FD frame
 check_is : (f : CanFrame) (fast : Bool) (head rest all check : List Bit) (n : ℕ) → levels head ≡ fd_head f → levels rest ≡ fd_rest f → all ≡ fd_sent fast head rest →
     n ≡ length all - length head - length rest →
     AreFields check (check_fields (fd_generator (payload_len f.payload))) (stuff_count n ++ check_from_one (fd_generator (payload_len f.payload)) (levels all ++ stuff_count n)) →

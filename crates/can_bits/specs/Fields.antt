@@ -4,10 +4,11 @@ use Rattle.can_wire.specs.FrameBits.{fd_generator}
 use Rattle.can_bits.specs.declared.bit.Field.{Field}
 use Rattle.can_bits.specs.declared.bit.Field.TheVariants as field
 
--- The fields of a frame in the order of sending, each repeated once per bit, without stuff bits (Bosch CAN
+-- The fields of a frame in the order of sending, without stuff bits. Each field is repeated once per bit (Bosch CAN
 -- Specification 2.0, section 3.2.1; for FD frames ISO 11898-1:2015). can_wire defines the values of the bits.
 
--- start of frame and the fields of the arbitration bits; with 29 bits of identifier the last of them is RTR or RRS
+-- start of frame and the fields of the arbitration bits, up to IDE or, if the identifier has 29 bits, up to RTR or RRS
+-- (`remote`)
 abbrev pub first_fields : Bool → Field → List Field
 first_fields extended remote =
     if extended
@@ -43,7 +44,7 @@ fd_head_fields f =
 abbrev pub fd_rest_fields : CanFrame → List Field
 fd_rest_fields f = field.ErrorState ∷ replicate 4 field.LengthCode ++ data_fields f
 
--- the stuff count, and a CRC with this generator
+-- the stuff count, and a CRC computed with this generator
 abbrev pub check_fields : List ℕ → List Field
 check_fields generator = replicate 4 field.StuffCount ++ replicate (length generator) field.Crc
 

@@ -7,24 +7,24 @@ use Rattle.can_bits.specs.declared.bit.Field.{Field}
 use Rattle.can_bits.specs.declared.bit.Field.TheVariants as field
 use Rattle.can_bits.specs.Fields.{classic_fields, fd_head_fields, fd_rest_fields, fd_check_fields, end_fields}
 
--- The mark of each bit on the wire, as a receiver finds it.
+-- The mark of each bit on the wire: a receiver finds the same marks.
 
 -- the field of a bit, and whether it is a stuff bit
 pub record Mark : Type 0 where
   pub field : Field
   pub is_stuff : Bool
 
--- the mark of a bit that is no stuff bit
+-- the mark of a bit that is not a stuff bit
 abbrev pub plain : Field → Mark
 plain field = record { field = field; is_stuff = false }
 
--- a stuff bit
+-- the mark of a stuff bit
 abbrev pub stuff : Field → Mark
 stuff field = record { field = field; is_stuff = true }
 
--- the marks of stuffed bits in these fields. Before them came `run` bits of the value `last`, the last one in the field
--- `before`. A stuff bit follows five bits of one value and has the field of the bit before it (Bosch CAN Specification
--- 2.0, section 6)
+-- the marks of bits with their stuff bits, in these fields. The last `run` bits before them have the value `last`, and
+-- the last bit belongs to the field `before`. A stuff bit follows five bits of one value and has the field of the bit
+-- before it (Bosch CAN Specification 2.0, section 6)
 abbrev pub marks_after : Field → ℕ → ℕ → List Field → List ℕ → List Mark
 marks_after before last run fields [] = []
 marks_after before last run fields (b ∷ bits) =
@@ -32,7 +32,7 @@ marks_after before last run fields (b ∷ bits) =
     else plain (slice_index_or fields 0 before)
     ∷ marks_after (slice_index_or fields 0 before) b (if b == last then run + 1 else 1) (drop 1 fields) bits
 
--- the marks of stuffed bits in these fields, from start of frame on
+-- the marks of bits with their stuff bits, in these fields, from start of frame on
 abbrev pub marks_in : List Field → List ℕ → List Mark
 marks_in fields bits = marks_after field.StartOfFrame 2 0 fields bits
 

@@ -12,10 +12,10 @@ use Rattle.can_bits.specs.declared.bit.Field.{Field}
 use Rattle.can_bits.specs.declared.bit.Field.TheVariants as field
 use Rattle.can_bits.specs.Sent.{AreBitsOf}
 
--- The text of a frame's bits (own choice): a line for each field, with stuff bits in parentheses; the counts of bits;
--- and the bit at which each sender that loses arbitration falls silent.
+-- The text of a frame's bits (own choice). It has a line for each field, with stuff bits in parentheses; the counts of
+-- bits; and, for each other frame, the bit at which its sender falls silent if it loses arbitration.
 
--- the name of a field, in 15 columns
+-- the name of a field, padded to 15 columns
 abbrev pub name_of : Field → List ℕ
 name_of field.StartOfFrame = codes "SOF            "
 name_of field.Identifier = codes "identifier     "
@@ -39,7 +39,7 @@ name_of field.AckDelimiter = codes "ACK delimiter  "
 name_of field.EndOfFrame = codes "EOF            "
 name_of field.Intermission = codes "intermission   "
 
--- the number of a field in the order of declaration
+-- the position of a field in the order of declaration, from 0
 abbrev pub field_place : Field → ℕ
 field_place field.StartOfFrame = 0
 field_place field.Identifier = 1
@@ -69,7 +69,7 @@ is_same_field f g = field_place f == field_place g
 
 -- ---- a line for each field
 
--- the start of a bit's text: a new line, if the bit before it has another field
+-- the start of a bit's text: the field's name on a new line, unless the bit before it has the same field
 abbrev pub line_start : Option Field → Field → List ℕ
 line_start None f = name_of f
 line_start (Some before) f = if is_same_field before f then [] else 10 ∷ name_of f
@@ -79,21 +79,21 @@ abbrev pub bit_text : Bit → List ℕ
 bit_text b =
     if b.is_stuff then 40 ∷ (48 + bit_of b.is_recessive) ∷ 41 ∷ [] else (48 + bit_of b.is_recessive) ∷ []
 
--- the lines of bits that follow a bit of this field
+-- the lines of these bits; `before` is the field of the bit before them, if there is one
 abbrev pub lines_after : Option Field → List Bit → List ℕ
 lines_after before [] = []
 lines_after before (b ∷ bits) = line_start before b.field ++ (bit_text b ++ lines_after (Some b.field) bits)
 
 -- ---- counts of bits
 
--- the number of stuff bits, and below it the number of bits at the data bit rate
+-- `stuff_bits` is the number of stuff bits, and `fast_bits` the number of bits at the data bit rate
 abbrev pub stuff_bits : List Bit → ℕ
 stuff_bits bits = length (filter (λ b. b.is_stuff) bits)
 
 abbrev pub fast_bits : List Bit → ℕ
 fast_bits bits = length (filter (λ b. b.is_fast) bits)
 
--- the line with these counts
+-- `counts_line` is the line with these counts, and `total_line` the line for these bits
 abbrev pub counts_line : ℕ → ℕ → ℕ → List ℕ
 counts_line all stuffs fast =
     codes "total          " ++ decimal all ++ codes " bits, " ++ decimal stuffs ++ codes " of them stuff bits, "
@@ -102,7 +102,7 @@ counts_line all stuffs fast =
 abbrev pub total_line : List Bit → List ℕ
 total_line bits = counts_line (length bits) (stuff_bits bits) (fast_bits bits)
 
--- the line with the time of the frame, and below it that line only if the bus has bit rates
+-- `nanos_line` is the line with the time of the frame, and `time_line` is the same line if the bus has bit rates
 abbrev pub nanos_line : ℕ → List ℕ
 nanos_line nanos = codes "time           " ++ decimal nanos ++ codes " ns to end of frame" ++ 10 ∷ []
 
@@ -112,11 +112,11 @@ time_line (Some t) f = nanos_line (frame_nanos_of t f)
 
 -- ---- senders that fall silent
 
--- the bits of a frame, to the end of intermission
+-- the values of a frame's bits, to the end of intermission
 abbrev pub sent_values : CanFrame → List ℕ
 sent_values f = wire_of f ++ replicate intermission 1
 
--- the bit at which the sender of `values` falls silent, after `k` equal bits: the first bit that differs, if that
+-- The bit at which the sender of `values` falls silent, after `k` equal bits. It is the first bit that differs, if that
 -- sender sends a recessive bit there (Bosch CAN Specification 2.0, section 2: it sends a recessive bit and sees a
 -- dominant one)
 abbrev pub silence_after : ℕ → List Bit → List ℕ → Option (ℕ × Field)
@@ -130,7 +130,7 @@ silence_after k (b ∷ bits) (v ∷ values) =
 abbrev pub silence : CanFrame → List Bit → CanFrame → Option (ℕ × Field)
 silence f bits other = if nat_lt (key_of f) (key_of other) then silence_after 0 bits (sent_values other) else None
 
--- the start of the line of one other frame
+-- `silence_text` is the start of another frame's line, and `silence_line` the whole line
 abbrev pub silence_text : Option (ℕ × Field) → List ℕ
 silence_text None = codes "not silent     "
 silence_text (Some p) = codes "silent         " ++ name_of p.1 ++ codes "bit " ++ decimal p.0 ++ codes ", "
@@ -150,7 +150,7 @@ abbrev pub text_of_bits : CanFrame → List CanFrame → Option BusTiming → Li
 text_of_bits f others timing bits =
     lines_after None bits ++ 10 ∷ [] ++ total_line bits ++ time_line timing f ++ silence_lines f bits others
 
--- the text shows the bits of a frame, and the other frames that compete with it
+-- the text shows the bits of a frame, and the other frames that compete with this frame
 pub record IsBitsText (f : CanFrame) (others : List CanFrame) (timing : Option BusTiming) (text : List ℕ) : Type 0 where
   pub bits : List Bit
   pub are : AreBitsOf f bits

@@ -1,4 +1,4 @@
--- The turns of pieces fed one after another are those of the whole stream, and conversely.
+-- Pieces that are fed in order make the same turns as the whole stream, and conversely.
 use Rattle.std.proofs.Common.{◌≡◌, ℕ, Bool, List, [], ◌∷◌, ◌++◌, refl, sym, ap, subst, ◌∙◌, append_assoc}
 use Rattle.can_proto.specs.declared.message.Incoming.{Incoming}
 use Rattle.can_proto.specs.Messages.{messages_of, kept_of, given_from}
@@ -7,7 +7,7 @@ use Rattle.can_dialog.specs.Calls.{Call, Reply}
 use Rattle.can_dialog.specs.Sessions.{Turns, Feeds}
 use Rattle.can_dialog.proofs.Turning.{turns_join}
 
--- the turns of two lists are those of the first, then those of the second
+-- the turns of two lists are the turns of the first list, then the turns of the second list
 parted : {P : Type 0} (step : P → (call : Call) → Reply call → P → Type 0) (moment : ℕ) (d : Dialog) (forgotten : List Bool) (items later : List Incoming) (p r : P) (text : List ℕ) (after : Dialog)
     → Turns step moment d forgotten (items ++ later) p r text after
     → (some : List Bool) × (first : List ℕ) × (mid : Dialog) × (port : P) × (more : List Bool) × (others : List ℕ) × Turns step moment d some items p port first mid × Turns step moment mid more later port r others after × (text ≡ first ++ others)

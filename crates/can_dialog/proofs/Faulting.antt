@@ -28,7 +28,7 @@ lost : (r : Result Command ProtoFault) → GivesBut keeps_on_heap (Err NoMemory)
 lost (Ok c) h = rw (lacking c h) refl
 lost (Err e) h = absurd h
 
--- a fault is that of the message, or it is `NoMemory` for a command that needs the heap
+-- a fault is the message's own fault, or `NoMemory` for a command that needs the heap
 pub reads : (r : Result Command ProtoFault) (e : ProtoFault) → GivesBut keeps_on_heap (Err e) r → (forgot : Bool) × (read_as forgot r ≡ Err e)
 reads r NoMemory h = (true, lost r h)
 reads r InvalidFilter h = (false, h)

@@ -45,7 +45,7 @@ refused {P} step capacity kept (act ∷ acts) p q text after h =
     let again = refused step capacity (kept_after kept act) acts h.2 q h.3 after same in
     (again.0 ∙ h.4.0, h.6 ∙ ap (λ (t : List ℕ). t ++ h.3) h.4.1 ∙ again.1, again.2)
 
--- one call and the calls after it
+-- one call, then the calls after it
 on : {P : Type 0} (step : P → (call : Call) → Reply call → P → Type 0) (d : Dialog) (kept : List ℕ) (act : Act (List ℕ)) (acts : List (Act (List ℕ))) (p port q : P) (first others text : List ℕ) (mid after : Dialog)
     → CallDoes step d kept act p port first mid → (forgotten : List Bool) → Lives step mid forgotten (turns_of (kept_after kept act) acts) port q others after → text ≡ first ++ others
     → (forgotten : List Bool) × Lives step d forgotten (turns_of kept (act ∷ acts)) p q text after

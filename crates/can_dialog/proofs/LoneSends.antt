@@ -1,4 +1,4 @@
--- The turn of a piece that is a single `send`: it sends the frame.
+-- A piece that is a single `send` makes one turn, which sends the frame.
 use Rattle.std.proofs.Common.{◌≡◌, ℕ, List, [], ◌∷◌, Option, Result, Ok, Err, false, refl, sym, ap, subst, ◌∙◌}
 use Rattle.std.specs.Prelude.{OnOk}
 use Rattle.std.proofs.lemmas.List.{append-nil}

@@ -25,11 +25,11 @@ none (x ∷ bytes) = let again = none bytes in grind (arith, again, begun-cons x
 left : (bytes : List ℕ) → messages_begun (left_by bytes) ≤ 1
 left bytes = grind (arith, none bytes, begun-cons 60 (run_of bytes))
 
--- the text kept begins at most one message
+-- at most one message begins in the kept text
 pub kept_few : (bytes : List ℕ) → messages_begun (kept_of bytes) ≤ 1
 kept_few [] = omega arith
 kept_few (x ∷ bytes) = let again = kept_few bytes in grind (arith, again, left bytes)
 
--- a piece ends no more messages than it begins, and one that was begun before
+-- at most one more message ends in a piece than begins in it: the message that began before the piece
 pub enough : (kept piece : List ℕ) (items : List Incoming) (room : ℕ) → messages_begun kept ≤ 1 → items ≡ messages_of (kept ++ piece) → (messages_begun piece + 1) * 256 ≤ room → length items * 256 ≤ room
 enough kept piece items room one is h = omega (arith, ap length is, few (kept ++ piece), begun-append kept piece)

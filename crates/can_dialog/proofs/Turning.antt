@@ -1,4 +1,4 @@
--- The turns of one more item, and of two lists one after the other.
+-- The turns with one more item, and the turns with two lists of items, one after the other.
 use Rattle.std.proofs.Common.{◌≡◌, ℕ, Bool, List, [], ◌∷◌, ◌++◌, refl, sym, ap, subst, ◌∙◌, append_assoc, ◌+◌, ◌<◌, length, take, get_or, Result, Ok, Err, false}
 use Rattle.std.specs.Prelude.{OnOk}
 use Rattle.std.specs.Result.{is_err}

@@ -27,7 +27,7 @@ use Rattle.can_dialog.specs.declared.port.PortRefusal.TheVariants as port
 -- The calls of a port, and the replies that it may give (own choice).
 
 -- A call of a port with its arguments. Interfaces and timestamps are numbers, and a fault rule is its text. `Names`
--- returns the names of all interfaces that may be attached, in order. No session makes an `Attempt`.
+-- returns the names of all interfaces that may be attached, in order. No session calls `Attempt`.
 pub data Call : Type 0 where
   Names : Call
   Attach : List ℕ → Call
@@ -89,7 +89,7 @@ abbrev pub reply_to_rule : Result (Unit {0}) RuleRefusal → Result (Unit {0}) P
 reply_to_rule (Ok done) = Ok done
 reply_to_rule (Err why) = Err (port_of_rule why)
 
--- a refused event is a step with that refusal
+-- the port refuses an event for this reason
 abbrev pub Denies : {P : Type 0} → (P → (call : Call) → Reply call → P → Type 0) → P → Event → PortRefusal → P → Type 0
 Denies step old (event.Open iface capacity) why new = step old (Open iface capacity) (Err why) new
 Denies step old (event.Close socket) why new = step old (Close socket) (Err why) new
@@ -101,7 +101,7 @@ Denies step old (event.Attempt moment verdict) why new = step old (Attempt momen
 Denies step old (event.Restart iface moment) why new = step old (Restart iface moment) (Err why) new
 Denies step old (event.Down iface moment) why new = step old (Down iface moment) (Err why) new
 
--- an event and its reply are a step; the reply is of the event's kind, or a refusal of the bus
+-- the port takes an event and gives this reply; the reply is of the event's kind, or a refusal by the bus
 abbrev pub Replies : {P : Type 0} → (P → (call : Call) → Reply call → P → Type 0) → P → Event → EventReply → P → Type 0
 Replies step old e (reply.Refused why) new = Denies step old e (port.Bus why) new
 Replies step old (event.Open iface capacity) (reply.Opened socket) new = step old (Open iface capacity) (Ok socket) new
@@ -115,7 +115,7 @@ Replies step old (event.Restart iface moment) reply.Done new = step old (Restart
 Replies step old (event.Down iface moment) reply.Done new = step old (Down iface moment) (Ok tt) new
 Replies step old e r new = ⊥
 
--- a call that makes an event: it has a reply of the bus, or a refusal before the event reaches the bus
+-- the port takes the call for an event: the result is a reply of the bus, or a refusal before the event reaches the bus
 abbrev pub Steps : {P : Type 0} → (P → (call : Call) → Reply call → P → Type 0) → P → Event
     → Result EventReply PortRefusal → P → Type 0
 Steps step old e (Ok r) new = Replies step old e r new

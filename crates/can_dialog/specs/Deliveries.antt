@@ -11,7 +11,7 @@ use Rattle.can_dialog.specs.Turns.{delivery, origin_of}
 
 -- The items that a client receives (own choice).
 
--- the text of a delivery, with this item in the buffer
+-- the text of a delivery, if this item is in the buffer
 abbrev pub delivery_text : Delivery → Received → List ℕ
 delivery_text Nothing room = []
 delivery_text (Item errdata) room = item_text errdata room.item room.moment
@@ -24,7 +24,7 @@ is_item (Item errdata) = true
 is_item (ItemFrom errdata same) = true
 is_item _ = false
 
--- the port makes a delivery at this stage, with this result and this item in the buffer
+-- one delivery at this stage over the port; `given` is its result, and `room` is the buffer that holds a received item
 abbrev pub ReceivesInto :
     {P : Type 0} → (P → (call : Call) → Reply call → P → Type 0) → Stage → P → P → Delivery → Received → Type 0
 ReceivesInto {P} step stage p q given room = Plays step (delivery stage) p q (delivery_text given room) (is_item given)

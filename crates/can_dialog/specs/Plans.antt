@@ -1,9 +1,10 @@
 use Rattle.std.specs.Prelude.{◌≡◌, ℕ, List}
 use Rattle.can_dialog.specs.Calls.{Call, Reply}
 
--- The plan of a session for a turn, which depends on the replies of the port (own choice).
+-- The plan of a session's turn: its port calls, which may depend on earlier replies (own choice).
 
--- A plan ends with a text for the client and an outcome, or it calls the port and continues by the reply.
+-- A plan ends with a text for the client and an outcome (`Tell`), or it calls the port and the reply decides how it
+-- continues (`Ask`).
 pub data Plan (A : Type 0) : Type 0 where
   Tell : List ℕ → A → Plan A
   Ask : (call : Call) → (Reply call → Plan A) → Plan A

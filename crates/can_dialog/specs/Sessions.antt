@@ -17,14 +17,14 @@ use Rattle.can_dialog.specs.Calls.Call.{Names}
 use Rattle.can_dialog.specs.Plans.{Plan, Plays}
 use Rattle.can_dialog.specs.Turns.{voiced, read_as, answering, turn, at_stage, sending_frame, ending, delivery}
 
--- The output of a session, over any port.
+-- The effects and the output of a session, over any port.
 
--- a session between calls: the text of a message begun, and the state of the dialog
+-- a session between calls: the text of an incomplete message, and the state of the dialog
 pub record SessionState : Type 0 where
   pub kept : List ℕ
   pub dialog : Dialog
 
--- a session at its start, with this capacity for its socket
+-- a new session; `capacity` is the capacity of its future socket
 abbrev pub beginning : ℕ → SessionState
 beginning capacity = record { kept = []; dialog = record { capacity = capacity; stage = NoBus } }
 
@@ -41,18 +41,18 @@ abbrev pub IsNotRaw : Stage → Type 0
 IsNotRaw (Raw raw) = ⊥
 IsNotRaw _ = Unit {0}
 
--- the port takes the calls of a plan, with this reply to the client, if any
+-- the port takes the calls of a plan, and the client gets this reply, if any
 abbrev pub Replies : {P : Type 0} → (P → (call : Call) → Reply call → P → Type 0) → Plan Dialog → P → P
     → Option Answer → Dialog → Type 0
 Replies {P} step plan p q answer after = Plays step plan p q (voiced answer) after
 
--- the turn of one item with its text, with or without memory for its command
+-- a turn with one item and its text, whether or not there is memory for the item's command
 abbrev pub TakesTurn : {P : Type 0} → (P → (call : Call) → Reply call → P → Type 0) → ℕ → Dialog → Incoming → P → P
     → List ℕ → Dialog → Type 0
 TakesTurn {P} step moment d item p q text after =
     (forgot : Bool) × Plays step (turn forgot moment d item) p q text after
 
--- a command is carried out with this text, with or without memory for it
+-- a command is carried out with this text, whether or not there is memory for it
 abbrev pub CarriesOut : {P : Type 0} → (P → (call : Call) → Reply call → P → Type 0) → ℕ → Dialog → Command → P → P
     → List ℕ → Dialog → Type 0
 CarriesOut {P} step moment d command p q text after =
@@ -64,11 +64,11 @@ ReportsNames {P} step p text =
     ((names : List (List ℕ)) × step p Names names p × (text ≡ interfaces_text names))
     ⊎ (text ≡ answer_text (Refused NoMemory))
 
--- the session ends over the port and writes no text
+-- the session ends over the port, and writes no text
 abbrev pub Finishes : {P : Type 0} → (P → (call : Call) → Reply call → P → Type 0) → Dialog → P → P → Dialog → Type 0
 Finishes {P} step d p q after = Plays step (ending d.stage d) p q [] after
 
--- the turns of items, one after another; each flag is true if there was no memory for that command
+-- the turns with these items, in order; each flag is true if there was no memory for the item's command
 abbrev pub Turns : {P : Type 0} → (P → (call : Call) → Reply call → P → Type 0) → ℕ → Dialog → List Bool
     → List Incoming → P → P → List ℕ → Dialog → Type 0
 Turns {P} step moment d [] [] p q text after = (q ≡ p) × (text ≡ []) × (after ≡ d)
@@ -79,7 +79,7 @@ Turns {P} step moment d (forgot ∷ more) (item ∷ items) p q text after =
     × (text ≡ first ++ others)
 Turns {P} step moment d _ _ p q text after = ⊥
 
--- the turns of items, one after another, with or without memory for each command
+-- the turns with these items, in order, whether or not there is memory for each command
 abbrev pub TakesTurns : {P : Type 0} → (P → (call : Call) → Reply call → P → Type 0) → ℕ → Dialog → List Incoming
     → P → P → List ℕ → Dialog → Type 0
 TakesTurns {P} step moment d items p q text after =
@@ -90,7 +90,7 @@ pub record Wrote {W : Type 0} (contents : W → Option (List ℕ)) (old : W) (te
   pub grows : Appends (contents old) (contents new) text
   pub alone : text ≡ [] → new ≡ old
 
--- the session takes these items over the port, and the writer takes their text
+-- the session handles these items over the port, and the writer takes their text
 pub record Says {P W : Type 0} (step : P → (call : Call) → Reply call → P → Type 0) (contents : W → Option (List ℕ))
     (moment : ℕ) (before : Dialog) (items : List Incoming) (p q : P) (out new : W) (after : Dialog) : Type 0 where
   pub forgotten : List Bool
@@ -98,7 +98,7 @@ pub record Says {P W : Type 0} (step : P → (call : Call) → Reply call → P 
   pub turns : Turns step moment before forgotten items p q text after
   pub wrote : Wrote contents out text new
 
--- the session takes these items over the port, but the text does not reach the client and the session ends
+-- the session handles these items over the port, but the text does not reach the client and the session ends
 pub record Cut {P : Type 0} (step : P → (call : Call) → Reply call → P → Type 0) (moment : ℕ) (before : Dialog)
     (items : List Incoming) (p q : P) (after : Dialog) : Type 0 where
   pub forgotten : List Bool
@@ -122,14 +122,14 @@ SendCut {P} step before raw frame p q after =
     (text : List ℕ) × (mid : Dialog) × (port : P) × (text ≢ [])
     × Plays step (sending_frame before raw frame) p port text mid × Finishes step mid port q after
 
--- one delivery over the port, whose text the writer takes; `more` is true if it is an item
+-- one delivery over the port, and the writer takes its text; `more` is true if an item was delivered
 pub record Delivers {P W : Type 0} (step : P → (call : Call) → Reply call → P → Type 0)
     (contents : W → Option (List ℕ)) (stage : Stage) (p q : P) (out new : W) (more : Bool) : Type 0 where
   pub text : List ℕ
   pub plays : Plays step (delivery stage) p q text more
   pub wrote : Wrote contents out text new
 
--- one delivery over the port, whose text does not reach the client, and the session ends
+-- one delivery over the port, but its text does not reach the client and the session ends
 pub record DeliveryCut {P : Type 0} (step : P → (call : Call) → Reply call → P → Type 0) (before : Dialog) (p q : P)
     (after : Dialog) : Type 0 where
   pub text : List ℕ
@@ -139,7 +139,7 @@ pub record DeliveryCut {P : Type 0} (step : P → (call : Call) → Reply call �
   pub plays : Plays step (delivery before.stage) p port text more
   pub ends : Finishes step before port q after
 
--- pieces are fed one after another; `before` is the text kept at first
+-- these pieces are fed in order; `before` is the text kept before the first piece
 abbrev pub Feeds : {P : Type 0} → (P → (call : Call) → Reply call → P → Type 0) → ℕ → Dialog → List ℕ
     → List (List ℕ) → P → P → List ℕ → Dialog → Type 0
 Feeds {P} step moment d before [] p q text after = (q ≡ p) × (text ≡ []) × (after ≡ d)

@@ -38,8 +38,8 @@ use Rattle.can_dialog.specs.Calls.Call.{CountersOfIface, LoadAt, Inject, CountsR
 use Rattle.can_dialog.specs.Plans.{Plan}
 use Rattle.can_dialog.specs.Plans.Plan.{Tell, Ask}
 
--- The turns of a session. Each command has its calls, a text for the client, and the state after it (socketcand's raw
--- mode; filter and the later commands are own choice).
+-- The turns of a session: the calls of each command, a text for the client, and the state after the command
+-- (socketcand's raw mode; filter and the later commands are own choice).
 
 -- the mode of a stage
 abbrev pub mode_of : Stage → Mode
@@ -61,11 +61,11 @@ tells a d = Tell (answer_text a) d
 abbrev pub silent : Dialog → Plan Dialog
 silent d = Tell [] d
 
--- a refusal of the port, which is reported and changes nothing
+-- the plan that reports a refusal by the port and changes nothing
 abbrev pub refused : PortRefusal → Dialog → Plan Dialog
 refused why d = tells (answer.Refused (cause_of_port why)) d
 
--- the reply to a command that the stage does not allow
+-- the plan that reports that the stage does not allow the command
 abbrev pub misplaced : Dialog → Plan Dialog
 misplaced d = tells (answer.Refused cause.WrongState) d
 
@@ -86,7 +86,8 @@ entered d iface (Ok socket) =
     (at_stage (Raw (record { iface = iface; socket = socket; errdata = false; acks = false; origins = false })) d)
 entered d iface (Err why) = refused why d
 
--- the plan after a frame was sent: its number is reported if the client asked for numbers, and a refusal always
+-- the plan after the port's reply to `Send`: the frame's number is reported if the client asked for numbers, and a
+-- refusal is always reported
 abbrev pub sent : Dialog → RawSocket → Result ℕ PortRefusal → Plan Dialog
 sent d raw (Ok number) = if raw.acks then tells (answer.Sent number) d else silent d
 sent d raw (Err why) = refused why d
@@ -95,43 +96,44 @@ sent d raw (Err why) = refused why d
 abbrev pub sending_frame : Dialog → RawSocket → CanFrame → Plan Dialog
 sending_frame d raw frame = Ask (Send raw.socket frame) (sent d raw)
 
--- the reply to a call that has no result of its own: done or refused
+-- the reply after a call that returns no value: done or refused
 abbrev pub told_when_done : Result (Unit {0}) PortRefusal → Answer
 told_when_done (Ok _) = answer.Done
 told_when_done (Err why) = answer.Refused (cause_of_port why)
 
--- the plan after such a call
+-- the plan after a call that returns no value
 abbrev pub done : Dialog → Result (Unit {0}) PortRefusal → Plan Dialog
 done d outcome = tells (told_when_done outcome) d
 
--- the plan after the counts of the interface; those of the socket are known
+-- the plan after the port's reply to `CountsOfIface`; the counts of the socket are known already
 abbrev pub counted : Dialog → SocketStats → Option IfaceStats → Plan Dialog
 counted d s None = refused (port.Bus refusal.NoInterface) d
 counted d s (Some i) = tells (answer.Stats s i) d
 
--- the plan after the counts of the socket; without them it does not ask for the counts of the interface
+-- the plan after the port's reply to `CountsOfSocket`; if there is no such socket, the plan does not ask for the counts
+-- of the interface
 abbrev pub looked_up : Dialog → ℕ → Option SocketStats → Plan Dialog
 looked_up d iface None = refused (port.Bus refusal.NoSocket) d
 looked_up d iface (Some s) = Ask (CountsOfIface iface) (counted d s)
 
--- the plan for the counts
+-- the plan to report the counts of the socket and of the interface
 abbrev pub looking_up : Dialog → RawSocket → Plan Dialog
 looking_up d raw = Ask (CountsOfSocket raw.socket) (looked_up d raw.iface)
 
--- the plan after the error counters of the interface
+-- the plan after the port's reply to `CountersOfIface`
 abbrev pub metered : Dialog → ErrorCounts → Plan Dialog
 metered d counters = tells (answer.Status counters) d
 
--- the plan after the load of the bus
+-- the plan after the port's reply to `LoadAt`
 abbrev pub loaded : Dialog → BusLoad → Plan Dialog
 loaded d load = tells (answer.Load load) d
 
--- the plan after the client closed the socket: the session is over
+-- the plan after the client asked to close the socket: the session is over unless the port refuses
 abbrev pub closed : Dialog → Result Closed PortRefusal → Plan Dialog
 closed d (Ok c) = tells (answer.Closing c) (at_stage Ended d)
 closed d (Err why) = refused why d
 
--- the plan to close the socket for the client
+-- the plan to close the socket because the client asked for it
 abbrev pub closing_socket : Dialog → RawSocket → Plan Dialog
 closing_socket d raw = Ask (Close raw.socket) (closed d)
 
@@ -139,11 +141,11 @@ closing_socket d raw = Ask (Close raw.socket) (closed d)
 abbrev pub injecting : Dialog → List ℕ → Plan Dialog
 injecting d rule = Ask (Inject rule) (done d)
 
--- the plan after the number of fault rules
+-- the plan after the port's reply to `CountsRules`
 abbrev pub told_rules : Dialog → ℕ → Plan Dialog
 told_rules d left = tells (answer.Faults left) d
 
--- the plan to count the fault rules
+-- the plan to report the number of fault rules
 abbrev pub counting_rules : Dialog → Plan Dialog
 counting_rules d = Ask CountsRules (told_rules d)
 
@@ -155,13 +157,13 @@ ending_rules d = Ask EndsRules (λ _. tells answer.Done d)
 abbrev pub naming : Dialog → Plan Dialog
 naming d = Ask Names (λ names. Tell (interfaces_text names) d)
 
--- the plan of a command before an interface is opened
+-- the plan for a command before an interface is opened
 abbrev pub doing_unopened : Dialog → Command → Plan Dialog
 doing_unopened d command.Echo = tells answer.Echo d
 doing_unopened d (command.Open name) = Ask (Attach name) (attached d)
 doing_unopened d _ = misplaced d
 
--- the plan of a command once an interface is opened
+-- the plan for a command after an interface is opened and before raw mode
 abbrev pub doing_opened : Dialog → ℕ → Command → Plan Dialog
 doing_opened d iface command.Echo = tells answer.Echo d
 doing_opened d iface command.Rawmode = Ask (Open iface d.capacity) (entered d iface)
@@ -170,7 +172,7 @@ doing_opened d iface command.Faults = counting_rules d
 doing_opened d iface command.NoFaults = ending_rules d
 doing_opened d iface _ = misplaced d
 
--- the plan of a command in raw mode, at this time
+-- the plan for a command in raw mode, at this time
 abbrev pub doing_raw : ℕ → Dialog → RawSocket → Command → Plan Dialog
 doing_raw moment d raw command.Echo = tells answer.Echo d
 doing_raw moment d raw (command.Open name) = misplaced d
@@ -192,36 +194,36 @@ doing_raw moment d raw command.NoFaults = ending_rules d
 doing_raw moment d raw command.Close = closing_socket d raw
 doing_raw moment d raw command.Down = Ask (Down raw.iface moment) (done d)
 
--- the plan of a command, by the stage of the session
+-- the plan for a command at this stage of the session
 abbrev pub doing : ℕ → Dialog → Stage → Command → Plan Dialog
 doing moment d NoBus c = doing_unopened d c
 doing moment d (Opened iface) c = doing_opened d iface c
 doing moment d (Raw raw) c = doing_raw moment d raw c
 doing moment d Ended c = silent d
 
--- whether there may be no memory for the command itself, which needs the heap, or for its reply
+-- whether the command may fail for lack of memory, because the command or its reply needs the heap
 abbrev pub may_lack_memory : Command → Bool
 may_lack_memory command.Interfaces = true
 may_lack_memory c = keeps_on_heap c
 
--- the command, or `NoMemory` in its place; only such a command may be lost for lack of memory
+-- the fault `NoMemory` for a command that may fail for lack of memory; anything else is unchanged
 abbrev pub without_memory : Result Command ProtoFault → Result Command ProtoFault
 without_memory (Ok c) = if may_lack_memory c then Err fault.NoMemory else Ok c
 without_memory (Err e) = Err e
 
--- the command or the fault of a message; `forgot` means that there was no memory for it
+-- the command or the fault of a message; `forgot` is true if there was no memory for it
 abbrev pub read_as : Bool → Result Command ProtoFault → Result Command ProtoFault
 read_as false read = read
 read_as true read = without_memory read
 
--- the plan of a command: `interfaces` does the same at each stage, all other commands depend on the stage. A fault of a
--- message is reported and does nothing else.
+-- the plan for a command or a fault: `interfaces` does the same at each stage, and all other commands depend on the
+-- stage. A fault of a message is reported and does nothing else.
 abbrev pub answering : ℕ → Dialog → Result Command ProtoFault → Plan Dialog
 answering moment d (Ok command.Interfaces) = naming d
 answering moment d (Ok c) = doing moment d d.stage c
 answering moment d (Err e) = tells (answer.Refused (cause_of_fault e)) d
 
--- the plan of one item of a client's stream
+-- the plan for one item of a client's stream
 abbrev pub heard : Bool → ℕ → Dialog → Incoming → Plan Dialog
 heard forgot moment d TooLong = tells (answer.Refused cause.MessageTooLong) d
 heard forgot moment d (Message inside) =
@@ -232,15 +234,15 @@ abbrev pub unless_over : Stage → Plan Dialog → Dialog → Plan Dialog
 unless_over Ended plan d = silent d
 unless_over _ plan d = plan
 
--- the turn of one item of a client's stream
+-- the turn with one item of a client's stream
 abbrev pub turn : Bool → ℕ → Dialog → Incoming → Plan Dialog
 turn forgot moment d item = unless_over d.stage (heard forgot moment d item) d
 
--- the plan after the socket was closed at the end of a session, whatever the port replied
+-- the plan after the port's reply to `Close` at the end of a session; the reply does not matter
 abbrev pub ended_by : Dialog → Result Closed PortRefusal → Plan Dialog
 ended_by d _ = silent (at_stage Ended d)
 
--- the plan for the end of a session, which closes the raw socket
+-- the plan for the end of a session: it closes the raw socket, if there is one
 abbrev pub ending : Stage → Dialog → Plan Dialog
 ending (Raw raw) d = Ask (Close raw.socket) (ended_by d)
 ending _ d = silent (at_stage Ended d)
@@ -256,7 +258,7 @@ received_text raw r =
     if raw.origins then item_text_from raw.errdata (origin_of (r.from == raw.iface) r.number) r.item r.moment
     else item_text raw.errdata r.item r.moment
 
--- the plan after one receive: an item is written, and there may be more
+-- the plan after the port's reply to `Receive`: if an item is written, there may be more items
 abbrev pub delivered : RawSocket → Result (Option Received) PortRefusal → Plan Bool
 delivered raw (Ok (Some r)) = Tell (received_text raw r) true
 delivered raw (Ok None) = Tell [] false

@@ -1,4 +1,4 @@
--- Lists of publications, and ends of them.
+-- Lists of publications, and their ends.
 use Rattle.std.proofs.Common.{◌≡◌, ◌≢◌, ℕ, zero, suc, ◌+◌, ◌*◌, ◌/◌, ◌%◌, ◌≤◌, Bool, true, false, List, [], ◌∷◌, ◌++◌, length, refl, ap, sym, ◌∙◌, subst, arith, length-append}
 use Rattle.std.specs.Prelude.{nat_eq, nat_le, if◌then◌else◌}
 use Rattle.std.proofs.lemmas.Bool.Decides.{nat_tests}
@@ -20,14 +20,14 @@ suffix_shorter {A} xs ys zs p q le = walk p.0 q.0 zs p.1 q.1
     walk (t ∷ ts) (u ∷ us) [] p q = absurd (cc p)
     walk (t ∷ ts) (u ∷ us) (z ∷ zs) p q = walk ts us zs (cc p) (cc q)
 
--- the list of an interface after a change of it
+-- the list of an interface after this list was replaced
 pub published-with_list : (lists : List (List Status)) (i : ℕ) (ps : List Status) → published (with_list lists i ps) i ≡ ps
 published-with_list [] zero ps = refl
 published-with_list [] (suc i) ps = published-with_list [] i ps
 published-with_list (qs ∷ lists) zero ps = refl
 published-with_list (qs ∷ lists) (suc i) ps = published-with_list lists i ps
 
--- and that of another interface
+-- the list of every other interface stays the same
 pub published-with_list_else : (lists : List (List Status)) (i j : ℕ) (ps : List Status) → j ≢ i → published (with_list lists i ps) j ≡ published lists j
 published-with_list_else [] zero zero ps n = absurd (n refl)
 published-with_list_else [] zero (suc j) ps n = refl
@@ -38,7 +38,7 @@ published-with_list_else (qs ∷ lists) zero (suc j) ps n = refl
 published-with_list_else (qs ∷ lists) (suc i) zero ps n = refl
 published-with_list_else (qs ∷ lists) (suc i) (suc j) ps n = published-with_list_else lists i j ps (λ e. n (ap suc e))
 
--- a fact of each list after a change of one
+-- a fact about each list still holds after one list was replaced
 pub lists_with : (P : ℕ → List Status → Type 0) (lists : List (List Status)) (i : ℕ) (ps : List Status)
     → P i ps → ((j : ℕ) → j ≢ i → P j (published lists j)) → (j : ℕ) → P j (published (with_list lists i ps) j)
 lists_with P lists i ps here others j =
@@ -89,7 +89,7 @@ published-longer (ps ∷ a) [] i = longer_none _ (published (ps ∷ a) i) refl
 published-longer (ps ∷ a) (qs ∷ b) zero = refl
 published-longer (ps ∷ a) (qs ∷ b) (suc i) = published-longer a b i
 
--- of two suffixes of one list, both are suffixes of the longer, and that is a suffix too
+-- if `a` and `b` are ends of `all`, both are ends of the longer lists, which are also ends of `all`
 pub longer_ends : (a b all : List (List Status)) → AreEndsOf a all → AreEndsOf b all → AreEndsOf a (longer_lists a b) × AreEndsOf b (longer_lists a b) × AreEndsOf (longer_lists a b) all
 longer_ends a b all p q = ((λ i. (each i).0), (λ i. (each i).1), (λ i. (each i).2))
   where
@@ -99,17 +99,17 @@ longer_ends a b all p q = ((λ i. (each i).0), (λ i. (each i).1), (λ i. (each 
     each : (i : ℕ) → Longest i (published (longer_lists a b) i)
     each i = subst (Longest i) (sym (published-longer a b i)) (longer_is (published a i) (published b i) (published all i) (p i) (q i))
 
--- the lowest bit is the flag that it was made of
+-- the lowest bit of a word is the flag from which the word was made
 bit_back : (n : ℕ) (b : Bool) → nat_eq ((n * 2 + down_bit b) % 2) 1 ≡ b
 bit_back n true = let one : (n * 2 + 1) % 2 ≡ 1 = omega arith in rw one refl
 bit_back n false = let none : (n * 2 + 0) % 2 ≡ 0 = omega arith in rw none refl
 
--- and the bits above it are the rest
+-- the bits above the lowest bit are the rest of the word
 rest_back : (n : ℕ) (b : Bool) → (n * 2 + down_bit b) / 2 ≡ n
 rest_back n true = omega arith
 rest_back n false = omega arith
 
--- a word keeps the publication that it was made of
+-- a word stores the publication from which it was made
 pub meant-word_of : (p : Status) → Fits p → meant (status_word p) ≡ p
 meant-word_of p f =
     let rest : status_word p / 2 ≡ (p.at * 512 + p.counters.tec) * 256 + p.counters.rec = rest_back _ p.counters.down in

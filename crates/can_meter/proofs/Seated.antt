@@ -1,4 +1,5 @@
--- The proof that each call owes the table, and the facts that it gets, at a seat whose view is known by an equation.
+-- The proof that each call must give to the table, and the facts that the call gets, at a seat whose view is known by
+-- an equation.
 use Rattle.std.proofs.Common.{◌≡◌, ℕ, ◌<◌, List, [], ◌∷◌, ap, sym, ◌∙◌, subst}
 use mathlib.Core.List.{IsSuffix}
 use mathlib.Core.Option.{none}
@@ -13,7 +14,7 @@ use Rattle.can_meter.specs.Words.{status_word, meant, Fits}
 use Rattle.can_meter.proofs.Lists.{published-with_list}
 use Rattle.can_meter.proofs.Steps.{reads, stores, keeper_returns, gauge_returns, copies, takes_in}
 
--- a seat at a table that is lent is at the table
+-- a seat at a table that is lent is a seat at that table
 pub seated_in : {S : Type 0} (table : TableId) (key : ℕ) (seat : TableId) (me : Me S View) (meter : TableId) (v : View) (lent : TableId) (lent_key : ℕ)
     → lent ≡ table → lent_key ≡ key → IsSeated table key seat me meter v → IsSeated lent lent_key seat me meter v
 seated_in table key seat me meter v lent lent_key is key_too s =
@@ -41,7 +42,7 @@ module _ {S : Type 0} (table : TableId) (key : ℕ) (seat : TableId) (me : Me S 
         (stores key slots id word lists p (subst (λ n. word < n) (sym s.key_is) lt) fits later),
   )
 
-  -- a gauge's seat, to be split
+  -- a gauge's seat can be split
   pub copies_at : (id : ℕ) (lists : List (List Status)) → IsSeated table key seat me meter (Watches lists [])
       → (seat ≡ table) × (0 < table.words) × Splits Rule id me.0 me.0 (watcher me.0)
   copies_at id lists s = (
@@ -50,14 +51,14 @@ module _ {S : Type 0} (table : TableId) (key : ℕ) (seat : TableId) (me : Me S 
     subst (λ (m : Me S View). Splits Rule id m.0 m.0 (watcher m.0)) (sym s.me_is) (copies key id lists),
   )
 
-  -- another seat, to be taken in
+  -- a seat can take in another seat
   pub takes_in_at : (id other : ℕ) (v w : View) (table2 : TableId) (key2 : ℕ) (seat2 : TableId) (me2 : Me S View) (meter2 : TableId)
       → IsSeated table key seat me meter v → IsSeated table2 key2 seat2 me2 meter2 w → meter2 ≡ meter
       → (seat ≡ table) × (seat2 ≡ table) × (me2.1 ≡ []) × (0 < table.words) × Joins Rule id me.0 other me2.0 (seat_taken_in me.0 me2.0) Spent
   takes_in_at id other v w table2 key2 seat2 me2 meter2 s t same =
       (s.seat_is ∙ sym s.table_is, t.seat_is ∙ same ∙ sym s.table_is, ap (λ m. m.1) t.me_is, subst (λ t. 0 < t.words) (sym s.table_is) s.not_empty, takes_in key id me.0 other me2.0)
 
-  -- and the seat after it
+  -- the seat after it took in another seat
   pub seated_taken : (v w : View) (table2 : TableId) (key2 : ℕ) (seat2 : TableId) (me2 : Me S View) (meter2 seat3 : TableId) (me3 : Me S View)
       → IsSeated table key seat me meter v → IsSeated table2 key2 seat2 me2 meter2 w → seat3 ≡ seat → me3 ≡ (seat_taken_in me.0 me2.0, me.1)
       → IsSeated table key seat3 me3 meter (seat_taken_in v w)
@@ -80,7 +81,7 @@ module _ {S : Type 0} (table : TableId) (key : ℕ) (seat : TableId) (me : Me S 
     subst (λ (m : Me S View). Allows Rule slots id m 0 (λ n. n) (ReturnsOldLists (step slots 0 0 0 none) m)) (sym s.me_is) (gauge_returns key slots id 0 a b),
   )
 
--- the publication that a load showed; the number of slots is left open
+-- The publications that a load found. The number of slots may be any number.
 module _ {S : Type 0} (word found : ℕ) (me after : Me S View) where
   pub shows_newest : LoadsPublications (step 0 word 0 0 none) me found after → meant found ≡ newest (published (seat_lists after.0) word)
   shows_newest r = r.5 ∙ sym (ap (λ v. newest (published (seat_lists v) word)) r.1 ∙ ap newest (published-with_list (seat_lists me.0) word r.0))
@@ -92,14 +93,14 @@ module _ {S : Type 0} (word found : ℕ) (me after : Me S View) where
   shows_one r =
       ap seat_lists r.1 ∙ ap (with_list (seat_lists me.0) word) (sym (ap (λ v. published (seat_lists v) word) r.1 ∙ published-with_list (seat_lists me.0) word r.0))
 
--- the list of a keeper that took in one gauge
+-- after a keeper took in a gauge, the gauge's lists are ends of the keeper's lists
 pub keeper_learns : {S : Type 0} (me other taken : Me S View) (mine theirs : List (List Status)) → me ≡ (Keeps mine [], []) → other ≡ (Watches theirs [], [])
     → taken ≡ (seat_taken_in me.0 other.0, me.1) → AllEnd (olds_of taken.0) (seat_lists taken.0) → AreEndsOf theirs mine
 keeper_learns {S} me other taken mine theirs is other_is taken_is all =
     let whole : taken ≡ (Keeps mine (theirs ∷ []), []) = taken_is ∙ (λ k. (seat_taken_in (is k).0 (other_is k).0, (is k).1)) in
     (subst (λ (m : Me S View). AllEnd (olds_of m.0) (seat_lists m.0)) whole all).0
 
--- and a gauge, and what it knows then
+-- after a gauge took in another gauge, the lists of both are ends of its new lists
 pub gauge_learns : {S : Type 0} (me other taken after : Me S View) (mine theirs : List (List Status)) → me ≡ (Watches mine [], []) → other ≡ (Watches theirs [], [])
     → taken ≡ (seat_taken_in me.0 other.0, me.1) → after.0 ≡ without_old_lists taken.0 → AllEnd (olds_of taken.0) (seat_lists taken.0)
     → AreEndsOf mine (seat_lists after.0) × AreEndsOf theirs (seat_lists after.0)

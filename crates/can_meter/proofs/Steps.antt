@@ -18,7 +18,7 @@ set_same [] i = refl
 set_same (n ∷ words) zero = refl
 set_same (n ∷ words) (suc i) = ap (λ ns. n ∷ ns) (set_same words i)
 
--- the lists of the seats after a change of one
+-- each seat still knows its part after the view of one seat changed
 knows_set : (keeper : ℕ) (all : List (List Status)) (views : List View) (id : ℕ) (w : View)
     → ((j : ℕ) (u : View) → j ≢ id → get_elem? views j ≡ some u → KnowsPublications keeper all j u) → KnowsPublications keeper all id w
     → (j : ℕ) (u : View) → get_elem? (set views id w) j ≡ some u → KnowsPublications keeper all j u
@@ -56,7 +56,7 @@ module _ {S : Type 0} (count : ℕ) where
   abbrev Holds : State S View → Type 0
   Holds s = Metered count s.words s.views
 
-  -- a step that leaves the words, after which the seat knows w
+  -- a step that does not change the words, and after which the seat knows w
   stays : (s : State S View) (h : Holds s) (word id : ℕ) (w : View) → KnowsPublications h.0 h.1 id w → Metered count (set s.words word (slice_index s.words word)) (set s.views id w)
   stays s h word id w k =
       subst (λ ws. Metered count ws (set s.views id w)) (sym (set_same s.words word)) (h.0, h.1, h.2, h.3, h.4, knows_set h.0 h.1 s.views id w (λ j u _ e. h.5 j u e) k)
@@ -110,7 +110,7 @@ module _ {S : Type 0} (count : ℕ) where
       let both = longer_ends a b h.1 mine.1.0 mine.1.1.0 in
       (Watches ls [], keeps, tt, stays s h word id (Watches ls []) (mine.0, tt), (refl, refl, (both.0, (both.1, tt))))
 
-  -- one seat more
+  -- one more seat
   splits : (s : State S View) (h : Holds s) (id : ℕ) (v new : View) → get_elem? s.views id ≡ some v → ((j : ℕ) → KnowsPublications h.0 h.1 j new) → Metered count s.words (set s.views id v ++ new ∷ [])
   splits s h id v new at k = (
     h.0,

@@ -22,13 +22,13 @@ use Rattle.can_replay.proofs.EntriesBefore.{before_more, legal_front}
 
 -- A bus carries out successive entries as long as they are legal.
 
--- Entry k is read.
+-- Entry k is read, after a legal history.
 record Read (c : BusConfig) (es : List Entry) (k : ℕ) (e : Entry) : Type 0 where
   below : k < length es
   read : e ≡ get_or es k e
   legal : IsLegal c (before es k)
 
--- No entry may follow once the limit is reached.
+-- An entry at or past the limit is wrong, and no reply would be legal there.
 past_limit : (c : BusConfig) (es : List Entry) (k : ℕ) (e : Entry) → Read c es k e → c.limit ≤ k → IsToldWrong c es k None
 past_limit c es k e at past = record {
   first = record {
@@ -40,7 +40,7 @@ past_limit c es k e at past = record {
   is_allowed = sym (cond-true (nat_le c.limit k) _ _ (le-leb c.limit k past));
 }
 
--- The entry has another reply than the legal one.
+-- An entry is wrong if its reply differs from the legal one.
 other_reply : (c : BusConfig) (es : List Entry) (k : ℕ) (e : Entry) (r : Reply) → Read c es k e → k < c.limit → r ≡ legal_reply c (before es k) e.event → r ≢ e.reply → IsToldWrong c es k (Some r)
 other_reply c es k e r at room lawful other = record {
   first = record {
@@ -83,19 +83,19 @@ pub record Turn (c : BusConfig) (es : List Entry) (k : ℕ) (e : Entry) (bus : L
   pub is_after : IsAfter bus (before es k)
   pub answer : (past : List Entry) → IsAfter bus past → IsAnswer bus.config past e.event r
 
--- The bus gives another reply than the entry.
+-- The bus's reply differs from the entry's reply: the audit reports this fault.
 pub blamed : (c : BusConfig) (es : List Entry) (k : ℕ) (e : Entry) (bus : Lean) (r : Reply) → Turn c es k e bus r → r ≢ e.reply → Blames c es (fault_at k r)
 blamed c es k e bus r t other =
     let at : Read c es k e = record { below = t.below; read = t.read; legal = subst (λ (d : BusConfig). IsLegal d (before es k)) t.config t.is_after.kept.legal } in
     blamed_at c es k e r at (subst (λ (d : BusConfig). IsAnswer d (before es k) e.event r) t.config (t.answer (before es k) t.is_after)) other
 
--- An entry of a record enters a history.
+-- An entry of a record extends the history.
 entered : (v : Event) (r : Reply) (past : List Entry) → FitsReply v r → history_after v r past ≡ record { event = v; reply = r } ∷ past
 entered v (reply.Refused refusal.RecordFull) past fits = absurd (cc (fits))
 entered v (reply.Refused refusal.NoMemory) past fits = absurd (cc (fits))
 entered v r past fits = refl
 
--- The bus gives the same reply as the entry.
+-- The bus's reply is the entry's reply: the bus goes on to the next entry.
 pub replayed_more : (es : List Entry) (k : ℕ) (e : Entry) (bus after : Lean) (r : Reply) → k < length es → e ≡ get_or es k e → FitsReply e.event e.reply → r ≡ e.reply → IsAfter bus (before es k)
     → ((past : List Entry) → IsAfter bus past → IsAfter after (history_after e.event r past)) → IsAfter after (before es (k + 1))
 replayed_more es k e bus after r below read fits same so_far more =
@@ -103,7 +103,7 @@ replayed_more es k e bus after r below read fits same so_far more =
     ap (λ (q : Reply). history_after e.event q (before es k)) same ∙ entered e.event e.reply (before es k) fits ∙ sym (before_more es k e below read) in
     subst (IsAfter after) noted (more (before es k) so_far)
 
--- All entries are carried out.
+-- If all entries are carried out, they are legal.
 pub all_legal : (c : BusConfig) (past : List Entry) (k : ℕ) (bus : Lean) → length past ≤ k → bus.config ≡ c → IsAfter bus (before (reverse past) k) → IsLegal c past
 all_legal c past k bus end config so_far =
     let whole : before (reverse past) k ≡ past = ap reverse (take_all k (reverse past) (omega (arith, length-reverse past, end))) ∙ reverse-reverse past in

@@ -63,7 +63,7 @@ begun_at v c line rest bus needs good is_after new config nothing is = record {
 pub no_bus : (v : Version) (line after : List ℕ) → LacksBus v line → MayFollow line after → IsFirstWrong (first_line v ++ (line ++ after)) 2
 no_bus v line after lacks may = first_is_wrong v (first_line v ++ (line ++ after)) (line ++ after) refl (lacks_bus v line after may lacks)
 
--- ---- the text continues
+-- ---- the text continues after the lines that were read
 
 open_text : (b : Bool) (v : Version) (c : BusConfig) (es : List Entry) (more : List ℕ) → b ≡ false → so_far b v c es ++ more ≡ front_lines v c (entry_lines es more)
 open_text true v c es more is = absurd cc
@@ -77,7 +77,7 @@ some_more : (xs ys : List ℕ) → xs ≢ [] → xs ++ ys ≢ []
 some_more [] ys some is = some refl
 some_more (x ∷ xs) ys some is = absurd cc
 
--- After the end line.
+-- If bytes follow the end line, the line after it is the first wrong line.
 pub more_there : (text rest : List ℕ) (b : EntryAudit) → IsGoing text b → b.is_ended ≡ true → rest ≢ [] → IsFirstWrong (text ++ rest) (b.count + 4)
 more_there text rest b g ended some = inr (inr (record {
   version = b.version;
@@ -93,7 +93,7 @@ more_there text rest b g ended some = inr (inr (record {
 pub goes_on : (text line after : List ℕ) (b : EntryAudit) → IsGoing text b → b.is_ended ≡ true → IsLine line → IsFirstWrong (text ++ (line ++ after)) (b.count + 4)
 goes_on text line after b g ended is = more_there text (line ++ after) b g ended (some_more line after is.some)
 
--- The line is neither that of an entry nor the end line.
+-- The line is neither the line of an entry nor the end line.
 unended : (text line after : List ℕ) (b : EntryAudit) (why : ReadFault) → IsGoing text b → b.is_ended ≡ false → b.count < 2 ^ 64 → MayFollow line after → LacksEntry b.version b.config line → IsUnended b.count line why → Reads (text ++ (line ++ after)) (Err why)
 unended text line after b fault.NoMemory g going few may lacks h = tt
 unended text line after b fault.BadVersion g going few may lacks h = absurd h
@@ -129,7 +129,7 @@ ended text line b bus g going few is is_after =
       is_after = λ no none. absurd cc;
     }
 
--- The end line after an attempt to read it as an entry.
+-- The end line is taken, after it could not be read as an entry.
 pub end_taken : (line : List ℕ) (old mid new : EntryAudit) (r : Result (Unit {0}) ReadFault) → mid ≡ record old { bus = mid.bus } → old.is_ended ≡ false → mid.count < 2 ^ 64 → OnOk r (new ≡ record mid { is_ended = true }) → OnOk r (IsEndLine mid.count line)
     → OnOk r ((text : List ℕ) → IsGoing text old → IsLine line → IsGoing (text ++ line) new)
 end_taken line old mid new (Ok u) kept going few h end = λ text g is.

@@ -6,7 +6,7 @@ use Rattle.can_bus.specs.Legal.{IsLegal}
 use Rattle.can_bus.proofs.LifeFacts.{legal-before}
 use Rattle.can_replay.specs.Histories.{before}
 
--- A list of entries is read in order: each entry extends the history by one.
+-- A list of entries is read in order: each entry extends the history by one entry.
 
 pub before_more : (es : List Entry) (k : ℕ) (e : Entry) → k < length es → e ≡ get_or es k e → before es (k + 1) ≡ e ∷ before es k
 before_more es k e lt read =
@@ -15,7 +15,7 @@ before_more es k e lt read =
 pub before_all : (es : List Entry) (k : ℕ) → length es ≤ k → before es k ≡ reverse es
 before_all es k le = ap reverse (take_all k es le)
 
--- The first entries of a legal history are a legal history too.
+-- The first entries of a legal history are also a legal history.
 pub legal_front : (c : BusConfig) (es : List Entry) (k : ℕ) → IsLegal c (reverse es) → IsLegal c (before es k)
 legal_front c es k h =
     let split : reverse es ≡ reverse (drop k es) ++ before es k = ap reverse (sym (take-append-drop k es)) ∙ reverse-append (take k es) (drop k es) in

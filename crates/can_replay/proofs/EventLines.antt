@@ -55,7 +55,7 @@ after_legal c es more k legal f =
       | inr le ↦ le
     ]
 
--- After a wrong entry, later entries change nothing.
+-- Entries after a wrong entry do not change the legal part.
 part_stays : (c : BusConfig) (es more : List Entry) (o p : Option WrongLine) → is_none o ≡ false → IsSettled c es o → IsSettled c (es ++ more) p → legal_part (es ++ more) p ≡ legal_part es o
 part_stays c es more None p some old new = absurd cc
 part_stays c es more (Some w) None some old new = absurd (none-wrong c (es ++ more) w.place new (told_more c es more w.place w.legal old.told).first)
@@ -65,14 +65,14 @@ part_stays c es more (Some w) (Some u) some old new =
     let below = slice_get_within es w.place old.told.first.entry old.told.first.there in
     ap (λ (n : ℕ). take n (es ++ more)) same ∙ take-append-le w.place es more (omega (arith, below))
 
--- Two facts about the same entries give the same legal part.
+-- Two results for the same entries give the same legal part.
 part_same : (c : BusConfig) (es : List Entry) (o p : Option WrongLine) → IsSettled c es o → IsSettled c es p → legal_part es p ≡ legal_part es o
 part_same c es None None old new = refl
 part_same c es None (Some w) old new = absurd (none-wrong c es w.place old new.told.first)
 part_same c es (Some w) None old new = absurd (none-wrong c es w.place new old.told.first)
 part_same c es (Some w) (Some u) old new = ap (λ (n : ℕ). take n es) (one-first c es u.place w.place new.told.first old.told.first)
 
--- The first wrong entry comes after legal ones.
+-- If one more entry is the first wrong one, the legal part has all entries before it.
 part_ends : (c : BusConfig) (es : List Entry) (e : Entry) (o p : Option WrongLine) → is_none o ≡ true → is_none p ≡ false → IsSettled c es o → IsSettled c (es ++ e ∷ []) p → legal_part (es ++ e ∷ []) p ≡ legal_part es o
 part_ends c es e (Some w) p none some old new = absurd cc
 part_ends c es e None None none some old new = absurd cc
@@ -161,13 +161,13 @@ none_asked run (SetOption s o) r plain = refl
 none_asked run (Send s f) r plain = refl
 none_asked run (Receive s) r plain = refl
 
--- An entry that is no attempt, restart or down asks no rule.
+-- An entry asks no rule if it is not an attempt, a restart or a down.
 plain_asked : (faults : Option RunSeen) (e : Entry) → is_step e.event ≡ false → asked_of faults e ≡ faults
 unfolding asked_of
 plain_asked None e plain = refl
 plain_asked (Some run) e plain = ap Some (none_asked run e.event e.reply plain)
 
--- An entry that is no attempt, restart or down has only its line.
+-- An entry that is not an attempt, a restart or a down has its line only, with no effects.
 pub plain_line : (w : Wanted) (c : BusConfig) (past : List Entry) (e : Entry) → is_step e.event ≡ false → events_line w c past e ≡ entry_line e []
 unfolding with_parts
 plain_line w c past e plain =
@@ -192,7 +192,7 @@ never b h k = absurd cc
 settled_in : (text : List ℕ) (b : EntryAudit) (g : IsGoing text b) (c : BusConfig) (es : List Entry) → b.config ≡ c → g.read.entries ≡ es → IsSettled c es b.wrong
 settled_in text b g c es config are = subst (λ (x : BusConfig). IsSettled x es b.wrong) config (subst (λ (xs : List Entry). IsSettled b.config xs b.wrong) are g.read.settled)
 
--- A line had no effect: the legal entries are the same as before.
+-- A line had no effect: the legal entries are the same as before the line.
 pub record NothingMore (text line : List ℕ) (old new : EntryAudit) (g : IsGoing text old) (h : IsGoing (text ++ line) new) : Type 0 where
   pub version : new.version ≡ old.version
   pub config : new.config ≡ old.config
@@ -224,7 +224,7 @@ module _ (text line : List ℕ) (old new : EntryAudit) (g : IsGoing text old) (h
   not_ended true es none = absurd cc
   not_ended false es none = refl
 
-  -- A line after which the text is no longer legal so far is the end line, or the line of a wrong entry.
+  -- A line that ends the legal part is the end line or the line of a wrong entry.
   pub nothing_legal : is_legal_yet old ≡ true → is_legal_yet new ≡ false → NothingMore text line old new g h
   nothing_legal legal stopped =
       let on = goes_on text line old new g h in
@@ -293,7 +293,7 @@ one_more text line old new g h is legal legal_too =
 
 -- ---- one more line is written
 
--- The events are these, and the wanted value is the one after their entries.
+-- These are the events of the legal entries, and `now` is the wanted value after them.
 abbrev pub IsUpTo : (w : Wanted) (text : List ℕ) (b : EntryAudit) → IsGoing text b → List ℕ → Wanted → Type 0
 IsUpTo w text b g events now = (events ≡ events_of w text b g) × (now ≡ wanted_after w (legal_past text b g))
 
@@ -330,7 +330,7 @@ written_more : (cleared old new line before after : List ℕ) → cleared ++ old
 written_more cleared old new line before after complete wrote is =
     ap (λ (x : List ℕ). cleared ++ x) wrote ∙ sym (append_assoc cleared old line) ∙ ap (λ (x : List ℕ). x ++ line) complete ∙ sym is
 
--- The line is written without changes.
+-- The line of an entry without effects is written unchanged.
 pub plain_more : (w : Wanted) (text line : List ℕ) (old new : EntryAudit) (g : IsGoing text old) (h : IsGoing (text ++ line) new) (cleared before after : List ℕ) (now : Wanted) (one : OneMore text line old new g h) → is_step one.entry.event ≡ false → after ≡ before ++ line
     → cleared ++ before ≡ events_of w text old g → now ≡ wanted_after w (legal_past text old g) → IsUpTo w (text ++ line) new h (cleared ++ after) now
 plain_more w text line old new g h cleared before after now one plain wrote complete wanted = (
@@ -339,7 +339,7 @@ plain_more w text line old new g h cleared before after now one plain wrote comp
   wanted_more w text line old new g h one now now wanted (ap (λ (x : Option RunSeen). record now { faults = x }) (sym (plain_asked now.faults one.entry plain))),
 )
 
--- The line is written with its events.
+-- The line of an entry is written with its effects and the other wanted parts.
 pub step_more : (w : Wanted) (text line : List ℕ) (old new : EntryAudit) (g : IsGoing text old) (h : IsGoing (text ++ line) new) (cleared : List ℕ) (before after : EventsText) (one : OneMore text line old new g h) → is_step one.entry.event ≡ true
     → HasSeen old.bus.config one.past before.before → WritesParts before new line after → cleared ++ before.text.items ≡ events_of w text old g → before.wanted ≡ wanted_after w (legal_past text old g)
     → IsUpTo w (text ++ line) new h (cleared ++ after.text.items) after.wanted
@@ -380,7 +380,7 @@ legal_all text b g none = subst (IsSettled b.config g.read.entries) none g.read.
 events_all : (w : Wanted) (text : List ℕ) (b : EntryAudit) (g : IsGoing text b) → b.wrong ≡ None → events_of w text b g ≡ events_front w b.version b.config (reverse g.read.entries)
 events_all w text b g none = ap (λ (o : Option WrongLine). events_front w b.version b.config (reverse (legal_part g.read.entries o))) none
 
--- The wanted value after all entries is the right one too.
+-- If no entry is wrong, the wanted value is the value after all entries.
 wanted_all : (w : Wanted) (text : List ℕ) (b : EntryAudit) (g : IsGoing text b) (now : Wanted) → b.wrong ≡ None → now ≡ wanted_after w (legal_past text b g) → now ≡ wanted_after w (reverse g.read.entries)
 wanted_all w text b g now none is = is ∙ ap (λ (o : Option WrongLine). wanted_after w (reverse (legal_part g.read.entries o))) none
 

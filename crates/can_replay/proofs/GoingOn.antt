@@ -39,7 +39,7 @@ one_version v w a b e = sym (digit_again v a) ∙ ap (λ (x : List ℕ). version
 spelled_rest : (ws : List (List ℕ)) (a b : List ℕ) → spell ws a ≡ spell ws b → a ≡ b
 spelled_rest ws a b e = append_cancel_left (spell ws []) a b (spell-rest ws a ∙ e ∙ sym (spell-rest ws b))
 
--- Two texts with the same lines have the same version and bus, and continue in the same way.
+-- Two texts with the same first lines have the same version and bus, and the same bytes follow.
 record Fronts (v w : Version) (c d : BusConfig) (a b : List ℕ) : Type 0 where
   version : v ≡ w
   config : c ≡ d
@@ -66,7 +66,7 @@ one_bus v w c d a b hc hd e = (one_front v w c d a b hc hd e).config
 pub one_line : (v : Version) (c : BusConfig) (x d : Entry) (a b : List ℕ) → HasLine v c x → HasLine v c d → entry_line x a ≡ entry_line d b → x ≡ d
 one_line v c x d a b hx hd e = same_Some x d (sym (entry_again v c x a hx) ∙ ap entry_at e ∙ entry_again v c d b hd)
 
--- A text that continues with a line that is no entry has at least as many entries.
+-- If the first text continues with a line that is not an entry's line, the second text has at least as many entries.
 record More (es ds : List Entry) (a b : List ℕ) : Type 0 where
   more : List Entry
   are : ds ≡ es ++ more
@@ -91,7 +91,7 @@ unfolding entry_lines
 none_more v c es [] a b lines none is = sym (append-nil es)
 none_more v c es (x ∷ more) a b lines none is = absurd (none x (entry_lines more b) (All-head (HasLine v c) x more (All-after (HasLine v c) es (x ∷ more) lines)) is)
 
--- Two texts that continue with a line that is no entry have the same entries.
+-- If two equal texts continue with lines that are not entries' lines, they have the same entries.
 pub one_list : (v w : Version) (c d : BusConfig) (es ds : List Entry) (a b : List ℕ) → HasLines v c es → HasLines w d ds → LacksEntry v c a → LacksEntry w d b
     → front_lines v c (entry_lines es a) ≡ front_lines w d (entry_lines ds b) → es ≡ ds
 one_list v w c d es ds a b hc hd na nb e =
@@ -125,7 +125,7 @@ last_lacks : (b : Bool) (v : Version) (c : BusConfig) (es : List Entry) → Lack
 last_lacks false v c es = nothing_lacks v c
 last_lacks true v c es = end_lacks v c (length es) []
 
--- The entries of a text that was read are the first entries of the text with one more line.
+-- The text with one more line has the entries of the text that was read, and may have more after them.
 pub record GoesOn (old new : EntryAudit) (es ds : List Entry) (line : List ℕ) : Type 0 where
   pub version : new.version ≡ old.version
   pub config : new.config ≡ old.config

@@ -1,4 +1,4 @@
--- After the lines that were taken, no line belongs to a record.
+-- After the lines that were taken, there is no line that may follow in a record.
 use Rattle.std.proofs.Common.{◌≡◌, ◌≢◌, ◌+◌, ◌⊎◌, ℕ, inl, inr, Bool, true, false, All, List, [], ◌∷◌, ◌++◌, length, Some, Err, append_assoc, refl, sym, ap, subst, ◌∙◌}
 use Rattle.std.proofs.lemmas.List.{append-nil, append_cancel_left}
 use Rattle.std.proofs.lemmas.List.Elements.{All-nil, All-push}
@@ -23,12 +23,13 @@ use Rattle.can_replay.proofs.GoingOn.{last_of, one_bus, one_list, one_version, r
 use Rattle.can_replay.proofs.LineEnds.{bus_through, cut_entry, first_through, lacks_entry, same_line, torn_bus, torn_entry, torn_first}
 use Rattle.can_replay.proofs.Uncut.{no_front}
 
--- The text continues neither with its first two lines nor with the line of an entry.
+-- The rest of the text does not begin with the next line of a record: one of the first two lines or the line of an
+-- entry.
 abbrev pub LacksNext : (text rest : List ℕ) (p : Phase) → HasCome text p → Type 0
 LacksNext text rest (phase.Entries b) come = LacksEntry b.version b.config (last_of b.is_ended come.read.entries ++ rest)
 LacksNext text rest p come = LacksFront (text ++ rest)
 
--- ---- a line is faulty, whichever bytes follow it
+-- ---- a line is faulty, whatever bytes follow it
 
 module _ (text line rest : List ℕ) (why : ReadFault) (known : why ≢ fault.NoMemory) (is : IsLine line) (end : EndsLine line) (may : MayFollow line rest) (fails : (more : List ℕ) → Reads (text ++ (line ++ more)) (Err why)) where
   ended : EndsLine (text ++ line)
@@ -87,7 +88,7 @@ module _ (text line rest : List ℕ) (why : ReadFault) (known : why ≢ fault.No
   line_lacks (phase.Entries b) come = at_entries b.is_ended b.version b.config come.read.entries come.read.good come.read.begins
   line_lacks (phase.Failed what) come = absurd come
 
--- ---- bytes that end no line
+-- ---- bytes with no LF
 
 torn_next : (is_ended : Bool) (v : Version) (c : BusConfig) (es : List Entry) (torn : List ℕ) → EndsNoLine torn → LacksEntry v c (last_of is_ended es ++ torn)
 torn_next true v c es torn unended = subst (LacksEntry v c) (sym (spell-rest (end_words (length es)) torn)) (end_lacks v c (length es) torn)
@@ -105,7 +106,8 @@ torn_lacks text torn (phase.Failed what) come unended = absurd come
 
 -- ---- the first wrong line
 
--- If all entries of a text are known, the first wrong line follows theirs, or follows the end line.
+-- If all entries of a text are known, the first wrong line is the line after the entries or the line after the end
+-- line.
 pub next_wrong : (text rest : List ℕ) (n : ℕ) (v : Version) (c : BusConfig) (es : List Entry) → HasLines v c es → text ≡ front_lines v c (entry_lines es rest) → LacksEntry v c rest → IsFirstWrong text n → (n ≡ length es + 3) ⊎ (n ≡ length es + 4)
 next_wrong text rest n v c es good begins lacks (inl h) =
     let here : first_line v ++ spell (bus_words v c) (entry_lines es rest) ≡ first_line h.version ++ h.rest = sym begins ∙ h.begins in
@@ -124,7 +126,7 @@ next_wrong text rest n v c es good begins lacks (inr (inr h)) =
 
 -- ---- the bus of a text
 
--- The line of the bus was taken.
+-- If the bus's line was taken, the text has this bus.
 pub has_bus : (text rest : List ℕ) (p : Phase) (c : BusConfig) → HasCome text p → bus_taken p ≡ Some c → HasBus (text ++ rest) c
 has_bus text rest phase.Start c come is = absurd cc
 has_bus text rest (phase.Front w) c come is = absurd cc
@@ -133,7 +135,7 @@ has_bus text rest (phase.Entries b) c come is =
     subst (HasBus (text ++ rest)) same (b.version, entry_lines come.read.entries (last_of b.is_ended come.read.entries ++ rest), come.read.good.bus, read_rest text rest b come)
 has_bus text rest (phase.Failed what) c come is = absurd come
 
--- The line of the bus was taken, if the bytes not taken end no line.
+-- If the text has a bus and the bytes not yet taken have no LF, the bus's line was taken.
 pub bus_is : (text torn : List ℕ) (p : Phase) (c : BusConfig) → HasCome text p → EndsNoLine torn → HasBus (text ++ torn) c → bus_taken p ≡ Some c
 bus_is text torn phase.Start c come unended h = absurd (torn_lacks text torn phase.Start come unended h.0 c h.1 h.2 h.3)
 bus_is text torn (phase.Front w) c come unended h = absurd (torn_lacks text torn (phase.Front w) come unended h.0 c h.1 h.2 h.3)
@@ -141,7 +143,7 @@ bus_is text torn (phase.Entries b) c come unended h =
     ap Some (one_bus b.version h.0 b.config c (entry_lines come.read.entries (last_of b.is_ended come.read.entries ++ torn)) h.1 come.read.good.bus h.2 (sym (read_rest text torn b come) ∙ h.3))
 bus_is text torn (phase.Failed what) c come unended h = absurd come
 
--- The bus stays the same.
+-- The bus stays the same when more of the text is taken.
 pub same_bus : (text more : List ℕ) (p q : Phase) (c d : BusConfig) → HasCome text p → HasCome (text ++ more) q → bus_taken p ≡ Some c → bus_taken q ≡ Some d → c ≡ d
 same_bus text more p q c d come then one other =
     let h = has_bus text more p c come one in

@@ -1,4 +1,4 @@
--- Lines end after LF.
+-- Each line ends after its LF.
 use Rattle.std.proofs.Common.{◌≡◌, ◌≢◌, ◌==◌, ◌&&◌, not, cond, ℕ, ◌^◌, ◌<◌, Bool, true, false, List, [], ◌∷◌, ◌++◌, length, take, refl, subst, suc, ◌-◌, sym, ap, ◌∙◌, arith}
 use Rattle.std.specs.Prelude.{All, codes}
 use Rattle.std.proofs.lemmas.Bool.{ne_eqb}
@@ -29,7 +29,7 @@ word_through (b ∷ w) xs h = when (is_gap b) refl h (λ e. word_through w xs e)
         let other : (b == 10) ≡ false = grind (arith, is) in
         rw other (ap (λ (ys : List ℕ). b ∷ ys) (more e))
 
--- A spelled line ends at its LF, and only there.
+-- A spelled line ends at its LF and has no other LF.
 spell_through : (w : List ℕ) (ws : List (List ℕ)) (rest : List ℕ) → AreWords (w ∷ ws) → take_through 10 (spell (w ∷ ws) rest) ≡ spell (w ∷ ws) []
 spell_through w [] rest h = word_through w (10 ∷ rest) h.0
 spell_through w (v ∷ ws) rest h = word_through w (32 ∷ spell (v ∷ ws) rest) h.0 ∙ ap (λ (ys : List ℕ). w ++ 32 ∷ ys) (spell_through v ws rest h.1)
@@ -50,7 +50,7 @@ words_through : (ws : List (List ℕ)) (rest : List ℕ) → AreWords ws → ws 
 words_through [] rest h some = absurd (some refl)
 words_through (w ∷ ws) rest h some = spell_through w ws rest h
 
--- If a text begins with a line that ends in this way, the two lines are equal.
+-- If a text begins with two lines that both end in this way, the two lines are equal.
 pub same_line : (line after whole l : List ℕ) → MayFollow line after → line ++ after ≡ whole → take_through 10 whole ≡ l → line ≡ l
 same_line line after whole l may is through = sym may ∙ ap (take_through 10) is ∙ through
 
@@ -101,7 +101,7 @@ cut_end n line rest small is begins = same_line line [] (spell (end_words n) res
 pub cut_first : (v : Version) (line rest : List ℕ) → IsLine line → line ≡ first_line v ++ rest → line ≡ first_line v
 cut_first v line rest is begins = same_line line [] (first_line v ++ rest) (first_line v) (nothing_more line is) (append-nil line ∙ begins) (first_through v rest)
 
--- ---- a line and the bytes after it: the line contains none of those bytes
+-- ---- a line and the bytes after it: these bytes do not belong to the line
 
 pub lacks_entry : (v : Version) (c : BusConfig) (line after : List ℕ) → MayFollow line after → LacksEntry v c line → LacksEntry v c (line ++ after)
 lacks_entry v c line after may lacks e more h is = lacks e [] h (same_line line after (entry_line e more) (entry_line e []) may is (entry_through v c e more h))
@@ -115,7 +115,7 @@ lacks_end n line after small may lacks more is = lacks [] (same_line line after 
 pub lacks_first : (line after : List ℕ) → MayFollow line after → LacksFirst line → LacksFirst (line ++ after)
 lacks_first line after may lacks v rest is = lacks v [] (same_line line after (first_line v ++ rest) (first_line v) may is (first_through v rest) ∙ sym (append-nil (first_line v)))
 
--- ---- bytes that end no line
+-- ---- bytes with no LF
 
 pub line_ends : (xs rest : List ℕ) → EndsNoLine (xs ++ 10 ∷ rest) → ⊥
 line_ends [] rest h = All-head (λ b. b ≢ 10) 10 rest h refl
@@ -141,7 +141,7 @@ first_ends version.Four rest h = line_ends (codes "canbus record 4") rest h
 first_ends version.Five rest h = line_ends (codes "canbus record 5") rest h
 first_ends version.Six rest h = line_ends (codes "canbus record 6") rest h
 
--- The bytes contain none of the lines of a record.
+-- Bytes with no LF contain no line of a record.
 pub torn_first : (torn : List ℕ) → EndsNoLine torn → LacksFirst torn
 torn_first torn h v rest is = first_ends v rest (subst EndsNoLine is h)
 

@@ -8,14 +8,14 @@ use Rattle.std.proofs.lemmas.Option.{slice_get_read, slice_get_within, slice_get
 use Rattle.can_attempt.proofs.Places.{range_more}
 use Rattle.can_replay.specs.Words.{part_named, parted}
 
--- The output of a loop over numbers, and lists that are made from one list.
+-- The output of a loop over numbers, and lists that are computed from another list.
 
 -- ---- one more number
 
 pub range_next : (n : ℕ) → range_with_len 0 (n + 1) ≡ range_with_len 0 n ++ n ∷ []
 range_next n = let next : n + 1 ≡ suc n = omega arith in ap (range_with_len 0) next ∙ range_more 0 n n (omega arith)
 
--- The loop writes the next part after this output.
+-- The loop appends the part of the next number to its output.
 pub more : {A : Type 0} (f : ℕ → List A) (start now new : List A) (i : ℕ) → now ≡ start ++ flat_map f (range_with_len 0 i) → new ≡ now ++ f i → new ≡ start ++ flat_map f (range_with_len 0 (i + 1))
 more {A = A} f start now new i before next =
     next
@@ -23,7 +23,7 @@ more {A = A} f start now new i before next =
     ∙ flat_map_more f start (range_with_len 0 i) i
     ∙ ap (λ (ns : List ℕ). start ++ flat_map f ns) (sym (range_next i))
 
--- If nothing is written for a number, the end of the output does not change.
+-- If nothing is written for a number, the end of the output stays the same.
 pub end_next : {A : Type 0} (f : ℕ → List A) (end next i : ℕ) (is_later : Bool) → next ≡ (if is_later then i + 1 else end) → (is_later ≡ false → f i ≡ []) → flat_map f (range_with_len 0 end) ≡ flat_map f (range_with_len 0 i) → flat_map f (range_with_len 0 next) ≡ flat_map f (range_with_len 0 (i + 1))
 end_next f end next i true is none same = ap (λ (n : ℕ). flat_map f (range_with_len 0 n)) is
 end_next {A = A} f end next i false is none same =
@@ -45,7 +45,7 @@ parted_both : (ws vs : List (List ℕ)) → parted (ws ++ vs) ≡ parted ws ++ p
 unfolding parted
 parted_both ws vs = flat_map-append (λ (w : List ℕ). 32 ∷ w) ws vs
 
--- The same for a loop that writes words.
+-- The loop appends the words of the next number to its output.
 pub more_words : (f : ℕ → List (List ℕ)) (start now new : List ℕ) (i : ℕ) → now ≡ start ++ parted (flat_map f (range_with_len 0 i)) → new ≡ now ++ parted (f i) → new ≡ start ++ parted (flat_map f (range_with_len 0 (i + 1)))
 more_words f start now new i before next =
     let words = flat_map f (range_with_len 0 i) in
@@ -64,12 +64,12 @@ no_words text ws none = sym (append-nil text) ∙ ap (λ (vs : List (List ℕ)).
 pub no_part : (name text : List ℕ) (ws : List (List ℕ)) → ws ≡ [] → text ≡ text ++ part_named name ws
 no_part name text ws none = sym (append-nil text) ∙ ap (λ (vs : List (List ℕ)). text ++ part_named name vs) (sym none)
 
--- One word is written, and the others remain.
+-- One word is written, and the words after it remain.
 pub word_more : (text new : List ℕ) (w : List ℕ) (ws : List (List ℕ)) → new ≡ text ++ parted (w ∷ []) → new ++ parted ws ≡ text ++ parted (w ∷ ws)
 unfolding parted
 word_more text new w ws next = ap (λ (x : List ℕ). x ++ parted ws) next ∙ append_assoc text (parted (w ∷ [])) (parted ws) ∙ ap (λ (x : List ℕ). text ++ x) (sym (parted_both (w ∷ []) ws))
 
--- The name is written, then the words; if there are none, the name is removed again.
+-- The name is written, then the words. If there are no words, the name is removed again.
 pub part_whole : (name text front all new : List ℕ) (ws : List (List ℕ)) → front ≡ text ++ 59 ∷ 32 ∷ name → all ≡ front ++ parted ws → new ≡ (if length all == length front then take (length text) all else all) → new ≡ text ++ part_named name ws
 unfolding parted
 part_whole name text front all new [] named_is all_is new_is =
@@ -92,7 +92,7 @@ part_whole name text front all new (v ∷ ws) named_is all_is new_is =
     ∙ ap (λ (x : List ℕ). x ++ parted (v ∷ ws)) named_is
     ∙ append_assoc text (59 ∷ 32 ∷ name) (parted (v ∷ ws))
 
--- ---- the element at a place
+-- ---- the element at an index
 
 pub read_at : {X : Type 0} (xs : List X) (i : ℕ) (x d : X) → i < length xs → x ≡ get_or xs i x → get_or xs i d ≡ x
 read_at xs i x d lt is = get_or_from_slice_get xs i x d (slice_get_read xs (length xs) i x refl lt is)
@@ -109,12 +109,12 @@ three t t1 t2 t3 a b c e1 e2 e3 = e3 ∙ ap (λ (x : List ℕ). x ++ c) (two t t
 pub four : (t t1 t2 t3 t4 a b c d : List ℕ) → t1 ≡ t ++ a → t2 ≡ t1 ++ b → t3 ≡ t2 ++ c → t4 ≡ t3 ++ d → t4 ≡ t ++ (a ++ b ++ c ++ d)
 four t t1 t2 t3 t4 a b c d e1 e2 e3 e4 = e4 ∙ ap (λ (x : List ℕ). x ++ d) (three t t1 t2 t3 a b c e1 e2 e3) ∙ append_assoc t (a ++ b ++ c) d
 
--- Output in five steps, of which the second writes two parts.
+-- Output in five steps; the second step writes two parts.
 pub five : (t t1 t2 t3 t4 t5 r u p w n e : List ℕ) → t1 ≡ t ++ r → t2 ≡ t1 ++ (u ++ p) → t3 ≡ t2 ++ w → t4 ≡ t3 ++ n → t5 ≡ t4 ++ e → t5 ≡ t ++ (r ++ u ++ p ++ w ++ n ++ e)
 five t t1 t2 t3 t4 t5 r u p w n e e1 e2 e3 e4 e5 =
     four t t2 t3 t4 t5 (r ++ u ++ p) w n e (two t t1 t2 r (u ++ p) e1 e2 ∙ ap (λ (x : List ℕ). t ++ x) (sym (append_assoc r u p))) e3 e4 e5
 
--- A loop that takes one more element of a list.
+-- The loop takes one more element of a list.
 pub taken_next : {X Y : Type 0} (f : X → Y) (xs : List X) (now new : List Y) (i : ℕ) (y : Y) → now ≡ take i (map f xs) → Some y ≡ option_map f (slice_get xs i) → new ≡ now ++ y ∷ [] → new ≡ take (i + 1) (map f xs)
 taken_next {Y = Y} f xs now new i y before at next =
     let there : slice_get (map f xs) i ≡ Some y = slice_get-map f xs i ∙ sym at in
@@ -124,7 +124,7 @@ taken_next {Y = Y} f xs now new i y before at next =
     ∙ ap (λ (z : Y). take i (map f xs) ++ z ∷ []) (sym (get_or_from_slice_get (map f xs) i y y there))
     ∙ sym (take_more (map f xs) i y within)
 
--- A loop that stores one more element at its place.
+-- The loop stores one more element at its index.
 pub taken_set : {X Y : Type 0} (f : X → Y) (xs : List X) (now new : List Y) (i : ℕ) (y : Y) → length now ≡ length xs → take i now ≡ take i (map f xs) → Some y ≡ option_map f (slice_get xs i) → new ≡ set now i y → take (i + 1) new ≡ take (i + 1) (map f xs)
 taken_set {Y = Y} f xs now new i y long before at next =
     let there : slice_get (map f xs) i ≡ Some y = slice_get-map f xs i ∙ sym at in
@@ -134,7 +134,7 @@ taken_set {Y = Y} f xs now new i y long before at next =
     ∙ take_more_set now i y few
     ∙ taken_next f xs (take i now) (take i now ++ y ∷ []) i y before at refl
 
--- The list is complete.
+-- After the last element the list is complete.
 pub taken_all : {X Y : Type 0} (f : X → Y) (xs : List X) (now : List Y) (i : ℕ) → length now ≡ length xs → length xs ≤ i → take i now ≡ take i (map f xs) → now ≡ map f xs
 taken_all f xs now i long ended same =
     sym (take_all i now (omega (arith, long, ended)))
@@ -157,7 +157,7 @@ pub same_map : {X Y Z : Type 0} (f : Y → Z) (g : X → Y) (h : X → Z) (xs : 
 same_map f g h [] same = refl
 same_map {Z = Z} f g h (x ∷ xs) same = ap (λ (z : Z). z ∷ map f (map g xs)) (same x) ∙ ap (λ (zs : List Z). h x ∷ zs) (same_map f g h xs same)
 
--- ---- two lists that are made from one, place by place
+-- ---- two lists that are computed from one list, element by element
 
 later : {A : Type 0} (f : ℕ → List A) (a n : ℕ) → flat_map f (range_with_len (a + 1) n) ≡ flat_map (λ p. f (suc p)) (range_with_len a n)
 later f a zero = refl
@@ -172,7 +172,7 @@ by_place {A = A} w d f g (x ∷ xs) =
     ap (λ (y : List A). w (Some (g x)) (f x) ++ y)
     (later (λ p. w (slice_get (g x ∷ map g xs) p) (get_or (f x ∷ map f xs) p d)) 0 (length (map f xs)) ∙ by_place w d f g xs)
 
--- The output for the first places of a list.
+-- The output for the first elements of a list.
 pub first_places : {K A : Type 0} (w : ℕ → K → List A) (d : K) (ks : List K) (n : ℕ) → n ≤ length ks → flat_map (λ p. w p (get_or (take n ks) p d)) (range_with_len 0 (length (take n ks))) ≡ flat_map (λ p. w p (get_or ks p d)) (range_with_len 0 n)
 first_places {K = K} w d ks n few =
     ap (λ (m : ℕ). flat_map (λ p. w p (get_or (take n ks) p d)) (range_with_len 0 m)) (length-take-le n ks few)

@@ -1,4 +1,4 @@
--- The words of a line: none of their bytes ends a line.
+-- The words of a line: no byte of a word is an LF.
 use Rattle.std.proofs.Common.{◌≡◌, ◌^◌, ◌<◌, ◌==◌, cond, Bool, true, false, List, [], ◌∷◌, ◌++◌, length, Some, None, refl, arith}
 use Rattle.std.specs.Prelude.{ℕ, codes, decimal}
 use Rattle.can_frame.specs.declared.item.Item.{Item}
@@ -37,7 +37,7 @@ use Rattle.can_record_text.proofs.Again.{mask-plain, set-plain}
 use Rattle.can_record_text.proofs.Digits.{is_word-decimal, is_word-moment}
 use Rattle.can_record_text.proofs.FrameWords.{is_word-item}
 
--- Each item is a word.
+-- Each element of the list is a word.
 abbrev pub AreWords : List (List ℕ) → Type 0
 AreWords [] = Unit {0}
 AreWords (w ∷ ws) = (is_word w ≡ true) × AreWords ws

@@ -64,7 +64,7 @@ pub settled_more : (c : BusConfig) (es : List Entry) (e : Entry) (o : Option Wro
 settled_more c es e None some h = absurd (some refl)
 settled_more c es e (Some w) some h = wrong_more c es e w h
 
--- An entry that is wrong after legal ones is the first wrong entry.
+-- A wrong entry after legal entries is the first wrong entry.
 pub told_here : (c : BusConfig) (es : List Entry) (e : Entry) (k : ℕ) (legal : Option Reply) → k ≡ length es → IsLegal c (reverse es) → IsWrongNext c (reverse es) e legal → IsToldWrong c (es ++ e ∷ []) k legal
 told_here c es e k legal at lawful h =
     let same : reverse es ≡ before (es ++ e ∷ []) k = ap reverse (sym (take-append_seam es (e ∷ [])) ∙ ap (λ (n : ℕ). take n (es ++ e ∷ [])) (sym at)) in
@@ -88,7 +88,7 @@ text_more : (b : Bool) (v : Version) (c : BusConfig) (es : List Entry) (e : Entr
 text_more true v c es e is = absurd cc
 text_more false v c es e is = front-then v c (entry_lines es []) (entry_line e []) ∙ ap (front_lines v c) (lines-more es e)
 
--- One more entry's line, after which this wrong entry is known.
+-- The line of one more entry was read; then `w` is the wrong entry that is known, if any.
 pub read_more : (text line : List ℕ) (b : EntryAudit) (bus : Lean) (needs : Needs) (w : Option WrongLine) (e : Entry) (read : IsRead text b) → b.is_ended ≡ false → HasLine b.version b.config e → line ≡ entry_line e [] → needs ≡ needs_of e
     → IsSettled b.config (read.entries ++ e ∷ []) w → IsRead (text ++ line) (record b { bus = bus; count = b.count + 1; needs = both_needs b.needs needs; wrong = w })
 read_more text line b bus needs w e read going good is here settled =
@@ -110,7 +110,7 @@ settled_none : (c : BusConfig) (es : List Entry) (o : Option WrongLine) → o �
 settled_none c es None is h = h
 settled_none c es (Some w) is h = absurd cc
 
--- The line of one more legal entry.
+-- The line of one more legal entry was taken.
 pub legal_more : (text line : List ℕ) (b : EntryAudit) (bus : Lean) (needs : Needs) → IsGoing text b → b.wrong ≡ None → b.is_ended ≡ false → IsLine line → bus.config ≡ b.bus.config
     → ((past : List Entry) → IsAfter b.bus past → IsNext b.bus.config past line needs bus) → takes b.version needs ≡ true → IsGoing (text ++ line) (record b { bus = bus; count = b.count + 1; needs = both_needs b.needs needs })
 unfolding read_more
@@ -128,7 +128,7 @@ legal_more text line b bus needs g none going is config step may =
       is_after = λ still legal_too. after;
     }
 
--- A line after a wrong entry.
+-- The line of an entry after a wrong entry was taken.
 pub behind_more : (text line rest : List ℕ) (b : EntryAudit) (needs : Needs) (e : Entry) → IsGoing text b → (b.wrong ≡ None → ⊥) → b.is_ended ≡ false → IsLine line → HasLine b.version b.config e → line ≡ entry_line e rest → needs ≡ needs_of e
     → IsGoing (text ++ line) (record b { count = b.count + 1; needs = both_needs b.needs needs })
 behind_more text line rest b needs e g some going is good is_after here = record {
@@ -137,7 +137,7 @@ behind_more text line rest b needs e g some going is good is_after here = record
   is_after = λ still none. absurd (some none);
 }
 
--- The first wrong line.
+-- The line of the first wrong entry was taken.
 pub wrong_here : (text line rest : List ℕ) (b : EntryAudit) (needs : Needs) (e d : Entry) (legal : Option Reply) (limit : ℕ) (read : IsRead text b) → b.wrong ≡ None → b.is_ended ≡ false → b.bus.config ≡ b.config → IsLine line
     → IsOther b.config (reverse read.entries) line legal → HasLine b.version b.config e → line ≡ entry_line e rest → needs ≡ needs_of e → d ≡ e → limit ≡ b.config.limit
     → IsGoing (text ++ line) (record b { count = b.count + 1; needs = both_needs b.needs needs; wrong = Some (record { place = b.count; entry = d; legal = legal; limit = limit }) })
@@ -157,7 +157,7 @@ wrong_here text line rest b needs e d legal limit read none going config is othe
 pub spells_none : (v : Version) (c : BusConfig) (line : List ℕ) → entry_at line ≡ None → LacksEntry v c line
 spells_none v c line none e more good is = none-some e (sym none ∙ ap entry_at is ∙ entry_again v c e more good)
 
--- A line occurs only in a version that has the features it needs.
+-- A line occurs only in a version with the features that the line needs.
 pub not_taken : (v : Version) (c : BusConfig) (past : List Entry) (line : List ℕ) (needs : Needs) (bus : Lean) → IsNext c past line needs bus → takes v needs ≡ false → LacksEntry v c line
 not_taken v c past line needs bus one other e more good is =
     let same : e ≡ one.entry = same_Some e one.entry (sym (entry_again v c e more good) ∙ ap entry_at (sym is ∙ one.is_line) ∙ entry_again version.Six c one.entry one.rest one.good) in

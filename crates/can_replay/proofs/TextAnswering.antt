@@ -1,4 +1,4 @@
--- A line, compared with the reply of a bus.
+-- The comparison of a line with the reply of a bus.
 use Rattle.std.proofs.Common.{◌≡◌, ◌≤◌, nat_le, ℕ, List, [], drop, length, Option, Some, None, Err, inl, inr, refl, sym, subst, ap, ◌∙◌}
 use Rattle.std.proofs.lemmas.Bool.{cond-false, le-leb, lt-leb}
 use Rattle.std.proofs.lemmas.Option.{none-some, same_Some}
@@ -26,13 +26,13 @@ use Rattle.can_record_text.specs.Values.{HasLine, HoldsEvent, HoldsReply}
 use Rattle.can_record_text.proofs.Again.{entry_again}
 use Rattle.can_replay.specs.inner.Carried.{IsNext, IsOther, IsWrongNext}
 
--- Bytes that spell no event spell no entry.
+-- Bytes that do not begin with an event do not begin with an entry.
 pub not_an_entry : (u : Unread) (text : List ℕ) → Gives {X = Event × List ℕ} (Err u) (event_at text) → u ≡ unread.Bad → entry_at text ≡ None
 unfolding entry_at
 not_an_entry unread.Bad text h is = rw h refl
 not_an_entry unread.NoMemory text h is = absurd cc
 
--- The entry of a line has the event that the line seems to spell.
+-- If a text begins with an entry and with an event, it is the event of the entry.
 event_is : (text : List ℕ) (e : Entry) (ev : Event) (rest : List ℕ) → entry_at text ≡ Some e → event_at text ≡ Some (ev, rest) → e.event ≡ ev
 unfolding entry_at
 event_is text e ev rest whole is = when (reply_at (moment_of ev) (after rest)) (sym (ap (λ (o : Option (Event × List ℕ)). o >>= λ x. reply_at (moment_of x.0) (after x.1) >>= λ r. Some (record { event = x.0; reply = r.0 })) is) ∙ whole)
@@ -41,7 +41,7 @@ event_is text e ev rest whole is = when (reply_at (moment_of ev) (after rest)) (
     when None h = absurd (none-some e h)
     when (Some r) h = sym (ap (λ (d : Entry). d.event) (same_Some (record { event = ev; reply = r.0 }) e h))
 
--- An entry is wrong if its line is not that of its event with the legal reply.
+-- An entry is wrong if its line differs from the line of its event with the legal reply.
 pub other_reply : (v : Version) (c : BusConfig) (past : List Entry) (line rest more : List ℕ) (e : Entry) (ev : Event) (r : Reply) → HasLine v c e → line ≡ entry_line e rest → event_at line ≡ Some (ev, more)
     → Enters r → IsAnswer c past ev r → (line ≡ answered_line ev r rest → ⊥) → IsWrongNext c past e (Some r)
 other_reply v c past line rest more e ev r good is guessed enters answer other =
@@ -60,7 +60,7 @@ other_past c past line ev r is answer v e rest good is_line =
     let full : c.limit ≤ length past = subst (IsAnswer c past ev) is answer in
     record { wrong = inl full; is_allowed = rw (le-leb c.limit (length past) full) refl }
 
--- The line of an event with the reply of a bus is that of the next entry.
+-- The line of an event with the reply of a bus is the line of the next entry.
 pub next_is : (c : BusConfig) (past : List Entry) (line : List ℕ) (ev : Event) (r : Reply) (needs : Needs) (bus : Lean) → Enters r → IsSpelled c (record { event = ev; reply = r }) → HoldsEvent ev → HoldsReply r
     → needs ≡ needs_of (record { event = ev; reply = r }) → line ≡ answered_line ev r (drop (length (answered_line ev r [])) line) → IsAfter bus (history_after ev r past) → IsNext c past line needs bus
 next_is c past line ev r needs bus enters spelled event reply needed is_line after = record {

@@ -17,7 +17,7 @@ use Rattle.can_replay.proofs.LineEnds.{line_ends, torn_end, torn_entry}
 
 -- ---- the first wrong line of a text
 
--- If the text is cut off, the first wrong line is the one that it lacks.
+-- If the text is cut off, the first wrong line is the line after its last entry.
 lacking : (text : List ℕ) (v : Version) (c : BusConfig) (es : List Entry) (torn : List ℕ) → HasLines v c es → EndsNoLine torn → text ≡ front_lines v c (entry_lines es torn) → IsFirstWrong text (length es + 3)
 lacking text v c es torn good unended is = inr (inl (record {
   version = v;
@@ -34,13 +34,13 @@ lacking text v c es torn good unended is = inr (inl (record {
 cut_lacks : (text : List ℕ) (n : ℕ) (cut : IsCutText text n) → IsFirstWrong text (length cut.entries + 3)
 cut_lacks text n cut = lacking text cut.front.version cut.config cut.entries cut.front.torn cut.front.good cut.front.unended cut.front.begins
 
--- If the text continues, the first wrong line follows its end line.
+-- If bytes follow the end line, the first wrong line is the line after it.
 going : (text : List ℕ) (v : Version) (c : BusConfig) (es : List Entry) (more : List ℕ) → HasLines v c es → more ≢ [] → text ≡ text_in v c es ++ more → IsFirstWrong text (length es + 4)
 going text v c es more good some is = inr (inr (record { version = v; config = c; entries = es; rest = more; whole = good; begins = is; behind = refl; more = some }))
 
 -- ---- a text that begins with whole lines
 
--- The bytes without LF come after the whole lines.
+-- Bytes with no LF come after the whole lines.
 torn_later : (a b f torn : List ℕ) → a ++ 10 ∷ b ≡ f ++ torn → EndsNoLine torn → (m : List ℕ) × (f ≡ a ++ 10 ∷ m)
 torn_later a b [] torn is h = absurd (line_ends a b (subst EndsNoLine (sym is) h))
 torn_later [] b (x ∷ f) torn is h =
@@ -67,7 +67,7 @@ some_after (x ∷ xs) ys some is = absurd cc
 
 -- ---- a faulty text
 
--- The first wrong line is the same, whichever bytes follow the whole lines.
+-- If the first wrong line after p is the same, whatever bytes follow p, no text that begins with p is cut off.
 wrong_uncut : (p after : List ℕ) (n : ℕ) → EndsLine p → ((more : List ℕ) → more ≢ [] → IsFirstWrong (p ++ more) n) → (c : BusConfig) (es : List Entry) → IsFrontOf (p ++ after) c es → ⊥
 wrong_uncut p after n end wrong c es front =
     let v = front.version in
@@ -85,7 +85,7 @@ wrong_uncut p after n end wrong c es front =
 first_uncut : (p after : List ℕ) (n : ℕ) → EndsLine p → ((more : List ℕ) → more ≢ [] → IsFirstWrong (p ++ more) n) → IsUncut (p ++ after)
 first_uncut p after n end wrong m cut = wrong_uncut p after n end wrong cut.config cut.entries cut.front
 
--- Whole lines that are faulty, whichever bytes follow them, do not begin the text of a record.
+-- Whole lines that are faulty, whatever bytes follow them, are not the beginning of a record's text.
 pub no_front : (p after : List ℕ) (why : ReadFault) → why ≢ fault.NoMemory → EndsLine p → ((more : List ℕ) → Reads (p ++ more) (Err why)) → (c : BusConfig) (es : List Entry) → IsFrontOf (p ++ after) c es → ⊥
 no_front p after fault.NoMemory some end wrong c es front = some refl
 no_front p after fault.BadVersion some end wrong c es front =

@@ -10,35 +10,35 @@ use Rattle.can_replay.specs.declared.audits.AuditFault.{AuditFault}
 use Rattle.can_replay.specs.declared.audits.AuditFault.TheVariants as fault
 use Rattle.can_replay.specs.Histories.{before}
 
--- Whether entries, the oldest first, are a legal history, and if not, the first wrong entry.
+-- Whether these entries, the oldest first, are a legal history, and which entry is the first wrong one if they are not.
 
--- Entry k is the first wrong entry. The entries before it are a legal history, and it is past the limit or its reply
--- does not follow from them (own choice).
+-- Entry k is the first wrong entry. The entries before it are a legal history. Entry k is past the limit, or its reply
+-- does not follow from that history (own choice).
 pub record IsFirstWrongEntry (c : BusConfig) (entries : List Entry) (k : ℕ) : Type 0 where
   pub entry : Entry
   pub there : slice_get entries k ≡ Some entry
   pub legal_before : IsLegal c (before entries k)
   pub wrong : (c.limit ≤ k) ⊎ (entry.reply ≢ legal_reply c (before entries k) entry.event)
 
--- The reply that would be legal after this history of k entries, or None if no entry may follow.
+-- The legal reply to this event after this history of k entries, or None if the limit allows no further entry.
 abbrev pub allowed_after : BusConfig → ℕ → List Entry → Event → Option Reply
 allowed_after c k past e = if nat_le c.limit k then None else Some (legal_reply c past e)
 
--- The reply that would be legal at entry k, whose event is e.
+-- The legal reply at entry k, whose event is e, or None if the limit allows no such entry.
 abbrev pub allowed : BusConfig → List Entry → ℕ → Event → Option Reply
 allowed c entries k e = allowed_after c k (before entries k) e
 
--- Entry k is the first wrong entry, and this reply would be legal there.
+-- Entry k is the first wrong entry, and `legal` is the reply that would be legal there.
 pub record IsToldWrong (c : BusConfig) (entries : List Entry) (k : ℕ) (legal : Option Reply) : Type 0 where
   pub first : IsFirstWrongEntry c entries k
   pub is_allowed : legal ≡ allowed c entries k first.entry.event
 
--- The facts about the entries that follow from a fault; lack of memory gives none.
+-- The facts about the entries that follow from a fault of the audit. Lack of memory implies nothing.
 abbrev pub Blames : BusConfig → List Entry → AuditFault → Type 0
 Blames c entries (fault.Wrong k legal) = IsToldWrong c entries k legal
 Blames c entries fault.NoMemory = Unit {0}
 
--- The fault of entry k if a bus gives its event this other reply.
+-- The fault of entry k if the bus gives this other reply to its event.
 abbrev pub fault_at : ℕ → Reply → AuditFault
 fault_at k (Refused NoMemory) = fault.NoMemory
 fault_at k (Refused RecordFull) = fault.Wrong k None

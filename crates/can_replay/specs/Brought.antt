@@ -7,11 +7,11 @@ use Rattle.can_event.specs.declared.received.Received.{Received}
 use Rattle.can_bus.specs.Queues.{queued_to, dropped_at}
 use Rattle.can_bus.specs.Transmit.{lost_count}
 
--- The effects of an entry of a bus's record. The history before it, the newest entry first, is `past`, and the history
--- after it is `e ∷ past`.
+-- The effects of an entry of a bus's record. The history before the entry, the newest entry first, is `past`, and the
+-- history after it is `e ∷ past`.
 
--- The event is an attempt, a restart or a down. No other event queues items to a socket, loses a waiting frame, or
--- changes an error count.
+-- The event is an attempt, a restart or a down. No other event can queue items to a socket, lose a waiting frame, or
+-- change an error count.
 abbrev pub is_step : Event → Bool
 is_step (Attempt m v) = true
 is_step (Restart i m) = true

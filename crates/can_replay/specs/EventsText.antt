@@ -23,9 +23,9 @@ use Rattle.can_replay.specs.Brought.{is_step, put_to, dropped_by, lost_by}
 use Rattle.can_replay.specs.Words.{counts_part, lost_part, part_named, numbered, part, put_word, dropped_words}
 use Rattle.can_replay.specs.Words.{wire_words}
 
--- The text of a record's events: each entry's line with the entry's effects. If the timing of the bus is given, a tried
--- frame has its times and bits. If the run's faults are given, each rule has a line where the bus takes it. An attempt
--- then has the rule that gave its verdict (own choice).
+-- The text of a record's events: each entry's line with the entry's effects. If the timing of the bus is given, the
+-- line of a tried frame has its times and bits. If the run's fault rules are given, each rule has a line at the point
+-- at which the bus takes it, and the line of an attempt has the rule that gave its verdict (own choice).
 
 -- The error counts that the entry changed, by interface.
 abbrev pub counts_parts : BusConfig → List Entry → Entry → List ℕ
@@ -45,12 +45,12 @@ abbrev pub put_part : BusConfig → List Entry → Entry → List ℕ
 put_part c past e =
     part_named (codes "put") (flat_map (λ s. put_words s (put_to c past e s)) (open_sockets past))
 
--- The number of items that found no room, by socket.
+-- The number of items that found no room at a socket, by socket.
 abbrev pub dropped_part : BusConfig → List Entry → Entry → List ℕ
 dropped_part c past e =
     part_named (codes "dropped") (flat_map (λ s. dropped_words s (dropped_by c past e s)) (open_sockets past))
 
--- The effects of an entry: none unless it is an attempt, a restart or a down.
+-- The effects of an entry. Only an attempt, a restart or a down has any.
 unfoldable pub parts_of : BusConfig → List Entry → Entry → List ℕ
 parts_of c past e =
     if is_step e.event
@@ -62,48 +62,48 @@ abbrev pub tried_part : BusTiming → Event → Reply → List ℕ
 tried_part t (Attempt m v) (reply.Attempted (attempt.Tried a)) = part (wire_words t a.frame a.class v)
 tried_part t _ _ = []
 
--- The wire part of an entry's line: nothing if no timing is given, or no frame was tried.
+-- The part of an entry's line with the times and the bits. It is empty if no timing is given or no frame was tried.
 unfoldable pub wire_part : Option BusTiming → Entry → List ℕ
 wire_part None e = []
 wire_part (Some t) e = tried_part t e.event e.reply
 
--- The number of the rule that gave an attempt its verdict. It is None if the attempt tried no frame, if no rule gave a
--- verdict, or if the attempt had another verdict.
+-- The number of the rule that gave an attempt its verdict. It is None if the event is not an attempt that tried a
+-- frame, if no rule gave a verdict, or if the attempt had another verdict.
 abbrev pub rule_by : RunSeen → Event → Reply → Option ℕ
 rule_by run (Attempt m v) (reply.Attempted (attempt.Tried a)) = rule_given run (won_by a.winner (word_of a.frame)) v
 rule_by run _ _ = None
 
--- The same with the faults before the entry, if faults are given.
+-- The number of the rule that gave an entry its verdict, if the faults before the entry are given.
 unfoldable pub rule_in : Option RunSeen → Entry → Option ℕ
 rule_in None e = None
 rule_in (Some run) e = rule_by run e.event e.reply
 
--- The last part of an entry's line.
+-- The last part of an entry's line: the number of the rule that gave its verdict, if there is one.
 abbrev pub rule_part : Option RunSeen → Entry → List ℕ
 rule_part faults e = numbered (codes "rule") (rule_in faults e)
 
--- The lines before the line of an entry: for an attempt that tried a frame, the rules that the bus takes before it, and
--- each end of all rules.
+-- The lines before the line of an entry. If the entry is an attempt that tried a frame, they are the rules that the bus
+-- takes before it, and a line for each removal of all rules.
 abbrev pub rules_by : RunSeen → Event → Reply → List ℕ
 rules_by run (Attempt m v) (reply.Attempted (attempt.Tried a)) = next_rules run
 rules_by run _ _ = []
 
--- The same, if faults are given.
+-- The lines before the line of an entry, if the faults are given.
 unfoldable pub rules_before : Option RunSeen → Entry → List ℕ
 rules_before None e = []
 rules_before (Some run) e = rules_by run e.event e.reply
 
--- The faults after an entry: only an attempt that tried a frame asks the rules.
+-- The faults after an entry. Only an attempt that tried a frame asks the rules.
 abbrev pub asked_by : RunSeen → Event → Reply → RunSeen
 asked_by run (Attempt m v) (reply.Attempted (attempt.Tried a)) = asked_run run (won_by a.winner (word_of a.frame))
 asked_by run _ _ = run
 
--- The same, if faults are given.
+-- The faults after an entry, if the faults before it are given.
 unfoldable pub asked_of : Option RunSeen → Entry → Option RunSeen
 asked_of None e = None
 asked_of (Some run) e = Some (asked_by run e.event e.reply)
 
--- The faults after these entries.
+-- The faults after these entries, if the faults before them are given.
 abbrev pub faults_after : Option RunSeen → List Entry → Option RunSeen
 faults_after faults [] = faults
 faults_after faults (e ∷ past) = asked_of (faults_after faults past) e
@@ -112,7 +112,7 @@ faults_after faults (e ∷ past) = asked_of (faults_after faults past) e
 abbrev pub wanted_after : Wanted → List Entry → Wanted
 wanted_after w past = record w { faults = faults_after w.faults past }
 
--- Nothing is wanted but the effects of entries.
+-- Only the effects of entries are wanted.
 abbrev pub nothing_wanted : Wanted
 nothing_wanted = record { timing = None; faults = None }
 
@@ -120,44 +120,46 @@ nothing_wanted = record { timing = None; faults = None }
 abbrev pub unended : List ℕ → List ℕ
 unended line = take (length line - 1) line
 
--- The line of an entry, with its effects and the other wanted parts before its LF, after the lines of rules.
+-- The line of an entry, preceded by the lines of rules. The effects and the other wanted parts are inserted before its
+-- LF.
 unfoldable pub with_parts : Wanted → BusConfig → List Entry → Entry → List ℕ → List ℕ
 with_parts w c past e line =
     rules_before w.faults e ++ unended line ++ parts_of c past e ++ wire_part w.timing e ++ rule_part w.faults e
     ++ 10 ∷ []
 
--- The line of an entry in the record, with its effects.
+-- The line of an entry of the record, with its effects; `w` is the wanted value before the first entry.
 abbrev pub events_line : Wanted → BusConfig → List Entry → Entry → List ℕ
 events_line w c past e = with_parts (wanted_after w past) c past e (entry_line e [])
 
--- The lines of a history, the oldest entry first; `w` is the wanted value before them.
+-- The lines of a history, the oldest entry first; `w` is the wanted value before the first entry.
 abbrev pub events_lines : Wanted → BusConfig → List Entry → List ℕ
 events_lines w c [] = []
 events_lines w c (e ∷ past) = events_lines w c past ++ events_line w c past e
 
--- The first line: the version of the format.
+-- The first line, which has the version of the format.
 abbrev pub events_version : List ℕ
 events_version = codes "canbus events 1" ++ 10 ∷ []
 
--- The lines of the script's rules.
+-- The lines of the script's rules, if the faults are given.
 unfoldable pub rules_at_start : Option RunSeen → List ℕ
 rules_at_start None = []
 rules_at_start (Some run) = first_rules run
 
--- The lines after all attempts: rules that the bus takes, and each end of all rules.
+-- The lines after all attempts, if the faults are given: the rules that the bus takes, and a line for each removal of
+-- all rules.
 unfoldable pub rules_at_end : Option RunSeen → List ℕ
 rules_at_end None = []
 rules_at_end (Some run) = last_rules run
 
--- The text up to a history's last entry; the second line is the bus's, as in the record.
+-- The text up to a history's last entry. The second line is the bus's line of the record.
 abbrev pub events_front : Wanted → Version → BusConfig → List Entry → List ℕ
 events_front w v c past = events_version ++ spell (bus_words v c) [] ++ rules_at_start w.faults ++ events_lines w c past
 
--- The text after the last entry: rules that no attempt saw, and the last line.
+-- The text after the last entry: the rules that come after the last attempt, and the last line.
 abbrev pub events_end : Wanted → List Entry → List (List ℕ) → List ℕ
 events_end w past words = rules_at_end (wanted_after w past).faults ++ spell words []
 
--- The last line of a record's text that is cut off, with the number of entries.
+-- The words of the last line if the record's text is cut off, with the number of entries.
 abbrev pub cut_words : ℕ → List (List ℕ)
 cut_words count = codes "cut" ∷ decimal count ∷ []
 
@@ -165,6 +167,6 @@ cut_words count = codes "cut" ∷ decimal count ∷ []
 abbrev pub events_text : Wanted → Version → BusConfig → List Entry → List ℕ
 events_text w v c past = events_front w v c past ++ events_end w past (end_words (length past))
 
--- The same, if the record's text is cut off after these entries.
+-- The text of a history's events, if the record's text is cut off after these entries.
 abbrev pub cut_events_text : Wanted → Version → BusConfig → List Entry → List ℕ
 cut_events_text w v c past = events_front w v c past ++ events_end w past (cut_words (length past))

@@ -5,7 +5,7 @@ use Rattle.can_event.specs.Events.{IsConfig}
 use Rattle.can_record.specs.Journal.{Kept}
 use Rattle.can_bus.specs.Legal.{IsLegal}
 
--- Lists of entries, the oldest first, read as histories, the newest first.
+-- Lists of entries, the oldest first, and their histories, the newest first.
 
 -- The history of the first k entries.
 abbrev pub before : List Entry → ℕ → List Entry
@@ -15,7 +15,7 @@ before entries k = reverse (take k entries)
 abbrev pub HasLegalHistory : Kept → Type 0
 HasLegalHistory r = IsLegal r.config r.history
 
--- A history that a bus can have: its configuration is within the limits, and each reply is the legal one.
+-- A history that a bus can have: the configuration is within the limits, and each reply is the legal one.
 pub record IsHistory (c : BusConfig) (past : List Entry) : Type 0 where
   pub proper : IsConfig c
   pub legal : IsLegal c past

@@ -8,19 +8,19 @@ use Rattle.can_rules.specs.Plans.{PlanSeen}
 use Rattle.can_rules.specs.RuleText.{rule_words}
 use Rattle.can_rules.specs.RunFaults.{RunSeen, after_change, made_of}
 
--- The rules that a bus takes, as lines of the events that show the number of each rule (own choice).
+-- The rules that a bus takes, as lines among the events. The lines show the number of each rule (own choice).
 
 -- The line of a rule that the bus takes: its number and its words.
 unfoldable pub rule_line : List (List ℕ) → Rule → List ℕ
 rule_line names rule = codes "rule " ++ decimal rule.number ++ 32 ∷ rule_words names rule ++ 10 ∷ []
 
--- The line for the result of a change: none if a rule is refused.
+-- The line for the result of a change of the rules. If a rule is refused, there is no line.
 abbrev pub made_line : List (List ℕ) → Made → List ℕ
 made_line names (made.Taken rule) = rule_line names rule
 made_line names made.Refused = []
 made_line names made.Ended = codes "nofaults" ++ 10 ∷ []
 
--- The lines of the changes that come before the attempt with this number.
+-- The lines of the changes that are due before the attempt with this number.
 abbrev pub changes_lines : List (List ℕ) → PlanSeen → ℕ → List Later → List ℕ
 changes_lines names plan attempt [] = []
 changes_lines names plan attempt (next ∷ later) =
@@ -33,14 +33,14 @@ changes_lines names plan attempt (next ∷ later) =
 abbrev pub first_rules : RunSeen → List ℕ
 first_rules run = flat_map (rule_line run.names) run.plan.rules
 
--- The lines of a run's changes that come before the attempt with this number.
+-- The lines of a run's changes that are due before the attempt with this number.
 abbrev pub rules_until : ℕ → RunSeen → List ℕ
 rules_until attempt run = changes_lines run.names run.plan attempt run.later
 
--- The lines of the changes before the next attempt that tries a frame.
+-- The lines of the changes that are due before the next attempt that tries a frame.
 abbrev pub next_rules : RunSeen → List ℕ
 next_rules run = rules_until run.tried run
 
--- The lines of all remaining changes: no attempt has a higher number.
+-- The lines of all remaining changes: no attempt has a number above 2 ^ 64 - 1.
 abbrev pub last_rules : RunSeen → List ℕ
 last_rules run = rules_until (2 ^ 64 - 1) run

@@ -23,7 +23,7 @@ use Rattle.can_replay.specs.inner.EntryAudits.{IsGoing, IsWrongIn}
 
 -- The results of an audit of a text (own choice).
 
--- The text is that of a legal record with this many entries.
+-- The text is the text of a legal record with this many entries.
 pub record IsLegalText (text : List ℕ) (count : ℕ) : Type 0 where
   pub config : BusConfig
   pub entries : List Entry
@@ -31,24 +31,24 @@ pub record IsLegalText (text : List ℕ) (count : ℕ) : Type 0 where
   pub legal : IsLegal config (reverse entries)
   pub counted : count ≡ length entries
 
--- The text is that of a record whose first wrong entry is this one.
+-- The text is the text of a record, and this is the record's first wrong entry.
 pub record IsWrongText (text : List ℕ) (w : WrongLine) : Type 0 where
   pub config : BusConfig
   pub entries : List Entry
   pub whole : IsTextOf text config entries
   pub wrong : IsWrongIn config entries w
 
--- The result for a text that has ended.
+-- The facts about a text that follow from the audit's result after the end of the text.
 abbrev pub Reports : List ℕ → Result ℕ TextFault → Type 0
 Reports text (Ok count) = IsLegalText text count
 Reports text (Err (fault.Read why)) = Reads text (Err why)
 Reports text (Err (fault.Wrong w)) = IsWrongText text w
 
--- These bytes end no line.
+-- No line ends in these bytes: they have no LF.
 abbrev pub EndsNoLine : List ℕ → Type 0
 EndsNoLine bytes = All (λ b. b ≢ 10) bytes
 
--- The text is the front of a record's text: the bus's line, these entries' lines, and bytes that end no line.
+-- The text is a front of a record's text: the first two lines, the lines of these entries, and bytes with no LF.
 pub record IsFrontOf (text : List ℕ) (config : BusConfig) (entries : List Entry) : Type 0 where
   pub version : Version
   pub torn : List ℕ
@@ -64,7 +64,8 @@ HasBus text c = (v : Version) × (rest : List ℕ) × HasBusLine v c × (text �
 abbrev pub LacksFront : List ℕ → Type 0
 LacksFront text = (v : Version) (c : BusConfig) (rest : List ℕ) → HasBusLine v c → text ≢ front_lines v c rest
 
--- The text is cut off: it is the front of a legal record's text, up to the lines of this many entries.
+-- The text is cut off: it is the front of a legal record's text and ends after the lines of this many entries, or in
+-- the next line.
 pub record IsCutText (text : List ℕ) (count : ℕ) : Type 0 where
   pub config : BusConfig
   pub entries : List Entry
@@ -72,65 +73,65 @@ pub record IsCutText (text : List ℕ) (count : ℕ) : Type 0 where
   pub legal : IsLegal config (reverse entries)
   pub counted : count ≡ length entries
 
--- The text is cut off, and this is the first wrong entry before its end.
+-- The text is cut off, and this is the first wrong entry in it.
 pub record IsWrongCut (text : List ℕ) (w : WrongLine) : Type 0 where
   pub config : BusConfig
   pub entries : List Entry
   pub front : IsFrontOf text config entries
   pub wrong : IsWrongIn config entries w
 
--- The text is not cut off: it is not the front of a legal record's text.
+-- The text is not the front of a legal record's text.
 abbrev pub IsUncut : List ℕ → Type 0
 IsUncut text = (count : ℕ) → IsCutText text count → ⊥
 
--- The facts about a text that may be cut off, from a fault of a line. It is neither the text of a record nor the
--- beginning of one.
+-- The facts that follow from a faulty line, if the text may be cut off: the text is neither the text of a record nor
+-- the front of a legal record's text. Lack of memory implies nothing.
 abbrev pub FaultsUncut : List ℕ → ReadFault → Type 0
 FaultsUncut text read.NoMemory = Unit {0}
 FaultsUncut text why = Reads text (Err why) × IsUncut text
 
--- The result for a text that has ended, and may be cut off.
+-- The facts about a text that follow from the audit's result after the end of the text, if the text may be cut off.
 abbrev pub ReportsCut : List ℕ → Result Cut TextFault → Type 0
 ReportsCut text (Ok (cut.Whole count)) = IsLegalText text count
 ReportsCut text (Ok (cut.Off count)) = IsCutText text count
 ReportsCut text (Err (fault.Read why)) = FaultsUncut text why
 ReportsCut text (Err (fault.Wrong w)) = IsWrongText text w ⊎ IsWrongCut text w
 
--- These bytes end in LF.
+-- These bytes end with LF.
 abbrev pub EndsLine : List ℕ → Type 0
 EndsLine bytes = (front : List ℕ) × (bytes ≡ front ++ 10 ∷ [])
 
--- The bytes are a line: LF occurs only at its end, or not at all.
+-- The bytes are one line: they are not empty, and they have LF only at their end or not at all.
 pub record IsLine (line : List ℕ) : Type 0 where
   pub some : line ≢ []
   pub stops : StopsAt line 10
 
--- These bytes may follow the line in a text; none may if the line has no LF.
+-- These bytes may follow the line in a text. If the line has no LF, no bytes may follow it.
 abbrev pub MayFollow : List ℕ → List ℕ → Type 0
 MayFollow line after = take_through 10 (line ++ after) ≡ line
 
--- A line was taken after a text that was taken so far.
+-- A line was taken after all text before it was taken.
 abbrev pub TakesOn : {A : Type 0} → (List ℕ → A → Type 0) → A → A → List ℕ → Type 0
 TakesOn {A} are old new line = (text : List ℕ) → are text old → IsLine line → are (text ++ line) new
 
--- A line after a text that was taken so far is faulty, whichever bytes follow it.
+-- All text before a line was taken, and the line is faulty, whatever bytes follow it.
 abbrev pub FailsNext : {A : Type 0} → (List ℕ → A → Type 0) → A → List ℕ → ReadFault → Type 0
 FailsNext {A} are old line why =
     (text after : List ℕ) → are text old → IsLine line → MayFollow line after
     → Reads (text ++ (line ++ after)) (Err why)
 
--- A line after these bytes of a text is faulty, whichever bytes follow it.
+-- A line after these bytes of a text is faulty, whatever bytes follow it.
 abbrev pub FailsAfter : List ℕ → List ℕ → ReadFault → Type 0
 FailsAfter front line why = (after : List ℕ) → MayFollow line after → Reads (front ++ (line ++ after)) (Err why)
 
--- The lines that were taken make up this text.
+-- The lines that were taken so far make up this text.
 abbrev pub HasCome : List ℕ → Phase → Type 0
 HasCome text phase.Start = text ≡ []
 HasCome text (phase.Front v) = text ≡ first_line v
 HasCome text (phase.Entries b) = IsGoing text b
 HasCome text (phase.Failed why) = ⊥
 
--- The same for an audit.
+-- The audit has taken this text.
 abbrev pub AreTaken : List ℕ → TextAudit → Type 0
 AreTaken text audit = HasCome text audit.phase
 
@@ -138,7 +139,7 @@ AreTaken text audit = HasCome text audit.phase
 abbrev pub HasFailed : ReadFault → TextAudit → Type 0
 HasFailed why audit = audit.phase ≡ phase.Failed why
 
--- The first line, if it was taken and no line was faulty.
+-- The first line of the text, or no bytes if it was not taken or a line was faulty.
 abbrev pub first_taken : Phase → List ℕ
 first_taken (phase.Front v) = first_line v
 first_taken (phase.Entries b) = first_line b.version
@@ -149,7 +150,7 @@ abbrev pub has_end_line : Phase → Bool
 has_end_line (phase.Entries b) = b.is_ended
 has_end_line _ = false
 
--- The bus of the record, if its line was taken and no line was faulty.
+-- The configuration in the bus's line, or None if that line was not taken or a line was faulty.
 abbrev pub bus_taken : Phase → Option BusConfig
 bus_taken (phase.Entries b) = Some b.config
 bus_taken _ = None

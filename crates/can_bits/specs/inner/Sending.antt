@@ -8,7 +8,7 @@ use Rattle.can_bits.specs.declared.bit.Field.TheVariants as field
 use Rattle.can_bits.specs.Marks.{check_marks, check_rates}
 use Rattle.can_bits.specs.Sent.{levels, mark_of}
 
--- Terms for the proofs of sending. Callers of this crate need none of them.
+-- Terms for the proofs of sending. Callers of this crate do not need these terms.
 
 -- the bits of one field, without stuff bits
 abbrev pub in_field : Field → List ℕ → List Bit
@@ -16,7 +16,7 @@ in_field field [] = []
 in_field field (b ∷ bits) =
     record { field = field; is_recessive = b == 1; is_stuff = false; is_fast = false } ∷ in_field field bits
 
--- the run of equal bits that was sent last: the field and the value of the last bit, and the length of the run
+-- the last run of equal bits that was sent: the field and the value of its last bit, and its length
 pub record Last : Type 0 where
   pub field : Field
   pub is_recessive : Bool
@@ -26,22 +26,22 @@ pub record Last : Type 0 where
 abbrev pub nothing_sent : Last
 nothing_sent = record { field = field.StartOfFrame; is_recessive = false; count = 0 }
 
--- a bit of a field as it is sent, at either bit rate
+-- a bit of a field as it is sent, at the data bit rate if `fast` is true
 abbrev pub sent : Bool → Bit → Bit
 sent fast b = record { field = b.field; is_recessive = b.is_recessive; is_stuff = false; is_fast = fast }
 
--- the stuff bit after a bit of this field and value
+-- the stuff bit that follows a bit of this field and this value
 abbrev pub stuff_bit : Bool → Field → Bool → Bit
 stuff_bit fast field last = record { field = field; is_recessive = not last; is_stuff = true; is_fast = fast }
 
--- the stuff bit that is due, and below it the run after that bit
+-- `due` is the stuff bit that must follow this run, if any, and `flushed` the run after that stuff bit
 abbrev pub due : Bool → Last → List Bit
 due fast l = if l.count == 5 then stuff_bit fast l.field l.is_recessive ∷ [] else []
 
 abbrev pub flushed : Last → Last
 flushed l = if l.count == 5 then record { field = l.field; is_recessive = not l.is_recessive; count = 1 } else l
 
--- whether two values are equal, and below it the run after one more bit
+-- `is_same` reports whether two values are equal, and `added` is the run after one more bit
 abbrev pub is_same : Bool → Bool → Bool
 is_same a b = if a then b else not b
 
@@ -52,7 +52,7 @@ added b l = record {
   count = if is_same b.is_recessive l.is_recessive then l.count + 1 else 1;
 }
 
--- the bits that are sent for these bits, with the stuff bit that is due before each
+-- all bits that are sent for these bits: before each bit the stuff bit that is due, if any
 abbrev pub sent_all : Bool → List Bit → Last → List Bit
 sent_all fast [] l = []
 sent_all fast (b ∷ bits) l = due fast l ++ sent fast b ∷ sent_all fast bits (added b (flushed l))
@@ -62,7 +62,8 @@ abbrev pub last_after : List Bit → Last → Last
 last_after [] l = l
 last_after (b ∷ bits) l = last_after bits (added b (flushed l))
 
--- the bits that are sent for these bits with fixed stuff bits, after a bit of this value
+-- all bits that are sent for these bits with fixed stuff bits; `last` is the value of the bit before them, and the
+-- first stuff bit follows `due` bits
 abbrev pub sent_fixed : Bool → Bool → ℕ → List Bit → List Bit
 sent_fixed fast last due [] = []
 sent_fixed fast last due (b ∷ bits) =

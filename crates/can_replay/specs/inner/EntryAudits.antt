@@ -10,25 +10,25 @@ use Rattle.can_replay.specs.Audits.{IsToldWrong}
 use Rattle.can_replay.specs.declared.entry_audit.EntryAudit.{EntryAudit}
 use Rattle.can_replay.specs.declared.text_fault.WrongLine.{WrongLine}
 
--- The facts about the lines after the first.
+-- The facts about the lines after the first line.
 
--- This is the first wrong entry, and this is the limit of entries of the bus.
+-- `w` describes the first wrong entry, with the bus's limit of entries.
 pub record IsWrongIn (c : BusConfig) (entries : List Entry) (w : WrongLine) : Type 0 where
   pub told : IsToldWrong c entries w.place w.legal
   pub entry : w.entry ≡ told.first.entry
   pub limit : w.limit ≡ c.limit
 
--- The entries are legal, or the first wrong one is known.
+-- All entries are legal, or the first wrong entry is known.
 abbrev pub IsSettled : BusConfig → List Entry → Option WrongLine → Type 0
 IsSettled c entries None = IsLegal c (reverse entries)
 IsSettled c entries (Some w) = IsWrongIn c entries w
 
--- The text with the lines of these entries, with or without the end line.
+-- The text of the first two lines and the lines of these entries, with the end line if the flag is true.
 abbrev pub so_far : Bool → Version → BusConfig → List Entry → List ℕ
 so_far false v c entries = front_lines v c (entry_lines entries [])
 so_far true v c entries = text_in v c entries
 
--- These are the lines that were read.
+-- The audit has read the lines of this text.
 pub record IsRead (text : List ℕ) (b : EntryAudit) : Type 0 where
   pub entries : List Entry
   pub good : HasLines b.version b.config entries
@@ -37,13 +37,13 @@ pub record IsRead (text : List ℕ) (b : EntryAudit) : Type 0 where
   pub needs : b.needs ≡ all_needs entries
   pub settled : IsSettled b.config entries b.wrong
 
--- These lines were read, and the bus carried out the entries as long as they were legal.
+-- The audit has read the lines of this text. While they were legal, the bus carried out their entries.
 pub record IsGoing (text : List ℕ) (b : EntryAudit) : Type 0 where
   pub read : IsRead text b
   pub config : b.is_ended ≡ false → b.bus.config ≡ b.config
   pub is_after : b.is_ended ≡ false → b.wrong ≡ None → IsAfter b.bus (reverse read.entries)
 
--- The first two lines were read.
+-- The first two lines were read, and no entry.
 pub record IsBegun (v : Version) (line : List ℕ) (b : EntryAudit) : Type 0 where
   pub going : IsGoing (first_line v ++ line) b
   pub none : going.read.entries ≡ []

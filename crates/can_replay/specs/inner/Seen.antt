@@ -14,20 +14,21 @@ use Rattle.can_bus.specs.Transmit.{lost_count}
 use Rattle.can_replay.specs.EventsText.{put_words}
 use Rattle.can_replay.specs.Words.{counts_part, lost_part, part_named, dropped_words}
 
--- The state of a bus as noted before an entry, and the effects of the entry from this state and the state after it.
+-- The state of a bus that is noted before an entry. The effects of the entry follow from this state and the state after
+-- the entry.
 
--- The error counts of the 16 places, the lost frames of each interface, and the waiting and dropped items of each open
--- socket, as numbers.
+-- The error counts of the 16 interface numbers, the number of lost frames of each interface, and the numbers of waiting
+-- and dropped items of each open socket.
 pub record Seen : Type 0 where
   pub counters : List ErrorCounts
   pub lost : List ℕ
   pub sockets : List Closed
 
--- The number of waiting and of dropped items of a socket, from its state.
+-- The numbers of waiting and dropped items of a socket in this state.
 abbrev pub counts_in : SocketState → Closed
 counts_in v = record { unread = length v.waiting; dropped = v.dropped }
 
--- The noted part of a bus's state.
+-- The part of a bus's state that is noted.
 abbrev pub seen_in : Parts → Seen
 seen_in parts = record {
   counters = parts.nodes.counters;
@@ -35,7 +36,7 @@ seen_in parts = record {
   sockets = map counts_in parts.sockets;
 }
 
--- The noted state after a history.
+-- The state that is noted after a history.
 unfoldable pub seen_after : BusConfig → List Entry → Seen
 seen_after c past = record {
   counters = all_counts c past;
@@ -43,19 +44,19 @@ seen_after c past = record {
   sockets = map (counts_at_close c past) (open_sockets past);
 }
 
--- This state was noted after a history.
+-- This state is the state that is noted after the history.
 abbrev pub HasSeen : BusConfig → List Entry → Seen → Type 0
 HasSeen c past seen = seen ≡ seen_after c past
 
--- The error counts at a place.
+-- The error counts at index i, or the counts at the start if there is no such index.
 abbrev pub counts_at : List ErrorCounts → ℕ → ErrorCounts
 counts_at counters i = slice_index_or counters i at_start
 
--- The error counts of interface i, if they differ.
+-- The part with the error counts of interface i, if the counts before and after differ.
 abbrev pub told_counts_at : List ErrorCounts → List ErrorCounts → ℕ → List ℕ
 told_counts_at before after i = counts_part i (counts_at before i) (counts_at after i)
 
--- The error counts that differ, by interface.
+-- The parts with the error counts that changed, by interface.
 unfoldable pub told_counts : List ErrorCounts → List ErrorCounts → List ℕ
 told_counts before after = flat_map (told_counts_at before after) (range_with_len 0 16)
 
@@ -64,50 +65,50 @@ abbrev pub lost_in : Option InterfaceState → ℕ
 lost_in None = 0
 lost_in (Some l) = lost_of l
 
--- The number of frames of interface i lost since the state was noted.
+-- The part with the number of frames that interface i lost since the state was noted, if it lost any.
 abbrev pub told_lost_at : List ℕ → List InterfaceState → ℕ → List ℕ
 told_lost_at before interfaces i = lost_part i (lost_in (slice_get interfaces i) - get_or before i 0)
 
--- The numbers of frames lost since the state was noted, by interface.
+-- The parts with the numbers of frames lost since the state was noted, by interface.
 unfoldable pub told_lost : List ℕ → List InterfaceState → List ℕ
 told_lost before interfaces = flat_map (told_lost_at before interfaces) (range_with_len 0 (length before))
 
--- An item on a socket, if it is there.
+-- The word for an item that was queued to socket s, if there is an item.
 abbrev pub item_in : ℕ → Option Received → List (List ℕ)
 item_in s None = []
 item_in s (Some r) = put_words s (r ∷ [])
 
--- The items on a socket after the first ones, which were noted.
+-- The words for the waiting items of a socket, without the items that were waiting when the state was noted.
 abbrev pub put_in : Option SocketState → Closed → List (List ℕ)
 put_in None seen = []
 put_in (Some v) seen = put_words v.number (drop seen.unread v.waiting)
 
--- The number of items dropped at a socket since its state was noted.
+-- The word for the number of items dropped at a socket since its state was noted, if there are any.
 abbrev pub dropped_in : Option SocketState → Closed → List (List ℕ)
 dropped_in None seen = []
 dropped_in (Some v) seen = dropped_words v.number (v.dropped - seen.dropped)
 
--- The noted counts of a socket without items.
+-- The noted counts of a socket with no waiting and no dropped items.
 abbrev pub nothing_seen : Closed
 nothing_seen = record { unread = 0; dropped = 0 }
 
--- The items queued to the socket at this place since the state was noted.
+-- The words for the items queued to the socket at index p since the state was noted.
 abbrev pub told_put_at : List Closed → List SocketState → ℕ → List (List ℕ)
 told_put_at before sockets p = put_in (slice_get sockets p) (get_or before p nothing_seen)
 
--- The items queued since the state was noted, by socket.
+-- The words for the items queued since the state was noted, by socket.
 unfoldable pub told_put : List Closed → List SocketState → List (List ℕ)
 told_put before sockets = flat_map (told_put_at before sockets) (range_with_len 0 (length before))
 
--- The number of items dropped at the socket at this place since the state was noted.
+-- The word for the number of items dropped at the socket at index p since the state was noted, if there are any.
 abbrev pub told_dropped_at : List Closed → List SocketState → ℕ → List (List ℕ)
 told_dropped_at before sockets p = dropped_in (slice_get sockets p) (get_or before p nothing_seen)
 
--- The numbers of items dropped since the state was noted, by socket.
+-- The words for the numbers of items dropped since the state was noted, by socket.
 unfoldable pub told_dropped : List Closed → List SocketState → List (List ℕ)
 told_dropped before sockets = flat_map (told_dropped_at before sockets) (range_with_len 0 (length before))
 
--- The effects since the state was noted.
+-- The parts with all effects since the state was noted.
 unfoldable pub told_parts : Seen → Parts → List ℕ
 told_parts seen parts =
     told_counts seen.counters parts.nodes.counters ++ told_lost seen.lost parts.interfaces

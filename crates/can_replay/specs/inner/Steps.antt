@@ -12,9 +12,9 @@ use Rattle.can_replay.specs.inner.EntryAudits.{IsGoing, IsRead}
 use Rattle.can_replay.specs.inner.Carried.{IsOther}
 use Rattle.can_replay.specs.TextAudits.{IsLine}
 
--- One more line.
+-- The effect of one more line on an audit.
 
--- The line of an entry was taken, or the line is not an entry and the audit did not change.
+-- The line of an entry was taken. If the line is not the line of an entry, only the audit's bus may have changed.
 abbrev pub Takes : {A : Type 0} → EntryAudit → EntryAudit → List ℕ → Result A Unread → Type 0
 Takes old new line (Ok u) =
     (text : List ℕ) → IsGoing text old → old.is_ended ≡ false → IsLine line → IsGoing (text ++ line) new
@@ -23,7 +23,8 @@ Takes old new line (Err unread.Bad) =
     × ((text : List ℕ) → IsGoing text old → old.is_ended ≡ false → LacksEntry old.version old.config line)
 Takes old new line (Err unread.NoMemory) = Unit {0}
 
--- The same for a wrong entry, if this reply would be legal there.
+-- A wrong entry's line was taken, and `legal` is the reply that would be legal there. If the line is not the line of an
+-- entry, the audit did not change.
 abbrev pub ReportsWrong : {A : Type 0} → EntryAudit → EntryAudit → List ℕ → Option Reply → Result A Unread → Type 0
 ReportsWrong old new line legal (Ok u) =
     (text : List ℕ) (read : IsRead text old) → old.is_ended ≡ false → old.bus.config ≡ old.config → IsLine line
@@ -31,11 +32,11 @@ ReportsWrong old new line legal (Ok u) =
 ReportsWrong old new line legal (Err unread.Bad) = (new ≡ old) × LacksEntry old.version old.config line
 ReportsWrong old new line legal (Err unread.NoMemory) = Unit {0}
 
--- This is the end line after this many entries.
+-- The line begins with the end line after this many entries.
 abbrev pub IsEndLine : ℕ → List ℕ → Type 0
 IsEndLine count line = StartsWith (spell (end_words count) []) line
 
--- This is not the end line, unless memory was refused.
+-- The fault of a line that should be the end line: the line is bad, or there was no memory.
 abbrev pub IsUnended : ℕ → List ℕ → ReadFault → Type 0
 IsUnended count line (fault.BadLine n) = (n ≡ count + 3) × LacksEnd count line
 IsUnended count line fault.NoMemory = Unit {0}

@@ -4,7 +4,7 @@ use Rattle.can_bits.specs.declared.bit.Bit.{Bit}
 use Rattle.can_bits.specs.Text.{silence_after}
 use Rattle.can_bits.proofs.silence.silent_at.Goals as goal
 
--- the other sender has no bit left
+-- the other sender has no bits left
 none_left : (k : ℕ) (bits : List Bit) → silence_after k bits [] ≡ None
 none_left k [] = refl
 none_left k (b ∷ bits) = refl
