@@ -144,7 +144,7 @@ fn begun<H: Files<File = File>>(
     Ok(live)
 }
 
-// Writes lines and flushes them. After a fault, the file is cut to nothing and gets no more lines.
+// Writes lines and flushes them. After a fault, the file is cut to zero length and gets no more lines.
 fn put_lines(file: &mut LiveFile<File>, lines: &[u8]) -> io::Result<()> {
     let Some(out) = &mut file.out else {
         return Ok(());
