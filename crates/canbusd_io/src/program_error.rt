@@ -36,7 +36,7 @@ pub enum ProgramError<'a> {
     Log { name: &'a str, whole_lines: u64 },
     #[error("{0}")]
     Record(ReadFault),
-    /// The record is not a legal history from this entry on. Entries are counted from 0.
+    /// The first entry of a record that is not legal, counted from 0.
     #[error("entry {0}: wrong")]
     WrongEntry(usize),
     #[error("write fault")]
