@@ -172,7 +172,7 @@ pub extern "C" fn canbusd_c_end_rules(handle: &mut Handle)
     handle.lend().end_rules();
 }
 
-/// Returns the counts, the error counters and the state of an interface.
+/// Writes the counts, the error counters and the state of an interface to `status`.
 #[unsafe(no_mangle)]
 pub extern "C" fn canbusd_c_status(handle: &mut Handle, iface: u32, status: &mut CStatus) -> u32
     ensures read { IsCountsCall 2 status_out
@@ -182,7 +182,7 @@ pub extern "C" fn canbusd_c_status(handle: &mut Handle, iface: u32, status: &mut
     looks::status(handle.lend(), iface, status)
 }
 
-/// Returns the counts of a socket.
+/// Writes the counts of a socket to `stats`.
 #[unsafe(no_mangle)]
 pub extern "C" fn canbusd_c_stats(handle: &mut Handle, socket: u32, stats: &mut CStats) -> u32
     ensures read { IsCountsCall 5 stats_out (socket_counts handle.old.value socket) stats.old result
@@ -192,7 +192,7 @@ pub extern "C" fn canbusd_c_stats(handle: &mut Handle, socket: u32, stats: &mut 
     looks::stats(handle.lend(), socket, stats)
 }
 
-/// Returns how busy the wire is at a moment.
+/// Writes how busy the wire is at a moment to `load`.
 #[unsafe(no_mangle)]
 pub extern "C" fn canbusd_c_load(handle: &mut Handle, moment: u64, load: &mut CLoad) -> u32
     ensures read { IsLoadCall (moment_of_micros moment) handle.old.value result load.new }
