@@ -36,7 +36,7 @@ pub enum Answer {
 pub struct BusLoad {
     /// The part of the last whole second during which the bus was busy, in thousandths.
     pub permille: u16,
-    /// How long the bus has been busy since it started, in microseconds.
+    /// The total time in microseconds for which the bus has been busy since it started.
     pub micros: u64,
     /// The nominal bit rate in bits per second.
     pub bitrate: u32,

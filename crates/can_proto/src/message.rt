@@ -37,7 +37,7 @@ impl Message {
     }
 }
 
-/// What a reader found in a stream: a message, or a message that is too long.
+/// A message that a reader found in a stream, or the sign of a message that is too long.
 #[derive(Debug, Drop)]
 pub enum Incoming {
     /// A whole message.

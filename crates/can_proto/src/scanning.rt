@@ -9,7 +9,7 @@ use std::alloc::{AllocError, Global};
 /// The largest number of bytes in a message.
 pub const LIMIT: usize = 1024;
 
-/// The place where the current run of bytes began.
+/// The place at which the current run of bytes began.
 #[derive(Clone, Copy)]
 pub enum RunStart {
     /// No run is being read.

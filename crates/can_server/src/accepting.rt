@@ -15,13 +15,13 @@ use std::thread::Threads;
 use std::time::Duration;
 use std::{thread, time};
 
-/// How many milliseconds an acceptor pauses after it could not accept a connection, for example for lack of file descriptors.
+/// The pause in milliseconds after an acceptor could not accept a connection, for example for lack of file descriptors.
 const AFTER_A_FAULT_MS: u64 = 100;
 
 /// The number of failed tries, in about 6 seconds, that count as one session.
 const TRIES: u32 = 64;
 
-/// How often a new connection looks for a free place while idle clients leave, for about one second in all.
+/// The number of times that a new connection looks for a free place while idle clients leave. This takes about one second.
 const TURNS: u32 = 1_000;
 
 /// The visit of an admitted client: its acceptor, its place among the clients, and the number of its session.

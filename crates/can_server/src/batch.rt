@@ -23,8 +23,7 @@ const LONGEST: usize = 256;
 pub struct Taken {
     /// The number of buffers that hold the result of a receive.
     pub rooms: usize,
-    /// Whether each receive returned an item. If so, more items may be waiting. The number of receives is limited by the caller and
-    /// by the size of a batch.
+    /// Whether each receive returned an item, up to the number asked for or the size of a batch. If so, more items may be waiting.
     pub are_items: bool,
 }
 

@@ -162,8 +162,8 @@ impl<'a, N: BusName, F: FaultSource + Drop, G: Gate + Drop, R: Wait> Conversatio
         self.opening == Opening::Stranger
     }
 
-    /// Returns whether the replies to the last piece are longer than a single `< ok >`. A client that gets longer replies reads one
-    /// text after another.
+    /// Returns whether the replies to the last piece are longer than a single `< ok >`. If they are, the client can read several
+    /// texts that arrive together.
     pub fn said_more(&self) -> bool {
         self.said_more
     }

@@ -4,7 +4,7 @@ ghost use Rattle.std.specs.Prelude.{◌≡◌};
 ghost use Rattle.can_proto.specs.Words.{is_blank};
 ghost use Rattle.can_server.specs.Openings.{is_undecided as is_open_at, after_byte, after_bytes};
 
-/// What the first bytes of a connection show.
+/// The result of examining the first bytes of a connection.
 #[derive(Debug, Clone, Copy, PartialEq, Eq)]
 pub enum Opening {
     /// Only blanks have arrived so far.

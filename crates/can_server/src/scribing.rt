@@ -11,7 +11,7 @@ use std::marker::Model;
 use std::sync::Wait;
 use std::time::{Clock, Duration};
 
-/// How many seconds a thread waits for the first entry of a block before it checks again.
+/// The time in seconds for which a thread waits for the first entry of a block before it checks again.
 const IDLE_SECONDS: u64 = 1;
 
 /// A destination for the record entries of one bus in a long run.

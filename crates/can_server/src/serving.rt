@@ -54,9 +54,9 @@ pub trait Clock {
 /// end of `until`: the server then admits no more clients and shuts down the current sessions. An acceptor is closed after its last
 /// session, so that the system refuses later connections.
 ///
-/// If 64 sessions are running, the next client receives `too many sessions` and counts as accepted. There is one exception: if a
-/// session began at least 60 seconds ago by the clock and has not entered raw mode, the server closes that session and gives its
-/// place to the new client.
+/// If 64 sessions are running, the next client receives `too many sessions` and counts as accepted. There is one exception. If a
+/// session began at least 60 seconds ago by the clock and has not entered raw mode, the server closes it and gives its place to the
+/// new client.
 ///
 /// If an acceptor cannot accept a connection, for example for lack of file descriptors, it tries again every 100 ms. 64 failed
 /// tries count as one session. A fault of a session's connection, or a lack of memory for a session, ends only that session. The

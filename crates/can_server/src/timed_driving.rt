@@ -32,9 +32,9 @@ struct Timed {
     schedule: Schedule,
     /// Whether an interface had a frame to send or was waiting for its restart when the driver released the lock.
     has_more: bool,
-    /// How late the driver was, in milliseconds, if that is to be reported.
+    /// The delay of the driver in milliseconds, if the delay is to be reported.
     note: Option<u64>,
-    /// When the driver was last reported to be late.
+    /// The time of the last report that the driver was late.
     noted: Option<Moment>,
 }
 

@@ -162,7 +162,7 @@ pub fn put_set(said: &mut Vec<u8>, names: &Names, set: IfaceSet) -> Result<(), A
     Ok(())
 }
 
-// Returns the first number that is at least `from` and not in the set. Returns `count` if there is no such number below it.
+// Returns the first number from `from` on that is not in the set, or `count` if all numbers from `from` to `count` are in the set.
 fn run_end(set: IfaceSet, from: u8, count: u8) -> u8
     requires from { from < count }
     requires few { count ≤ 16 }

@@ -89,7 +89,7 @@ pub fn bench<F: FaultSource + Drop, R: Read + Drop, W: Write>(
 }
 
 /// Works like `bench`, with a plan of faults for the bus in addition to the source of faults. If the run reaches its end, `ignored`
-/// tells which sessions had input outside messages.
+/// shows which sessions had input outside messages.
 pub fn bench_noting<F: FaultSource + Drop, R: Read + Drop, W: Write>(
     alloc: Global,
     config: BenchConfig<F>,

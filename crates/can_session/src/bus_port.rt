@@ -162,8 +162,8 @@ impl<T: BoundedQueue<Pending>, R: BoundedQueue<Received>, A: Arbiter> BusPort<T,
         }
     }
 
-    /// Tries the frame that wins arbitration, if a live interface has one to send, and restarts the interfaces that are due for it.
-    /// The verdict is that of the source, or that of the plan if the source says good. Returns the verdict with the rule that gave
+    /// Tries the frame that wins arbitration, if a live interface has one to send, and restarts the interfaces whose restart is
+    /// due. The source gives the verdict, or the plan gives it if the source says good. Returns the verdict with the rule that gave
     /// it, if any, and the outcome.
     ///
     /// Refusal: `RecordFull`.

@@ -61,8 +61,8 @@ pub fn lines_have_faults_only_where_they_are_shown()
         said_decision b.shows_faults decision ≡ None }
 {}
 
-/// On a bus with bit rates, an attempt does not begin before the moment that is set or before the wire is free. After the attempt,
-/// the wire is not free before the attempt began. The moment of an attempt is never before that of the previous attempt.
+/// On a bus with bit rates, an attempt does not begin before the moment that is set or before the wire is free. Afterwards, the
+/// wire does not become free earlier than the attempt began. The moment of an attempt is never before that of the previous attempt.
 pub fn one_attempt_comes_after_another()
     ensures begins { (s : Schedule) (moment : ℕ) →
         (moment * 1000 ≤ next_begin (set_to moment s))

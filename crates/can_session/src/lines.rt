@@ -257,7 +257,7 @@ impl<R: Read + Drop> Lines<R> {
     }
 }
 
-// What the held bytes begin with.
+// The result of looking for a line at the start of the held bytes.
 enum LineSearch {
     // A line of this many bytes, and its LF.
     Line(usize),

@@ -11,7 +11,7 @@
 //! entries before it are written. If the number of names differs from the number of the bus's interfaces, nothing is written, even
 //! if there is a fault later.
 //!
-//! A fault of the reader, of the writer or of memory says nothing about the record. No contract says what bytes a file has: the
+//! A fault of the reader, of the writer or of memory says nothing about the record. No contract says what bytes a file has. So a
 //! fault of an audit is a fault of the file with its path, or of a text that the file may contain.
 #![tactic(auto)]
 

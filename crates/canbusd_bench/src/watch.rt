@@ -24,7 +24,7 @@ pub struct Watch<'w, W> {
     is_on: bool,
     // The number of bytes written so far.
     written: u64,
-    // How many of the last bytes may be the start of a refusal, or `FOUND`.
+    // The number of last bytes that may be the start of a refusal, or `FOUND`.
     seen: u8,
     // The first bytes of the piece that contains the first refusal. `place` is the number of bytes before that piece.
     piece: Vec<u8>,
@@ -116,7 +116,7 @@ impl<W: Write> Write for Watch<'_, W> {
     }
 }
 
-// Returns how many of the last bytes may be the start of a refusal, after this piece was written.
+// Returns the number of last bytes that may be the start of a refusal, after this piece was written.
 #[tactic(auto, using(std::proofs::lemmas::List::Sums::fold_more))]
 fn seen_in(seen: u8, piece: &[u8]) -> u8
     ensures { result ≡ seen_in seen piece.now }

@@ -94,7 +94,7 @@ pub struct CStats {
     pub taken: u64,
 }
 
-/// How busy the wire is.
+/// The load of the wire.
 #[repr(C)]
 #[derive(Debug, Clone, Copy, Drop)]
 pub struct CLoad {

@@ -158,7 +158,7 @@ fn no_frame() -> CFrame
     }
 }
 
-/// Returns the number of a class.
+/// Returns the number that C uses for the class of an attempt.
 fn class_out(class: Class) -> u32
     ensures { result ≡ class_out class }
 {
@@ -221,7 +221,7 @@ pub fn option_in(option: u32, value: u32) -> Option<Opt>
     }
 }
 
-/// Returns the number of a state.
+/// Returns the number that C uses for a state.
 fn state_out(state: State) -> u32
     ensures { result ≡ state_out state }
 {

@@ -107,8 +107,8 @@ pub fn save_log_at<'a, H: Files>(
     }
 }
 
-/// Adds a note to the error of a run that ended before it wrote its record or its log. There is no note if the run was not asked
-/// for the file.
+/// Adds a note to the error of a run that ended before it wrote its record or its log. No note is added if the run was not asked to
+/// write that file.
 pub fn without<'a, H: Files>(
     rt: &H,
     alloc: Global,

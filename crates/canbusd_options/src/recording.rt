@@ -1,4 +1,4 @@
-//! When a server writes its records, and the options that depend on this.
+//! Reads when a server writes its records, and checks the options that depend on this.
 ghost use Rattle.std.specs.Prelude.{◌≡◌, ◌↔◌, codes, IfErr, IfNone, IfOk, IfSome, IsNone};
 ghost use Rattle.canbusd_options.specs.Help.{IsNoMemory, RefusesValue};
 ghost use Rattle.canbusd_options.specs.Options.{CanRecord, GoWith, IsRecording, value_of, most_sessions, recording_text, rows_in, server_limit, usual_sessions};
@@ -19,7 +19,7 @@ const NONE: &str = "none";
 /// The default for the largest number of events in a long run.
 const LONG_LIMIT: &str = "4294967294";
 
-/// When the records of a server's buses are written.
+/// The time at which the records of a server's buses are written.
 #[derive(Debug, Clone, Copy, PartialEq, Eq)]
 pub enum Recording {
     /// At the end, together with the logs. Until then the records are kept in memory.
@@ -78,7 +78,7 @@ impl Recording {
         }
     }
 
-    /// Returns a message if other options do not fit this value, or `None` if all options fit.
+    /// Returns a message if other options are not allowed with this value, or `None` if they are.
     fn clash(self, serve: &ArgMatches<'_>) -> Option<&'static str>
         ensures { IsNone result ↔ GoWith self (rows_in serve.now) }
     {
@@ -90,7 +90,7 @@ impl Recording {
     }
 }
 
-/// Returns when records are written. It is an error if another option does not fit this value.
+/// Returns when records are written. It is an error if another option is not allowed with this value.
 #[tactic(auto, using(crate::proofs::Rules::text_in_rows))]
 pub fn recording_given(alloc: Global, serve: &ArgMatches<'_>) -> Result<Recording, Error>
     ensures given { IfOk result (λ r.

@@ -1,4 +1,4 @@
-//! What is left of a server's buses at the end.
+//! The number of entries of each bus at the end of a server.
 ghost use Rattle.std.specs.Prelude.{◌≡◌, OnOk};
 ghost use Rattle.canbusd_io.specs.Files.{Took};
 ghost use Rattle.canbusd_serve.specs.Served.{bus_end_line, end_lines, journals};

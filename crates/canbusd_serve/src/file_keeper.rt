@@ -72,7 +72,7 @@ pub struct FileKeeper<'o, 'h, 'a, 'l, F: Write + OpenFile + Drop, H, E: Write> {
     pub kept: KeptFiles<F>,
     /// The faults of the bus, if the record of the bus is wanted.
     pub faults: Option<LiveFaults>,
-    /// When a slow write was last reported.
+    /// The time of the last report of a slow write.
     pub reported: Option<Instant>,
 }
 

@@ -14,14 +14,14 @@ use std::sync::{Mutex, Wait};
 use std::time::Duration;
 use std::{io, time};
 
-/// The latest moment in microseconds.
+/// The latest moment that can be represented, in microseconds.
 const LAST: u128 = 9_999_999_999_999_999;
 
 /// The report for a bus whose record is nearly full.
 const NEARLY_FULL: &str =
     "the record is nine tenths full; serve --record live or --record none has no such end";
 
-/// When a server with bit rates started. From then on, its moments come from a clock that cannot be set.
+/// The time at which a server with bit rates started. From then on, its moments come from a clock that cannot be set.
 #[derive(Debug, Clone, Copy)]
 pub struct Start {
     since_1970: Duration,
@@ -46,8 +46,8 @@ impl Start {
     }
 }
 
-/// The system's clock and the output for reports. If a bus ends before the server, this is always reported; other notices are
-/// reported only with `--verbose`.
+/// The system's clock and the output for reports. Problems of a bus, such as a full record or a late driver, are always reported.
+/// Other notices are reported only with `--verbose`.
 #[derive(Drop)]
 pub struct Host<'h, 'a, 'l, H, E: Write> {
     pub rt: &'h H,

@@ -10,7 +10,7 @@ use std::os::unix::fs::{MetadataExt, OpenOptionsExt};
 use std::rt::Files;
 use std::{fs, io};
 
-/// How often a server tries to lock a file. It tries again if another server has just created or removed the file.
+/// The number of tries to lock a file. A server tries again if another server has just created or removed the file.
 const TRIES: u32 = 16;
 
 /// A file that this server has locked.

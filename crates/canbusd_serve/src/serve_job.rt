@@ -114,7 +114,7 @@ struct ServerRun<'r, 'a, H: ServerRuntime> {
     rt: &'r H,
     alloc: Global,
     options: &'r ServeOptions<'a>,
-    // Whether a bus has lost its driver. This was already reported.
+    // Whether a bus has lost its driver. The loss was already reported.
     has_lost: AtomicBool,
     // The lock of the folder, which is held until the last file is written.
     lock: OnceLock<LockFile>,
@@ -152,7 +152,7 @@ impl<'r, 'a, H: ServerRuntime> ServerRun<'r, 'a, H> {
         }
     }
 
-    // Returns the parts of all buses in the options.
+    // Returns the parts of all buses that the options describe.
     fn read_benches(&self) -> Result<Vec<Bench<Perfect, Open>>, Report<'a>>
         ensures made { IfOk result (λ benches. AreAllBenches self.now.options.now benches.items) }
         ensures timed { IfOk result (λ benches. AreBusesTimed self.now.options.now benches.items) }
