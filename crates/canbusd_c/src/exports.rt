@@ -192,7 +192,7 @@ pub extern "C" fn canbusd_c_stats(handle: &mut Handle, socket: u32, stats: &mut 
     looks::stats(handle.lend(), socket, stats)
 }
 
-/// Writes how busy the wire is at a moment to `load`.
+/// Writes to `load` how busy the wire is at a moment.
 #[unsafe(no_mangle)]
 pub extern "C" fn canbusd_c_load(handle: &mut Handle, moment: u64, load: &mut CLoad) -> u32
     ensures read { IsLoadCall (moment_of_micros moment) handle.old.value result load.new }

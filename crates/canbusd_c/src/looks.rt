@@ -52,7 +52,7 @@ pub fn stats(bus: &LocalBus, socket: u32, stats: &mut CStats) -> u32
     }
 }
 
-/// Writes how busy the wire is at a moment to `load`.
+/// Writes to `load` how busy the wire is at a moment.
 pub fn load(bus: &LocalBus, moment: u64, load: &mut CLoad) -> u32
     ensures read { IsLoadCall (moment_of_micros moment) bus.now result load.new }
     ensures kept { IsUntouched result load.old load.new }
