@@ -82,7 +82,7 @@ IsFedAt _ moment bytes old p text new q = Hears moment bytes old p text new q
 abbrev pub IsFed : ℕ → List ℕ → SessionState → NamedBus → List ℕ → SessionState → NamedBus → Type 0
 IsFed moment bytes = λ old. IsFedAt old.dialog.stage moment bytes old
 
--- a session delivers items until none is left
+-- a session delivers items to its client until none is left
 pub record IsDrained (old : SessionState) (p : NamedBus) (text : List ℕ) (new : SessionState)
     (q : NamedBus) : Type 0 where
   pub items : ℕ
@@ -94,7 +94,7 @@ pub record IsDrained (old : SessionState) (p : NamedBus) (text : List ℕ) (new 
   pub said : text ≡ before ++ last
   pub same : new ≡ old
 
--- a session ends, and prints nothing about it
+-- a session ends and prints nothing
 pub record IsEnded (old : SessionState) (p : NamedBus) (text : List ℕ) (new : SessionState)
     (q : NamedBus) : Type 0 where
   pub ends : Plays BusStep (ending old.dialog.stage old.dialog) p q text new.dialog

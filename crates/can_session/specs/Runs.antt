@@ -32,8 +32,8 @@ pub record IsBench (names : List (List ℕ)) (config : BusConfig) (capacity : �
   pub some_items : 1 ≤ capacity
   pub few_items : capacity ≤ max_rx_capacity
 
--- a bench before its first line, with a plan of faults, and bit rates if its bus has any; its lines of attempts show
--- their faults or do not
+-- a bench before its first line, with a fault plan, and with bit rates if its bus has them; the flag says whether lines
+-- of attempts show faults
 abbrev pub at_start_with : Bool → PlanSeen → Option BusTiming → List (List ℕ) → BusConfig → ℕ → BenchState
 at_start_with shows_faults plan timing names config capacity = record {
   capacity = capacity;
