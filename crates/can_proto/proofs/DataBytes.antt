@@ -5,7 +5,7 @@ use Rattle.can_proto.specs.declared.fault.ProtoFault.TheVariants.{BadByte}
 use Rattle.can_frame.specs.Numbers.{number_in}
 use Rattle.can_proto.specs.Commands.{◌>>=◌, with_front, bytes_of, or_fault}
 
--- The data bytes read so far, in front of the bytes that are left.
+-- The data bytes read so far, put in front of those read from the remaining words.
 
 regroup : (front : List ℕ) (b : ℕ) (read : Result (List ℕ) ProtoFault) → with_front front (read >>= λ bs. Ok (b ∷ bs)) ≡ with_front (front ++ b ∷ []) read
 regroup front b (Ok bs) = ap (λ (x : List ℕ). Ok x) (sym (append_assoc front (b ∷ []) bs))
