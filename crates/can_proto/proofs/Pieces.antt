@@ -1,4 +1,4 @@
--- A stream that is read in two parts: the text kept after the first part stands for that part.
+-- A stream that is read in two parts: the text kept after the first part replaces that part.
 use Rattle.std.proofs.Common.{◌≡◌, ℕ, ◌<◌, ◌≤◌, true, false, ◌||◌, ltb, List, [], ◌∷◌, ◌++◌, length, flat_map, refl, sym, ap, subst, ◌∙◌, append_assoc, arith, inl, inr}
 use Rattle.std.proofs.lemmas.Bool.{cases_Bool, cases_lt, eq-eqb, eqb-true, ne_eqb, lt-ltb, le-ltb, cond-true, cond-false}
 use Rattle.std.proofs.lemmas.List.{append-nil, length-append}
@@ -123,7 +123,7 @@ last_open a b h =
 earlier_open : (a b : List ℕ) → has_open_mark a ≡ true → messages_of (a ++ b) ≡ messages_of a ++ messages_of (kept_of a ++ b) → given_by (a ++ b) ++ messages_of (a ++ b) ≡ (given_by a ++ messages_of a) ++ messages_of (kept_of a ++ b)
 earlier_open a b h again = rw (given-within a b (open-mark a h), again) (sym (append_assoc (given_by a) (messages_of a) (messages_of (kept_of a ++ b))))
 
--- the messages of the whole stream: the text kept after the first part stands for that part
+-- the messages of the whole stream: the text kept after the first part replaces that part
 pub messages-append : (a b : List ℕ) → messages_of (a ++ b) ≡ messages_of a ++ messages_of (kept_of a ++ b)
 messages-append [] b = refl
 messages-append (x ∷ a) b =

@@ -259,7 +259,7 @@ IsLoneSend stream frame =
     × (kept_of stream ≡ [])
     × (reading Raw (words_of inside) ≡ Ok (Send frame))
 
--- the result of reading more items, with the items already read in front
+-- the result of reading more items, with the items already read in front of them
 abbrev pub with_front : {A : Type 0} → List A → Result (List A) ProtoFault → Result (List A) ProtoFault
 with_front items read = read >>= λ more. Ok (items ++ more)
 

@@ -6,7 +6,7 @@ use Rattle.can_dialog.specs.declared.stage.Dialog.{Dialog}
 use Rattle.can_dialog.specs.Deliveries.{GivesItems}
 use Rattle.can_dialog.specs.Sessions.{SessionState, IsSessionOver, Finishes, TakesTurns, Wrote}
 
--- The texts that a server writes to a client, and what its session does (own choice).
+-- The texts that a server writes to a client, and the effect on the client's session (own choice).
 
 -- the session ends, with calls on the port; if it has already ended, nothing changes
 abbrev pub EndsSession :
@@ -28,7 +28,7 @@ GivesAll step contents most old p out is_all new q out' =
     (text : List ℕ) × GivesItems step most old.dialog.stage p text q is_all
     × Appends (contents out) (contents out') text × (new ≡ old)
 
--- the session takes items that the client may not receive, and then ends
+-- the session receives items, which may not reach the client, and then ends
 abbrev pub LosesAll :
     {P : Type 0} → (P → (call : Call) → Reply call → P → Type 0) → ℕ → SessionState → P → SessionState → P → Type 0
 LosesAll {P} step most old p new q =

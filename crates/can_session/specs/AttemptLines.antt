@@ -93,7 +93,7 @@ abbrev pub rule_text : Option ℕ → List ℕ
 rule_text None = []
 rule_text (Some number) = codes "; rule " ++ decimal number
 
--- the fault in an attempt and the rule that caused it, if the line shows them
+-- the fault in an attempt and the rule that decided its verdict, if the line shows them
 abbrev pub decision_text : List (List ℕ) → Option Decision → List ℕ
 decision_text names None = []
 decision_text names (Some decision) = fault_text names decision.verdict ++ rule_text decision.rule

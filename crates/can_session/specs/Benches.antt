@@ -53,7 +53,7 @@ pub record BenchState : Type 0 where
 abbrev pub session_at : BenchState → ℕ → Option (Option SessionState)
 session_at b s = slice_get b.sessions (s - 1)
 
--- the bench with this state for session `s` and this bus
+-- the bench after session `s` and the bus changed to these states
 abbrev pub with_session : BenchState → ℕ → SessionState → NamedBus → BenchState
 with_session b s st bus = record b { sessions = slice_set b.sessions (s - 1) (Some st); bus = bus }
 
@@ -166,7 +166,7 @@ abbrev pub is_attempt_due : ℕ → BenchState → Bool
 is_attempt_due moment b =
     begins_before b.moment moment b.bus.schedule && (is_some (head_on b.bus) || waits_in_time b.bus)
 
--- the bench makes this many attempts, each of which is due; the last attempt is the last step
+-- the bench makes exactly this many attempts, one after another, each of which is due
 abbrev pub AreTried : VerdictMap → ℕ → ℕ → BenchState → List ℕ → BenchState → Type 0
 AreTried verdicts moment zero b text after = (text ≡ []) × (after ≡ b)
 AreTried verdicts moment (suc n) b text after =
@@ -302,7 +302,7 @@ IsLeftBy b after =
     × Answers done_reply b.bus.journal change (Err why) journal
     × (after ≡ record b { bus = record b.bus { journal = journal } }))
 
--- the bench carries out lines, one after another; the last line is the last step
+-- the bench carries out lines, one after another, and does nothing else
 abbrev pub AreCarriedOut : VerdictMap → List (List ℕ) → BenchState → List ℕ → BenchState → Type 0
 AreCarriedOut verdicts [] b text after = (text ≡ []) × (after ≡ b)
 AreCarriedOut verdicts (line ∷ lines) b text after =

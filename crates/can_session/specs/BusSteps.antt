@@ -55,7 +55,7 @@ waits_in_time bus = is_some bus.schedule && is_counting bus.journal.config bus.j
 abbrev pub verdict_on : NamedBus → Verdict → Verdict
 verdict_on bus source = given source bus.plan (next_number_on bus) (head_on bus)
 
--- the decision for the next attempt: its verdict and the rule that caused it, if any
+-- the decision for the next attempt: its verdict and the rule that decided it, if any
 abbrev pub decision_on : NamedBus → Verdict → Decision
 decision_on bus source = decided_for source bus.plan (next_number_on bus) (head_on bus)
 
@@ -88,7 +88,7 @@ IsEvent {A} told old event answer new =
     × (new.plan ≡ old.plan)
     × (new.schedule ≡ old.schedule)
 
--- the plan accepts a fault rule, or refuses it with this reason
+-- the plan accepts a fault rule, or refuses the rule and gives the reason
 abbrev pub IsRuleAnswered : NamedBus → List ℕ → Result (Unit {0}) PortRefusal → NamedBus → Type 0
 IsRuleAnswered old rule answer new =
     (outcome : Result (Unit {0}) RuleRefusal)

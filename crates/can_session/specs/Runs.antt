@@ -166,7 +166,7 @@ pub record IsRecordOfBench (r : Kept) (b : BenchState) : Type 0 where
   pub config : r.config ≡ b.bus.journal.config
   pub history : r.history ≡ b.bus.journal.history
 
--- how a run ends that leaves a record, at any position in its input
+-- how a run that leaves a record ends, at any position in its input
 abbrev pub EndsOver : {W : Type 0} → (W → Option (List ℕ)) → VerdictMap → Option (List ℕ) → BenchState → W
     → Result Kept BenchFault → W → Type 0
 EndsOver contents verdicts input b out result new =

@@ -58,8 +58,8 @@ abbrev pub begins_before : ℕ → ℕ → Option Schedule → Bool
 begins_before set moment None = false
 begins_before set moment (Some s) = is_before set s.wire moment
 
--- the load of the wire at a moment, as a session shows it: the busy thousandths of the last whole second before it, the
--- total busy microseconds, and the bit rates
+-- the load of the wire at a moment, as a session shows it: how much of the last whole second the wire was busy, in
+-- thousandths; how long it was busy in total, in microseconds; and the bit rates
 abbrev pub shown_at : ℕ → Schedule → BusLoad
 shown_at moment s = record {
   permille = permille_at moment (recent_of s.load);
