@@ -18,9 +18,9 @@ use can_fault::Verdict;
 use can_frame::{Iface, IfaceSet, Moment};
 use std::alloc::{AllocError, Global};
 
-// The reply to an attempt, computed from the entries before it.
+// Computes the reply to an attempt from the entries before it.
 
-/// Gives an arbiter the frame with which an interface competes, or none.
+/// Gives an arbiter the frame with which an interface competes, or clears the interface's place if it has no frame.
 fn compete<A: Arbiter>(arbiter: &mut A, iface: Iface, head: Option<Pending>)
     ensures { A.keys_of arbiter.new ≡ slice_set (A.keys_of arbiter.old) iface (key_in head) }
 {
@@ -44,7 +44,7 @@ fn first_of<A: Arbiter>(alloc: Global, past: &[Entry]) -> Result<Option<Iface>, 
     Ok(arbiter.winner())
 }
 
-/// Returns the interface that wins arbitration, if one has a frame to send.
+/// Returns the interface that wins arbitration, if any interface has a frame to send.
 fn winner(alloc: Global, past: &[Entry]) -> Result<Option<Iface>, AllocError>
     ensures { (c : BusConfig) → OnHistory c past.now (λ h. Yields result (winner c h)) }
 {
@@ -52,7 +52,7 @@ fn winner(alloc: Global, past: &[Entry]) -> Result<Option<Iface>, AllocError>
     Ok(first)
 }
 
-/// Returns the reply to an attempt with this outcome.
+/// Returns the reply to an attempt that had this outcome.
 fn tried_as(
     moment: Moment,
     winner: Iface,
@@ -75,7 +75,7 @@ fn tried_as(
     }))
 }
 
-/// Returns the reply to an attempt after these entries.
+/// Returns the reply to an attempt made after these entries.
 pub fn attempt_reply(
     alloc: Global,
     config: BusConfig,

@@ -15,7 +15,7 @@ use can_confine::Counters;
 use can_fault::Verdict;
 use can_frame::{Iface, IfaceSet};
 
-// The error counters of a bus's interfaces, computed from its entries.
+// Computes the error counters of a bus's interfaces from its entries.
 
 /// Returns the outcome of an attempt, if the sending interface exists and is neither bus off nor down.
 pub fn judgement_of(
@@ -35,7 +35,7 @@ pub fn judgement_of(
     Some(judge(nodes, winner, verdict, ack))
 }
 
-/// Sets the error counters to those after an attempt.
+/// Sets the error counters to their values after an attempt.
 fn count(nodes: &mut Nodes, judgement: &Judgement)
     ensures { nodes.new ≡ record nodes.old { counters = judgement.now.counters } }
 {

@@ -1,13 +1,13 @@
-//! A reference for tests, and the text and the audit of records, which have their own crates.
+//! A slow reference for tests. This crate also re-exports the text and the audit of records, which have their own crates.
 //!
 //! The program uses `can_record_text` and `can_replay` directly, so its build does not have to prove this reference.
 //!
-//! The reference is slow: it filters and counts the list of entries anew for each question. It has one function for
-//! each definition of `can_bus`.
+//! The reference is slow because it filters and counts the list of entries anew for each question. It has one function for each
+//! definition of `can_bus`.
 //!
-//! `replies_of` computes the replies of a bus to a list of events in another way than the bus does. `queued`,
-//! `candidates` and `projected` return items of a record that reached a socket. The time grows at least with the square
-//! of the number of entries.
+//! `replies_of` computes the replies of a bus to a list of events in a different way from the bus itself. `queued`, `candidates`
+//! and `projected` return the items of a record that reached a socket. The running time grows at least with the square of the
+//! number of entries.
 #![tactic(auto)]
 
 mod attempts;

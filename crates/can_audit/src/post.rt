@@ -22,7 +22,7 @@ use can_frame::{ErrorFrame, Iface, IfaceSet, Item, Moment};
 use std::alloc::{AllocError, Global};
 use std::marker::Model;
 
-// The items that an entry posts to the sockets of an interface.
+// Computes the items that an entry posts to the sockets of an interface.
 
 /// An item for the sockets of an interface, and the number of the socket that sent it.
 #[derive(Debug, Clone, Copy)]
@@ -41,7 +41,7 @@ impl Model for Post {
     ghost inverse = { λ v. record { received = v.received; sender = v.sender } };
 }
 
-/// Returns the number of the socket that sent a frame.
+/// Returns the number of the socket that sent a pending frame, if there is one.
 fn sender_in(pending: &Option<Pending>) -> Option<u32>
     ensures { result ≡ sender_in pending.now }
 {
@@ -51,7 +51,7 @@ fn sender_in(pending: &Option<Pending>) -> Option<u32>
     }
 }
 
-/// Adds the frame that was tried, if the interface posts it to its sockets.
+/// Adds the frame that was tried, if the interface posts this frame to its sockets.
 fn add_frame_post(
     posts: &mut Vec<Post>,
     attempted: &Attempted,
@@ -75,7 +75,7 @@ fn add_frame_post(
     Ok(())
 }
 
-/// Adds an error message frame of the interface, if there is one.
+/// Adds an error message frame from the interface, if there is one.
 fn put_error(
     posts: &mut Vec<Post>,
     iface: Iface,
@@ -121,7 +121,7 @@ fn attempt_posts(
     Ok(posts)
 }
 
-/// Adds the item that an interface posts if an attempt restarted it.
+/// Adds the item that an interface posts when an attempt restarts it.
 fn put_restarted(
     posts: &mut Vec<Post>,
     restarted: IfaceSet,
@@ -151,7 +151,7 @@ fn idle_posts(
     Ok(posts)
 }
 
-/// Returns the items that an attempt at this time, which tried a frame, posts to the sockets of an interface.
+/// Returns the items that an attempt at this moment posts to the sockets of an interface. The attempt tried a frame.
 fn tried_posts(
     alloc: Global,
     config: BusConfig,
@@ -178,7 +178,7 @@ fn tried_posts(
     Ok(posts)
 }
 
-/// Returns the items that an attempt at this time posts to the sockets of an interface.
+/// Returns the items that an attempt at this moment posts to the sockets of an interface.
 fn posts_at(
     alloc: Global,
     config: BusConfig,
@@ -213,7 +213,7 @@ fn restart_posts(
     Ok(posts)
 }
 
-/// Returns the items that an entry posts to the sockets of an interface, in order, after the entries before it.
+/// Returns the items that an entry posts to the sockets of an interface, in order. The result depends on the entries before it.
 pub fn posts_of(
     alloc: Global,
     config: BusConfig,

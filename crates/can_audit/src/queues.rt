@@ -11,9 +11,9 @@ use can_bus::{BusConfig, Entry, Event, Received, Record, Reply, SocketId};
 use can_frame::{Iface, Item};
 use std::alloc::{AllocError, Global};
 
-// The receive queues of a bus's sockets, computed from its entries.
+// Computes the receive queues of a bus's sockets from its entries.
 
-/// Returns the items that an entry offers to a socket, after the entries before it.
+/// Returns the items that an entry offers to a socket. The result depends on the entries before it.
 fn candidates_of(
     alloc: Global,
     config: BusConfig,
@@ -49,7 +49,7 @@ fn candidates_for(
     Ok(offered)
 }
 
-/// Adds the item that an entry took from a socket, if any.
+/// Adds the item that an entry took from a socket, if it took one.
 fn note_taken(entry: &Entry, id: SocketId, taken: &mut Vec<Received>) -> Result<(), AllocError>
     ensures { OnOk result (taken.new.items ≡
         taken_after entry.now.event entry.now.reply id.0 taken.old.items) }
@@ -82,14 +82,14 @@ pub(crate) fn taken_from(
     Ok(taken)
 }
 
-/// The items offered to a socket: those that were queued, and those that were dropped.
+/// The items offered to a socket: the queued items and the dropped items.
 #[derive(Drop)]
 pub(crate) struct Arrivals {
     pub queued: Vec<Received>,
     pub dropped: Vec<Received>,
 }
 
-/// Returns the number of items that may still be queued on a socket, after this many were queued.
+/// Returns how many more items can be queued on a socket on which `queued` items have been queued so far.
 fn room_of(alloc: Global, past: &[Entry], id: SocketId, queued: usize) -> Result<u128, AllocError>
     ensures { Yields result (room_after (reverse past.now) id.0 queued) }
 {
@@ -98,7 +98,7 @@ fn room_of(alloc: Global, past: &[Entry], id: SocketId, queued: usize) -> Result
     Ok((capacity as u128 + taken as u128).saturating_sub(queued as u128))
 }
 
-/// Queues as many items as fit, and drops the others.
+/// Queues as many items as fit and drops the rest.
 fn admit(arrivals: &mut Arrivals, room: u128, candidates: &[Received]) -> Result<(), AllocError>
     ensures queued { OnOk result (arrivals.new.queued.items ≡ arrivals.old.queued.items ++
         take room candidates.now) }
@@ -114,14 +114,14 @@ fn admit(arrivals: &mut Arrivals, room: u128, candidates: &[Received]) -> Result
     Ok(())
 }
 
-/// Returns the item at this place, if there is one.
+/// Returns the item at this index, if there is one.
 pub(crate) fn item_at(items: &[Received], place: usize) -> Option<Received>
     ensures { result ≡ slice_get items.now place }
 {
     items.get(place).copied()
 }
 
-/// Returns the items that were queued on a socket and those that were dropped, in order.
+/// Returns the items that were queued on a socket and the items that were dropped, each in order.
 pub(crate) fn arrivals_at(
     alloc: Global,
     config: BusConfig,
@@ -145,10 +145,8 @@ pub(crate) fn arrivals_at(
     Ok(arrivals)
 }
 
-/// Returns the items that were queued on a socket, in order, whether they were taken or not. A socket that was never
-/// opened has none.
-///
-/// For a record that no bus could have made, nothing is proved of the result. The time grows with the cube of the
+/// Returns the items that were queued on a socket, in order, including items that were taken later. A socket that was never opened
+/// has none. If no bus could have made the record, nothing is proved about the result. The running time grows with the cube of the
 /// number of entries.
 pub fn queued(alloc: Global, record: &Record, id: SocketId) -> Result<Vec<Received>, AllocError>
     ensures { OnRecord «record».now (λ c h. ReturnsList result (queued_to c h id.0)) }
@@ -157,11 +155,9 @@ pub fn queued(alloc: Global, record: &Record, id: SocketId) -> Result<Vec<Receiv
     Ok(arrivals_at(alloc, record.config(), &entries, id)?.queued)
 }
 
-/// Returns the items that came to a socket's interface while the socket was open, and that passed its filters and
-/// options. They are in order, and include items that were dropped. A socket that was never opened has none.
-///
-/// For a record that no bus could have made, nothing is proved of the result. The time grows with the cube of the
-/// number of entries.
+/// Returns the items that reached a socket's interface while the socket was open and that passed the socket's filters and options.
+/// The items are in order and include dropped items. A socket that was never opened has none. If no bus could have made the record,
+/// nothing is proved about the result. The running time grows with the cube of the number of entries.
 pub fn candidates(alloc: Global, record: &Record, id: SocketId) -> Result<Vec<Received>, AllocError>
     ensures { OnRecord «record».now (λ c h. ReturnsList result (candidates_for c h id.0)) }
 {
@@ -179,11 +175,9 @@ fn is_from(iface: Iface, received: &Received) -> bool
     }
 }
 
-/// Returns the data frames of one interface that were queued on a socket, in order, each with its number at that
-/// interface.
-///
-/// For a record that no bus could have made, nothing is proved of the result. The time grows with the cube of the
-/// number of entries.
+/// Returns the data frames of one interface that were queued on a socket, in order. Each has its number at that interface. If no
+/// bus could have made the record, nothing is proved about the result. The running time grows with the cube of the number of
+/// entries.
 pub fn projected(
     alloc: Global,
     record: &Record,

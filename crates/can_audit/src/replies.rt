@@ -22,13 +22,13 @@ use can_frame::{Frame, Iface, Item};
 use std::alloc::{AllocError, Global};
 use thiserror::Error;
 
-/// The fault for which there are no replies.
+/// The reason why `replies_of` returns no replies.
 #[derive(Debug, Clone, Copy, PartialEq, Eq, Error)]
 pub enum ReplayFault {
     /// The configuration is outside the limits of a bus.
     #[error("bad bus")]
     BadConfig,
-    /// There was no memory.
+    /// The allocator ran out of memory.
     #[error("no memory")]
     NoMemory,
 }
@@ -87,7 +87,7 @@ fn set_reply(alloc: Global, past: &[Entry], id: SocketId) -> Result<Reply, Alloc
     Ok(Reply::Done)
 }
 
-/// Returns whether the frame is an FD frame and the socket's option for FD frames is off.
+/// Returns whether the frame is an FD frame but the socket's option for FD frames is off.
 fn lacks_fd(past: &[Entry], id: SocketId, frame: Frame) -> bool
     ensures { result ≡ lacks_fd frame (options_of (reverse past.now) id.0) }
 {
@@ -171,7 +171,7 @@ fn down_reply(config: BusConfig, iface: Iface) -> Reply
     }
 }
 
-/// Returns the reply to an event after these entries, if the record has room for it.
+/// Returns the reply to an event after these entries, if the record has space for another entry.
 fn legal_reply(
     alloc: Global,
     config: BusConfig,
@@ -194,17 +194,17 @@ fn legal_reply(
     }
 }
 
-/// Adds an event with its reply.
+/// Adds an entry for an event and its reply.
 fn note(past: &mut Vec<Entry>, event: Event, reply: Reply) -> Result<(), AllocError>
     ensures { OnOk result (past.new.items ≡ past.old.items ++ entry_of event reply ∷ []) }
 {
-    // The checker must meet the types inside a reply before a vector takes one.
+    // The checker must see the types inside a reply before a vector takes a reply.
     let _types: Option<(Attempt, Item, Received)> = None;
     past.push(Entry { event, reply })?;
     Ok(())
 }
 
-/// Returns the reply to one event. Adds both to the entries, unless these have reached the limit.
+/// Returns the reply to one event. Adds the event and its reply to the entries, unless the entries have reached the limit.
 fn answer(
     alloc: Global,
     config: BusConfig,
@@ -224,7 +224,7 @@ fn answer(
     Ok(reply)
 }
 
-/// Returns the replies to these events, each given the entries before it.
+/// Returns the replies to these events. Each reply depends on the entries before it.
 fn replies(alloc: Global, events: &[Event], config: BusConfig) -> Result<Vec<Reply>, AllocError>
     requires { IsConfig config }
     ensures { ReturnsList result (replies_after config [] events.now) }
@@ -239,11 +239,9 @@ fn replies(alloc: Global, events: &[Event], config: BusConfig) -> Result<Vec<Rep
     Ok(replies)
 }
 
-/// Returns the replies of a new bus with this configuration to these events, one for each, in order.
-///
-/// Each reply follows from the entries before it. After the entries have reached the limit, each reply is `RecordFull`.
-/// The result is `BadConfig` exactly if no bus can have this configuration. The time grows with the fourth power of the
-/// number of events.
+/// Returns the replies of a new bus with this configuration to these events, one reply for each event, in order. Each reply follows
+/// from the entries before it. After the entries have reached the limit, each reply is `RecordFull`. The result is `BadConfig`
+/// exactly if no bus can have this configuration. The running time grows with the fourth power of the number of events.
 pub fn replies_of(
     alloc: Global,
     events: &[Event],

@@ -6,7 +6,7 @@ use crate::sockets::iface_at;
 use can_bus::{Attempt, BusConfig, Entry, Event, Reply};
 use can_frame::{Iface, IfaceSet};
 
-// The interfaces that an attempt restarts, computed from the entries before it.
+// Computes the interfaces that an attempt restarts from the entries before it.
 
 /// Adds one attempt to the count, if there is a count.
 fn one_more(before: Option<usize>) -> Option<usize>
@@ -19,8 +19,8 @@ fn one_more(before: Option<usize>) -> Option<usize>
     }
 }
 
-/// Returns the number of attempts since the interface went bus off, after one more entry. Returns none if the entry
-/// restarts the interface or takes it down.
+/// Returns the number of attempts since the interface went bus off, after one more entry. Returns `None` if the entry restarts the
+/// interface or takes it down.
 fn attempts_off_after(entry: &Entry, iface: Iface, before: Option<usize>) -> Option<usize>
     requires { IfSome before (λ k. k < 2 ^ 63) }
     ensures { result ≡ attempts_off_after entry.now.event entry.now.reply iface before }
@@ -50,7 +50,7 @@ fn attempts_off_after(entry: &Entry, iface: Iface, before: Option<usize>) -> Opt
     }
 }
 
-/// Returns the number of attempts since the interface went bus off, or none if it is not bus off.
+/// Returns the number of attempts since the interface went bus off, or `None` if the interface is not bus off.
 fn attempts_off(past: &[Entry], iface: Iface) -> Option<usize>
     ensures count { result ≡ attempts_off (reverse past.now) iface }
     ensures few { IfSome result (λ k. k ≤ length past.now) }

@@ -10,9 +10,9 @@ use can_frame::Iface;
 use std::alloc::{AllocError, Global};
 use std::marker::Model;
 
-// The sockets of a bus, computed from its entries.
+// Computes the sockets of a bus from its entries.
 
-/// The interface on which a socket was opened, and the number of items that may wait there.
+/// The interface on which a socket was opened, and the largest number of items that its queue holds.
 #[derive(Debug, Clone, Copy)]
 pub struct Place {
     iface: Iface,
@@ -29,14 +29,14 @@ impl Model for Place {
     ghost inverse = { λ v. record { iface = v.iface; capacity = v.capacity } };
 }
 
-/// The sockets opened so far, and the numbers of those that are still open.
+/// All sockets that have been opened, and the numbers of the sockets that are still open.
 #[derive(Drop)]
 pub struct Sockets {
     pub places: Vec<Place>,
     pub numbers: Vec<usize>,
 }
 
-/// Returns the interface of this number.
+/// Returns the interface with this number.
 pub fn iface_at(number: u8) -> Iface
     requires { number < 16 }
     ensures { result ≡ number }
@@ -69,7 +69,7 @@ impl Sockets {
         }
     }
 
-    /// Returns the number of items that may wait on the socket.
+    /// Returns the largest number of items that the socket's queue holds.
     pub fn capacity_of(&self, id: SocketId) -> u32
         ensures { result ≡ capacity_in (slice_get self.now.places.items id.0) }
     {
@@ -113,7 +113,7 @@ fn note(sockets: &mut Sockets, entry: &Entry) -> Result<(), AllocError>
     Ok(())
 }
 
-/// Returns the sockets after these entries. The entries begin with the oldest.
+/// Returns the sockets after these entries, which are in order, the oldest first.
 pub fn sockets_of(alloc: Global, past: &[Entry]) -> Result<Sockets, AllocError>
     ensures places { IfOk result (λ s. s.places.items ≡ places (reverse past.now)) }
     ensures open { IfOk result (λ s. s.numbers.items ≡ open_sockets (reverse past.now)) }
@@ -144,7 +144,7 @@ fn options_after(entry: &Entry, id: SocketId, before: Options) -> Options
     }
 }
 
-/// Returns the options of a socket as they were last set.
+/// Returns the current options of a socket, as they were last set.
 pub fn options_of(past: &[Entry], id: SocketId) -> Options
     ensures { result ≡ options_of (reverse past.now) id.0 }
 {
@@ -176,7 +176,7 @@ fn filters_after(
     }
 }
 
-/// Returns the filters of a socket as they were last set.
+/// Returns the current filters of a socket, as they were last set.
 pub fn filters_of(alloc: Global, past: &[Entry], id: SocketId) -> Result<FilterSet, AllocError>
     ensures { Yields result (filters_of (reverse past.now) id.0) }
 {

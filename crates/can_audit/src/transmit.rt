@@ -9,9 +9,9 @@ use can_bus::{Attempt, Entry, Event, Pending, Reply};
 use can_frame::Iface;
 use std::alloc::{AllocError, Global};
 
-// The transmit queues of a bus's interfaces, computed from its entries.
+// Computes the transmit queues of a bus's interfaces from its entries.
 
-/// Adds the frame that an entry accepts for sending on an interface, if any.
+/// If an entry accepts a frame for sending on an interface, adds the frame.
 fn note_sent(
     alloc: Global,
     past: &[Entry],
@@ -51,7 +51,7 @@ pub fn sent_by(alloc: Global, past: &[Entry], iface: Iface) -> Result<Vec<Pendin
     Ok(sent)
 }
 
-/// Returns the number of frames that have left the transmit queue of an interface, after one more entry.
+/// Returns how many frames have left the transmit queue of an interface after one more entry.
 fn gone_after(
     alloc: Global,
     past: &[Entry],
@@ -81,7 +81,8 @@ fn gone_after(
     }
 }
 
-/// Returns the same number after an event that was done. If the event takes the interface down, all frames have left.
+/// Returns how many frames have left the transmit queue of an interface after an event with the reply `Done`. If the event takes
+/// the interface down, all frames have left.
 fn gone_down(
     alloc: Global,
     past: &[Entry],
@@ -100,7 +101,7 @@ fn gone_down(
     }
 }
 
-/// Returns the number of frames that have left the transmit queue of an interface.
+/// Returns how many frames have left the transmit queue of an interface.
 pub fn gone_count(alloc: Global, past: &[Entry], iface: Iface) -> Result<usize, AllocError>
     ensures { Yields result (gone_count (reverse past.now) iface) }
 {

@@ -1,6 +1,6 @@
 use Rattle.std.proofs.Common.{◌≡◌, ℕ, Bool, true, false, if◌then◌else◌, List, [], ◌∷◌, ◌++◌, refl, sym, ap, ◌∙◌}
 
--- Texts that are cut at marks.
+-- Texts that are split at marks.
 
 -- the text has no mark
 abbrev pub clear : (ℕ → Bool) → List ℕ → Bool
@@ -42,7 +42,7 @@ past-cut mark sep (b ∷ bs) rest is h =
     let parts = clear_parts (mark b) (clear mark bs) h in
     rw (parts.0, past-cut mark sep bs rest is parts.1) refl
 
--- two equal texts, cut at their first marks, have equal parts
+-- if two equal texts are split at their first marks, the parts are equal
 pub cut : (mark : ℕ → Bool) (sep : ℕ) (xs ys rest last : List ℕ) → mark sep ≡ true → clear mark xs ≡ true → clear mark ys ≡ true → xs ++ sep ∷ rest ≡ ys ++ sep ∷ last → (xs ≡ ys) × (rest ≡ last)
 cut mark sep xs ys rest last is cx cy e = (
   sym (up_to-cut mark sep xs rest is cx) ∙ ap (up_to mark) e ∙ up_to-cut mark sep ys last is cy,

@@ -1,4 +1,4 @@
--- A message that a `send` was read from has no mark in it, so it needs no search for one.
+-- A message that was read as a `send` contains no mark, so the code need not search it for marks.
 use Rattle.std.proofs.Common.{◌≡◌, ℕ, ◌≤◌, ◌==◌, ◌∷◌, ◌++◌, [], Bool, true, false, ◌||◌, if◌then◌else◌, List, Option, Some, None, Result, Ok, Err, length, codes, refl, sym, ap, subst, ◌∙◌, arith, inl, inr}
 use Rattle.std.proofs.lemmas.Bool.{cases_Bool}
 use Rattle.can_frame.specs.Frames.{CanFrame, Identifier}
@@ -20,7 +20,7 @@ abbrev AreClear : List (List ℕ) → Type 0
 AreClear [] = Unit {0}
 AreClear (word ∷ words) = (has_mark word ≡ false) × AreClear words
 
--- a text without a mark has none in its rest
+-- if a text has no mark, its remaining bytes have none
 
 blank-clear : (b : ℕ) → is_blank b ≡ true → is_mark b ≡ false
 blank-clear b h = grind arith
@@ -35,7 +35,7 @@ head-clear b bs h = by (is_mark b) (has_mark bs) h
 cons-clear : (b : ℕ) (bs : List ℕ) → is_mark b ≡ false → has_mark bs ≡ false → has_mark (b ∷ bs) ≡ false
 cons-clear b bs h k = rw h k
 
--- the rest of a word and the words after it have no mark
+-- the remaining bytes of a word and the words after it have no mark
 clear-after : (text : List ℕ) → ((AreClear (words_after true text) → has_mark text ≡ false) × (has_mark (front text) ≡ false → AreClear (words_after false text) → has_mark text ≡ false))
 clear-after [] = (λ h. refl, λ h k. refl)
 clear-after (b ∷ bs) =
@@ -48,7 +48,7 @@ clear-after (b ∷ bs) =
       )
     ]
 
--- digits are no marks
+-- digits are not marks
 
 digit-clear : (b v : ℕ) → digit_in 16 b ≡ Some v → is_mark b ≡ false
 digit-clear b v h = grind arith
@@ -90,7 +90,7 @@ send-clear (id_word ∷ len_word ∷ words) command h = by (id_of id_word) (leng
     by (Ok id) (Err fault) is count e = absurd cc
     by (Ok id) (Ok len) is count e = (all-clear id_word (of-id (λ b. is_mark b ≡ false) digit-clear id_word id is), (length-clear len_word len count, payload len id (length words == len) (bytes_of words) refl e))
 
--- the piece is the message whose words ask to send a frame
+-- the piece is one message, whose words send a frame
 pub lone : (piece inside rest : List ℕ) (frame : CanFrame) → piece ≡ 60 ∷ inside ++ 62 ∷ [] → length inside ≤ 1024 → words_of inside ≡ codes "send" ∷ words_of rest → send_of (words_of rest) ≡ Ok (Send frame) → IsLoneSend piece frame
 unfolding arguments_of
 lone piece inside rest frame whole short words sends =

@@ -6,7 +6,7 @@ use Rattle.can_proto.proofs.Cuts.{clear, clear-append, clear-one}
 
 -- Digits contain no mark.
 
--- a mark is no digit
+-- a mark is not a digit
 abbrev pub IsMark : (ℕ → Bool) → Type 0
 IsMark mark = (d : ℕ) → 48 ≤ d → mark d ≡ false
 

@@ -1,4 +1,4 @@
--- A stream read in two parts: the text kept of the first part replaces that part.
+-- A stream that is read in two parts: the text kept after the first part replaces that part.
 use Rattle.std.proofs.Common.{◌≡◌, ℕ, ◌<◌, ◌≤◌, true, false, ◌||◌, ltb, List, [], ◌∷◌, ◌++◌, length, flat_map, refl, sym, ap, subst, ◌∙◌, append_assoc, arith, inl, inr}
 use Rattle.std.proofs.lemmas.Bool.{cases_Bool, cases_lt, eq-eqb, eqb-true, ne_eqb, lt-ltb, le-ltb, cond-true, cond-false}
 use Rattle.std.proofs.lemmas.List.{append-nil, length-append}
@@ -6,7 +6,7 @@ use Rattle.can_proto.specs.declared.message.Incoming.{Incoming}
 use Rattle.can_proto.specs.declared.message.Incoming.TheVariants.{Message, TooLong}
 use Rattle.can_proto.specs.Messages.{is_open_mark, is_close_mark, run_of, is_closed, limit, given_by, messages_of, has_open_mark, left_by, kept_of, given_from, has_mark, MayBeKept}
 
--- if the first part has a mark, the run does not depend on the second part
+-- if the first part has a mark, its run does not depend on the second part
 run-within : (a b : List ℕ) → has_mark a ≡ true → run_of (a ++ b) ≡ run_of a
 run-within [] b h = absurd cc
 run-within (x ∷ a) b h = let again = run-within a b in grind arith
@@ -59,14 +59,14 @@ run-all a h = ap run_of (sym (append-nil a)) ∙ run-on a [] h ∙ append-nil a
 closed-none : (a : List ℕ) → has_mark a ≡ false → is_closed a ≡ false
 closed-none a h = ap is_closed (sym (append-nil a)) ∙ closed-on a [] h
 
--- the message of a `<` and the text that it leaves, if a mark follows it
+-- if a mark follows a `<`, later bytes change neither its message nor the text kept
 given-within : (a b : List ℕ) → has_mark a ≡ true → given_by (a ++ b) ≡ given_by a
 given-within a b h = rw (run-within a b h, closed-within a b h) refl
 
 left-within : (a b : List ℕ) → has_mark a ≡ true → left_by (a ++ b) ≡ left_by a
 left-within a b h = rw (run-within a b h, closed-within a b h) refl
 
--- a `<` without a mark after it has no message
+-- a `<` without a mark after it gives no message
 given-none : (a : List ℕ) → has_mark a ≡ false → length a ≤ limit → given_by a ≡ []
 given-none a h short = let m : ltb limit (length a) ≡ false = le-ltb _ _ short in rw (run-all a h, closed-none a h, m) refl
 
@@ -103,7 +103,7 @@ messages-none a h = ap messages_of (sym (append-nil a)) ∙ messages-past a [] h
 kept-none : (a : List ℕ) → has_open_mark a ≡ false → kept_of a ≡ []
 kept-none a h = ap kept_of (sym (append-nil a)) ∙ kept-past a [] h
 
--- the last `<` of the first part
+-- the first part begins at its last `<`
 last_open : (a b : List ℕ) → has_open_mark a ≡ false → given_by (a ++ b) ++ messages_of (a ++ b) ≡ (given_by a ++ messages_of a) ++ messages_of (left_by a ++ b)
 last_open a b h =
     let none = messages-none a h in
@@ -123,7 +123,7 @@ last_open a b h =
 earlier_open : (a b : List ℕ) → has_open_mark a ≡ true → messages_of (a ++ b) ≡ messages_of a ++ messages_of (kept_of a ++ b) → given_by (a ++ b) ++ messages_of (a ++ b) ≡ (given_by a ++ messages_of a) ++ messages_of (kept_of a ++ b)
 earlier_open a b h again = rw (given-within a b (open-mark a h), again) (sym (append_assoc (given_by a) (messages_of a) (messages_of (kept_of a ++ b))))
 
--- the messages of the whole stream: the text kept of the first part replaces that part
+-- the messages of the whole stream: the text kept after the first part replaces that part
 pub messages-append : (a b : List ℕ) → messages_of (a ++ b) ≡ messages_of a ++ messages_of (kept_of a ++ b)
 messages-append [] b = refl
 messages-append (x ∷ a) b =
@@ -150,7 +150,7 @@ last_kept a b h k =
           ]
     ]
 
--- a later `<` replaces the text kept
+-- a later `<` replaces the kept text
 later_kept : (a b : List ℕ) → has_open_mark a ≡ false → has_open_mark b ≡ true → kept_of (left_by a ++ b) ≡ kept_of b
 later_kept a b h k =
     elim (cases_Bool (has_mark a)) [
@@ -190,7 +190,7 @@ kept-append (x ∷ a) b =
           ]
     ]
 
--- the text kept has no message, and a reader keeps it unchanged
+-- the kept text contains no message, and a reader keeps it unchanged
 pub kept-is : (t : List ℕ) → MayBeKept t → (messages_of t ≡ []) × (kept_of t ≡ t)
 kept-is [] h = (refl, refl)
 kept-is (x ∷ run) h =
@@ -232,7 +232,7 @@ given_from-all before (piece ∷ pieces) h =
     let again = given_from-all (kept_of (before ++ piece)) pieces (kept-kept (before ++ piece)) in
     ap (λ (m : List Incoming). messages_of (before ++ piece) ++ m) again ∙ sym (messages-append (before ++ piece) rest) ∙ ap messages_of (append_assoc before piece rest)
 
--- one more byte after the text kept
+-- one more byte after the kept text
 pub opens : (t : List ℕ) → MayBeKept t → (messages_of (t ++ 60 ∷ []) ≡ []) × (kept_of (t ++ 60 ∷ []) ≡ 60 ∷ [])
 opens [] h = (refl, refl)
 opens (x ∷ run) h =
@@ -265,7 +265,7 @@ mark_more (x ∷ run) b = let again = mark_more run b in grind arith
 pub close_mark : (b : ℕ) → (is_open_mark b || is_close_mark b) ≡ true → (b ≡ 60 → ⊥) → b ≡ 62
 close_mark b h n60 = let m : is_open_mark b ≡ false = ne_eqb b 60 n60 in eqb-true b 62 (sym (ap (λ x. x || is_close_mark b) m) ∙ h)
 
--- more bytes without a mark
+-- more bytes without a mark after the kept text
 pub goes_on : (run more : List ℕ) → has_mark run ≡ false → has_mark more ≡ false → length (run ++ more) ≤ limit → (messages_of (60 ∷ (run ++ more)) ≡ []) × (kept_of (60 ∷ (run ++ more)) ≡ 60 ∷ (run ++ more))
 goes_on run more h k short = kept-is (60 ∷ (run ++ more)) (refl, no_marks run more h k, short)
 
@@ -281,7 +281,7 @@ too_long run more h k long =
 pub passes_by : (more : List ℕ) → has_mark more ≡ false → (messages_of more ≡ []) × (kept_of more ≡ [])
 passes_by more h = let none = no_open more h in (messages-none more none, kept-none more none)
 
--- a message that is complete
+-- a complete message comes before the messages of the bytes after it
 pub message-between : (inside rest : List ℕ) → has_mark inside ≡ false → length inside ≤ limit → messages_of ((60 ∷ (inside ++ 62 ∷ [])) ++ rest) ≡ Message inside ∷ messages_of rest
 message-between inside rest clear short =
     let c = closes inside clear short in

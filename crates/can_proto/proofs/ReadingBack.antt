@@ -218,7 +218,7 @@ fd-word : (n : ℕ) (word : List ℕ) → is_fd_length n ≡ true → number_in 
 unfolding fd_length_of
 fd-word n word h is_n count = rw (is_n, h, eq-true (length word) (if nat_lt n 10 then 1 else 2) count) refl
 
--- a word of one digit spells less than 10
+-- a number of one digit is less than 10
 one-digit : (o : Option ℕ) (n : ℕ) → number_after 10 (one_more 10 0 (in_base 10 o)) [] ≡ Some n → n < 10
 one-digit None n e = absurd cc
 one-digit (Some v) n e = by_test (nat_lt v 10) refl e

@@ -4,9 +4,9 @@ use Rattle.can_frame.specs.Numbers.{digit_in, one_more, number_after, number_in}
 use Rattle.can_proto.specs.Words.{is_blank, front, words_after, words_of}
 use Rattle.can_proto.specs.Commands.{short_id, long_id, id_of}
 
--- If each digit has a property, each byte of a word that spells a number has it.
+-- If every digit has a property, every byte of a word that spells a number has this property.
 
--- each byte has the property
+-- every byte has the property
 abbrev pub Each : (ℕ → Type 0) → List ℕ → Type 0
 Each P [] = Unit {0}
 Each P (b ∷ bs) = P b × Each P bs

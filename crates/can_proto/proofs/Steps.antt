@@ -1,4 +1,4 @@
--- The text kept of a run as more bytes are read.
+-- The part of a run that the reader keeps as it reads more bytes.
 use Rattle.std.proofs.Common.{◌≡◌, ℕ, ◌+◌, ◌-◌, ◌<◌, ◌≤◌, false, ◌||◌, List, [], ◌∷◌, ◌++◌, length, take, drop, get_or, sym, ap, subst, ◌∙◌, append_assoc, arith}
 use Rattle.std.proofs.lemmas.List.{append-nil, length-append, length-take, length-drop, take_more, drop-append-le, drop_all, drop-take, take-take, take-append-drop, take_all}
 use Rattle.can_proto.specs.declared.message.Incoming.{Incoming}
@@ -15,13 +15,13 @@ nothing_new items more h = sym (ap (λ (m : List Incoming). items ++ m) h ∙ ap
 pub opens-given : (items : List Incoming) (t : List ℕ) (b : ℕ) → b ≡ 60 → MayBeKept t → items ≡ items ++ messages_of (t ++ b ∷ [])
 opens-given items t b e h = nothing_new items (messages_of (t ++ b ∷ [])) (rw e (opens t h).0)
 
--- a run begins at the end of the bytes read so far
+-- a run begins at the end of the bytes that were read so far
 pub opens-kept : (piece t : List ℕ) (i b : ℕ) → i < length piece → b ≡ 60 → MayBeKept t → 60 ∷ drop (i + 1) (take (i + 1) piece) ≡ kept_of (t ++ b ∷ [])
 opens-kept piece t i b lt e h =
     let none : drop (i + 1) (take (i + 1) piece) ≡ [] = drop_all (i + 1) (take (i + 1) piece) (omega (arith, length-take (i + 1) piece)) in
     ap (λ (r : List ℕ). 60 ∷ r) none ∙ sym (rw e (opens t h).1)
 
--- the run continues, from the bytes held or from its start
+-- the run continues, either from the held bytes or from its start in the piece
 pub parts : (piece : List ℕ) (i end : ℕ) → i ≤ end → take end piece ≡ take i piece ++ drop i (take end piece)
 parts piece i end le = sym (ap (λ (t : List ℕ). t ++ drop i (take end piece)) (sym (take-take i end piece le)) ∙ take-append-drop i (take end piece))
 
@@ -34,7 +34,7 @@ started_more piece start i end s le lt = ap (λ (t : List ℕ). drop start t) (p
 pub carried_length : (held piece : List ℕ) (i end : ℕ) → i ≤ end → end ≤ length piece → length ((held ++ take i piece) ++ drop i (take end piece)) ≡ length held + end
 carried_length held piece i end le lt = ap (λ (t : List ℕ). length t) (sym (carried_more held piece i end le)) ∙ omega (arith, length-append held (take end piece), length-take end piece)
 
--- the bytes searched for a mark
+-- the bytes that were searched contain no mark
 pub clear_start : (piece : List ℕ) (from : ℕ) → has_mark (drop from (take from piece)) ≡ false
 clear_start piece from = ap has_mark (drop_all from (take from piece) (omega (arith, length-take from piece)))
 
@@ -75,7 +75,7 @@ closes-with run b e h = rw e (closes run h.1 h.2)
 pub pushed : (new old more : List Incoming) (m : Incoming) → new ≡ old ++ m ∷ [] → more ≡ m ∷ [] → new ≡ old ++ more
 pushed new old more m h k = h ∙ ap (λ (x : List Incoming). old ++ x) (sym k)
 
--- the five cases at a place whose text is `<` and a run
+-- the five cases for the next byte, if the kept text is `<` and a run
 pub closes-at : (t run : List ℕ) (b : ℕ) → t ≡ 60 ∷ run → MayBeKept t → b ≡ 62 → (messages_of (t ++ b ∷ []) ≡ Message run ∷ []) × ([] ≡ kept_of (t ++ b ∷ []))
 closes-at t run b e h k =
     let w : MayBeKept (60 ∷ run) = subst MayBeKept e h in
@@ -113,7 +113,7 @@ slice_is piece start i le =
     let e : i ≡ start + (i - start) = omega arith in
     ap (λ (n : ℕ). drop start (take n piece)) e ∙ drop-take start (i - start) piece
 
--- the loop over a piece
+-- the steps of the loop over a piece
 pub starts-carried : (held piece : List ℕ) (place : RunStart) → place ≡ Carried → text_kept_at held piece 0 place ≡ 60 ∷ held
 starts-carried held piece place e = ap (text_kept_at held piece 0) e ∙ ap (λ (r : List ℕ). 60 ∷ r) (append-nil held)
 

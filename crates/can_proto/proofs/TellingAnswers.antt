@@ -30,12 +30,12 @@ use Rattle.can_proto.proofs.TellingItems.{is_space, is_point, no-space, no-point
 
 -- The text of a reply determines it.
 
--- a text, and counts with a space before each
+-- a text followed by counts, each with a space before it
 abbrev behind : List ℕ → List ℕ → List ℕ
 behind text [] = text
 behind text (n ∷ ns) = behind ((text ++ 32 ∷ []) ++ decimal n) ns
 
--- counts with a space after each, and the closing mark
+-- counts, each with a space after it, and the closing mark
 abbrev row : List ℕ → List ℕ
 row [] = 62 ∷ []
 row (n ∷ ns) = decimal n ++ 32 ∷ row ns
@@ -65,7 +65,7 @@ same-row (x ∷ xs) (y ∷ ys) hx hy l e =
 same-behind : (x y : ℕ) (xs ys : List ℕ) → AreSmall (x ∷ xs) → AreSmall (y ∷ ys) → length xs ≡ length ys → behind (decimal x) xs ++ codes " >" ≡ behind (decimal y) ys ++ codes " >" → x ∷ xs ≡ y ∷ ys
 same-behind x y xs ys hx hy l e = same-row (x ∷ xs) (y ∷ ys) hx hy (omega (arith, l)) (sym (row-behind (decimal x) xs) ∙ e ∙ row-behind (decimal y) ys)
 
--- the word of a state has no space and no point
+-- the word for a state has no space and no decimal point
 clear-state : (s : State) → (clear is_space (state_word s) ≡ true) × (clear is_point (state_word s) ≡ true)
 clear-state Active = (refl, refl)
 clear-state Warning = (refl, refl)
@@ -73,7 +73,7 @@ clear-state Passive = (refl, refl)
 clear-state Off = (refl, refl)
 clear-state Down = (refl, refl)
 
--- the fourth and the seventh byte give the kind of reply; for `ack` the third byte does
+-- the fourth and the seventh byte identify the kind of reply, except `ack`, which the third byte identifies
 abbrev kind : List ℕ → ℕ
 kind text = if get_or text 2 0 == 97 then 0 else get_or text 3 0 + get_or text 6 0
 
@@ -107,7 +107,7 @@ same-mark a b e = sym (marked a) ∙ ap kind e ∙ marked b
 same-stats : (s t : SocketStats) (i j : IfaceStats) → AreSmall (told_counts s i) → AreSmall (told_counts t j) → stats_text s i ≡ stats_text t j → told_counts s i ≡ told_counts t j
 same-stats s t i j hs ht e = same-behind s.queued t.queued (s.dropped ∷ s.taken ∷ i.sent ∷ i.done ∷ i.waiting ∷ i.lost ∷ i.refused ∷ []) (t.dropped ∷ t.taken ∷ j.sent ∷ j.done ∷ j.waiting ∷ j.lost ∷ j.refused ∷ []) hs ht refl (ap (drop 8) e)
 
--- the word shows whether the interface is down
+-- the word for a state is not `down` unless the interface is down
 not-down : (off passive warning : Bool) → is_word (state_word (if off then Off else if passive then Passive else if warning then Warning else Active)) (codes "down") ≡ false
 not-down true passive warning = refl
 not-down false true warning = refl
@@ -149,7 +149,7 @@ one-answer (Closing c) (Closing d) ha hb e =
 one-answer (Refused a) (Refused b) ha hb e = ap Refused (one-cause a b (append_cancel_right (cause_text a) (cause_text b) (codes " >") (ap (drop 8) e)))
 one-answer a b ha hb e = let k = same-mark a b e in absurd (omega (arith, k))
 
--- a timestamp contains a point, and no reply does
+-- a timestamp contains a decimal point, and no reply does
 
 clear-row : (ns : List ℕ) → AreSmall ns → clear is_point (row ns) ≡ true
 clear-row [] h = refl
@@ -176,14 +176,14 @@ clear-answer (Faults left) h = clear-behind left [] h
 clear-answer (Closing c) h = clear-behind c.unread (c.dropped ∷ []) h
 clear-answer (Refused why) h = clear-cause why
 
--- a text that has a timestamp after a word contains a point
+-- a text with a timestamp after a word contains a decimal point
 pointed : (front : List ℕ) (m : ℕ) (rest : List ℕ) → clear is_point ((front ++ moment_text m) ++ rest) ≡ false
 pointed front m rest =
     marked-left is_point (front ++ moment_text m) rest
     (marked-right is_point front (moment_text m)
     (marked-right is_point (decimal (m / 1000000)) (46 ∷ digits 10 6 (m % 1000000)) refl))
 
--- a text that has another word after the timestamp contains a point too
+-- a text with another word after the timestamp also contains a decimal point
 pointed-more : (front : List ℕ) (m : ℕ) (word : List ℕ) → clear is_point (((front ++ moment_text m) ++ 32 ∷ []) ++ word) ≡ false
 pointed-more front m word = marked-left is_point ((front ++ moment_text m) ++ 32 ∷ []) word (pointed front m (32 ∷ []))
 

@@ -30,7 +30,7 @@ no-space d h = grind arith
 pub no-point : IsMark is_point
 no-point d h = grind arith
 
--- timestamps
+-- timestamps with equal texts are equal
 clear-moment : (m : ℕ) → m < 10 ^ 16 → clear is_space (moment_text m) ≡ true
 clear-moment m h = clear-append is_space (decimal (m / 1000000)) (46 ∷ digits 10 6 (m % 1000000)) (clear-decimal is_space no-space (m / 1000000) (omega arith)) (clear-digits is_space no-space 10 6 (m % 1000000))
 
@@ -41,7 +41,7 @@ same-moment m n hm hn e =
     let back = same-digits 10 6 (m % 1000000) (n % 1000000) (omega arith) (omega arith) (omega arith) (omega arith) parts.1 in
     omega (arith, front, back)
 
--- identifiers
+-- identifiers with equal texts are equal
 same-id : (a b : Bool) (m n : ℕ) → IsIdentifier (record { extended = a; number = m }) → IsIdentifier (record { extended = b; number = n }) → id_text (record { extended = a; number = m }) ≡ id_text (record { extended = b; number = n }) → (a ≡ b) × (m ≡ n)
 same-id false false m n hm hn e = (refl, same-digits 16 3 m n (omega arith) (omega arith) (omega (arith, hm)) (omega (arith, hn)) e)
 same-id true true m n hm hn e = (refl, same-digits 16 8 m n (omega arith) (omega arith) (omega (arith, hm)) (omega (arith, hn)) e)
@@ -51,7 +51,7 @@ same-id true false m n hm hn e = let l = ap length e in absurd (omega (arith, l)
 clear-id : (id : Identifier) → clear is_space (id_text id) ≡ true
 clear-id id = clear-digits is_space no-space 16 (if id.extended then 8 else 3) id.number
 
--- bytes
+-- byte lists with equal texts are equal
 abbrev AreBytes : List ℕ → Type 0
 AreBytes xs = (i : ℕ) → slice_index xs i < 256
 
@@ -68,7 +68,7 @@ same-bytes (x ∷ xs) (y ∷ ys) hx hy e =
     let one = same-digits 16 2 x y (omega arith) (omega arith) (omega arith) (omega arith) two in
     ap (λ (b : ℕ). b ∷ xs) one ∙ ap (λ (bs : List ℕ). y ∷ bs) again
 
--- classes
+-- error classes with equal texts are equal
 by_test : (b : Bool) (w v class : ℕ) → (b ≡ true → left 16 w class ≡ 0) → (b ≡ false → left 16 v class ≡ 0) → left 16 (if b then w else v) class ≡ 0
 by_test true w v class h k = h refl
 by_test false w v class h k = k refl
@@ -91,7 +91,7 @@ same-class a b ha hb e =
     let same : Some a ≡ Some b = sym one ∙ ap (number_after 16 (Some 0)) e ∙ other in
     cc
 
--- texts are joined from the left
+-- joining texts is associative
 regroup : (b m rest : List ℕ) → ((b ++ 32 ∷ []) ++ m) ++ rest ≡ b ++ 32 ∷ (m ++ rest)
 regroup b m rest = append_assoc (b ++ 32 ∷ []) m rest ∙ append_assoc b (32 ∷ []) (m ++ rest)
 
@@ -101,7 +101,7 @@ regroup-all b m p rest = regroup ((b ++ 32 ∷ []) ++ m) p rest ∙ regroup b m 
 between : {A : Type 0} (x y v w : A) → x ≡ v → y ≡ w → x ≡ y → v ≡ w
 between x y v w h k e = cc
 
--- a word, a timestamp and the rest
+-- if two texts of a word, a timestamp and more bytes are equal, these parts are equal
 same-parts : (xs ys rest last : List ℕ) (m n : ℕ) → clear is_space xs ≡ true → clear is_space ys ≡ true → m < 10 ^ 16 → n < 10 ^ 16 → xs ++ 32 ∷ (moment_text m ++ 32 ∷ rest) ≡ ys ++ 32 ∷ (moment_text n ++ 32 ∷ last) → (xs ≡ ys) × (m ≡ n) × (rest ≡ last)
 same-parts xs ys rest last m n cx cy hm hn e =
     let word = cut is_space 32 xs ys (moment_text m ++ 32 ∷ rest) (moment_text n ++ 32 ∷ last) refl cx cy e in
@@ -113,11 +113,11 @@ same-identifier a b ha hb e =
     let h = same-id a.extended b.extended a.number b.number ha hb e in
     ap (λ (x : Bool). record { extended = x; number = a.number }) h.0 ∙ ap (λ (k : ℕ). record { extended = b.extended; number = k }) h.1
 
--- the third byte gives the kind of text
+-- the third byte identifies the kind of text
 unfoldable pub third : List ℕ → ℕ
 third text = get_or text 2 0
 
--- the fourth byte, if the third is that of a data frame
+-- the fourth byte; it is used if the third byte is that of a data frame
 fourth : List ℕ → ℕ
 fourth text = get_or text 3 0
 
@@ -128,7 +128,7 @@ after_word text = get_or text 9 0
 flag_digit : List ℕ → ℕ
 flag_digit text = get_or text 11 0
 
--- the texts of two FD frames have the same beginning and the same rest
+-- if the texts of two FD frames are equal, their first words and the bytes after these are equal
 same-word : (f g : FdFlags) (xs ys : List ℕ) → fd_word f ++ xs ≡ fd_word g ++ ys → (f ≡ g) × (xs ≡ ys)
 unfolding after_word flag_digit
 same-word f g xs ys e = by f.brs f.esi g.brs g.esi e
@@ -175,11 +175,11 @@ fourth-fd f xs = by f.brs f.esi
     by false true = refl
     by false false = refl
 
--- an FD frame's text and the text after it
+-- an FD frame's text followed by more text
 fd-then : (f : FdFlags) (body rest : List ℕ) → (fd_word f ++ body) ++ rest ≡ fd_word f ++ (body ++ rest)
 fd-then f body rest = append_assoc (fd_word f) body rest
 
--- two frames with equal texts up to a space are equal
+-- if the texts of two frames are equal up to a space, the frames are equal
 one-front : (a b : Identifier) (p q : Payload) (m n : ℕ) (rest last : List ℕ) → IsIdentifier a → IsIdentifier b → IsPayload p → IsPayload q → m < 10 ^ 16 → n < 10 ^ 16 →
     frame_front (record { id = a; payload = p }) m ++ 32 ∷ rest ≡ frame_front (record { id = b; payload = q }) n ++ 32 ∷ last →
     (a ≡ b) × (p ≡ q) × (m ≡ n) × (rest ≡ last)
@@ -207,7 +207,7 @@ one-front a b (Remote k) (Fd g ys) m n rest last ha hb hp hq hm hn e = let k : 1
 one-front a b (Data xs) (Remote l) m n rest last ha hb hp hq hm hn e = let k : 102 ≡ 114 = ap third e in absurd (omega (arith, k))
 one-front a b (Remote k) (Data ys) m n rest last ha hb hp hq hm hn e = let k : 114 ≡ 102 = ap third e in absurd (omega (arith, k))
 
--- the text of a frame is not that of an error message frame
+-- the text of a frame is never the text of an error message frame
 frame-no-error : (id : Identifier) (p : Payload) (rest : List ℕ) (error : ErrorMessage) (m n : ℕ) → frame_front (record { id = id; payload = p }) m ++ rest ≡ error_text true error n → ⊥
 unfolding third
 frame-no-error id (Data xs) rest error m n e = let k : 102 ≡ 101 = ap third e in omega (arith, k)
@@ -258,7 +258,7 @@ one-item-without (item.Error f) (item.Error g) m n hi hj hm hn e =
     let h = one-class f.class g.class f.bytes g.bytes m n hi.0 hj.0 hm hn e in
     (ap (λ (x : ℕ). item.Error (record { class = x; bytes = [] })) h.0, h.1)
 
--- origins: the bytes after the space before them
+-- origins with equal texts are equal; this is the text of an origin after its first space
 origin-tail : Origin → List ℕ
 origin-tail (Same number) = codes "same " ++ decimal number ++ codes " >"
 origin-tail (Other number) = codes "other " ++ decimal number ++ codes " >"

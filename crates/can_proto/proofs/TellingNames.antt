@@ -45,7 +45,7 @@ one-list one other ho hp e =
     append_cancel_right one other ((62 ∷ []) ∷ [])
     (sym (words-spaced one (are-words one ho)) ∙ ap (λ (text : List ℕ). words_of (drop 12 text)) e ∙ words-spaced other (are-words other hp))
 
--- the third byte shows that the text is no other reply and no item
+-- the third byte distinguishes the text from other replies and from items
 
 pub no-answer : (a : Answer) (names : List (List ℕ)) → answer_text a ≡ interfaces_text names → ⊥
 unfolding third

@@ -6,9 +6,9 @@ use Rattle.can_proto.specs.declared.fault.ProtoFault.TheVariants as fault
 use Rattle.can_proto.specs.declared.answer.Cause.{Cause}
 use Rattle.can_proto.specs.declared.answer.Cause.TheVariants as cause
 
--- The causes for which the server does not carry out a message, and their texts (own choice).
+-- The causes for which the server refuses a message, and their texts (own choice).
 
--- the words of a cause
+-- the text that reports a cause
 abbrev pub cause_text : Cause → List ℕ
 cause_text cause.NoMemory = codes "no memory"
 cause_text cause.RecordFull = codes "record full"
@@ -39,7 +39,7 @@ cause_text cause.BadRule = codes "bad rule"
 cause_text cause.TooManyRules = codes "too many rules"
 cause_text cause.Down = codes "interface down"
 
--- the cause that reports a fault of a message
+-- the cause that reports a fault in a message
 abbrev pub cause_of_fault : ProtoFault → Cause
 cause_of_fault fault.NoMemory = cause.NoMemory
 cause_of_fault fault.InvalidFilter = cause.InvalidFilter
@@ -54,7 +54,7 @@ cause_of_fault fault.BadLength = cause.BadLength
 cause_of_fault fault.BadByte = cause.BadByte
 cause_of_fault fault.BadNumber = cause.BadNumber
 
--- the cause that reports a refusal of the bus
+-- the cause that reports a refusal by the bus
 abbrev pub cause_of_refusal : Refusal → Cause
 cause_of_refusal refusal.RecordFull = cause.RecordFull
 cause_of_refusal refusal.NoInterface = cause.NoInterface

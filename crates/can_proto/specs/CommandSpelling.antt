@@ -15,31 +15,31 @@ use Rattle.can_proto.specs.declared.command.Command.TheVariants.{SetOption, ErrD
 use Rattle.can_proto.specs.declared.command.Command.TheVariants.{Load, Restart, Fault, Faults, NoFaults, Close, Down}
 use Rattle.can_proto.specs.Words.{front, words_of}
 
--- The spelling of a client's commands (socketcand's raw mode; filters and options are own choice). A server also reads
--- other spellings: lower case, fewer digits, and more blanks.
+-- The spelling of a client's commands (socketcand's raw mode; filters and options are own choice). A server also
+-- accepts other spellings: lower case, fewer digits, and more blanks.
 
--- `0` (48) or `1` (49)
+-- the text of a flag: `0` (48) or `1` (49)
 abbrev pub flag_text : Bool → List ℕ
 flag_text false = 48 ∷ []
 flag_text true = 49 ∷ []
 
--- the first words of the request to send an FD frame, with its flags if it has any
+-- the first words of the command that sends an FD frame: `sendfd`, or `sendfdx` and the flags if any is set
 abbrev pub fd_verb_words : FdFlags → List (List ℕ)
 fd_verb_words flags =
     if has_no_flags flags then codes "sendfd" ∷ [] else codes "sendfdx" ∷ ((48 + flags_number flags) ∷ []) ∷ []
 
--- the words for a frame: a data frame or an FD frame with its length and each byte in two digits, or a remote frame
--- with the length it requests
+-- the words of the command that sends a frame. A data frame or an FD frame has its length and each byte in two digits;
+-- a remote frame has the length it requests.
 abbrev pub frame_words : Identifier → Payload → List (List ℕ)
 frame_words id (Data bytes) = codes "send" ∷ id_text id ∷ decimal (length bytes) ∷ map (digits 16 2) bytes
 frame_words id (Remote len) = codes "sendrtr" ∷ id_text id ∷ decimal len ∷ []
 frame_words id (Fd flags bytes) = fd_verb_words flags ++ id_text id ∷ decimal (length bytes) ∷ map (digits 16 2) bytes
 
--- the words of a filter: identifier word and mask, 8 digits each
+-- the words of a filter: its identifier and its mask, 8 hexadecimal digits each
 abbrev pub filter_command_words : CanFilter → List (List ℕ)
 filter_command_words f = digits 16 8 f.id ∷ digits 16 8 f.mask ∷ []
 
--- the words for an option and its value
+-- the words of the command that sets an option
 abbrev pub option_command_words : Opt → List (List ℕ)
 option_command_words (opt.Loopback on) = codes "loopback" ∷ flag_text on ∷ []
 option_command_words (opt.RecvOwn on) = codes "recvown" ∷ flag_text on ∷ []
@@ -69,15 +69,15 @@ command_words NoFaults = codes "nofaults" ∷ []
 command_words Close = codes "close" ∷ []
 command_words Down = codes "down" ∷ []
 
--- the text of a command: its words with one space (32) between each two
+-- the text of a command: its words, separated by single spaces (32)
 abbrev pub command_spelling : Command → List ℕ
 command_spelling command = join_with_byte 32 (command_words command)
 
--- one word: at least one byte, and no blank
+-- the text is one word: at least one byte, and no blanks
 abbrev pub IsWord : List ℕ → Type 0
 IsWord word = (0 < length word) × (front word ≡ word)
 
--- at least one word, with one space (32) between each two and no other blank
+-- the text has at least one word, single spaces (32) between words, and no other blanks
 abbrev pub AreSpaced : List ℕ → Type 0
 AreSpaced text = (0 < length (words_of text)) × (join_with_byte 32 (words_of text) ≡ text)
 
@@ -85,13 +85,13 @@ AreSpaced text = (0 < length (words_of text)) × (join_with_byte 32 (words_of te
 abbrev pub IsFilter : CanFilter → Type 0
 IsFilter f = (f.id < 2 ^ 32) × (f.mask < 2 ^ 32) × (bit_and f.mask (2 ^ 29) ≡ 0)
 
--- a valid option: error masks have 32 bits
+-- a valid option: an error mask has at most 32 bits
 abbrev pub IsOption : Opt → Type 0
 IsOption (opt.ErrMask mask) = mask < 2 ^ 32
 IsOption _ = Unit {0}
 
--- a command that can be written. The name is one word, the words of a rule are spaced, and the frame, the filters and
--- the masks are within their limits.
+-- a command that can be written: its name is one word, the words of its rule are separated by single spaces, and its
+-- frame, filters and masks are within their limits
 abbrev pub IsCommand : Command → Type 0
 IsCommand (Open name) = IsWord name
 IsCommand (Send frame) = IsIdentifier frame.id × IsPayload frame.payload

@@ -26,8 +26,8 @@ use Rattle.can_proto.specs.Messages.{messages_of, kept_of}
 use Rattle.can_proto.specs.Words.{words_of}
 use Rattle.can_proto.specs.Verbs.{named, is_allowed_in}
 
--- The command that the words of a message spell, or the first fault from left to right. The commands are those of
--- socketcand's raw mode; the faults and their order are own choice.
+-- How the words of a message are read as a command, and which fault is reported: the first one from left to right. The
+-- commands are those of socketcand's raw mode; the faults and their order are own choice.
 
 infixl 10 ◌>>=◌
 abbrev pub ◌>>=◌ : {A B : Type 0} → Result A ProtoFault → (A → Result B ProtoFault) → Result B ProtoFault
@@ -46,7 +46,7 @@ abbrev pub KeepsOnHeap : {A : Type 0} → (A → Bool) → Result A ProtoFault �
 KeepsOnHeap heavy (Ok x) = IsTrue (heavy x)
 KeepsOnHeap heavy (Err e) = ⊥
 
--- the two results are equal, but `NoMemory` may replace a value that needs memory on the heap
+-- the two results are equal, except that `NoMemory` may replace a value that needs memory on the heap
 abbrev pub GivesBut : {A : Type 0} → (A → Bool) → Result A ProtoFault → Result A ProtoFault → Type 0
 GivesBut heavy (Err NoMemory) read = KeepsOnHeap heavy read
 GivesBut heavy answer read = read ≡ answer
@@ -55,42 +55,42 @@ GivesBut heavy answer read = read ≡ answer
 abbrev pub GivesAsRead : {A : Type 0} → Result A ProtoFault → Result A ProtoFault → Type 0
 GivesAsRead answer read = GivesBut (λ _. false) answer read
 
--- the value, or this fault if there is none
+-- the value, or the given fault if there is no value
 abbrev pub or_fault : {A : Type 0} → ProtoFault → Option A → Result A ProtoFault
 or_fault fault None = Err fault
 or_fault fault (Some x) = Ok x
 
--- the identifier word without bit 31, by which linux/can.h marks 29-bit identifiers
+-- the identifier word without bit 31, which marks 29-bit identifiers in linux/can.h
 abbrev pub cleared : ℕ → ℕ
 cleared n = if nat_lt n (2 ^ 31) then n else n - 2 ^ 31
 
--- an identifier of 29 bits
+-- the 29-bit identifier with this number, or `BadId`
 abbrev pub long_id : Option ℕ → Result Identifier ProtoFault
 long_id None = Err BadId
 long_id (Some n) =
     if nat_lt (cleared n) (2 ^ 29) then Ok (record { extended = true; number = cleared n }) else Err BadId
 
--- an identifier of 11 bits
+-- the 11-bit identifier with this number, or `BadId`
 abbrev pub short_id : Option ℕ → Result Identifier ProtoFault
 short_id None = Err BadId
 short_id (Some n) = if nat_lt n (2 ^ 11) then Ok (record { extended = false; number = n }) else Err BadId
 
--- an identifier: 8 hexadecimal digits have 29 bits, 1 to 3 digits have 11 bits
+-- the identifier that a word spells: 8 hexadecimal digits for 29 bits, 1 to 3 digits for 11 bits
 unfoldable pub id_of : List ℕ → Result Identifier ProtoFault
 id_of word = if length word == 8 then long_id (number_in 16 8 word) else short_id (number_in 16 3 word)
 
--- a length: one digit, 0 to 8
+-- the length that a word spells: one digit, 0 to 8
 unfoldable pub length_of : List ℕ → Result ℕ ProtoFault
 length_of (d ∷ []) = if nat_le 48 d && nat_le d 56 then Ok (d - 48) else Err BadLength
 length_of _ = Err BadLength
 
--- the length of an FD frame, in decimal without leading zeros
+-- the length of an FD frame that a word spells, in decimal without leading zeros
 unfoldable pub fd_length_of : List ℕ → Result ℕ ProtoFault
 fd_length_of word =
     or_fault BadLength (number_in 10 2 word)
     >>= λ n. if is_fd_length n && length word == (if nat_lt n 10 then 1 else 2) then Ok n else Err BadLength
 
--- bytes of one or two hexadecimal digits
+-- the bytes that the words spell, each in one or two hexadecimal digits
 unfoldable pub bytes_of : List (List ℕ) → Result (List ℕ) ProtoFault
 bytes_of [] = Ok []
 bytes_of (word ∷ words) = do
@@ -98,13 +98,13 @@ bytes_of (word ∷ words) = do
   bs ← bytes_of words
   Ok (b ∷ bs)
 
--- the faults of data words: a wrong count comes first, then a word that spells no byte
+-- the faults that data words can have: a wrong count is reported first, then a word that is not a byte
 abbrev pub IsDataFault : ℕ → List (List ℕ) → ProtoFault → Type 0
 IsDataFault len words e =
     (((length words == len) ≡ false) × (e ≡ BadCount))
     ⊎ (((length words == len) ≡ true) × (bytes_of words ≡ Err BadByte) × (e ≡ BadByte))
 
--- `send ID LEN b ..`
+-- the command `send ID LEN b ..`, given the words after `send`
 unfoldable pub send_of : List (List ℕ) → Result Command ProtoFault
 send_of (id_word ∷ len_word ∷ words) = do
   id ← id_of id_word
@@ -114,12 +114,12 @@ send_of (id_word ∷ len_word ∷ words) = do
       else Err BadCount
 send_of _ = Err BadCount
 
--- the request to send a frame, if the frame has no fault
+-- the command that sends a frame, or the fault in the frame
 abbrev pub asks_to_send : Result CanFrame ProtoFault → Result Command ProtoFault
 asks_to_send (Ok frame) = Ok (Send frame)
 asks_to_send (Err e) = Err e
 
--- `sendfd ID LEN b ..`, for a frame with these flags
+-- the command `sendfd ID LEN b ..` for a frame with these flags, given the words after `sendfd`
 unfoldable pub send_fd_of : FdFlags → List (List ℕ) → Result Command ProtoFault
 send_fd_of flags (id_word ∷ len_word ∷ words) = do
   id ← id_of id_word
@@ -129,17 +129,17 @@ send_fd_of flags (id_word ∷ len_word ∷ words) = do
       else Err BadCount
 send_fd_of flags _ = Err BadCount
 
--- the flags of an FD frame: one digit, 0 to 3 (CANFD_BRS and CANFD_ESI of linux/can.h)
+-- the flags of an FD frame that a word spells: one digit, 0 to 3 (CANFD_BRS and CANFD_ESI of linux/can.h)
 unfoldable pub flags_of_word : List ℕ → Result FdFlags ProtoFault
 flags_of_word (d ∷ []) = if nat_le 48 d then or_fault BadNumber (flags_of (d - 48)) else Err BadNumber
 flags_of_word _ = Err BadNumber
 
--- `sendfdx FLAGS ID LEN b ..`: the flags, then the words of `sendfd`
+-- the command `sendfdx FLAGS ID LEN b ..`: the flags, then the arguments of `sendfd`
 unfoldable pub send_flagged_of : List (List ℕ) → Result Command ProtoFault
 send_flagged_of (word ∷ words) = flags_of_word word >>= λ flags. send_fd_of flags words
 send_flagged_of [] = Err BadCount
 
--- `sendrtr ID LEN`
+-- the command `sendrtr ID LEN`, given the words after `sendrtr`
 unfoldable pub remote_of : List (List ℕ) → Result Command ProtoFault
 remote_of (id_word ∷ len_word ∷ []) = do
   id ← id_of id_word
@@ -147,18 +147,18 @@ remote_of (id_word ∷ len_word ∷ []) = do
   Ok (Send (record { id = id; payload = Remote len }))
 remote_of _ = Err BadCount
 
--- a filter, or a fault if its mask has bit 29
+-- the filter with this identifier and mask, or a fault if bit 29 of the mask is set
 abbrev pub masked : ℕ → ℕ → Result CanFilter ProtoFault
 masked id mask = if bit_and mask (2 ^ 29) == 0 then Ok (record { id = id; mask = mask }) else Err InvalidFilter
 
--- a filter: an identifier word and a mask, of 1 to 8 hexadecimal digits each
+-- the filter that two words spell: an identifier and a mask, 1 to 8 hexadecimal digits each
 unfoldable pub filter_of : List ℕ → List ℕ → Result CanFilter ProtoFault
 filter_of id_word mask_word = do
   id ← or_fault BadNumber (number_in 16 8 id_word)
   mask ← or_fault BadNumber (number_in 16 8 mask_word)
   masked id mask
 
--- a list of filters, two words for each
+-- the filters that the words spell, two words for each filter
 unfoldable pub filters_of : List (List ℕ) → Result (List CanFilter) ProtoFault
 filters_of [] = Ok []
 filters_of (word ∷ []) = Err BadCount
@@ -167,7 +167,7 @@ filters_of (id_word ∷ mask_word ∷ words) = do
   filters ← filters_of words
   Ok (filter ∷ filters)
 
--- `filter N ID MASK ..`
+-- the command `filter N ID MASK ..`, given the words after `filter`
 unfoldable pub set_of : List (List ℕ) → Result Command ProtoFault
 set_of [] = Err BadCount
 set_of (count_word ∷ words) = do
@@ -176,42 +176,42 @@ set_of (count_word ∷ words) = do
       else if length words == count * 2 then filters_of words >>= (λ filters. Ok (SetFilters filters))
       else Err BadCount
 
--- the only argument of a command
+-- the argument of a command that takes exactly one
 abbrev pub only : List (List ℕ) → Result (List ℕ) ProtoFault
 only (word ∷ []) = Ok word
 only _ = Err BadCount
 
--- `errmask HEX`
+-- the command `errmask HEX`, given the words after `errmask`
 unfoldable pub mask_of : List (List ℕ) → Result Command ProtoFault
 mask_of words = do
   word ← only words
   mask ← or_fault BadNumber (number_in 16 8 word)
   Ok (SetOption (opt.ErrMask mask))
 
--- `0` or `1`
+-- the flag that a word spells: `0` or `1`
 abbrev pub flag_of : List ℕ → Option Bool
 flag_of (d ∷ []) = if d == 48 then Some false else if d == 49 then Some true else None
 flag_of _ = None
 
--- a single flag and no other word
+-- the flag that is the only argument of a command
 unfoldable pub switch_of : List (List ℕ) → Result Bool ProtoFault
 switch_of words = only words >>= λ word. or_fault BadNumber (flag_of word)
 
--- `open NAME`
+-- the command `open NAME`, given the words after `open`
 unfoldable pub open_of : List (List ℕ) → Result Command ProtoFault
 open_of words = only words >>= λ name. Ok (Open name)
 
--- `fault RULE`: the rule has one space (32) between each two words
+-- the command `fault RULE`; single spaces (32) separate the words of the rule
 unfoldable pub fault_of : List (List ℕ) → Result Command ProtoFault
 fault_of [] = Err BadCount
 fault_of words = Ok (Fault (join_with_byte 32 words))
 
--- a command without arguments
+-- this command, if no arguments follow it
 abbrev pub alone : Command → List (List ℕ) → Result Command ProtoFault
 alone command [] = Ok command
 alone command _ = Err BadCount
 
--- the command of a verb, by the words after the verb
+-- the command that a verb and the words after it spell
 unfoldable pub arguments_of : Verb → List (List ℕ) → Result Command ProtoFault
 arguments_of verb.Echo words = alone Echo words
 arguments_of verb.Interfaces words = alone Interfaces words
@@ -241,17 +241,17 @@ arguments_of verb.NoFaults words = alone NoFaults words
 arguments_of verb.Close words = alone Close words
 arguments_of verb.Down words = alone Down words
 
--- the command of a verb and the words after it, in a mode
+-- the command that a verb and the words after it spell, if the mode allows the verb
 abbrev pub command_of : Mode → List (List ℕ) → Option Verb → Result Command ProtoFault
 command_of mode words None = Err UnknownCommand
 command_of mode words (Some v) = if is_allowed_in v mode then arguments_of v words else Err WrongState
 
--- the command of a message's words, in a mode
+-- the command that the words of a message spell in a mode
 abbrev pub reading : Mode → List (List ℕ) → Result Command ProtoFault
 reading mode [] = Err EmptyMessage
 reading mode (word ∷ words) = command_of mode words (named word)
 
--- the stream has one message, which in raw mode asks to send this frame, and a reader keeps nothing of it
+-- the stream has one message, which sends this frame in raw mode, and the reader keeps no bytes of the stream
 abbrev pub IsLoneSend : List ℕ → CanFrame → Type 0
 IsLoneSend stream frame =
     (inside : List ℕ)
@@ -259,7 +259,7 @@ IsLoneSend stream frame =
     × (kept_of stream ≡ [])
     × (reading Raw (words_of inside) ≡ Ok (Send frame))
 
--- the items already read, in front of the others
+-- the result of reading more items, with the items already read in front of them
 abbrev pub with_front : {A : Type 0} → List A → Result (List A) ProtoFault → Result (List A) ProtoFault
 with_front items read = read >>= λ more. Ok (items ++ more)
 

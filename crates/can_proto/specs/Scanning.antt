@@ -4,13 +4,13 @@ use Rattle.can_proto.specs.declared.scanning.RunStart.{RunStart}
 use Rattle.can_proto.specs.declared.scanning.RunStart.TheVariants.{Outside, Carried, At}
 use Rattle.can_proto.specs.Messages.{messages_of, kept_of}
 
--- Terms for the parts of a reader.
+-- Definitions for the parts of a message reader.
 
--- the text that a reader keeps: `<` and the bytes after it, if a run is being read
+-- the text that a reader keeps: `<` and the bytes after it if it is reading a run, otherwise no text
 abbrev pub text_kept : Bool → List ℕ → List ℕ
 text_kept is_open inside = if is_open then 60 ∷ inside else []
 
--- the text that a reader keeps at index `i` of a piece, if the run begins there
+-- the text that a reader keeps at index `i` of a piece, given the place at which its run began
 abbrev pub text_kept_at : List ℕ → List ℕ → ℕ → RunStart → List ℕ
 text_kept_at held piece i Outside = []
 text_kept_at held piece i Carried = 60 ∷ (held ++ take i piece)
@@ -21,8 +21,8 @@ abbrev pub IsWithin : RunStart → ℕ → Type 0
 IsWithin (At start) i = start ≤ i
 IsWithin _ i = Unit {0}
 
--- reading a piece from index `i` to `end` adds the messages that end there. `next` is the beginning of the run at
--- `end`.
+-- reading a piece from index `i` to `end` adds the messages that end in this range, and the run at `end` begins at
+-- `next`
 abbrev pub ReadsUpTo : List ℕ → List ℕ → ℕ → RunStart → ℕ → List Incoming → List Incoming → RunStart → Type 0
 ReadsUpTo held piece i place end before after next =
     (after ≡ before ++ messages_of (text_kept_at held piece i place ++ drop i (take end piece)))

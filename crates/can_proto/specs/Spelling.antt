@@ -33,42 +33,42 @@ class_width class =
     if nat_lt class (16 ^ 6) then 6 else
     if nat_lt class (16 ^ 7) then 7 else 8
 
--- an error class in hexadecimal
+-- the text of an error class, in hexadecimal
 abbrev pub class_text : ℕ → List ℕ
 class_text class = digits 16 (class_width class) class
 
--- the identifier, the timestamp and the data of a frame
+-- the text of a frame's identifier, timestamp and data
 abbrev pub body_text : CanFrame → ℕ → List ℕ
 body_text frame micros =
     id_text frame.id ++ codes " " ++ moment_text micros ++ codes " " ++ pairs (payload_bytes frame.payload)
 
--- a data frame with its timestamp, without the closing ` >`; if there is no data, two spaces precede the `>`
+-- the text of a data frame and its timestamp, without the closing ` >`; if there is no data, two spaces precede the `>`
 abbrev pub data_front : CanFrame → ℕ → List ℕ
 data_front frame micros = codes "< frame " ++ body_text frame micros
 
--- the first word of an FD frame's text: a frame with flags has another word and the flags as a digit (own choice)
+-- the first word of an FD frame's text: `fdframe`, or `fdframex` and the flags as a digit if any is set (own choice)
 abbrev pub fd_word : FdFlags → List ℕ
 fd_word flags =
     if has_no_flags flags then codes "< fdframe " else codes "< fdframex " ++ (48 + flags_number flags) ∷ codes " "
 
--- an FD frame with its timestamp, without the closing ` >`
+-- the text of an FD frame and its timestamp, without the closing ` >`
 abbrev pub fd_front : CanFrame → ℕ → List ℕ
 fd_front frame micros = fd_word (payload_flags frame.payload) ++ body_text frame micros
 
--- a remote frame with its timestamp and the length that it requests, without the closing ` >`
+-- the text of a remote frame, its timestamp and the length that it requests, without the closing ` >`
 abbrev pub remote_front : CanFrame → ℕ → List ℕ
 remote_front frame micros =
     codes "< remote " ++ id_text frame.id ++ codes " " ++ moment_text micros ++ codes " "
     ++ decimal (payload_len frame.payload)
 
--- a frame of any kind
+-- the text of a frame of any kind, without the closing ` >`
 abbrev pub frame_front : CanFrame → ℕ → List ℕ
 frame_front frame micros =
     if is_remote frame.payload then remote_front frame micros
     else if is_fd frame.payload then fd_front frame micros
     else data_front frame micros
 
--- an error message frame with its timestamp, and with its data if the flag is set
+-- the text of an error message frame and its timestamp, with its data if the flag is set
 abbrev pub error_text : Bool → ErrorMessage → ℕ → List ℕ
 error_text false e micros = codes "< error " ++ class_text e.class ++ codes " " ++ moment_text micros ++ codes " >"
 error_text true e micros =
@@ -80,12 +80,12 @@ abbrev pub item_text : Bool → Item → ℕ → List ℕ
 item_text errdata (item.Data frame) micros = frame_front frame micros ++ codes " >"
 item_text errdata (item.Error e) micros = error_text errdata e micros
 
--- the origin of a frame: the receiving socket's own interface or another one, and the frame's number there
+-- the text of a frame's origin: the receiving socket's own interface or another one, and the frame's number there
 abbrev pub origin_text : Origin → List ℕ
 origin_text (Same number) = codes " same " ++ decimal number
 origin_text (Other number) = codes " other " ++ decimal number
 
--- the text of an item with its origin before the end; an error message frame has no origin
+-- the text of an item with its origin at the end; an error message frame has no origin
 abbrev pub item_text_from : Bool → Origin → Item → ℕ → List ℕ
 item_text_from errdata origin (item.Data frame) micros = frame_front frame micros ++ origin_text origin ++ codes " >"
 item_text_from errdata origin (item.Error e) micros = error_text errdata e micros
@@ -100,12 +100,12 @@ abbrev pub IsOrigin : Origin → Type 0
 IsOrigin (Same number) = number < 2 ^ 64
 IsOrigin (Other number) = number < 2 ^ 64
 
--- the item as shown without the data of error message frames, only with their class
+-- the item as shown to a client without error data: an error message frame has only its class
 abbrev pub without_data : Item → Item
 without_data (item.Data frame) = item.Data frame
 without_data (item.Error e) = item.Error (record { class = e.class; bytes = [] })
 
--- the counts of items offered to the socket, and of frames of its interface
+-- the reply to `stats`: the item counts of the socket, then the frame counts of its interface
 abbrev pub stats_text : SocketStats → IfaceStats → List ℕ
 stats_text s i =
     codes "< stats " ++ decimal s.queued ++ codes " " ++ decimal s.dropped ++ codes " " ++ decimal s.taken
@@ -120,7 +120,7 @@ state_word Passive = codes "passive"
 state_word Off = codes "off"
 state_word Down = codes "down"
 
--- the state of an interface, its transmit error count and its receive error count
+-- the reply to `status`: the state of an interface, its transmit error count and its receive error count
 abbrev pub status_text : ErrorCounts → List ℕ
 status_text c =
     codes "< status " ++ state_word (state_of c) ++ codes " " ++ decimal c.tec ++ codes " " ++ decimal c.rec
@@ -130,8 +130,8 @@ status_text c =
 abbrev pub no_bus_load : BusLoad
 no_bus_load = record { permille = 0; micros = 0; bitrate = 0; dbitrate = 0 }
 
--- the load of a bus: the thousandths of the last whole second and the microseconds since its start for which it was
--- busy, then its nominal and its data bit rate
+-- the reply to `load`: how much of the last whole second the bus was busy, in thousandths; how long it was busy since
+-- its start, in microseconds; its nominal bit rate and its data bit rate
 abbrev pub load_text : BusLoad → List ℕ
 load_text l =
     codes "< load " ++ decimal l.permille ++ codes " " ++ decimal l.micros ++ codes " " ++ decimal l.bitrate
@@ -150,15 +150,15 @@ answer_text (Faults left) = codes "< faults " ++ decimal left ++ codes " >"
 answer_text (Closing c) = codes "< closed " ++ decimal c.unread ++ codes " " ++ decimal c.dropped ++ codes " >"
 answer_text (Refused why) = codes "< error " ++ cause_text why ++ codes " >"
 
--- names, with a space (32) before each
+-- the names, with a space (32) before each name
 abbrev pub spaced : List (List ℕ) → List ℕ
 spaced names = flat_map (λ name. 32 ∷ name) names
 
--- the reply to `interfaces`, with all names of interfaces
+-- the reply to `interfaces`: the names of all interfaces
 abbrev pub interfaces_text : List (List ℕ) → List ℕ
 interfaces_text names = codes "< interfaces" ++ spaced names ++ codes " >"
 
--- the eight counts that `stats` shows; it leaves out the error counters of the interface
+-- the eight counts that `stats` shows; they do not include the error counters of the interface
 abbrev pub told_counts : SocketStats → IfaceStats → List ℕ
 told_counts s i = s.queued ∷ s.dropped ∷ s.taken ∷ i.sent ∷ i.done ∷ i.waiting ∷ i.lost ∷ i.refused ∷ []
 

@@ -8,8 +8,8 @@ use Rattle.can_proto.specs.declared.verb.Verb.TheVariants.{SendFd, SendFlagged, 
 use Rattle.can_proto.specs.declared.verb.Verb.TheVariants.{FdFrames, ErrMask, ErrData, Ack, Origin, Stats, Status}
 use Rattle.can_proto.specs.declared.verb.Verb.TheVariants.{Load, Restart, Fault, Faults, NoFaults, Close, Down}
 
--- The first words of commands and the modes that have them (socketcand's raw mode; sendfd, sendfdx, and filter and the
--- later ones are own choice).
+-- The first words of commands and the modes that allow them (socketcand's raw mode; sendfd, sendfdx, filter and the
+-- words after filter are own choice).
 
 -- whether two words are equal, byte for byte
 abbrev pub is_word : List ℕ → List ℕ → Bool
@@ -53,9 +53,9 @@ named word =
     if is_word word (codes "down") then Some Down else
     if is_other_mode word then Some OtherMode else None
 
--- whether a mode has a command. `open` is allowed before an interface is opened, `echo` and `interfaces` before the
--- session ends. The mode commands are allowed once an interface is opened, and the fault commands also in raw mode. Raw
--- mode has all commands but `open`. A session that has ended has none.
+-- whether a mode allows a command. `open` is allowed before an interface is opened, and `echo` and `interfaces` until
+-- the session ends. The mode commands are allowed once an interface is opened, and the fault commands also in raw mode.
+-- Raw mode allows all commands except `open`. A session that has ended allows no commands.
 abbrev pub is_allowed_in : Verb → Mode → Bool
 is_allowed_in Open NoBus = true
 is_allowed_in Open _ = false
@@ -71,12 +71,12 @@ is_allowed_in NoFaults Opened = true
 is_allowed_in _ Raw = true
 is_allowed_in _ _ = false
 
--- whether a mode has the command that a first word names
+-- whether a mode allows the command that a first word names
 abbrev pub has_verb : Mode → Option Verb → Bool
 has_verb mode None = false
 has_verb mode (Some verb) = is_allowed_in verb mode
 
--- whether a mode has the command that these words begin with
+-- whether a mode allows the command that these words begin with
 abbrev pub mode_has : Mode → List (List ℕ) → Bool
 mode_has mode [] = false
 mode_has mode (word ∷ words) = has_verb mode (named word)

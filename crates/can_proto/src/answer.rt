@@ -9,15 +9,15 @@ use can_event::{Closed, IfaceStats, Refusal, SocketStats};
 /// A reply to a client.
 #[derive(Debug, Clone, Copy, PartialEq, Eq)]
 pub enum Answer {
-    /// The first text of a session.
+    /// The greeting at the start of a session.
     Greeting,
-    /// The command was done.
+    /// The command was carried out.
     Done,
     /// The reply to `echo`.
     Echo,
-    /// The frame was sent. The field is its number at its interface.
+    /// The frame was sent. The field is the frame's number at the sending interface.
     Sent(u64),
-    /// The counts of items offered to the socket, and of frames of its interface.
+    /// The reply to `stats`: the item counts of the socket and the frame counts of its interface.
     Stats(SocketStats, IfaceStats),
     /// The error counters of the interface.
     Status(Counters),
@@ -27,20 +27,20 @@ pub enum Answer {
     Faults(u64),
     /// The socket was closed.
     Closing(Closed),
-    /// The command was refused, for this cause; nothing was done.
+    /// The command was refused for this cause, and nothing was done.
     Refused(Cause),
 }
 
 /// The load of a bus and its bit rates in bits per second. All fields are 0 if the bus has no bit rates.
 #[derive(Debug, Clone, Copy, PartialEq, Eq)]
 pub struct BusLoad {
-    /// The thousandths of the last whole second during which the bus was busy.
+    /// The part of the last whole second during which the bus was busy, in thousandths.
     pub permille: u16,
-    /// The microseconds during which the bus was busy since it started.
+    /// The total time in microseconds for which the bus has been busy since it started.
     pub micros: u64,
-    /// The nominal bit rate.
+    /// The nominal bit rate in bits per second.
     pub bitrate: u32,
-    /// The data bit rate; it equals the nominal one if the bus has no other.
+    /// The data bit rate in bits per second. It equals the nominal bit rate if the bus has no separate data bit rate.
     pub dbitrate: u32,
 }
 
@@ -58,8 +58,8 @@ impl BusLoad {
     }
 }
 
-/// The origin of a frame, as seen from the interface of the socket that received it. The field is the number of the
-/// frame at the sending interface.
+/// The origin of a frame, as seen from the interface of the socket that received it. The field is the frame's number at the sending
+/// interface.
 #[derive(Debug, Clone, Copy, PartialEq, Eq)]
 pub enum Origin {
     /// The same interface sent the frame.
@@ -68,7 +68,7 @@ pub enum Origin {
     Other(u64),
 }
 
-/// The cause for which the server did not carry out a client's message.
+/// The reason why the server did not carry out a client's message.
 #[derive(Debug, Clone, Copy, PartialEq, Eq)]
 pub enum Cause {
     NoMemory,
@@ -102,7 +102,7 @@ pub enum Cause {
 }
 
 impl Cause {
-    /// Returns the words of the cause, at most 18 bytes.
+    /// Returns the text of the cause, which has at most 18 bytes.
     pub fn text(self) -> &'static [u8]
         ensures text { result.now ≡ cause_text self }
         ensures short { length result.now ≤ 18 }

@@ -14,7 +14,7 @@ use can_event::Opt;
 use can_frame::{FdFlags, read_hexadecimal};
 use std::alloc::Global;
 
-/// Returns the only argument of a command, or a fault if there is not exactly one.
+/// Returns the argument of a command that takes exactly one, or a fault if the number of words is not one.
 fn read_word(rest: &[u8]) -> Result<&[u8], ProtoFault>
     ensures { GivesAsRead (result_map_both (λ word. word.now) (λ e. e) result)
         (only (words_of rest.now)) }
@@ -39,7 +39,7 @@ fn read_mask(rest: &[u8]) -> Result<Command, ProtoFault>
     }
 }
 
-/// Reads a flag of one digit.
+/// Reads a flag, which is `0` or `1`.
 fn read_flag(word: &[u8]) -> Option<bool>
     ensures { result ≡ flag_of word.now }
 {
@@ -50,7 +50,7 @@ fn read_flag(word: &[u8]) -> Option<bool>
     }
 }
 
-/// Reads a single flag, as in `join F`.
+/// Reads the arguments of a command that takes a single flag, as in `join F`.
 #[tactic(auto, unfolding(crate::specs::Commands::switch_of))]
 fn read_switch(rest: &[u8]) -> Result<bool, ProtoFault>
     ensures { GivesAsRead result (switch_of (words_of rest.now)) }
@@ -88,7 +88,7 @@ fn read_fault(alloc: Global, rest: &[u8]) -> Result<Command, ProtoFault>
     }
 }
 
-/// Returns a command without arguments, or a fault if words follow it.
+/// Returns a command that takes no arguments, or a fault if there are any.
 #[inline(always)]
 fn read_alone(command: Command, rest: &[u8]) -> Result<Command, ProtoFault>
     ensures { GivesAsRead result (alone command (words_of rest.now)) }
@@ -99,7 +99,7 @@ fn read_alone(command: Command, rest: &[u8]) -> Result<Command, ProtoFault>
     }
 }
 
-/// Returns the command of a verb and the words after it.
+/// Returns the command that a verb and the words after it spell.
 #[tactic(auto, unfolding(crate::specs::Commands::arguments_of))]
 pub fn read_arguments(alloc: Global, verb: Verb, rest: &[u8]) -> Result<Command, ProtoFault>
     ensures { GivesBut keeps_on_heap result (arguments_of verb (words_of rest.now)) }

@@ -21,14 +21,14 @@ impl Model for ClientWords {
 }
 
 impl ClientWords {
-    /// Returns the bytes of these words.
+    /// Returns the words as bytes.
     pub fn bytes(&self) -> &[u8]
         ensures { result.now ≡ self.now }
     {
         &self.bytes
     }
 
-    /// Returns a copy of the bytes.
+    /// Returns a copy of these bytes.
     pub(crate) fn copied(alloc: Global, bytes: &[u8]) -> Result<ClientWords, AllocError>
         ensures { IfOk result (λ words. words ≡ bytes.now) }
     {
@@ -36,7 +36,7 @@ impl ClientWords {
         Ok(ClientWords { bytes })
     }
 
-    /// Returns the first word and the words of the text after it, with one space between each two.
+    /// Returns the first word followed by the words of the text, with one space between two words.
     pub(crate) fn joined(alloc: Global, word: &[u8], rest: &[u8]) -> Result<ClientWords, AllocError>
         ensures { IfOk result (λ words.
             words ≡ join_with_byte 32 (word.now ∷ words_of rest.now)) }
@@ -52,8 +52,8 @@ impl ClientWords {
     }
 }
 
-/// The name of an interface as a client wrote it. An interface of this name need not exist.
+/// The name of an interface as a client wrote it. There may be no interface of this name.
 pub type WantedName = ClientWords;
 
-/// A fault rule as a client wrote it, with one space between each two words. It need not be valid.
+/// A fault rule as a client wrote it, with one space between two words. The rule may be invalid.
 pub type WantedRule = ClientWords;

@@ -16,9 +16,9 @@ use std::alloc::Global;
 /// The stage of a session.
 #[derive(Debug, Clone, Copy, PartialEq, Eq)]
 pub enum Mode {
-    /// The client just connected and has opened no interface.
+    /// The client has just connected and has opened no interface.
     NoBus,
-    /// The client has opened an interface and has no socket on it.
+    /// The client has opened an interface but has no socket on it.
     Opened,
     /// Raw mode: the client has an open socket.
     Raw,
@@ -43,11 +43,11 @@ pub enum Command {
     SetFilters(FilterSet),
     /// Change an option of the socket.
     SetOption(Opt),
-    /// Receive the data of error message frames, or only their classes.
+    /// Turn the data in error message frames on or off. If it is off, the client receives only their classes.
     ErrData(bool),
-    /// Request the number of each frame sent, or no numbers.
+    /// Turn the reply with the number of each sent frame on or off.
     Ack(bool),
-    /// Request the origin of each frame received, or no origins.
+    /// Turn the origin of each received frame on or off.
     Origin(bool),
     /// Request the counts of frames and items.
     Stats,
@@ -55,13 +55,13 @@ pub enum Command {
     Status,
     /// Request the load of the bus.
     Load,
-    /// Restart the interface, which is bus off or down.
+    /// Restart the interface if it is bus off or down.
     Restart,
     /// Add one fault rule to the bus.
     Fault(WantedRule),
-    /// Request the number of fault rules of the bus.
+    /// Request the number of fault rules that the bus has.
     Faults,
-    /// Remove all fault rules.
+    /// Remove all fault rules of the bus.
     NoFaults,
     /// Close the socket and end the session.
     Close,
@@ -70,8 +70,8 @@ pub enum Command {
 }
 
 impl Command {
-    /// Returns the command that a message spells in a mode, or the first fault of the message. The result is `NoMemory`
-    /// only if everything else is right. The time grows with the length of the message.
+    /// Returns the command that a message spells in this mode, or the first fault of the message. Returns `NoMemory` only if the
+    /// message has no other fault. The running time grows with the length of the message.
     pub fn read(alloc: Global, mode: Mode, message: &Message) -> Result<Command, ProtoFault>
         ensures { GivesBut keeps_on_heap result (reading mode (words_of message.now)) }
     {
@@ -89,7 +89,7 @@ impl Command {
     }
 }
 
-/// Returns the command of a verb and the words after it, in a mode.
+/// Returns the command that a verb and the words after it spell in this mode.
 #[inline(always)]
 fn read_verb(alloc: Global, verb: Verb, mode: Mode, rest: &[u8]) -> Result<Command, ProtoFault>
     ensures { GivesBut keeps_on_heap result (command_of mode (words_of rest.now) (Some verb)) }

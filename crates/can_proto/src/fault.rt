@@ -1,42 +1,42 @@
 use thiserror::Error;
 
-/// A fault that keeps a message from being a command. The client receives its text.
+/// The reason why a message is not a valid command. The client receives the text of the fault.
 #[derive(Debug, Clone, Copy, PartialEq, Eq, Error)]
 pub enum ProtoFault {
-    /// The allocator had no memory.
+    /// The allocator ran out of memory.
     #[error("no memory")]
     NoMemory,
-    /// The mask of a filter has bit 29.
+    /// Bit 29 is set in the mask of a filter.
     #[error("invalid filter")]
     InvalidFilter,
     /// The message has more than 512 filters.
     #[error("too many filters")]
     TooManyFilters,
-    /// The message has no word.
+    /// The message contains no words.
     #[error("empty message")]
     EmptyMessage,
-    /// The first word names no command.
+    /// The first word is not the name of a command.
     #[error("unknown command")]
     UnknownCommand,
-    /// The mode of the session does not have this command.
+    /// The command is not allowed in the current mode of the session.
     #[error("wrong state")]
     WrongState,
-    /// The word names a mode of socketcand that this server leaves out.
+    /// The word names a mode of socketcand that this server does not support.
     #[error("mode not supported")]
     ModeNotSupported,
-    /// The command takes another number of words.
+    /// The command has the wrong number of words.
     #[error("bad word count")]
     BadCount,
-    /// The word spells no identifier.
+    /// The word is not an identifier.
     #[error("bad id")]
     BadId,
-    /// The word spells no length that the command allows.
+    /// The word is not a length that the command allows.
     #[error("bad length")]
     BadLength,
-    /// The word spells no byte of one or two hexadecimal digits.
+    /// The word is not a byte of one or two hexadecimal digits.
     #[error("bad byte")]
     BadByte,
-    /// The word spells no number that the command allows.
+    /// The word is not a number that the command allows.
     #[error("bad number")]
     BadNumber,
 }

@@ -29,7 +29,7 @@ fn read_filter(id_word: &[u8], mask_word: &[u8]) -> Result<Filter, ProtoFault>
     }
 }
 
-/// Returns the filters that the words spell, two words for each, in the first places of an array.
+/// Returns an array that begins with the filters that the words spell. Each filter has two words.
 fn read_filters(rest: &[u8], count: usize) -> Result<[Filter; 512], ProtoFault>
     requires few { count ≤ 512 }
     requires words { length (words_of rest.now) ≡ count * 2 }

@@ -22,8 +22,8 @@ pub fn every_cut_gives_the_same_messages()
         given_from [] pieces ≡ messages_of (flat_map (λ piece. piece) pieces) }
 {}
 
-/// At most 1,024 bytes between `<` and `>`, with no other mark among them, are one message. The bytes after `>` are
-/// read separately.
+/// At most 1,024 bytes between `<` and `>` are one message if there is no other mark among them. The bytes after `>` are read
+/// separately.
 pub fn bytes_between_marks_are_a_message()
     ensures { (inside rest : List ℕ) →
         has_mark inside ≡ false → length inside ≤ 1024 →
@@ -31,14 +31,13 @@ pub fn bytes_between_marks_are_a_message()
         ≡ Incoming.Message inside ∷ messages_of rest }
 {}
 
-/// No two causes have the same words.
+/// No two causes have the same text.
 pub fn words_tell_one_cause()
     ensures { (one other : Cause) → cause_text one ≡ cause_text other → one ≡ other }
 {}
 
-/// Different items have different texts, and so do different timestamps. Without `errdata` the text of an error message
-/// frame leaves out its data: only its class and timestamp show. With origins, frames of different origins also have
-/// different texts.
+/// Different items have different texts, and so do different timestamps. Without `errdata`, the text of an error message frame
+/// shows only its class and its timestamp, but not its data. With origins, frames of different origins also have different texts.
 pub fn texts_tell_items_apart()
     ensures whole { (i j : AnItem) (m n : ℕ) →
         IsItem i → IsItem j → m < 10 ^ 16 → n < 10 ^ 16 →
@@ -52,7 +51,7 @@ pub fn texts_tell_items_apart()
         (i ≡ j) × (m ≡ n) × (shown_origin i o ≡ shown_origin j p) }
 {}
 
-/// Different lists of names have different texts. None of these texts is the text of another reply or of an item.
+/// Different lists of names have different texts. No such text equals the text of another reply or of an item.
 pub fn names_tell_apart()
     ensures one_list { (one other : List (List ℕ)) →
         All IsWord one → All IsWord other →
@@ -66,8 +65,8 @@ pub fn names_tell_apart()
         item_text_from errdata o i m ≡ interfaces_text names → ⊥ }
 {}
 
-/// Each mode that has a command reads the command's text back as that command. A space before and after the text, as
-/// written in messages, makes no difference.
+/// The text of a command is read back as that command in each mode that allows it. A space before and after the text, as in
+/// messages, makes no difference.
 pub fn written_commands_are_read()
     ensures alone { (mode : AMode) (c : ACommand) →
         IsCommand c → IsTrue (mode_has mode (command_words c)) →
@@ -77,8 +76,8 @@ pub fn written_commands_are_read()
         reading mode (words_of (codes " " ++ command_spelling c ++ codes " ")) ≡ Ok c }
 {}
 
-/// No two replies have the same text, except that `stats` leaves out the error counters. No reply has the text of an
-/// item, with or without an origin.
+/// Different replies have different texts, except that the text of `stats` leaves out the error counters. No reply has the same
+/// text as an item, with or without an origin.
 pub fn answers_tell_apart()
     ensures one_answer { (one other : AnAnswer) →
         FitsIn64 one → FitsIn64 other → answer_text one ≡ answer_text other → AreAlike one other }

@@ -1,12 +1,11 @@
-//! The protocol between a session and its client, in the shape of socketcand's raw mode.
+//! The protocol between a session and its client, modelled on the raw mode of socketcand.
 //!
-//! The bytes of a client come in pieces that end anywhere. `Reader` turns them into messages, which depend only on the
-//! bytes and not on the cuts. `Command::read` returns the command of a message in the session's mode, or the first
-//! fault of the message. `reply_text` and `item_text` write replies and received items for a client, byte for byte as
-//! defined in specs/Spelling.
+//! A client's bytes arrive in pieces that may end anywhere. `Reader` turns them into messages, which depend only on the bytes and
+//! not on the cuts. `Command::read` returns the command of a message in the session's mode, or the first fault of the message.
+//! `reply_text` and `item_text` write replies and received items for a client, byte for byte as defined in specs/Spelling.
 //!
-//! Three laws say that no information is lost. Every cut of a stream gives the same messages. The text of a command is
-//! read back as that command. Different items and replies have different texts.
+//! Three laws say that no information is lost. A stream gives the same messages however it is cut. The text of a command is read
+//! back as that command. Different items and replies have different texts.
 #![tactic(auto)]
 
 pub mod answer;

@@ -27,7 +27,7 @@ impl Message {
         self.inside.bytes()
     }
 
-    /// Returns the message of the bytes held followed by more bytes.
+    /// Returns the message of the held bytes followed by more bytes.
     #[inline(always)]
     pub(crate) fn joined(alloc: Global, held: &[u8], more: &[u8]) -> Result<Message, AllocError>
         ensures { IfOk result (λ m. m ≡ held.now ++ more.now) }
@@ -37,7 +37,7 @@ impl Message {
     }
 }
 
-/// A message of a stream, or a fault of a message.
+/// A message that a reader found in a stream, or the sign of a message that is too long.
 #[derive(Debug, Drop)]
 pub enum Incoming {
     /// A whole message.

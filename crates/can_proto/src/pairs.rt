@@ -1,4 +1,4 @@
-//! Data and identifiers in their usual form: each word has its full number of digits, with one space after it.
+//! Reads data and identifiers in their usual form: each word has its full number of digits and one space after it.
 ghost use Rattle.std.specs.Prelude.{◌≡◌, ◌≤◌, ◌<◌, ◌∷◌, [], Ok, take, length, ok_or, MatchOption, IfSome};
 ghost use Rattle.can_proto.specs.Words.{IsSolid, words_of};
 ghost use Rattle.can_frame.specs.Numbers.{hex_digit, number_in};
@@ -7,10 +7,10 @@ ghost use Rattle.can_proto.specs.Commands.{bytes_of, id_of};
 use crate::fault::ProtoFault;
 use can_frame::CanId;
 
-/// The entry of the table for a byte that is no digit.
+/// The table's entry for a byte that is not a digit.
 const NO_DIGIT: u8 = 64;
 
-/// The value of each hexadecimal digit in either case, at the index of its byte.
+/// The value of each hexadecimal digit, in lower or upper case, indexed by the byte of the digit.
 #[rattlefmt::skip]
 static DIGITS: [u8; 256] = [
     64, 64, 64, 64, 64, 64, 64, 64, 64, 64, 64, 64, 64, 64, 64, 64,
@@ -74,8 +74,8 @@ pub fn short_id(high: u8, middle: u8, low: u8) -> Option<CanId>
     }
 }
 
-/// Returns the bytes that this many words spell, in the first places of an array. Each word must have two digits and
-/// one space after it, which is the usual form of data.
+/// Returns an array that begins with the bytes that `len` words spell. Each word must have two digits and one space after it, which
+/// is the usual form of data.
 #[inline(always)]
 pub fn paired_bytes<const N: usize>(text: &[u8], len: usize) -> Option<[u8; N]>
     requires small { len ≤ N }

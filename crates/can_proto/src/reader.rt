@@ -9,8 +9,8 @@ use can_frame::Frame;
 use std::alloc::{AllocError, Global};
 use std::marker::Model;
 
-/// Reads the messages of a stream that comes in pieces. Between two calls it keeps the last `<` and at most 1,024 bytes
-/// after it, if these may still become a message.
+/// Reads the messages of a stream that arrives in pieces. Between two calls it keeps the last `<` and at most 1,024 bytes after it,
+/// if these may still become a message.
 #[derive(Drop)]
 pub struct Reader {
     is_open: bool,
@@ -31,7 +31,7 @@ impl Model for Reader {
 }
 
 impl Reader {
-    /// Returns a reader at the start of a stream. It allocates the memory that it may need later.
+    /// Returns a reader at the start of a stream. All memory that the reader may need later is allocated here.
     pub fn new(alloc: Global) -> Result<Reader, AllocError>
         ensures { IfOk result (λ r. r ≡ []) }
     {
@@ -41,9 +41,8 @@ impl Reader {
         })
     }
 
-    /// Returns the messages of the stream up to the end of this piece, except the messages returned before. It fails
-    /// only if the allocator has no memory, and then the reader is unchanged. The time grows with the length of the
-    /// piece.
+    /// Returns the messages that end in this piece of the stream. It fails only if the allocator has no memory, and then the reader
+    /// is unchanged. The running time grows with the length of the piece.
     pub fn feed(&mut self, alloc: Global, piece: &[u8]) -> Result<Vec<Incoming>, AllocError>
         ensures given { IfOk result (λ out. out.items ≡ messages_of (self.old ++ piece.now)) }
         ensures keeps { OnOk result (self.new ≡ kept_of (self.old ++ piece.now)) }
@@ -65,8 +64,8 @@ impl Reader {
         Ok(out)
     }
 
-    /// Returns the frame that a piece asks to send in raw mode. The piece must be a single `send` in its usual
-    /// spelling, and no message may have begun before it. The reader is unchanged, and the piece contains nothing else.
+    /// Returns the frame that a piece asks to send in raw mode. The piece must be a single `send` in its usual spelling, without
+    /// any other bytes, and no message may have begun before it. The reader is unchanged.
     pub fn lone_send(&self, piece: &[u8]) -> Option<Frame>
         ensures sends { IfSome result (λ frame. IsLoneSend (self.now ++ piece.now) frame) }
         ensures keeps { IfSome result (λ _. kept_of (self.now ++ piece.now) ≡ self.now) }

@@ -9,7 +9,7 @@ use std::alloc::{AllocError, Global};
 /// The largest number of bytes in a message.
 pub const LIMIT: usize = 1024;
 
-/// The beginning of the run of bytes that is being read.
+/// The place at which the current run of bytes began.
 #[derive(Clone, Copy)]
 pub enum RunStart {
     /// No run is being read.
@@ -20,10 +20,10 @@ pub enum RunStart {
     At(usize),
 }
 
-/// The number of bytes that one step searches for a mark.
+/// The number of bytes that are searched for a mark in one step.
 const BLOCK: usize = 16;
 
-/// Returns whether the block at an index has a mark. It has no branches, so the compiler can compare all bytes at once.
+/// Returns whether the block at an index contains a mark. The loop has no branches, so the compiler can compare all bytes at once.
 fn block_has_mark(piece: &[u8], from: usize) -> bool
     requires { from + 16 ≤ length piece.now }
     ensures { result ≡ has_mark (drop from (take (from + 16) piece.now)) }
@@ -35,7 +35,7 @@ fn block_has_mark(piece: &[u8], from: usize) -> bool
     found
 }
 
-/// Returns the index after the whole blocks without a mark.
+/// Skips whole blocks that contain no mark, and returns the index after them.
 fn clear_blocks(piece: &[u8], from: usize) -> usize
     requires { from ≤ length piece.now }
     ensures after { from ≤ result }
@@ -69,7 +69,7 @@ fn next_mark(piece: &[u8], from: usize) -> usize
     piece.len()
 }
 
-/// Reads the bytes of the piece from one index to another, which contain no mark.
+/// Reads the bytes of the piece between two indexes. These bytes contain no mark.
 fn pass(
     out: &mut Vec<Incoming>,
     held: &[u8],
@@ -133,7 +133,7 @@ fn at_mark(
     Ok(RunStart::Outside)
 }
 
-/// Adds the message of the bytes held followed by more bytes.
+/// Adds the message of the held bytes followed by more bytes.
 #[inline(never)]
 fn push_message(
     alloc: Global,
@@ -148,8 +148,8 @@ fn push_message(
     Ok(())
 }
 
-/// Returns the messages of a piece after the bytes held, and the beginning of the run at its end. If `is_open` is true,
-/// a run was being read and `held` are its bytes so far.
+/// Returns the messages of the held bytes followed by a piece, and the start of the run at the end of the piece. If `is_open` is
+/// true, a run was being read and `held` contains its bytes so far.
 pub fn scan(
     alloc: Global,
     is_open: bool,

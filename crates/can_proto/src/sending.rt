@@ -19,7 +19,7 @@ fn read_id(word: &[u8]) -> Result<CanId, ProtoFault>
     id_in(word).ok_or(ProtoFault::BadId)
 }
 
-/// Returns the identifier that a word spells, or none.
+/// Returns the identifier that a word spells, or `None`.
 #[tactic(auto, unfolding(crate::specs::Commands::id_of))]
 fn id_in(word: &[u8]) -> Option<CanId>
     ensures { id_of word.now ≡ ok_or result ProtoFault.BadId }
@@ -33,7 +33,7 @@ fn id_in(word: &[u8]) -> Option<CanId>
     }
 }
 
-/// Returns the 29-bit identifier that a word of 8 digits spells, or none.
+/// Returns the 29-bit identifier that a word of 8 digits spells, or `None`.
 #[tactic(auto, unfolding(crate::specs::Commands::id_of))]
 fn long_id(word: &[u8]) -> Option<CanId>
     requires { length word.now ≡ 8 }
@@ -48,7 +48,7 @@ fn long_id(word: &[u8]) -> Option<CanId>
     CanId::extended(number).ok()
 }
 
-/// Reads a length of one digit, 0 to 8.
+/// Reads a length, which is a digit from 0 to 8.
 #[tactic(auto, unfolding(crate::specs::Commands::length_of))]
 fn read_length(word: &[u8]) -> Result<u8, ProtoFault>
     ensures value { GivesAsRead result (length_of word.now) }
@@ -79,7 +79,7 @@ fn read_fd_length(word: &[u8]) -> Result<usize, ProtoFault>
     }
 }
 
-/// Returns the byte that 1 or 2 hexadecimal digits spell, or none.
+/// Returns the byte that 1 or 2 hexadecimal digits spell, or `None`.
 fn read_byte(word: &[u8]) -> Option<u8>
     ensures { result ≡ number_in 16 2 word.now }
 {
@@ -90,8 +90,8 @@ fn read_byte(word: &[u8]) -> Option<u8>
     }
 }
 
-/// Returns the bytes that this many words spell, in the first places of an array. The fault of a wrong count comes
-/// before that of a word that spells no byte.
+/// Returns an array that begins with the bytes that `len` words spell. A wrong number of words is reported before a word that is
+/// not a byte.
 fn read_bytes<const N: usize>(rest: &[u8], len: usize) -> Result<[u8; N], ProtoFault>
     requires small { len ≤ N }
     requires few { len ≤ 64 }
@@ -107,7 +107,7 @@ fn read_bytes<const N: usize>(rest: &[u8], len: usize) -> Result<[u8; N], ProtoF
     spelled_bytes::<N>(rest, len)
 }
 
-/// Returns the bytes that this many words spell, with any blanks between the words.
+/// Returns an array that begins with the bytes that `len` words spell. Any number of blanks may separate the words.
 #[inline(never)]
 fn spelled_bytes<const N: usize>(rest: &[u8], len: usize) -> Result<[u8; N], ProtoFault>
     requires small { len ≤ N }
@@ -128,7 +128,7 @@ fn spelled_bytes<const N: usize>(rest: &[u8], len: usize) -> Result<[u8; N], Pro
     }
 }
 
-/// Returns the byte that the first word spells, and the text after it. This many words should follow.
+/// Returns the byte that the first word spells, and the text after that word. `left` more words should follow.
 fn spelled_byte(text: &[u8], left: usize) -> Result<(u8, &[u8]), ProtoFault>
     ensures value { IfOk result (λ found. IsFirstByte found.0 found.1.now text.now) }
     ensures fault { IfErr result (IsDataFault (left + 1) (words_of text.now)) }
@@ -142,7 +142,7 @@ fn spelled_byte(text: &[u8], left: usize) -> Result<(u8, &[u8]), ProtoFault>
     }
 }
 
-/// Returns the fault of a word that spells no byte and that this many words should follow.
+/// Returns the fault of a word that is not a byte and is followed by the text `after`, which should have `left` words.
 fn bad_byte(after: &[u8], left: usize) -> ProtoFault
     ensures { result ≡ fault_of_byte left (words_of after.now) }
 {
@@ -183,7 +183,7 @@ pub fn usual_frame(text: &[u8]) -> Option<Frame>
     }
 }
 
-/// Returns the data frame of this identifier, and of a length and data in their usual form.
+/// Returns the data frame with this identifier and with the length and data that the text spells in their usual form.
 #[inline(always)]
 fn usual_payload(id: CanId, text: &[u8]) -> Option<Frame>
     ensures { IfSome result (λ frame. AsksFor frame id (words_of text.now)) }
@@ -199,7 +199,7 @@ fn usual_payload(id: CanId, text: &[u8]) -> Option<Frame>
     }
 }
 
-/// Returns the identifier that a first word of three or eight digits spells, and the text after one space.
+/// Returns the identifier that a first word of three or eight digits spells, and the text after the space.
 #[inline(always)]
 fn usual_id(text: &[u8]) -> Option<(CanId, &[u8])>
     ensures { IfSome result (λ found. IsFirstId found.0 found.1.now text.now) }
@@ -210,7 +210,7 @@ fn usual_id(text: &[u8]) -> Option<(CanId, &[u8])>
     }
 }
 
-/// Returns the identifier that a first word of eight digits spells, and the text after one space.
+/// Returns the identifier that a first word of eight digits spells, and the text after the space.
 fn usual_long_id(text: &[u8]) -> Option<(CanId, &[u8])>
     ensures { IfSome result (λ found. IsFirstId found.0 found.1.now text.now) }
 {
@@ -223,7 +223,7 @@ fn usual_long_id(text: &[u8]) -> Option<(CanId, &[u8])>
     }
 }
 
-/// Returns the data frame of words in any form.
+/// Returns the data frame that words of any valid form spell.
 #[inline(never)]
 #[tactic(auto, unfolding(crate::specs::Commands::send_of))]
 fn spelled_frame(rest: &[u8]) -> Result<Frame, ProtoFault>
@@ -257,7 +257,7 @@ pub fn read_send_flagged(rest: &[u8]) -> Result<Command, ProtoFault>
     read_send_fd(flags, rest)
 }
 
-/// Reads the flags of an FD frame, one digit.
+/// Reads the flags of an FD frame, which are one digit.
 #[tactic(auto, unfolding(crate::specs::Commands::flags_of_word))]
 fn read_flags(word: &[u8]) -> Result<FdFlags, ProtoFault>
     ensures { GivesAsRead result (flags_of_word word.now) }
@@ -272,7 +272,7 @@ fn read_flags(word: &[u8]) -> Result<FdFlags, ProtoFault>
     }
 }
 
-/// Reads the arguments of `sendfd ID LEN b ..`, for a frame with these flags.
+/// Reads the arguments of `sendfd ID LEN b ..`. The frame gets these flags.
 #[inline(never)]
 #[tactic(auto, unfolding(crate::specs::Commands::send_fd_of))]
 pub fn read_send_fd(flags: FdFlags, rest: &[u8]) -> Result<Command, ProtoFault>

@@ -21,7 +21,7 @@ pub fn item_text(item: Item, moment: Moment, errdata: bool) -> ItemText
     text
 }
 
-/// Writes the text of an item, as `item_text` spells it, into an empty buffer.
+/// Writes the text of an item, as `item_text` returns it, into an empty buffer.
 pub fn push_item(text: &mut ItemText, item: &Item, moment: Moment, errdata: bool)
     requires { text.old ≡ [] }
     ensures text { text.new ≡ item_text errdata item.now moment }
@@ -36,8 +36,8 @@ pub fn push_item(text: &mut ItemText, item: &Item, moment: Moment, errdata: bool
     }
 }
 
-/// Writes the text of an item, as `item_text` spells it, into an empty buffer, with the origin of a frame before its
-/// end.
+/// Writes the text of an item, as `item_text` returns it, into an empty buffer. The origin of a frame comes before the closing
+/// ` >`.
 #[inline(never)]
 pub fn push_item_from(
     text: &mut ItemText,
@@ -102,7 +102,7 @@ pub fn reply_text(answer: Answer) -> Text
     }
 }
 
-/// Returns the text of a word and a number.
+/// Returns a text that consists of a word and a number.
 fn count_text(word: &[u8], number: u64) -> Text
     requires { length word.now ≤ 200 }
     ensures { result ≡ word.now ++ codes " " ++ decimal number ++ codes " >" }
@@ -113,7 +113,7 @@ fn count_text(word: &[u8], number: u64) -> Text
     text
 }
 
-/// Returns the text of a refusal, as `reply_text` spells it, in the buffer of an item.
+/// Returns the text of a refusal, as `reply_text` does, in a buffer of the type for items.
 pub fn refusal_text(cause: Cause) -> ItemText
     ensures { result ≡ answer_text (Refused cause) }
 {
@@ -124,7 +124,7 @@ pub fn refusal_text(cause: Cause) -> ItemText
     text
 }
 
-/// Returns a text of these bytes.
+/// Returns a text that consists of these bytes.
 fn fixed_text(bytes: &[u8]) -> Text
     requires { length bytes.now ≤ 256 }
     ensures { result ≡ bytes.now }
@@ -134,7 +134,7 @@ fn fixed_text(bytes: &[u8]) -> Text
     text
 }
 
-/// Returns the number of hexadecimal digits of an error class, at least 3.
+/// Returns the number of hexadecimal digits of an error class, which is at least 3.
 fn class_width(class: u32) -> usize
     ensures width { result ≡ class_width class }
     ensures most { result ≤ 8 }
@@ -179,7 +179,7 @@ fn push_frame(text: &mut ItemText, frame: &Frame, moment: Moment)
     }
 }
 
-/// Adds a data frame, up to the end of its text. If there is no data, the last byte is a space.
+/// Adds a data frame, without the `>` at the end. If there is no data, the last byte is a space.
 fn push_classic(text: &mut ItemText, frame: &Frame, moment: Moment)
     requires { length text.old + 168 ≤ 200 }
     ensures text { text.new ≡ text.old ++ data_front frame.now moment }
@@ -189,7 +189,7 @@ fn push_classic(text: &mut ItemText, frame: &Frame, moment: Moment)
     push_data(text, frame, moment);
 }
 
-/// Adds an FD frame, up to the end of its text. If there is no data, the last byte is a space.
+/// Adds an FD frame, without the `>` at the end. If there is no data, the last byte is a space.
 fn push_fd(text: &mut ItemText, frame: &Frame, moment: Moment)
     requires { length text.old + 168 ≤ 200 }
     ensures text { text.new ≡ text.old ++ fd_front frame.now moment }
@@ -199,7 +199,7 @@ fn push_fd(text: &mut ItemText, frame: &Frame, moment: Moment)
     push_data(text, frame, moment);
 }
 
-/// Adds the first word of the text of an FD frame with these flags.
+/// Adds the words before the identifier of an FD frame with these flags.
 fn push_fd_word(text: &mut ItemText, flags: FdFlags)
     requires { length text.old + 13 ≤ 200 }
     ensures text { text.new ≡ text.old ++ fd_word flags }
@@ -243,7 +243,7 @@ fn push_remote(text: &mut ItemText, frame: &Frame, moment: Moment)
     push_length(text, frame.len());
 }
 
-/// Adds the length that a remote frame requests.
+/// Adds the length of the data that a remote frame requests.
 fn push_length(text: &mut ItemText, len: u8)
     requires small { len ≤ 8 }
     requires room { length text.old < 200 }
@@ -270,7 +270,7 @@ fn push_error(text: &mut ItemText, error: ErrorFrame, moment: Moment, errdata: b
     text.push_all(b" >");
 }
 
-/// Returns the eight counts of `stats`.
+/// Returns the text of the eight counts of `stats`.
 fn stats_text(socket: SocketStats, iface: IfaceStats) -> Text
     ensures { result ≡ stats_text socket iface }
 {
@@ -302,7 +302,7 @@ fn state_word(state: State) -> &'static [u8]
     }
 }
 
-/// Returns the state and the two counters of `status`.
+/// Returns the text of `status`: the state and the two counters.
 fn status_text(counters: Counters) -> Text
     ensures { result ≡ status_text counters }
 {
@@ -315,7 +315,7 @@ fn status_text(counters: Counters) -> Text
     text
 }
 
-/// Returns the four numbers of `load`.
+/// Returns the text of the four numbers of `load`.
 fn load_text(load: BusLoad) -> Text
     ensures { result ≡ load_text load }
 {

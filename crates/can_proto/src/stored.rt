@@ -4,11 +4,10 @@ ghost use Rattle.can_proto.specs.Stored.{stored_bytes};
 use arrayvec::ArrayVec;
 use std::alloc::{AllocError, Global};
 
-/// The number of bytes that a message keeps without an allocation: enough for each `send` with single spaces.
+/// The number of bytes that a message holds without an allocation. A `send` with single spaces always fits.
 const SHORT: usize = 48;
 
-/// The bytes of a message. A short message keeps them in the value itself, so messages of usual length need no
-/// allocation.
+/// The bytes of a message. A short message is held in the value itself, so messages of usual length need no allocation.
 #[derive(Debug, Drop)]
 pub enum Stored {
     Short(ArrayVec<u8, SHORT>),
@@ -26,7 +25,7 @@ impl Stored {
         }
     }
 
-    /// Returns the bytes held followed by more bytes. It allocates once, and only for more than 48 bytes.
+    /// Returns the held bytes followed by more bytes. It allocates only if the result has more than 48 bytes, and then once.
     #[inline(always)]
     pub fn joined(alloc: Global, held: &[u8], more: &[u8]) -> Result<Stored, AllocError>
         ensures { IfOk result (λ s. stored_bytes s ≡ held.now ++ more.now) }
@@ -38,7 +37,7 @@ impl Stored {
     }
 }
 
-/// Returns a vector of both byte strings, one after the other.
+/// Returns a vector of two byte strings, one after the other.
 #[inline(never)]
 fn long(alloc: Global, held: &[u8], more: &[u8]) -> Result<Vec<u8>, AllocError>
     ensures { IfOk result (λ v. v.items ≡ held.now ++ more.now) }
@@ -49,7 +48,7 @@ fn long(alloc: Global, held: &[u8], more: &[u8]) -> Result<Vec<u8>, AllocError>
     Ok(bytes)
 }
 
-/// Returns both byte strings, one after the other, if they are short enough.
+/// Returns two byte strings, one after the other, if the result is short enough.
 fn short(held: &[u8], more: &[u8]) -> Option<ArrayVec<u8, SHORT>>
     ensures { IfSome result (λ v. v.items ≡ held.now ++ more.now) }
 {

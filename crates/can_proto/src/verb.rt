@@ -4,19 +4,19 @@ ghost use Rattle.can_proto.specs.Verbs.{is_word, is_other_mode, named, is_allowe
 
 use crate::command::Mode;
 
-/// The command that a first word names.
+/// The command that the first word of a message names.
 #[derive(Debug, Clone, Copy, PartialEq, Eq)]
 pub enum Verb {
     Echo,
     Interfaces,
     Open,
     Rawmode,
-    /// A mode of socketcand that this server leaves out.
+    /// A mode of socketcand that this server does not support.
     OtherMode,
     Send,
     SendRtr,
     SendFd,
-    /// An FD frame with flags.
+    /// Send an FD frame with flags.
     SendFlagged,
     Filter,
     Join,
@@ -108,7 +108,7 @@ pub fn verb_of(word: &[u8]) -> Option<Verb>
     }
 }
 
-/// Returns the bytes after ` send `, if the text begins with these six bytes, as most messages do.
+/// Returns the bytes after ` send `, if the text begins with these six bytes. Most messages do.
 pub fn after_send(text: &[u8]) -> Option<&[u8]>
     ensures { IfSome result (λ rest. BeginsWith (codes "send") rest.now text.now) }
 {
@@ -118,14 +118,14 @@ pub fn after_send(text: &[u8]) -> Option<&[u8]>
     }
 }
 
-/// Returns whether a word names a mode of socketcand that this server leaves out.
+/// Returns whether a word names a mode of socketcand that this server does not support.
 fn names_other_mode(word: &[u8]) -> bool
     ensures { result ≡ is_other_mode word.now }
 {
     matches(word, b"bcmmode") || matches(word, b"isotpmode") || matches(word, b"controlmode")
 }
 
-/// Returns whether a mode has this command.
+/// Returns whether the command is allowed in this mode.
 pub fn is_allowed_in(verb: Verb, mode: Mode) -> bool
     ensures { result ≡ is_allowed_in verb mode }
 {

@@ -1,4 +1,4 @@
--- Items received one after another, and their texts.
+-- Items that are received one after another, and their texts.
 use Rattle.std.proofs.Common.{◌≡◌, ◌≢◌, ℕ, ◌+◌, ◌<◌, ◌≤◌, ◌==◌, Bool, true, false, List, [], ◌∷◌, ◌++◌, length, take, drop, get_or, set, min, Option, refl, sym, ap, subst, ◌∙◌, append-nil, append_assoc, add-one, take-append-drop, arith}
 use Rattle.std.specs.Io.KnownBytes.{Appends}
 use Rattle.std.proofs.KnownBytes.{Appends-trans}
@@ -29,7 +29,7 @@ text_more rooms i room below is =
 text_set : (rooms : List Room) (i : ℕ) (room : Room) → i < length rooms → texts_of (take (i + 1) (set rooms i room)) ≡ texts_of (take i rooms) ++ text_of room
 text_set rooms i room below = ap texts_of (take_more_set rooms i room below) ∙ one_text (take i rooms) room
 
--- the texts of the first buffers and those of the others
+-- the texts of the first buffers and of the remaining buffers
 pub text_rest : (rooms : List Room) (i : ℕ) (front : List ℕ) → front ≡ texts_of (take i rooms) → front ++ texts_of (drop i rooms) ≡ texts_of rooms
 text_rest rooms i front is =
     ap (λ (t : List ℕ). t ++ texts_of (drop i rooms)) is ∙ sym (flat_map-append text_of (take i rooms) (drop i rooms)) ∙ ap texts_of (take-append-drop i rooms)
@@ -55,7 +55,7 @@ module _ {P : Type 0} (step : P → (call : Call) → Reply call → P → Type 
         let n : most ≡ used = omega (arith, uses, is) in
         subst (λ (rs : List Room). GivesItems step most stage p (texts_of rs) q true) (sym same) (subst (λ (k : ℕ). GivesItems step most stage p (texts_of (take k rooms)) q true) n (all is))
 
-    -- the filled buffers include the receive that returned no item
+    -- the filled buffers include the buffer of the receive that returned no item
     used_few : items < most → GivesItems step most stage p (texts_of front) q false
     used_few low =
         let n : items + 1 ≡ used = omega (arith, uses, low) in
@@ -65,16 +65,16 @@ module _ {P : Type 0} (step : P → (call : Call) → Reply call → P → Type 
     used_as true full less = used_all (full refl)
     used_as false full less = used_few (less refl)
 
-    -- in both cases, the filled buffers have the texts
+    -- in both cases, the filled buffers have the texts of all items
     pub used_rooms : GivesItems step most stage p (texts_of front) q (items == most)
     used_rooms = used_as (items == most) (λ e. eqb-true items most e) (λ e. (let other : items ≢ most = eqb-false items most e in omega (arith, other, within)))
 
 module _ {W : Type 0} (contents : W → Option (List ℕ)) (old : W) (rooms : List Room) where
-  -- the texts of the first buffers: a writer took some of them, and the others are in the text buffer
+  -- the texts of the first buffers: the writer took some of them, and the remaining ones are in the text buffer
   abbrev pub Waits : ℕ → W → List ℕ → Type 0
   Waits i out text = (gone : List ℕ) × Appends (contents old) (contents out) gone × (gone ++ text ≡ texts_of (take i rooms))
 
-  -- the writer took the first bytes of them
+  -- the writer took the first bytes of these texts
   pub front_out : (i n : ℕ) (out new : W) (text rest : List ℕ) → Waits i out text → Appends (contents out) (contents new) (take n text) → rest ≡ drop n text → Waits i new rest
   front_out i n out new text rest (gone, took, is) more left = (
     gone ++ take n text,

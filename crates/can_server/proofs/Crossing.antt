@@ -56,18 +56,18 @@ module _ (N F G : RattleType) (g : roll.Ghosts N.Denot) (g' : meter.Ghosts N.Den
         ),
       )
 
-  -- a session with its port
+  -- a session and its port can be sent to another thread
   pub talk_send : (R : RattleType) → IsSync R → IsSend (talk.the_row κ N F G R g g' g'')
   talk_send R r =
       declared_send (talk.the_type κ N F G R g g' g'') (session.the_send, (port_send N F G g g' g'' f s κ R r, (batch.the_send, (opening.the_send, (search sendable depth 20, tt)))))
 
-  -- the values of the thread that delivers items
+  -- the values of the thread that delivers items can be shared
   pub delivery_sync : (ν : NamedLft) (C R : RattleType) → IsSync C → IsSync R → IsSync (delivery.the_row ν κ N F G C R g g' g'')
   delivery_sync ν C R c r =
       let talks : IsSync (mutex.the_row (talk.the_row κ N F G R g g' g'')) = mutex_sync.the_sync _ (talk_send R r) in
       declared_sync (delivery.the_type ν κ N F G C R g g' g'') (search (sendable, r) depth 20, (search (sendable, c) depth 20, (shared ν _ _ (buses_sync N F G g g' g'' f s), (shared ν _ _ talks, (search (sendable, conn.the_sync) depth 20, (search sendable depth 20, tt))))))
 
-  -- a server with its scribes
+  -- a server and its scribes can be shared between threads
   pub long_server_sync : (ν ι : NamedLft) (C R K : RattleType) (k : keeper.Ghosts K.Denot) → IsSync C → IsSync R → IsSend K → IsSync (long_server.the_row ν κ ι N F G C R K g g' g'' k)
   long_server_sync ν ι C R K k c r kept =
       declared_sync (long_server.the_type ν κ ι N F G C R K g g' g'' k)

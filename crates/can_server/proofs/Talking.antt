@@ -1,4 +1,4 @@
--- The results of a session's port, after it was taken out and put back.
+-- The results of a session's port are the same after the port was taken out and put back.
 use Rattle.std.proofs.Common.{◌≡◌, ℕ, Bool, true, List, sym, subst}
 use Rattle.can_dialog.specs.declared.stage.Stage.{Stage}
 use Rattle.can_dialog.specs.Calls.{Call, Reply}

@@ -11,7 +11,7 @@ use Rattle.can_server.specs.declared.clients.Phase.TheVariants as stay
 
 -- The clients of a server, each with a session (own choice).
 
--- a connection that threads share
+-- a connection that is shared between threads
 abbrev pub Shared : Type 0
 Shared = Arc Conn Global
 
@@ -20,11 +20,11 @@ pub record ClientsSeen : Type 0 where
   pub places : List (Option Client)
   pub is_closed : Bool
 
--- 64 free places
+-- a server without clients: 64 free places
 abbrev pub no_clients : ClientsSeen
 no_clients = record { places = replicate 64 None; is_closed = false }
 
--- no client has this place
+-- the place exists, and no client has it
 abbrev pub IsFree : List (Option Client) → ℕ → Type 0
 IsFree places place = slice_get places place ≡ Some None
 
@@ -32,7 +32,7 @@ IsFree places place = slice_get places place ≡ Some None
 abbrev pub NoneFree : List (Option Client) → Type 0
 NoneFree places = (place : ℕ) → ¬ IsFree places place
 
--- a connection receives a free place; otherwise nothing changes, because the server is closed or no place is free
+-- a new connection is given a free place; if the server is closed or no place is free, nothing changes
 abbrev pub Admits : ClientsSeen → Shared → ℕ → Result ℕ NotAdmitted → ClientsSeen → Type 0
 Admits old conn now (Ok place) new =
     (old.is_closed ≡ false)
@@ -45,7 +45,7 @@ Admits old conn now (Err refused.Closed) new = (old.is_closed ≡ true) × (new 
 Admits old conn now (Err refused.Full) new =
     (old.is_closed ≡ false) × NoneFree old.places × (new ≡ old)
 
--- whether a client came at least 60 seconds ago and its session has not entered raw mode
+-- whether a client connected at least 60 seconds ago and its session has not entered raw mode
 abbrev pub is_idle : ℕ → Phase → Bool
 is_idle now (stay.New came) = nat_le (came + 60000000) now
 is_idle now stay.Raw = false
@@ -55,22 +55,22 @@ is_idle now stay.ShutOut = false
 abbrev pub raw : Client → Client
 raw client = record { conn = client.conn; stay = stay.Raw }
 
--- the places after the session at one of them entered raw mode
+-- the places after the session of the client at this place entered raw mode
 abbrev pub raw_at : List (Option Client) → ℕ → List (Option Client)
 raw_at places place = set places place (option_map raw (slice_index_or places place None))
 
--- a client after another client found no place
+-- a client after another client found no free place: an idle client is shut out
 abbrev pub asked_for_room : ℕ → Client → Client
 asked_for_room now client = record {
   conn = client.conn;
   stay = if is_idle now client.stay then stay.ShutOut else client.stay;
 }
 
--- all clients after another client found no place
+-- all clients after another client found no free place
 abbrev pub all_asked : ℕ → List (Option Client) → List (Option Client)
 all_asked now places = map (option_map (asked_for_room now)) places
 
--- the server shut out the client at this place
+-- there is a client at this place, and the server has shut it out
 abbrev pub IsShutOut : Option Client → Type 0
 IsShutOut None = ⊥
 IsShutOut (Some client) = client.stay ≡ stay.ShutOut

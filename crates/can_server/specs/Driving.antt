@@ -5,9 +5,9 @@ use Rattle.can_attempt.specs.declared.class.Class.TheVariants.{NoAck}
 use Rattle.can_event.specs.declared.attempt.Attempt.{Attempt}
 use Rattle.can_event.specs.declared.attempt.Attempt.TheVariants as attempt
 
--- The interfaces that change state in an attempt, as a server reports them to its host (own choice).
+-- How a server reports to its host the interfaces whose state an attempt changes (own choice).
 
--- the interfaces that went bus off
+-- the interfaces that went bus off in an attempt
 abbrev pub off_in : Attempt → IfaceSet
 off_in (attempt.Idle restarted) = no_ifaces
 off_in (attempt.Tried tried) = tried.off

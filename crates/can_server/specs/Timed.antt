@@ -15,7 +15,7 @@ use Rattle.can_wire.specs.Schedules.{Schedule, next_begin, next_moment, after_tr
 
 -- The schedule of a driver on a bus with bit rates (own choice).
 
--- the time of the next attempt, which tries the frame of this interface, if there is one
+-- the time of the next attempt, which tries the given frame if there is one
 abbrev pub head_moment : Schedule → Option (ℕ × CanFrame) → ℕ
 head_moment s None = next_moment None s
 head_moment s (Some head) = next_moment (Some head.1) s
@@ -25,18 +25,18 @@ abbrev pub after_attempt : Verdict → Attempt → Schedule → Schedule
 after_attempt v (attempt.Tried t) s = after_tried t.frame t.class v s
 after_attempt v (attempt.Idle restarted) s = after_idle s
 
--- an attempt follows a schedule: a frame has the time of its end. The schedule advances by the length of the attempt,
--- which depends on its class and its verdict
+-- an attempt follows a schedule: it has the time at which its frame ends. The schedule advances by the length of the
+-- attempt, which depends on the class and the verdict of the attempt.
 abbrev pub GoesBy : Schedule → Verdict → Attempt → Schedule → Type 0
 GoesBy old v (attempt.Tried t) new =
     (t.moment ≡ next_moment (Some t.frame) old) × (new ≡ after_tried t.frame t.class v old)
 GoesBy old v (attempt.Idle restarted) new = new ≡ after_idle old
 
--- the schedule of a driver at this time; if its next attempt is more than 100 ms late, the attempt begins now
+-- the schedule of a driver at this time; if the next attempt is more than 100 ms late, it begins now
 abbrev pub caught_up : ℕ → Schedule → Schedule
 caught_up now s = if nat_le (now * 1000 - next_begin s) 100000000 then s else record s { since = now }
 
--- the state of a driver: the state under the lock, its pass and its schedule
+-- the state of a driver: the state that the lock protects, the driver's pass and its schedule
 pub record Driven (F : Type 0) : Type 0 where
   pub held : Held F
   pub pass : PassSeen
@@ -46,7 +46,7 @@ pub record Driven (F : Type 0) : Type 0 where
 abbrev pub moment_for : {F : Type 0} → Driven F → ℕ
 moment_for d = head_moment d.schedule (next_try d.held.journal)
 
--- if there is something to attempt, the driver makes an attempt at the scheduled time, and the schedule advances
+-- there is something to attempt: the driver makes an attempt at the scheduled time, and the schedule advances
 abbrev pub Makes : {F : Type 0} → (F → VerdictMap) → Driven F → Driven F → Type 0
 Makes verdicts old new =
     (a : Attempt)
@@ -65,8 +65,8 @@ abbrev pub MakesAll : {F : Type 0} → (F → VerdictMap) → ℕ → Driven F �
 MakesAll verdicts zero old new = new ≡ old
 MakesAll {F} verdicts (suc n) old new = (mid : Driven F) × MakesAll verdicts n old mid × Makes verdicts mid new
 
--- under one hold of the lock, the driver makes up to 64 attempts, and at least one if there is something to attempt; or
--- the station refuses the next one
+-- while it holds the lock once, the driver makes up to 64 attempts, and at least one if there is something to attempt;
+-- or the station refuses the next attempt
 abbrev pub MakesDue : {F : Type 0} → (F → VerdictMap) → Stepped → Driven F → Driven F → Type 0
 MakesDue {F} verdicts stepped.Refused old new =
     (n : ℕ) × (mid : Driven F) × (n < 64) × MakesAll verdicts n old mid × IsAttemptRefused verdicts mid new

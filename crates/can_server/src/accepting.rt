@@ -18,13 +18,13 @@ use std::{thread, time};
 /// The pause in milliseconds after an acceptor could not accept a connection, for example for lack of file descriptors.
 const AFTER_A_FAULT_MS: u64 = 100;
 
-/// The number of failed tries that count as one session, after about 6 seconds.
+/// The number of failed tries, in about 6 seconds, that count as one session.
 const TRIES: u32 = 64;
 
-/// The number of times that a connection looks for a place while idle clients leave, for about one second.
+/// The number of times that a new connection looks for a free place while idle clients leave. This takes about one second.
 const TURNS: u32 = 1_000;
 
-/// The visit of an admitted client: the acceptor, the place among the clients, and the number of the session.
+/// The visit of an admitted client: its acceptor, its place among the clients, and the number of its session.
 #[derive(Drop)]
 pub struct Visit<'d> {
     pub acceptor: &'d Acceptor,
@@ -32,10 +32,10 @@ pub struct Visit<'d> {
     pub session: u32,
 }
 
-/// The outcome of waiting for a client at an acceptor.
+/// The result of waiting for a client at an acceptor.
 #[derive(Drop)]
 enum Next {
-    /// The client has this place.
+    /// The client was admitted and has this place.
     Admitted(usize),
     /// All tries failed, or the server could not admit the client.
     Nobody,
@@ -43,7 +43,7 @@ enum Next {
     Closed,
 }
 
-// Methods of a server that run the acceptors.
+// The methods of a server that run the acceptors.
 impl<
     'a,
     N: BusName + Send + Sync,
@@ -52,8 +52,8 @@ impl<
     C: Clock + Sync,
     R: Threads + Wait + time::Clock + Sync,
 > Server<'a, N, F, G, C, R> {
-    /// Accepts connections until the acceptor has had its sessions or the server is closed. A thread serves each
-    /// connection. At the end it closes the acceptor and waits for these threads.
+    /// Accepts connections until the acceptor has had all its sessions or the server is closed. A thread serves each connection. At
+    /// the end this method closes the acceptor and waits for these threads.
     pub fn accept_all(&self, acceptor: &Acceptor) {
         thread::scope(thread::scope_env(), self.rt, |scope| {
             for before in 0..self.most_connections(acceptor) {
@@ -88,8 +88,8 @@ impl<'a, N: BusName, F: FaultSource + Drop, G: Gate + Drop, C: Clock, R: Wait + 
     C,
     R,
 > {
-    /// Returns the number of connections that an acceptor accepts. Each counts as one of its sessions, except in a long
-    /// run, where only sessions that entered raw mode count.
+    /// Returns how many connections an acceptor accepts. Each connection counts as a session of the acceptor. In a long run, only
+    /// sessions that entered raw mode count, so there is no limit on connections.
     fn most_connections(&self, acceptor: &Acceptor) -> u32 {
         if self.is_long {
             u32::MAX
@@ -115,7 +115,7 @@ impl<'a, N: BusName, F: FaultSource + Drop, G: Gate + Drop, C: Clock, R: Wait + 
         acceptor.is_used_up() || self.clients.lock(self.rt).is_closed()
     }
 
-    /// Frees the place of a client whose session is over, or whose thread could not be started.
+    /// Frees a client's place after its session is over, or if no thread could be started for it.
     pub fn release(&self, place: usize) {
         self.clients.lock(self.rt).leave(place);
     }
@@ -129,8 +129,8 @@ impl<'a, N: BusName, F: FaultSource + Drop, G: Gate + Drop, C: Clock, R: Wait + 
         });
     }
 
-    /// Admits a connection, if the server is not closed. The client receives `too many sessions` if all places are
-    /// taken and no session is idle.
+    /// Admits a connection if the server is not closed. If all places are taken and no session is idle, the client receives
+    /// `too many sessions`.
     fn admit(&self, conn: Conn, session: u32) -> Next {
         let from = if self.host.wants_notices() {
             conn.peer()
@@ -155,8 +155,8 @@ impl<'a, N: BusName, F: FaultSource + Drop, G: Gate + Drop, C: Clock, R: Wait + 
         }
     }
 
-    /// Finds a place among the clients for a connection. If all places are taken, it shuts out idle clients and waits
-    /// for one of their places.
+    /// Finds a place among the clients for a connection. If all places are taken, it shuts out idle clients and waits until one of
+    /// them leaves.
     fn find_place(&self, conn: &Arc<Conn, Global>) -> Result<usize, NotAdmitted> {
         for _ in 0..TURNS {
             let now = self.host.now();
@@ -169,7 +169,7 @@ impl<'a, N: BusName, F: FaultSource + Drop, G: Gate + Drop, C: Clock, R: Wait + 
         Err(NotAdmitted::Full)
     }
 
-    /// Takes a place, if one is free.
+    /// Takes a free place, if there is one.
     fn ask_for_place(&self, conn: &Arc<Conn, Global>, now: Moment) -> Result<usize, NotAdmitted> {
         match Arc::try_clone(conn) {
             Ok(shared) => self.clients.lock(self.rt).admit(shared, now),

@@ -5,7 +5,7 @@ use std::os::fd::OwnedFd;
 use std::os::unix::net::{UnixListener, UnixStream};
 use std::sync::atomic::{AtomicU64, Ordering};
 
-/// The most connections that wait at a listener: the usual value of Linux's `somaxconn`.
+/// The largest number of connections that wait at a listener. It is the usual value of Linux's `somaxconn`.
 const MOST_WAITING: u32 = 4096;
 
 /// A listening socket for TCP or for a Unix path.
@@ -16,7 +16,7 @@ pub enum Listener {
 }
 
 impl Listener {
-    /// Waits for the next connection. Bytes written to a TCP connection are sent without delay.
+    /// Waits for the next connection. On a TCP connection, written bytes are sent without delay.
     fn accept(&self) -> io::Result<Conn> {
         match self {
             Listener::Tcp(listener) => {
@@ -31,7 +31,7 @@ impl Listener {
         }
     }
 
-    /// Makes `accept` fail from now on if no connection waits.
+    /// Makes every later `accept` fail if no connection is waiting.
     fn never_waits(&self) -> io::Result<()> {
         match self {
             Listener::Tcp(listener) => listener.set_nonblocking(true),
@@ -54,18 +54,18 @@ impl Listener {
     }
 }
 
-/// An acceptor: a listener with the number of sessions that it accepts.
+/// An acceptor: a listener and the number of sessions that it accepts.
 #[derive(Drop)]
 pub struct Acceptor {
     listener: Listener,
     shutdown_handle: Conn,
     sessions: u32,
-    /// The number of sessions that entered raw mode, in a run that counts them.
+    /// The number of sessions that have entered raw mode, in a run that counts them.
     raw: AtomicU64,
 }
 
 impl Acceptor {
-    /// Returns an acceptor for this many sessions. It takes a file descriptor.
+    /// Returns an acceptor for this many sessions. The acceptor uses one more file descriptor.
     pub fn new(listener: Listener, sessions: u32) -> io::Result<Acceptor> {
         let shutdown_handle = listener.shutdown_handle()?;
         Ok(Acceptor {
@@ -81,8 +81,8 @@ impl Acceptor {
         self.sessions
     }
 
-    /// Counts a session that entered raw mode. Returns whether the acceptor accepts it. The last accepted session
-    /// closes the acceptor.
+    /// Counts a session that entered raw mode. Returns whether the acceptor accepts the session. The last accepted session closes
+    /// the acceptor.
     pub(crate) fn count_raw(&self) -> bool {
         let before = self.raw.fetch_add(1, Ordering::SeqCst);
         let sessions = u64::from(self.sessions);
@@ -92,7 +92,7 @@ impl Acceptor {
         before < sessions
     }
 
-    /// Returns whether as many sessions entered raw mode as the acceptor accepts.
+    /// Returns whether the acceptor has had all the sessions in raw mode that it accepts.
     pub(crate) fn is_used_up(&self) -> bool {
         self.raw.load(Ordering::SeqCst) >= u64::from(self.sessions)
     }
@@ -102,14 +102,14 @@ impl Acceptor {
         self.listener.accept()
     }
 
-    /// Closes the acceptor: the system refuses later connections. A thread that waits for a connection returns, because
-    /// Linux fails `accept` on a listening socket that was shut down.
+    /// Closes the acceptor, so that the system refuses later connections. A thread that waits for a connection returns, because on
+    /// Linux `accept` fails on a listening socket that was shut down.
     pub(crate) fn close(&self) {
         self.shutdown_handle.shutdown();
     }
 
-    /// Closes the connections that came before the acceptor was closed and that nobody accepted. Linux still returns
-    /// those of a Unix path.
+    /// Closes the connections that arrived before the acceptor was closed and that nobody accepted. Linux still returns such
+    /// connections if they are on a Unix path.
     pub(crate) fn turn_away(&self) {
         if self.listener.never_waits().is_err() {
             return;

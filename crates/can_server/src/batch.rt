@@ -21,9 +21,9 @@ const LONGEST: usize = 256;
 /// The result of receiving a batch of items.
 #[derive(Debug, Clone, Copy, PartialEq, Eq)]
 pub struct Taken {
-    /// The number of buffers that have the result of a receive.
+    /// The number of buffers that hold the result of a receive.
     pub rooms: usize,
-    /// Whether each receive returned an item, up to the number asked for or the size of a batch. More items may wait.
+    /// Whether each receive returned an item, up to the number asked for or the size of a batch. If so, more items may be waiting.
     pub are_items: bool,
 }
 
@@ -43,20 +43,19 @@ impl Room {
     }
 }
 
-/// The texts that a client receives in one write. They are prepared first and written later. A batch keeps its memory
-/// for the next time.
+/// The texts that a client receives in one write. The texts are prepared first and written later. A batch reuses its memory.
 #[derive(Drop)]
 pub struct Batch {
     rooms: Vec<Room>,
     /// The texts of one write.
     text: Vec<u8>,
-    /// The largest number of bytes of these texts. A single item may be longer: it is never cut.
+    /// The largest number of bytes in `text`. A single item may be longer, because an item is never cut.
     most_bytes: usize,
     ghost all_rooms: { vec_len rooms ≡ 256 },
 }
 
 impl Batch {
-    /// Returns a batch that writes at most this many bytes at once, except that it never cuts an item.
+    /// Returns a batch that writes at most this many bytes at once. A longer item is still written whole.
     pub fn new(alloc: Global, most_bytes: usize) -> Result<Batch, AllocError> {
         let text = Vec::with_capacity(alloc, most_bytes.saturating_add(LONGEST))?;
         let rooms = rooms_of(alloc, Room::empty())?;
@@ -67,7 +66,8 @@ impl Batch {
         })
     }
 
-    /// Gives a session a piece of its client's input. The batch then has only the session's text, which `write` writes.
+    /// Passes a piece of the client's input to the session. The batch then contains only the replies of the session, which `write`
+    /// writes.
     ///
     /// Refusals: those of `Session::feed`.
     pub fn hear<P: Port>(
@@ -87,22 +87,22 @@ impl Batch {
         session.feed(alloc, piece, moment, port, &mut self.text)
     }
 
-    /// Returns the number of bytes to be written.
+    /// Returns the number of bytes that are waiting to be written.
     pub fn waiting(&self) -> usize
         ensures { result ≡ length self.now.text.items }
     {
         self.text.len()
     }
 
-    /// Writes these bytes. Returns whether the writer took them.
+    /// Writes the waiting bytes. Returns whether the writer accepted them.
     pub fn write<W: Write>(&mut self, out: &mut W) -> bool
         ensures wrote { IsTrue result → Wrote W.contents out.old self.old.text.items out.new }
     {
         write_out(&mut self.text, out)
     }
 
-    /// Receives up to this many items of a session's client, at most 256. It receives one item into each buffer, and
-    /// stops at the first receive that returns none.
+    /// Receives up to `waiting` items of the session's client, but at most 256. Each receive has its own buffer. The first receive
+    /// that returns no item is the last.
     pub fn take<P: Port>(&mut self, session: &Session, waiting: u64, port: &mut P) -> Taken
         ensures within { result.rooms ≤ 256 }
         ensures all { result.are_items ≡ true → result.rooms ≡ min waiting 256 }
@@ -117,7 +117,7 @@ impl Batch {
         }
     }
 
-    /// Writes the texts of the first buffers, in order. Returns whether the writer took them.
+    /// Writes the texts of the received items in order. Returns whether the writer accepted them.
     pub fn write_items<W: Write>(&mut self, taken: Taken, out: &mut W) -> bool
         requires { taken.rooms ≤ 256 }
         ensures wrote { IsTrue result → Appends (W.contents out.old) (W.contents out.new)
@@ -132,15 +132,15 @@ impl Batch {
     }
 }
 
-/// Returns copies of a buffer, one for each item of a batch.
+/// Returns 256 copies of a buffer, one for each item of a batch.
 fn rooms_of<T: Copy>(alloc: Global, room: T) -> Result<Vec<T>, AllocError>
     ensures { IfOk result (λ v. vec_len v ≡ 256) }
 {
     Vec::from_elem(alloc, room, MOST_ITEMS)
 }
 
-/// Receives items into the first buffers, at most this many, up to the first receive that returns no item. Returns the
-/// number of items.
+/// Receives up to `most` items, each into its own buffer, and stops at the first receive that returns no item. Returns the number
+/// of items.
 fn receive<P: Port>(session: &Session, port: &mut P, rooms: &mut [Room], most: usize) -> usize
     requires { most ≤ length rooms.old }
     ensures within { result ≤ most }
@@ -160,8 +160,8 @@ fn receive<P: Port>(session: &Session, port: &mut P, rooms: &mut [Room], most: u
     most
 }
 
-/// Writes the texts of the items, with at most this many bytes in one write. Returns whether the writer took them. The
-/// text buffer is emptied first and is empty after a success.
+/// Writes the texts of the items, with at most `most_bytes` bytes in one write unless an item is longer. Returns whether the writer
+/// accepted them. The text buffer is emptied first, and is empty after a success.
 fn write_texts<W: Write>(rooms: &[Room], text: &mut Vec<u8>, most_bytes: usize, out: &mut W) -> bool
     ensures wrote { IsTrue result →
         Appends (W.contents out.old) (W.contents out.new) (texts_of rooms.now) }
@@ -179,7 +179,7 @@ fn write_texts<W: Write>(rooms: &[Room], text: &mut Vec<u8>, most_bytes: usize, 
     write_out(text, out)
 }
 
-/// Writes this many bytes of the text and keeps the rest. Returns whether the writer took them.
+/// Writes the first `len` bytes of the text and keeps the rest. Returns whether the writer accepted them.
 #[inline(never)]
 fn write_front<W: Write>(text: &mut Vec<u8>, len: usize, out: &mut W) -> bool
     requires { len ≤ length text.old.items }
@@ -196,7 +196,7 @@ fn write_front<W: Write>(text: &mut Vec<u8>, len: usize, out: &mut W) -> bool
     true
 }
 
-/// Writes the text, if there is any, and empties it. Returns whether the writer took it.
+/// Writes the text, if there is any, and empties it. Returns whether the writer accepted the text.
 fn write_out<W: Write>(text: &mut Vec<u8>, out: &mut W) -> bool
     ensures wrote { IsTrue result → Wrote W.contents out.old text.old.items out.new }
     ensures empty { text.new.items ≡ [] }

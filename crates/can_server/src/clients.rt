@@ -1,4 +1,4 @@
-//! The clients of a server, with the connections of their sessions.
+//! The clients of a server and the connections of their sessions.
 ghost use Rattle.std.specs.Prelude.{◌≡◌, IfOk, IsTrue, ◌↔◌, Any, option_map, MatchOption, None, true, not, set};
 ghost use Rattle.can_server.specs.Clients.{Admits, IsFree, IsShutOut, NoneFree, all_asked, asked_for_room, is_idle, no_clients, raw_at};
 
@@ -8,29 +8,29 @@ use std::alloc::{AllocError, Global};
 use std::marker::Model;
 use std::sync::Arc;
 
-/// The largest number of sessions at the same time.
+/// The largest number of sessions that run at the same time.
 const MOST_AT_ONCE: usize = 64;
 
-/// The microseconds after which a client may lose its place if its session never entered raw mode.
+/// The time in microseconds after which a client may lose its place if its session never entered raw mode.
 const MOST_IDLE: u64 = 60_000_000;
 
-/// The cause for which a connection has no place.
+/// The reason why a connection got no place.
 #[derive(Debug, Clone, Copy, PartialEq, Eq)]
 pub enum NotAdmitted {
     /// The server admits no more clients.
     Closed,
-    /// The server has as many sessions as it may have.
+    /// The server already has its largest number of sessions.
     Full,
 }
 
 /// The phase of a client's visit.
 #[derive(Debug, Clone, Copy, PartialEq, Eq)]
 pub enum Phase {
-    /// The client came at this time, and its session has not entered raw mode.
+    /// The client came at this time. Its session has not entered raw mode.
     New(Moment),
     /// The session of the client has entered raw mode.
     Raw,
-    /// The client was idle when another client needed a place, so the server shut down its connection.
+    /// The client was idle when another client needed a place, so the server shut down the connection of the idle client.
     ShutOut,
 }
 
@@ -46,15 +46,15 @@ impl Phase {
     }
 }
 
-/// A client: its connection, and the phase of its visit.
+/// A client: its connection and the phase of its visit.
 #[derive(Drop)]
 pub struct Client {
     conn: Arc<Conn, Global>,
     stay: Phase,
 }
 
-/// The connections of the current sessions, at most 64. Contracts see the client at each place, and whether the server
-/// is closed to new clients.
+/// The connections of the current sessions, at most 64. Contracts see the client at each place, and whether the server is closed to
+/// new clients.
 #[derive(Drop)]
 pub struct Clients {
     places: Vec<Option<Client>>,
@@ -73,7 +73,7 @@ impl Model for Clients {
 }
 
 impl Clients {
-    /// Returns a list whose places are all free. It allocates the memory for all places.
+    /// Returns a list in which all places are free. The memory for all places is allocated here.
     pub fn new(alloc: Global) -> Result<Clients, AllocError>
         ensures { IfOk result (λ clients. clients ≡ no_clients) }
     {
@@ -87,8 +87,8 @@ impl Clients {
         })
     }
 
-    /// Admits a connection at this time, and returns its place. It fails if the server is closed to new clients, even
-    /// if places are free.
+    /// Admits a connection at this time and returns its place. It fails if all places are taken or if the server is closed to new
+    /// clients.
     pub fn admit(&mut self, conn: Arc<Conn, Global>, now: Moment) -> Result<usize, NotAdmitted>
         ensures { Admits self.old conn now result self.new }
     {
@@ -114,7 +114,7 @@ impl Clients {
         }
     }
 
-    // Returns a place that is free.
+    // Returns a free place, if there is one.
     fn free_place(&self) -> Option<usize>
         ensures { MatchOption result (NoneFree self.now.places)
             (λ place. IsFree self.now.places place) }
@@ -127,7 +127,7 @@ impl Clients {
         None
     }
 
-    /// Marks that the client at this place entered raw mode: it cannot lose the place any more.
+    /// Notes that the client at this place entered raw mode. The client can no longer lose its place.
     pub fn keep(&mut self, place: usize)
         ensures { self.new ≡ record self.old { places = raw_at self.old.places place } }
     {
@@ -138,9 +138,8 @@ impl Clients {
         }
     }
 
-    /// Shuts down the connections of idle clients, because another client found no place. An idle client came at least
-    /// 60 seconds ago, and its session has not entered raw mode. Returns whether a client that is shut out will soon
-    /// free its place.
+    /// Shuts down the connections of idle clients to make room for another client. A client is idle if it came at least 60 seconds
+    /// ago and its session has not entered raw mode. Returns whether a client that was shut out will soon free its place.
     pub fn make_room(&mut self, now: Moment) -> bool
         ensures clients { self.new ≡ record self.old { places = all_asked now self.old.places } }
         ensures soon { IsTrue result ↔ Any IsShutOut self.new.places }
@@ -167,7 +166,7 @@ impl Clients {
         self.is_closed
     }
 
-    /// Closes the server to new clients and shuts down all connections. Returns whether it was open before.
+    /// Closes the server to new clients and shuts down all connections. Returns whether the server was open before.
     pub fn close(&mut self) -> bool
         ensures was_open { result ≡ not self.old.is_closed }
         ensures closed { self.new ≡ record self.old { is_closed = true } }
@@ -181,7 +180,7 @@ impl Clients {
     }
 }
 
-/// Shuts out the client at a place, if it is idle.
+/// Shuts out the client at a place if the client is idle.
 fn ask_for_room(place: &mut Option<Client>, now: Moment)
     ensures { place.new ≡ option_map (asked_for_room now) place.old }
 {
@@ -193,7 +192,7 @@ fn ask_for_room(place: &mut Option<Client>, now: Moment)
     }
 }
 
-/// Returns whether the client at a place is shut out.
+/// Returns whether the client at a place was shut out.
 fn is_shut_out(place: &Option<Client>) -> bool
     ensures { IsTrue result ↔ IsShutOut place.now }
 {

@@ -6,7 +6,7 @@ use std::io::{Read, Write};
 use std::net::{Shutdown, SocketAddr, TcpStream};
 use std::os::unix::net::UnixStream;
 
-/// A client's connection, which threads share.
+/// A client's connection. Several threads share it.
 #[derive(Drop)]
 pub enum Conn {
     Tcp(TcpStream),
@@ -14,7 +14,7 @@ pub enum Conn {
 }
 
 impl Conn {
-    /// Waits for bytes of the client and returns their number, or 0 at the end.
+    /// Waits for bytes from the client and returns their number. It returns 0 at the end of the input.
     pub fn read(&self, piece: &mut [u8]) -> io::Result<usize>
         ensures { IfOk result (λ n. n ≤ length piece.new) }
     {
@@ -38,13 +38,13 @@ impl Conn {
         stream.peer_addr().ok()
     }
 
-    /// Writes the cause of a refusal to the client. It ignores a failed write.
+    /// Writes the reason for a refusal to the client. A failed write is ignored.
     pub fn refuse(&self, cause: Cause) {
         let text = refusal_text(cause);
         let _ = Out(self).write_all(text.as_bytes());
     }
 
-    /// Shuts down both directions. A thread that reads or writes here returns.
+    /// Shuts down both directions of the connection. A thread that is reading or writing returns.
     pub fn shutdown(&self) {
         let _ = match self {
             Conn::Tcp(stream) => stream.shutdown(Shutdown::Both),

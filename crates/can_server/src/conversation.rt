@@ -18,7 +18,7 @@ use std::alloc::{AllocError, Global};
 use std::io::Write;
 use std::sync::{Mutex, Wait};
 
-/// The reply to a command that was carried out and has no other reply.
+/// The reply to a command that was carried out and has no reply text of its own.
 const DONE: &[u8] = b"< ok >";
 
 /// The socket of a session in raw mode, and the interface of that socket.
@@ -29,21 +29,21 @@ pub struct OpenSocket<'a, N: BusName, F: FaultSource + Drop, G: Gate + Drop> {
     pub socket: SocketId,
 }
 
-/// A session with its port. The two threads of the session share it under a lock.
+/// A session and its port. The two threads of the session share this value under a lock.
 #[derive(Drop)]
 pub struct Conversation<'a, N: BusName, F: FaultSource + Drop, G: Gate + Drop, R: Wait> {
     session: Session,
     port: PassPort<'a, N, F, G, R>,
     batch: Batch,
-    /// The first bytes of the connection, as far as they identify a client.
+    /// The first bytes of the connection, until they show whether it comes from a client.
     opening: Opening,
     /// Whether the replies to the last piece are longer than a single `< ok >`.
     said_more: bool,
 }
 
 impl<'a, N: BusName, F: FaultSource + Drop, G: Gate + Drop, R: Wait> Conversation<'a, N, F, G, R> {
-    /// Returns a session that has just begun. It may reuse one of these passes. It writes at most this many bytes of
-    /// items at once.
+    /// Returns a session that has just begun. The session may reuse one of the passes in `spares`. It writes at most `most_bytes`
+    /// bytes of items at once.
     pub fn new(
         rt: &'a R,
         alloc: Global,
@@ -60,7 +60,7 @@ impl<'a, N: BusName, F: FaultSource + Drop, G: Gate + Drop, R: Wait> Conversatio
         })
     }
 
-    /// Writes the first text. Returns whether the session goes on.
+    /// Writes the greeting. Returns whether the session goes on.
     pub fn greet<W: Write>(&mut self, out: &mut W) -> bool
         ensures { IsTrue result → Wrote W.contents out.old greeting out.new }
     {
@@ -70,8 +70,8 @@ impl<'a, N: BusName, F: FaultSource + Drop, G: Gate + Drop, R: Wait> Conversatio
         }
     }
 
-    /// Takes a piece of the client's input, and returns whether the session goes on. If no client would begin a
-    /// connection like this, nothing is carried out. The session ends if its client does not take the output.
+    /// Carries out a piece of the client's input, and returns whether the session goes on. If no client would begin a connection
+    /// like this, nothing is carried out. If the client does not accept the output, the session ends.
     pub fn feed<W: Write>(
         &mut self,
         alloc: Global,
@@ -127,9 +127,9 @@ impl<'a, N: BusName, F: FaultSource + Drop, G: Gate + Drop, R: Wait> Conversatio
         !self.is_over()
     }
 
-    /// Sends the client up to this many items, at most 256. Returns the number that it took, or `None` if there are no
-    /// more. It receives them under one hold of the bus's lock and writes their texts after that. The session ends if
-    /// its client does not take them.
+    /// Sends up to `waiting` items to the client, but at most 256. Returns the number of items received, or `None` if there are no
+    /// more. The items are received under one hold of the bus's lock, and their texts are written afterwards. If the client does
+    /// not accept the texts, the session ends.
     pub fn deliver<W: Write>(&mut self, waiting: u64, out: &mut W) -> Option<u64>
         ensures { DeliversItems (PassStep F) W.contents waiting self.old.session self.old.port
             out.old result self.new.session self.new.port out.new }
@@ -162,8 +162,8 @@ impl<'a, N: BusName, F: FaultSource + Drop, G: Gate + Drop, R: Wait> Conversatio
         self.opening == Opening::Stranger
     }
 
-    /// Returns whether the replies to the last piece are longer than a single `< ok >`. If they are, the client reads
-    /// one text after another.
+    /// Returns whether the replies to the last piece are longer than a single `< ok >`. If they are, the client can read several
+    /// texts that arrive together.
     pub fn said_more(&self) -> bool {
         self.said_more
     }
@@ -178,7 +178,7 @@ impl<'a, N: BusName, F: FaultSource + Drop, G: Gate + Drop, R: Wait> Conversatio
         self.port.station()
     }
 
-    /// Returns the socket, in raw mode.
+    /// Returns the open socket of a session in raw mode.
     pub fn place(&self) -> Option<OpenSocket<'a, N, F, G>> {
         match (self.session.stage(), self.port.station()) {
             (Stage::Raw(raw), Some(station)) => Some(OpenSocket {
@@ -190,24 +190,24 @@ impl<'a, N: BusName, F: FaultSource + Drop, G: Gate + Drop, R: Wait> Conversatio
         }
     }
 
-    /// Returns the interface that the session restarted since the last call, if any. An interface that it took down
-    /// later does not count.
+    /// Returns the interface that the session has restarted since the last call, if any. An interface that the session took down
+    /// again does not count.
     pub fn look_for_restart(&mut self) -> Option<Iface> {
         self.port.take_restarted()
     }
 
-    /// Returns the interface that the session took down since the last call, if any. An interface that it restarted
-    /// later does not count.
+    /// Returns the interface that the session has taken down since the last call, if any. An interface that the session restarted
+    /// again does not count.
     pub fn look_for_down(&mut self) -> Option<Iface> {
         self.port.take_downed()
     }
 
-    /// Returns the counts of the session's calls.
+    /// Returns the counts of the calls that the session made.
     pub fn tally(&self) -> Tally {
         self.port.tally()
     }
 
-    /// Returns the pass, if the session entered a station.
+    /// Returns the session's pass, if the session entered a station.
     pub fn into_pass(self) -> Option<Pass<N>> {
         let Conversation { port, .. } = self;
         port.into_pass()

@@ -10,8 +10,8 @@ use std::sync::{Mutex, Wait};
 use std::time::Duration;
 use std::{thread, time};
 
-/// The pause in milliseconds before the first items, if the reply to `rawmode` was written separately. Some clients
-/// read that reply and all bytes after it as one text.
+/// The pause in milliseconds before the first items, if the reply to `rawmode` was written separately. Some clients read that reply
+/// and all bytes after it as one text.
 const BEFORE_ITEMS_MS: u64 = 20;
 
 /// The state of the thread that delivers the items of a session in raw mode.
@@ -35,8 +35,8 @@ impl<
     C: Clock,
     R: Wait + time::Clock,
 > Delivery<'s, 't, N, F, G, C, R> {
-    /// Delivers items to the client until the session is over, its socket is closed or the record is full. The session
-    /// also ends if items are refused for another cause, such as lack of memory, or if the client does not take them.
+    /// Delivers items to the client until the session is over, its socket is closed or the record is full. The session also ends if
+    /// it cannot receive items for another reason, such as lack of memory, or if the client does not accept them.
     pub fn deliver_all(&self) {
         if self.is_reply_apart {
             thread::sleep(self.rt, Duration::from_millis(BEFORE_ITEMS_MS));
@@ -58,7 +58,7 @@ impl<
         }
     }
 
-    /// Ends the session and its connection. If the record is full, a session that is not over goes on.
+    /// Ends the session and shuts down its connection. If the record is full, a session that is not over yet goes on.
     fn end_unless_full(&self, station: &Station<N, F, G, HubBus>) {
         let mut talk = self.talk.lock(self.rt);
         if talk.is_over() || !station.is_full() {
@@ -67,7 +67,7 @@ impl<
         }
     }
 
-    /// On a bus with bit rates, waits for the ends of the frames to be delivered. It holds no lock meanwhile.
+    /// On a bus with bit rates, waits until the frames to be delivered have ended on the wire. No lock is held during the wait.
     fn await_frames(&self, station: &Station<N, F, G, HubBus>) {
         let Some(end) = self.buses.last_end(usize::from(station.number())) else {
             return;
@@ -76,7 +76,7 @@ impl<
         station.rest(self.rt, Duration::from_micros(left));
     }
 
-    /// Delivers the `waiting` items to the client. Returns whether there can be more.
+    /// Delivers the `waiting` items to the client. Returns whether more items may follow.
     fn deliver_waiting(&self, waiting: u64) -> bool {
         let mut left = waiting;
         for _ in 0..waiting {
@@ -92,8 +92,8 @@ impl<
     }
 }
 
-/// Stops a station whose record is full. Its state no longer changes, not even when a socket is closed. Its driver ends
-/// and reports this to the host.
+/// Stops a station if its record is full. The state of a stopped station no longer changes, even if a socket is closed. The driver
+/// of the station ends and reports the full record to the host.
 pub fn stop_full<N: BusName, F: FaultSource + Drop, G: Gate + Drop, R: Wait>(
     rt: &R,
     station: &Station<N, F, G, HubBus>,

@@ -18,21 +18,21 @@ use std::sync::atomic::Ordering;
 use std::time;
 use std::time::Duration;
 
-/// The largest number of steps of a driver under one hold of the lock.
+/// The largest number of steps that a driver makes under one hold of the lock.
 pub const MOST_STEPS: u32 = 64;
 
-/// The outcome of a driver's steps.
+/// The result of a driver's steps.
 #[derive(Drop)]
 pub enum Stepped {
     /// The driver goes on. These interfaces changed in its last attempt.
     On(Changes),
-    /// The driver is done: all sessions are over, and a further attempt would not change anything that they see.
+    /// The driver is done. All sessions are over, and a further attempt would change nothing that a session could see.
     Out,
     /// The station refused a step.
     Refused,
 }
 
-// Methods of a server that drive a bus.
+// The methods of a server that drive a bus.
 impl<'a, N: BusName, F: FaultSource + Drop, G: Gate + Drop, C: Clock, R: Wait + time::Clock> Server<
     'a,
     N,
@@ -41,8 +41,8 @@ impl<'a, N: BusName, F: FaultSource + Drop, G: Gate + Drop, C: Clock, R: Wait + 
     C,
     R,
 > {
-    /// Steps a bus until its station is stopped, while an interface has a frame to send or counts towards its restart.
-    /// It then hands back the pass, and reports a full record or a lack of memory to the host.
+    /// Drives a bus until its station is stopped. It makes steps while an interface has a frame to send or is waiting for its
+    /// restart. At the end it hands back the pass and reports a full record or a lack of memory to the host.
     pub fn drive(&self, bus: usize) {
         if bus >= self.buses.count() {
             return;
@@ -64,7 +64,7 @@ impl<'a, N: BusName, F: FaultSource + Drop, G: Gate + Drop, C: Clock, R: Wait + 
         }
     }
 
-    /// Steps a bus with this pass. Returns whether the station refused a step, which ends the driver. It does so if the
+    /// Steps a bus with this pass. Returns whether the station refused a step, which ends the driver. A station refuses if the
     /// record is full, there is no memory, or the pass belongs to another station.
     fn step_all(&self, bus: usize, pass: &mut Pass<N>) -> bool {
         if bus >= self.buses.count() {
@@ -76,7 +76,7 @@ impl<'a, N: BusName, F: FaultSource + Drop, G: Gate + Drop, C: Clock, R: Wait + 
         }
     }
 
-    /// Steps a bus without bit rates, as described at `step_all`.
+    /// Steps a bus without bit rates. Returns whether the station refused a step, as `step_all` does.
     fn step_at_pace(&self, bus: usize, pass: &mut Pass<N>) -> bool {
         if bus >= self.buses.count() {
             return false;
@@ -104,8 +104,8 @@ impl<'a, N: BusName, F: FaultSource + Drop, G: Gate + Drop, C: Clock, R: Wait + 
         false
     }
 
-    /// Makes up to this many steps of a bus under one hold of its lock. It stops if no interface has a frame to send or
-    /// counts towards its restart. It also stops after an attempt in which an interface went bus off or was restarted.
+    /// Makes up to this many steps of a bus under one hold of its lock. It stops if no interface has a frame to send or is waiting
+    /// for its restart. It also stops after an attempt in which an interface went bus off or was restarted.
     fn step_some(
         &self,
         mut hold: Hold<'_, N, F, G, HubBus>,
@@ -130,14 +130,14 @@ impl<'a, N: BusName, F: FaultSource + Drop, G: Gate + Drop, C: Clock, R: Wait + 
         Stepped::On(Changes::none())
     }
 
-    /// Reports to the host that the record of a bus has become nearly full, if it has.
+    /// Reports to the host that the record of a bus is nearly full, if `has_become` is true.
     pub fn report_nearly_full(&self, bus: usize, has_become: bool) {
         if has_become {
             self.host.notify(Notice::NearlyFull { bus });
         }
     }
 
-    /// Reports to the host the interfaces that went bus off and those that were restarted in an attempt.
+    /// Reports to the host which interfaces went bus off and which were restarted in an attempt.
     pub fn report_changes(&self, bus: usize, changes: Changes) {
         if !changes.are_some() {
             return;
@@ -155,7 +155,7 @@ impl<'a, N: BusName, F: FaultSource + Drop, G: Gate + Drop, C: Clock, R: Wait + 
     }
 }
 
-/// The interfaces that changed state in an attempt.
+/// The interfaces that went bus off and those that were restarted in an attempt.
 #[derive(Debug, Clone, Copy)]
 pub struct Changes {
     off: IfaceSet,
@@ -171,14 +171,14 @@ impl Changes {
         }
     }
 
-    /// Returns whether an interface changed state.
+    /// Returns whether any interface went bus off or was restarted.
     pub fn are_some(&self) -> bool
         ensures { result ≡ false ↔ (self.now.off ≡ no_ifaces) × (self.now.restarted ≡ no_ifaces) }
     {
         !self.off.is_empty() || !self.restarted.is_empty()
     }
 
-    /// Returns the changes of this attempt.
+    /// Returns the changes that this attempt made.
     pub fn of(attempt: &Attempt) -> Changes
         ensures off { result.off ≡ off_in attempt.now }
         ensures restarted { result.restarted ≡ restarted_in (reply.Attempted attempt.now) }
@@ -196,8 +196,8 @@ impl Changes {
     }
 }
 
-/// Returns whether an attempt neither sent a frame nor restarted an interface. After all sessions are over, such
-/// attempts only fill the record.
+/// Returns whether an attempt neither sent a frame nor restarted an interface. After all sessions are over, such attempts only fill
+/// the record.
 pub fn makes_no_progress(attempt: &Attempt) -> bool
     ensures { IsTrue result ↔ IsInVain attempt.now }
 {

@@ -7,15 +7,15 @@ use std::snapshot::Snapshot;
 
 const _: () = prove!(size_of::<Given>() == 0);
 
-// The entries as contracts see them. The program keeps no value of this type.
+// The entries as contracts see them. No value of this type exists at run time.
 #[derive(Drop)]
 enum Chain {
     Empty,
     Block(Snapshot<Chain>, Snapshot<PackedRecord>),
 }
 
-/// The entries given to a keeper, the oldest first. Only contracts see them. The type takes no memory, and its methods
-/// do nothing.
+/// The entries given to a keeper, the oldest first. Only contracts see the entries. The type takes no memory, and its methods do
+/// nothing.
 #[derive(Drop)]
 pub struct Given {
     chain: Snapshot<Chain>,
@@ -41,7 +41,7 @@ impl Given {
         }
     }
 
-    /// Notes that the keeper was given a block.
+    /// Notes that the keeper was given this block.
     pub fn note(&mut self, block: &PackedRecord)
         ensures { self.new ≡ self.old ++ block.now.entries }
     {

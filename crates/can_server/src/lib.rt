@@ -1,15 +1,15 @@
 //! A server: threads that connect many clients to the buses of a hub.
 //!
-//! [`serve`] accepts connections at its acceptors. Each connection is a session with two threads and a pass of the bus
-//! that it opens. One thread reads the client's input, the other delivers its items. Each bus has a driver, which steps
-//! the bus while an interface has a frame to send or counts towards its restart. At the end the server hands back all
-//! passes, and the hub settles them.
+//! [`serve`] accepts connections at its acceptors. Each connection is a session with two threads and a pass of the bus that it
+//! opens. One thread reads the client's input, and the other delivers the items. Each bus has a driver, which makes steps while an
+//! interface has a frame to send or is waiting for its restart. At the end the server hands back all passes, and the hub settles
+//! them.
 //!
-//! Two properties of the threads are proved. The server hands back one list of passes for each bus, and a closed server
-//! admits no client ([`Clients`]). The sessions are those of can_dialog, each with its own pass. The texts of their
-//! replies and items are written in order, each once ([`Batch`]). [`Opening`] recognizes connections that no client
-//! would begin, and the server closes them. It is not proved that a peer receives anything, or that a wait ends within
-//! a limited time. Nor is it proved that no two threads wait for each other.
+//! Two properties of the threads are proved: the server hands back one list of passes for each bus, and a closed server admits no
+//! client ([`Clients`]). The sessions are those of can_dialog, each with its own pass. The texts of their replies and items are
+//! written in order, each once ([`Batch`]). [`Opening`] recognizes connections that no client would begin, and the server closes
+//! them. It is not proved that a peer receives anything, that a wait ends within a limited time, or that no two threads wait for
+//! each other.
 #![tactic(auto)]
 
 mod accepting;

@@ -1,10 +1,10 @@
 use can_frame::Iface;
 use std::net::SocketAddr;
 
-/// A report of a running server to its host. The sessions of an acceptor are numbered from 1.
+/// A report of a running server to its host. The sessions of each acceptor are numbered from 1.
 #[derive(Debug, Clone, Copy)]
 pub enum Notice {
-    /// A session began. Its client has this address, or connected to a Unix path.
+    /// A session began. The client has this address, or it connected to a Unix path.
     Came {
         session: u32,
         from: Option<SocketAddr>,
@@ -14,7 +14,8 @@ pub enum Notice {
         session: u32,
         from: Option<SocketAddr>,
     },
-    /// The server closed a connection because no client begins like it. A web page may do so, for example.
+    /// The server closed a connection that did not begin as a client's does. Such a connection may come from a web page, for
+    /// example.
     Strange {
         session: u32,
     },
@@ -24,8 +25,8 @@ pub enum Notice {
         bus: usize,
         iface: Iface,
     },
-    /// A session is over. This many of its frames were refused, and its socket dropped this many items. If the record
-    /// is full, the counts may be incomplete.
+    /// A session is over. `refused` is the number of its frames that were refused, and `dropped` the number of items that its
+    /// socket dropped. The counts may be too low if the record is full.
     Went {
         session: u32,
         refused: u64,
@@ -41,21 +42,21 @@ pub enum Notice {
         bus: usize,
         iface: Iface,
     },
-    /// The driver of this bus, which has bit rates, was this many milliseconds late and skipped the time that it
-    /// missed. The server reports it at most once a minute.
+    /// The driver of this bus, which has bit rates, was this many milliseconds late and skipped the lost time. The server reports a
+    /// late driver at most once a minute.
     Late {
         bus: usize,
         millis: u64,
     },
-    /// The record of this bus has nine tenths of its entries. The server reports it once.
+    /// The record of this bus is nine tenths full. The server reports it once.
     NearlyFull {
         bus: usize,
     },
-    /// The record of this bus is full, so the bus refuses calls from now on. The server reports it once.
+    /// The record of this bus is full, so the bus refuses all further calls. The server reports it once.
     Full {
         bus: usize,
     },
-    /// The driver of this bus had no memory, so it makes no more attempts. The server reports it once.
+    /// The driver of this bus ran out of memory, so it makes no more attempts. The server reports it once.
     NoDriver {
         bus: usize,
     },

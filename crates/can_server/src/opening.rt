@@ -1,24 +1,24 @@
-//! The first bytes of a connection. A web page can make its browser send requests to any port of the machine, and no
+//! Checks the first bytes of a connection. A web page can make its browser send requests to any port of the machine, and no such
 //! request begins like a client's message.
 ghost use Rattle.std.specs.Prelude.{◌≡◌};
 ghost use Rattle.can_proto.specs.Words.{is_blank};
 ghost use Rattle.can_server.specs.Openings.{is_undecided as is_open_at, after_byte, after_bytes};
 
-/// The state of the first bytes of a connection.
+/// The result of examining the first bytes of a connection.
 #[derive(Debug, Clone, Copy, PartialEq, Eq)]
 pub enum Opening {
-    /// Only blanks came so far.
+    /// Only blanks have arrived so far.
     Blank,
-    /// Other bytes came, and no blank after them.
+    /// Other bytes have arrived, but no blank after them.
     Word,
-    /// The first message began, as a client's does.
+    /// The first message has begun, so the connection comes from a client.
     Client,
-    /// No client begins like this: before the first message came a control byte that is no blank, or a blank after
-    /// other bytes.
+    /// No client begins like this. Before the first message there was a control byte that is not a blank, or a blank after other
+    /// bytes.
     Stranger,
 }
 
-/// Returns whether the byte may separate the words of a message.
+/// Returns whether the byte may separate words of a message.
 fn is_space(byte: u8) -> bool
     ensures { result ≡ is_blank byte }
 {
@@ -26,7 +26,7 @@ fn is_space(byte: u8) -> bool
 }
 
 impl Opening {
-    /// Returns whether more bytes are needed to decide.
+    /// Returns whether more bytes are needed for a decision.
     fn is_open(self) -> bool
         ensures { result ≡ is_open_at self }
     {

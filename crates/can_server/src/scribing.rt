@@ -1,4 +1,4 @@
-//! The output of entries in long runs. While the server runs, one thread for each bus takes the entries in blocks.
+//! The output of record entries in long runs. While the server runs, one thread for each bus takes the entries in blocks.
 ghost use Rattle.std.specs.Prelude.{◌≡◌};
 
 use crate::given::Given;
@@ -11,26 +11,26 @@ use std::marker::Model;
 use std::sync::Wait;
 use std::time::{Clock, Duration};
 
-/// The seconds that a thread waits for the first entry of a block before it looks again.
+/// The time in seconds for which a thread waits for the first entry of a block before it checks again.
 const IDLE_SECONDS: u64 = 1;
 
-/// A destination for the entries of one bus in a long run.
+/// A destination for the record entries of one bus in a long run.
 pub trait Keeper {
     ghost use Rattle.std.specs.Prelude.{◌≡◌, ◌++◌, List};
     ghost use Rattle.can_event.specs.declared.entry.Entry.{Entry};
     ghost use Rattle.can_server.specs.Keeping.{AreLegalLast};
 
-    /// The entries that the keeper was given, the oldest first.
+    /// The entries that the keeper has been given, the oldest first.
     ghost given: { Self → List Entry };
 
-    /// Keeps the entries of a block, which follow the entries given before. The block may be empty, if only time has
+    /// Keeps the entries of a block, which follow the entries of the previous block. The block may be empty if only time has
     /// passed. No lock is held during the call, and the bus goes on until its tail is full.
     fn keep(&mut self, block: &Block)
         requires { AreLegalLast block.now.entries.entries }
         ensures { given self.new ≡ given self.old ++ block.now.entries.entries };
 }
 
-/// The keeper of a server without scribes, whose buses keep their own records.
+/// The keeper of a server without scribes. The buses of such a server keep their own records.
 #[derive(Drop)]
 pub struct Discard {
     given: Given,
@@ -44,8 +44,8 @@ impl Keeper for Discard {
     }
 }
 
-/// A keeper with the scroll of its bus. The keeper was given exactly the entries handed out to the scroll. Contracts
-/// see the scroll.
+/// A keeper and the scroll of its bus. The keeper was given exactly the entries that the scroll has taken. Contracts see the
+/// scroll.
 #[derive(Drop)]
 pub struct ScrollKeeper<N: RollName, K: Keeper + Drop> {
     keeper: K,
@@ -64,7 +64,7 @@ impl<N: RollName, K: Keeper + Drop> Model for ScrollKeeper<N, K> {
 }
 
 impl<N: BusName, K: Keeper + Drop> ScrollKeeper<N, K> {
-    /// Pairs a keeper with a scroll. The keeper must have been given the entries handed out to the scroll.
+    /// Pairs a keeper with a scroll. The keeper must have been given exactly the entries that the scroll has taken.
     pub fn new(keeper: K, scroll: Scroll<N>) -> ScrollKeeper<N, K>
         requires { K.given keeper ≡ scroll.entries }
         ensures { result ≡ scroll }
@@ -79,7 +79,7 @@ impl<N: BusName, K: Keeper + Drop> ScrollKeeper<N, K> {
         usize::from(self.scroll.number())
     }
 
-    /// Returns the keeper, and the scroll of the entries that it was given.
+    /// Returns the keeper and the scroll. The keeper has been given all entries that the scroll has taken.
     pub fn into_parts(self) -> (K, Scroll<N>)
         ensures given { K.given result.0 ≡ self.entries }
         ensures scroll { result.1 ≡ self }
@@ -88,7 +88,7 @@ impl<N: BusName, K: Keeper + Drop> ScrollKeeper<N, K> {
         (keeper, scroll)
     }
 
-    /// Takes the new entries of a station into a block, and gives them to the keeper.
+    /// Takes the new entries of a station into a block and gives the block to the keeper.
     fn keep_next<F: FaultSource + Drop, G: Gate + Drop, B: Journaled, R: Wait>(
         &mut self,
         rt: &R,
@@ -103,19 +103,19 @@ impl<N: BusName, K: Keeper + Drop> ScrollKeeper<N, K> {
     }
 }
 
-/// Takes the entries of a bus in blocks, and gives them to a keeper.
+/// Takes the entries of a bus in blocks and gives the blocks to a keeper.
 #[derive(Drop)]
 pub struct Scribe<'k, N: RollName, K: Keeper + Drop> {
     kept: &'k mut ScrollKeeper<N, K>,
     block: Block,
-    /// The number of entries that it waits for, and below it the longest wait after the first of them.
+    /// The number of entries for which the scribe waits. `patience` is the longest wait after the first of these entries.
     many: u64,
     patience: Duration,
 }
 
 impl<'k, N: BusName, K: Keeper + Drop> Scribe<'k, N, K> {
-    /// Returns a scribe for the scroll's bus. It has memory for this many entries, one for each place of the bus's
-    /// tail. It gives the keeper a block when half of them are there, or this long after the first entry.
+    /// Returns a scribe for the scroll's bus. The scribe has memory for `size` entries, the number of entries that the bus's tail
+    /// holds. It gives the keeper a block when half of them have arrived, or when `patience` has passed since the first entry.
     pub fn new(
         alloc: Global,
         size: u32,
@@ -135,8 +135,8 @@ impl<'k, N: BusName, K: Keeper + Drop> Scribe<'k, N, K> {
         self.kept.bus()
     }
 
-    /// Gives the keeper all entries of the station, until the station takes no more calls. Returns `WrongStation`, and
-    /// gives the keeper nothing, if the scroll belongs to another station.
+    /// Gives the keeper all entries of the station, until the station takes no more calls. If the scroll belongs to another
+    /// station, it returns `WrongStation` and gives the keeper nothing.
     pub fn keep_all<F: FaultSource + Drop, G: Gate + Drop, B: Journaled, R: Wait + Clock>(
         self,
         rt: &R,

@@ -13,7 +13,7 @@ use std::sync::{Mutex, Wait};
 use std::thread::Threads;
 use std::{thread, time};
 
-/// The acceptors of a server, and the stream whose end closes them.
+/// The acceptors of a server, and the stream whose end closes these acceptors.
 #[derive(Drop)]
 struct Closing<'d> {
     acceptors: &'d [Acceptor],
@@ -29,7 +29,7 @@ pub struct Server<'a, N: BusName, F: FaultSource + Drop, G: Gate + Drop, C, R> {
     pub host: &'a C,
     pub clients: &'a Mutex<Clients>,
     pub returned: &'a Mutex<ReturnedPasses<N>>,
-    /// Whether the buses are those of long runs. A session may then reuse the pass of a session that is over, and
+    /// Whether the buses are those of long runs. If they are, a session may reuse the pass of a session that is over, and a session
     /// counts only once it is in raw mode.
     pub is_long: bool,
     /// Whether all sessions are over.
@@ -94,7 +94,7 @@ impl<'a, N: BusName, F: FaultSource + Drop, G: Gate + Drop, C: Clock, R: Wait + 
     C,
     R,
 > {
-    /// Ends all other threads, after the last session is over.
+    /// Ends all other threads after the last session is over.
     fn finish(&self, until: Option<&UnixStream>) {
         let _ = self.clients.lock(self.rt).close();
         if let Some(until) = until {
@@ -104,7 +104,7 @@ impl<'a, N: BusName, F: FaultSource + Drop, G: Gate + Drop, C: Clock, R: Wait + 
         self.buses.stop_all(self.rt);
     }
 
-    /// Waits for the end of a stream, and then closes the server.
+    /// Waits for the end of a stream and then closes the server.
     fn close_after(&self, closing: &Closing<'_>) {
         let mut until = closing.until;
         let mut piece = [0_u8; 64];
@@ -117,7 +117,7 @@ impl<'a, N: BusName, F: FaultSource + Drop, G: Gate + Drop, C: Clock, R: Wait + 
         self.close(closing.acceptors);
     }
 
-    /// Admits no more clients, and ends the current sessions. Threads that wait at an acceptor return.
+    /// Admits no more clients and ends the current sessions. A thread that is waiting at an acceptor returns.
     fn close(&self, acceptors: &[Acceptor]) {
         if !self.clients.lock(self.rt).close() {
             return;

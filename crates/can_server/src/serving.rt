@@ -16,50 +16,51 @@ use std::sync::{Mutex, Wait};
 use std::thread::Threads;
 use std::{thread, time};
 
-/// The largest number of passes of a bus.
+/// The largest number of passes that a bus has.
 const MOST_PASSES: u32 = 4096;
 
-/// The default size of a write. Some clients, such as those of python-can, read 1,024 bytes at a time and lose a
-/// message that is cut.
+/// The default size of a write in bytes. Some clients, such as those of python-can, read 1,024 bytes at a time and lose a message
+/// that is cut.
 const DEFAULT_WRITE: usize = 1024;
 
-/// The host of a server, which gives the time and takes reports. A host must only provide the time; by default it
-/// ignores reports. No lock is held during a report.
+/// The host of a server. It supplies the time and receives reports. A host must implement only `now`; the default methods ignore
+/// reports. No lock is held during a report.
 pub trait Clock {
-    /// Returns the time of the call.
+    /// Returns the current time.
     fn now(&self) -> Moment;
 
-    /// Returns whether the host wants reports of sessions, which cost a check at each call of a session. The server may
-    /// ask at any time, and the answer must not change.
+    /// Returns whether the host wants reports of sessions, which cost a check in each call of a session. The server may ask at any
+    /// time, and the answer must always be the same.
     fn wants_notices(&self) -> bool {
         false
     }
 
-    /// Returns the largest number of bytes of items in one write to a client. An item is never cut. The server asks
+    /// Returns the largest number of bytes of items in one write to a client. An item is never cut. The server calls this method
     /// once for each session.
     fn write_bytes(&self) -> usize {
         DEFAULT_WRITE
     }
 
-    /// Takes a notice. If the host wants no reports, notices of sessions have no addresses and no counts.
+    /// Receives a notice. If the host wants no reports, notices of sessions contain no addresses and no counts.
     fn notify(&self, _notice: Notice) {}
 }
 
 /// Runs the sessions of all acceptors over the buses of a hub. Returns all passes, in one list for each bus.
 ///
-/// Each bus has a driver, which steps while an interface has a frame to send or counts towards its restart. Each
-/// acceptor has a thread that accepts connections. Each session has a thread that reads and, in raw mode, a thread that
-/// delivers items. The function returns after the acceptors have accepted all their sessions and these are over. It
-/// also returns after the end of `until`: the server then admits no more clients and shuts down the current sessions.
+/// Each bus has a driver, which makes steps while an interface has a frame to send or is waiting for its restart. Each acceptor has
+/// a thread that accepts connections. Each session has a thread that reads and, in raw mode, a thread that delivers items.
 ///
-/// An acceptor is closed after its last session, so that the system refuses later connections. If 64 sessions are
-/// running, the next client receives `too many sessions` and counts as accepted. The exception is a session that began
-/// 60 seconds ago by the clock and has not entered raw mode. The server closes that session and gives its place to the
-/// new client. If an acceptor cannot accept a connection, for example for lack of file descriptors, it tries again
-/// every 100 ms. 64 failed tries count as one session.
+/// The function returns after the acceptors have accepted all their sessions and these sessions are over. It also returns after the
+/// end of `until`: the server then admits no more clients and shuts down the current sessions. An acceptor is closed after its last
+/// session, so that the system refuses later connections.
 ///
-/// A fault of a session's connection, or a lack of memory for a session, ends only that session. The result is
-/// `AllocError` if there was no memory to start the server. All threads that were started are then over, and the
+/// If 64 sessions are running, the next client receives `too many sessions` and counts as accepted. There is one exception. If a
+/// session began at least 60 seconds ago by the clock and has not entered raw mode, the server closes it and gives its place to the
+/// new client.
+///
+/// If an acceptor cannot accept a connection, for example for lack of file descriptors, it tries again every 100 ms. 64 failed
+/// tries count as one session. A fault of a session's connection, or a lack of memory for a session, ends only that session. The
+/// result is `AllocError` if there was not enough memory to start the server. All threads that were started are then over, and the
 /// stations are stopped.
 pub fn serve<
     N: BusName + Send + Sync,
@@ -81,7 +82,7 @@ pub fn serve<
     serve_with::<_, _, _, _, _, Discard, _>(rt, alloc, hub, acceptors, host, until, None)
 }
 
-/// A server for the buses of long runs, and its scribes that have no thread yet.
+/// A server for the buses of long runs, and the scribes for which no thread has started yet.
 #[derive(Drop)]
 struct LongServer<
     's,
@@ -129,7 +130,7 @@ impl<
         })
     }
 
-    /// Gives all entries of a bus to the keeper of the next scribe.
+    /// Takes the next scribe and gives all entries of its bus to its keeper.
     fn keep_all(&self) {
         let next = self.scribes.lock(self.server.rt).pop();
         let Some(scribe) = next else {
@@ -147,13 +148,15 @@ impl<
     }
 }
 
-/// Runs a server as `serve` does. Buses of long runs need one scribe each. Without it, the sessions of a bus wait as
-/// soon as the bus's tail is full. With scribes, a session may reuse the pass of a session that is over. So the number
-/// of sessions in a run has no limit. A session then counts for its acceptor only once it is in raw mode. A session
-/// that enters raw mode after the last one that counts receives `too many sessions`.
+/// Runs a server as `serve` does, with scribes. Buses of long runs need one scribe each; without a scribe, the sessions of a bus
+/// wait as soon as the bus's tail is full.
 ///
-/// The scribes go on until the other threads are over, and then give their keepers the last entries. The result is
-/// `AllocError` as for `serve`; the scribes are then over, too.
+/// With scribes, a session may reuse the pass of a session that is over, so the number of sessions in a run has no limit. A session
+/// then counts for its acceptor only once it is in raw mode. A session that enters raw mode after the last one that counts receives
+/// `too many sessions`.
+///
+/// The scribes go on until the other threads are over, and then give their keepers the last entries. The result is `AllocError` as
+/// for `serve`; the scribes are then over, too.
 pub fn serve_with<
     'x,
     N: BusName + Send + Sync,
@@ -211,7 +214,7 @@ pub fn serve_with<
     Ok(returned.into_inner().into_lists(hub.count()))
 }
 
-/// Returns the most passes that the sessions of these acceptors and a driver take from one bus.
+/// Returns the largest number of passes that the sessions of these acceptors and a driver take from one bus.
 fn most_passes(acceptors: &[Acceptor]) -> usize {
     let mut most = 1_u32;
     for acceptor in acceptors {

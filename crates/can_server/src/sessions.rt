@@ -17,17 +17,17 @@ use std::{thread, time};
 /// The largest number of bytes in one read.
 const PIECE: usize = 4096;
 
-/// The outcome of one read.
+/// The result of one read.
 enum ReadOutcome {
-    /// The session took a piece and goes on.
+    /// The session carried out a piece of input and goes on.
     More,
     /// The session is over.
     Over,
-    /// The client is gone.
+    /// The client has closed the connection.
     Gone,
 }
 
-// Methods of a server that run a session: one thread reads and, in raw mode, another thread delivers.
+// The methods of a server that run a session. One thread reads the input. In raw mode, another thread delivers the items.
 impl<
     'a,
     N: BusName + Send + Sync,
@@ -36,7 +36,7 @@ impl<
     C: Clock + Sync,
     R: Threads + Wait + time::Clock + Sync,
 > Server<'a, N, F, G, C, R> {
-    /// Runs a session to its end, and hands back its pass. It frees the place before the client sees the end.
+    /// Runs a session to its end and hands back its pass. The place is free before the client sees the end of the connection.
     pub fn run_session(&self, visit: &Visit<'_>) {
         let Some(conn) = self.clients.lock(self.rt).conn(visit.place) else {
             return;
@@ -47,7 +47,7 @@ impl<
         self.report_end(visit.session, tally);
     }
 
-    /// Serves a client until its session is over, and hands back the pass. Returns the counts of the session's calls.
+    /// Serves a client until its session is over, and then hands back the pass. Returns the counts of the session's calls.
     fn converse(&self, visit: &Visit<'_>, conn: &Conn) -> Tally {
         let most = self.host.write_bytes();
         let Ok(mut talk) = Conversation::new(self.rt, self.alloc, self.buses, self.spares(), most)
@@ -73,8 +73,7 @@ impl<
         self.is_long.then_some(self.returned)
     }
 
-    /// Reads the client's input. Once the session is in raw mode, its client keeps its place, and another thread
-    /// delivers its items.
+    /// Reads the client's input. Once the session is in raw mode, the client keeps its place and another thread delivers the items.
     fn hear_all(&self, talk: &Mutex<Conversation<'_, N, F, G, R>>, visit: &Visit<'_>, conn: &Conn) {
         let Some(place) = self.hear_until_raw(talk, conn) else {
             self.report_stranger(talk, visit.session);
@@ -116,7 +115,7 @@ impl<'a, N: BusName, F: FaultSource + Drop, G: Gate + Drop, C: Clock, R: Wait + 
     C,
     R,
 > {
-    /// Reads to the end while another thread delivers the items, then ends the session.
+    /// Reads the rest of the input while another thread delivers the items, and then ends the session.
     fn hear_out(
         &self,
         talk: &Mutex<Conversation<'_, N, F, G, R>>,
@@ -131,7 +130,7 @@ impl<'a, N: BusName, F: FaultSource + Drop, G: Gate + Drop, C: Clock, R: Wait + 
         stop_full(self.rt, place.station);
     }
 
-    /// Reads until the session is in raw mode, and returns its socket, or none if the session ended before.
+    /// Reads until the session is in raw mode and returns the session's socket. It returns `None` if the session ended first.
     fn hear_until_raw<'t>(
         &self,
         talk: &Mutex<Conversation<'t, N, F, G, R>>,
@@ -152,8 +151,8 @@ impl<'a, N: BusName, F: FaultSource + Drop, G: Gate + Drop, C: Clock, R: Wait + 
         unreachable!()
     }
 
-    /// Reads until the session is over or the client is gone. If the client is gone, it shuts down the connection,
-    /// which also ends a write to it.
+    /// Reads until the session is over or the client is gone. If the client is gone, it shuts down the connection. A thread that is
+    /// writing to the connection then returns, too.
     fn hear_on(&self, talk: &Mutex<Conversation<'_, N, F, G, R>>, conn: &Conn) {
         for _ in self.rt.forever() {
             match self.hear(talk, conn) {
@@ -167,7 +166,7 @@ impl<'a, N: BusName, F: FaultSource + Drop, G: Gate + Drop, C: Clock, R: Wait + 
         }
     }
 
-    /// Reports to the host if a session's connection began in a way that no client uses.
+    /// Reports to the host if the session's connection began in a way that no client uses.
     fn report_stranger(&self, talk: &Mutex<Conversation<'_, N, F, G, R>>, session: u32) {
         let is_strangers = talk.lock(self.rt).is_strangers();
         if is_strangers {
@@ -191,7 +190,7 @@ impl<'a, N: BusName, F: FaultSource + Drop, G: Gate + Drop, C: Clock, R: Wait + 
         }
     }
 
-    /// Reads one piece and carries it out.
+    /// Reads one piece of input and carries it out.
     fn hear(&self, talk: &Mutex<Conversation<'_, N, F, G, R>>, conn: &Conn) -> ReadOutcome {
         let mut piece = [0_u8; PIECE];
         let count = match conn.read(&mut piece) {

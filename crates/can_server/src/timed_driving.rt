@@ -20,19 +20,19 @@ use std::sync::atomic::Ordering;
 use std::time;
 use std::time::Duration;
 
-/// The delay in nanoseconds up to which a late driver catches up. A driver that is later skips the time that it missed.
+/// The largest delay in nanoseconds that a driver makes up for. A driver that is later skips the time that it missed.
 const MOST_LATE: u64 = 100_000_000;
 
-/// The microseconds between two reports that a driver is late.
+/// The smallest time in microseconds between two reports that a driver is late.
 const BETWEEN_NOTES: u64 = 60_000_000;
 
-/// The state of the driver of a bus with bit rates between two holds of the lock.
+/// The state that the driver of a bus with bit rates keeps while it does not hold the lock.
 #[derive(Drop)]
 struct Timed {
     schedule: Schedule,
-    /// Whether there was something to attempt when the driver released the lock.
+    /// Whether an interface had a frame to send or was waiting for its restart when the driver released the lock.
     has_more: bool,
-    /// The delay of the driver in milliseconds, if it is to be reported.
+    /// The delay of the driver in milliseconds, if the delay is to be reported.
     note: Option<u64>,
     /// The time of the last report that the driver was late.
     noted: Option<Moment>,
@@ -48,8 +48,7 @@ impl Timed {
         }
     }
 
-    /// If the next attempt is too late, restarts the schedule at this time. The delay is reported at most once a
-    /// minute.
+    /// If the next attempt is too late, restarts the schedule at this time. A delay is reported at most once a minute.
     fn catch_up(&mut self, now: Moment)
         ensures schedule { self.new.schedule ≡ caught_up now self.old.schedule }
         ensures more { self.new.has_more ≡ self.old.has_more }
@@ -78,13 +77,11 @@ impl<'a, N: BusName, F: FaultSource + Drop, G: Gate + Drop, C: Clock, R: Wait + 
     C,
     R,
 > {
-    /// Steps a bus with bit rates until its station is stopped, while an interface has a frame to send or counts
-    /// towards its restart. It makes each step when the wire is free. Returns whether the station refused a step, which
-    /// ends the driver.
-    ///
-    /// The schedule lets each attempt begin at the end of the one before it. That end follows from the length of the
-    /// attempt, not from the clock. So a driver that wakes late does not stay late. A late driver makes up to 64
-    /// attempts under one hold of the lock.
+    /// Drives a bus with bit rates until its station is stopped. It makes steps while an interface has a frame to send or is
+    /// waiting for its restart, each step when the wire is free. Returns whether the station refused a step, which ends the driver.
+    /// The schedule lets each attempt begin at the end of the previous one. That end follows from the length of the attempt, not
+    /// from the clock, so a driver that wakes late does not stay late. A late driver makes up to 64 attempts under one hold of the
+    /// lock.
     pub fn step_in_time(&self, bus: usize, timing: Timing, pass: &mut Pass<N>) -> bool {
         if bus >= self.buses.count() {
             return false;
@@ -118,7 +115,7 @@ impl<'a, N: BusName, F: FaultSource + Drop, G: Gate + Drop, C: Clock, R: Wait + 
         false
     }
 
-    /// Makes the attempts that are due at this time, under one hold of the lock, as described at `step_all_due`.
+    /// Makes the attempts that are due at this time, under one hold of the lock, as `step_all_due` does.
     fn step_due(
         &self,
         mut hold: Hold<'_, N, F, G, HubBus>,
@@ -140,9 +137,8 @@ impl<'a, N: BusName, F: FaultSource + Drop, G: Gate + Drop, C: Clock, R: Wait + 
         self.step_all_due(&mut hold, bus, timed, pass, now, is_ending)
     }
 
-    /// Makes the next attempt, which is due, and all others that are due. It stops after an attempt in which an
-    /// interface went bus off or was restarted. After all sessions are over, it also makes attempts that are not yet
-    /// due.
+    /// Makes the next attempt, which is due, and all further attempts that are due. It stops after an attempt in which an interface
+    /// went bus off or was restarted. After all sessions are over, it also makes attempts that are not yet due.
     fn step_all_due(
         &self,
         hold: &mut Hold<'_, N, F, G, HubBus>,
@@ -177,8 +173,8 @@ impl<'a, N: BusName, F: FaultSource + Drop, G: Gate + Drop, C: Clock, R: Wait + 
         Stepped::On(Changes::none())
     }
 
-    /// Makes the next attempt of a schedule at the scheduled time, and notes it in the schedule. The delivering threads
-    /// know the end of the attempt before its items arrive.
+    /// Makes the next attempt of a schedule at its scheduled time and notes the outcome in the schedule. The delivering threads
+    /// know when the attempt ends before its items arrive.
     fn step_once(
         &self,
         hold: &mut Hold<'_, N, F, G, HubBus>,
@@ -208,7 +204,7 @@ impl<'a, N: BusName, F: FaultSource + Drop, G: Gate + Drop, C: Clock, R: Wait + 
     }
 }
 
-/// Returns the time of the next attempt of a schedule, which tries this frame, if any.
+/// Returns when the next attempt of a schedule begins. The attempt tries this frame, if there is one.
 fn head_moment(schedule: &Schedule, head: Option<(Iface, Frame)>) -> Moment
     ensures { result ≡ head_moment schedule.now head }
 {
@@ -218,7 +214,7 @@ fn head_moment(schedule: &Schedule, head: Option<(Iface, Frame)>) -> Moment
     }
 }
 
-/// Notes in a schedule the outcome of an attempt with this verdict.
+/// Notes in a schedule the outcome of an attempt that had this verdict.
 fn note_attempt(schedule: &mut Schedule, verdict: Verdict, attempt: &Attempt)
     ensures { schedule.new ≡ after_attempt verdict attempt.now schedule.old }
 {

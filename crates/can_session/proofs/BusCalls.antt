@@ -1,4 +1,4 @@
--- A bus's reply to an event, as the step of a port.
+-- The reply of a bus to an event is the reply of a port's step.
 use Rattle.std.proofs.Common.{◌≡◌, Bool, Result, Ok, Err, refl}
 use Rattle.can_event.specs.declared.event.Event.{Event}
 use Rattle.can_event.specs.declared.event.Event.TheVariants as event
@@ -19,7 +19,7 @@ use Rattle.can_session.specs.BusSteps.{NamedBus, BusStep, IsEvent, passed_on}
 use Rattle.can_dialog.specs.Calls.{Replies}
 use Rattle.can_dialog.specs.Calls.Call.{Receive}
 
--- a refusal of the bus
+-- the bus refuses an event
 refuses : (old new : Journal) (e : Event) (why : Refusal) → IsAnswer old.config old.history e (reply.Refused why) → new ≡ record old { history = history_after e (reply.Refused why) old.history } → Refuses old e why new
 refuses old new e refusal.RecordFull a is = (a, is)
 refuses old new e refusal.NoMemory a is = (a.0, a.1, is)
@@ -33,7 +33,7 @@ module _ (old new : NamedBus) (names : new.names ≡ old.names) (plan : new.plan
       → IsEvent told old e (Err (port.Bus why)) new
   refused told why e a is = (Err why, refl, refuses old.journal new.journal e why a is, names, plan, schedule)
 
-  -- the reply is a step of the event's kind, because it is the legal one
+  -- the reply is a step for this kind of event, because it is the legal reply
   pub gives : (e : Event) (r : Reply) → IsAnswer old.journal.config old.journal.history e r → new.journal ≡ record old.journal { history = history_after e r old.journal.history } → Replies BusStep old e r new
   gives (event.Open iface capacity) (reply.Opened s) a is = given (λ x. reply.Opened x) s _ (record { room = a.0; lawful = a.1; new_is = is })
   gives (event.Close socket) (reply.Closed counts) a is = given (λ x. reply.Closed x) counts _ (record { room = a.0; lawful = a.1; new_is = is })
@@ -52,7 +52,7 @@ module _ (old new : NamedBus) (names : new.names ≡ old.names) (plan : new.plan
   gives e (reply.Refused why) a is = refused done_reply why _ a is
   gives e r a is = absurd (legal_is_spelled old.journal.config old.journal.history e r a.1)
 
--- a receive into a room is the event
+-- a receive into a buffer is the same event as a receive
 pub receives_into : (old new : NamedBus) (s : SocketId) (room : Received) (outcome : Result Bool Refusal) → Answers (taken_reply room) old.journal (event.Receive s) outcome new.journal → new.names ≡ old.names → new.plan ≡ old.plan → new.schedule ≡ old.schedule
     → BusStep old (Receive s) (received_into room (passed_on outcome)) new
 receives_into old new s room (Ok taken) answers names plan schedule = (Ok (taken_item room taken), refl, answers, names, plan, schedule)

@@ -84,7 +84,7 @@ given : (n : ℕ) (stage : Stage) (p : NamedBus) (text : List ℕ) (q : NamedBus
 given zero stage p text q h = ap of_bus h.1
 given (suc n) stage p text q (before, mid, last, first, plays, is) = played _ mid q last _ plays ∙ given n stage p before mid first
 
--- the time of an attempt changes no configuration
+-- the time that an attempt takes does not change the configuration
 passing : (waits : Bool) (v : Verdict) (outcome : Result AnAttempt Refusal) (b : BenchState) → of_bench (passed waits v outcome b) ≡ of_bench b
 passing waits v (Ok a) b = refl
 passing waits v (Err why) b = refl
@@ -120,7 +120,7 @@ done v (Injects rule) b text after h = ap of_bench h.1.after_is
 done v (TakesDown name) b text after h = ap of_bench h.after_is ∙ answered _ b.bus.journal _ h.outcome h.journal h.answers
 done v (BringsUp name) b text after h = ap of_bench h.after_is ∙ answered _ b.bus.journal _ h.outcome h.journal h.answers
 
--- lines that are carried out
+-- lines that are carried out do not change the configuration
 pub carried_out : (v : VerdictMap) (lines : List (List ℕ)) (b : BenchState) (text : List ℕ) (after : BenchState) → AreCarriedOut v lines b text after → of_bench after ≡ of_bench b
 carried_out v [] b text after h = ap of_bench h.1
 carried_out v (line ∷ lines) b text after (first, mid, others, one, more, is) = carried_out v lines mid others after more ∙ done v one.effect b first mid one.does

@@ -4,7 +4,7 @@ use Rattle.std.proofs.lemmas.List.{take_more, take_all}
 use Rattle.can_session.specs.IgnoredInput.{begun_after, has_outside}
 use Rattle.can_proto.specs.Messages.{has_mark}
 
--- one byte more at the end: a mark decides, another byte leaves what is
+-- one more byte at the end: a mark decides whether a message is open, and another byte changes nothing
 begun_at_last : (begun : Bool) (bytes : List ℕ) (b : ℕ) → begun_after begun (bytes ++ b ∷ []) ≡ (if b == 60 then true else if b == 62 then false else begun_after begun bytes)
 begun_at_last begun [] b = refl
 begun_at_last begun (x ∷ bytes) b = begun_at_last (if x == 60 then true else if x == 62 then false else begun) bytes b
@@ -14,7 +14,7 @@ parted bytes some =
     let len : length bytes - 1 + 1 ≡ length bytes = omega (arith, some) in
     sym (ap (λ (n : ℕ). take n bytes) len ∙ take_all (length bytes) bytes (omega arith)) ∙ take_more bytes (length bytes - 1) 0 (omega (arith, some))
 
--- the last byte decides
+-- if the last byte is a mark, it decides whether a message is open
 pub last_decides : (begun : Bool) (bytes : List ℕ) (b : ℕ) → 1 ≤ length bytes → get_or bytes (length bytes - 1) 0 ≡ b
     → begun_after begun bytes ≡ (if b == 60 then true else if b == 62 then false else begun_after begun (take (length bytes - 1) bytes))
 last_decides begun bytes b some is =
@@ -24,7 +24,7 @@ last_decides begun bytes b some is =
 no_mark : (A : Type 0) (b : ℕ) (x y z : A) → b ≢ 60 → b ≢ 62 → (if b == 60 then x else if b == 62 then y else z) ≡ z
 no_mark A b x y z m n = grind (arith, common_steps, m, n)
 
--- a last byte that is no mark decides nothing
+-- a last byte that is not a mark changes nothing
 pub last_leaves : (begun : Bool) (bytes : List ℕ) → 1 ≤ length bytes → get_or bytes (length bytes - 1) 0 ≢ 60 → get_or bytes (length bytes - 1) 0 ≢ 62
     → begun_after begun (take (length bytes - 1) bytes) ≡ begun_after begun bytes
 last_leaves begun bytes some m n =
@@ -34,7 +34,7 @@ last_leaves begun bytes some m n =
 none_of : (a b c : Bool) → ((a || b) || c) ≡ false → (a ≡ false) × ((b ≡ false) × (c ≡ false))
 none_of a b c h = grind (arith, common_steps, h)
 
--- after a `<` a text without marks and a `>` is in a message
+-- after a `<`, a text without marks and its `>` are inside a message
 pub closed : (inside rest : List ℕ) → has_mark inside ≡ false → has_outside true (inside ++ 62 ∷ rest) ≡ has_outside false rest
 closed [] rest none = refl
 closed (x ∷ inside) rest none =
@@ -42,7 +42,7 @@ closed (x ∷ inside) rest none =
     ap (λ (m : Bool). if m then true else has_outside (if x == 62 then false else true) (inside ++ 62 ∷ rest)) h.0
     ∙ ap (λ (m : Bool). has_outside (if m then false else true) (inside ++ 62 ∷ rest)) h.1.0 ∙ closed inside rest h.1.1
 
--- one message and no more has nothing outside
+-- a piece that is exactly one message has no bytes outside of messages
 pub whole : (bytes : List ℕ) → 2 ≤ length bytes → get_or bytes 0 0 ≡ 60 → get_or bytes (length bytes - 1) 0 ≡ 62
     → has_mark (take (length bytes - 1 - 1) (drop 1 bytes)) ≡ false → has_outside false bytes ≡ false
 whole [] some first last none = absurd (omega (arith, some))

@@ -1,4 +1,4 @@
--- Bytes in order are messages and blanks. The bytes outside do not depend on where the stream is cut.
+-- Bytes without bytes outside of messages are messages and blanks, wherever the stream is cut.
 use Rattle.std.proofs.Common.{◌≡◌, ◌↔◌, ℕ, ◌==◌, ◌||◌, ◌⊎◌, inl, inr, Bool, true, false, if◌then◌else◌, List, [], ◌∷◌, ◌++◌, refl, sym, ap, ◌∙◌, append_assoc, arith}
 use Rattle.std.specs.List.{flat_map, AllByRecursion}
 use Rattle.std.proofs.lemmas.Bool.{eqb-true}
@@ -32,7 +32,7 @@ cut-outside true (b ∷ bs) more = by (b == 60) (b == 62) (cut-outside true bs m
     by false true h k = k
     by false false h k = h
 
--- after a `<`: no mark comes, or a `>` ends the message and what follows is in order
+-- the bytes after a `<`: they have no mark, or a `>` ends the message and the bytes after it are in order
 abbrev GoesOn : List ℕ → Bool → Type 0
 GoesOn bytes begun = (inside : List ℕ) × (has_mark inside ≡ false) × (((bytes ≡ inside) × (begun ≡ true)) ⊎ ((rest : List ℕ) × (bytes ≡ inside ++ 62 ∷ rest) × AreMessagesInOrder rest begun))
 
@@ -76,7 +76,7 @@ longer : (b : ℕ) (bs : List ℕ) (begun : Bool) → (b == 60) ≡ false → (b
 longer b bs begun begins ends (inside, clear, inl (same, is)) = (b ∷ inside, clear-more b inside begins ends clear, inl (ap (λ (x : List ℕ). b ∷ x) same, is))
 longer b bs begun begins ends (inside, clear, inr (rest, same, order)) = (b ∷ inside, clear-more b inside begins ends clear, inr (rest, ap (λ (x : List ℕ). b ∷ x) same, order))
 
--- if nothing is outside, the bytes are in order, after a `<` too
+-- if no bytes are outside of messages, the bytes are in order, and so are the bytes after a `<`
 parsed : (bytes : List ℕ) → ((has_outside false bytes ≡ false → AreMessagesInOrder bytes (begun_after false bytes)) × (has_outside true bytes ≡ false → GoesOn bytes (begun_after true bytes)))
 parsed [] = (λ h. record { parts = []; tail = []; good = tt; last = refl; whole = refl }, λ h. ([], refl, inl (refl, refl)))
 parsed (b ∷ bs) = let again = parsed bs in (outside (b == 60) (is_blank b) (b == 62) refl refl again.0 again.1, inside (b == 60) (b == 62) refl refl again.0 again.1)
@@ -94,7 +94,7 @@ parsed (b ∷ bs) = let again = parsed bs in (outside (b == 60) (is_blank b) (b 
     inside false true begins ends stays goes h = ([], refl, inr (bs, ap (λ (x : ℕ). x ∷ bs) (eqb-true b 62 ends), stays h))
     inside false false begins ends stays goes h = longer b bs (begun_after true bs) begins ends (goes h)
 
--- and the other way round
+-- conversely, if the bytes are in order, no bytes are outside of messages
 
 unended : (inside : List ℕ) → has_mark inside ≡ false → has_outside true inside ≡ false
 unended [] none = refl

@@ -17,7 +17,7 @@ use Rattle.can_session.specs.Benches.{BenchState, IsCarriedOut, AreCarriedOut, I
 use Rattle.can_session.specs.Runs.{AreAll, AreFirst, IsNextOfInput, ComeBeforeBad, ComeBeforeStop, Ran, EndsRun, EndsLeaving, LeavesAt, EndsAt}
 use Rattle.can_session.proofs.LineLaws.{first_lines, next, end, stop, all_given}
 
--- these lines were given of the input, if the reader says what its bytes are
+-- the input gave these lines, if the bytes of its reader are known
 abbrev pub AreOf : Option (List ℕ) → List (List ℕ) → Input → Type 0
 AreOf None lines now = Unit {0}
 AreOf (Some text) lines now = Given text lines now
@@ -33,7 +33,7 @@ pub of_more : (input : Option (List ℕ)) (lines : List (List ℕ)) (old new : I
 of_more None lines old new h k = tt
 of_more (Some text) lines old new h k = next text lines old new h k
 
--- all of the text, within the limit
+-- all of the text was given, and it is within the limit
 all_within : (text : List ℕ) (lines : List (List ℕ)) (old new : Input) → Given text lines old → FindsEnd old new → IsWithinLimits new → (lines ≡ lines_of_text text) × (length text ≤ 16777216)
 all_within text lines old new h k within = let all = end text lines old new h k in (all.0, omega (arith, all.1, within.bytes))
 
@@ -41,12 +41,12 @@ pub of_all : (input : Option (List ℕ)) (lines : List (List ℕ)) (old new : In
 of_all None lines old new h k within = tt
 of_all (Some text) lines old new h k within = all_within text lines old new h k within
 
--- an input without a fault is so after a line
+-- an input without a fault still has no fault after a line
 pub fine_behind : (old new : Input) → old.fault ≡ None → TakesInputLine old new → new.fault ≡ None
 fine_behind old new fine (going, line, inl gives) = gives.fault ∙ fine
 fine_behind old new fine (going, line, inr last) = last.0.fault ∙ fine
 
--- the fault of an input that had none is a new one
+-- if an input had no fault, its fault is new
 pub first_fault : (old new : Input) (fault : InputFault) → old.fault ≡ None → Stops fault old new ⊎ Repeats fault old new → Stops fault old new
 first_fault old new fault fine (inl stops) = stops
 first_fault old new fault fine (inr again) = let no = again.0 in cc
@@ -59,7 +59,7 @@ of_first : (input : Option (List ℕ)) (lines : List (List ℕ)) (now : Input) �
 of_first None lines now h = tt
 of_first (Some text) lines now h = given_first text lines now h
 
--- a line more
+-- one more line is carried out
 pub carried_more : (v : VerdictMap) (lines : List (List ℕ)) (line : List ℕ) (b mid after : BenchState) (text more : List ℕ)
     → AreCarriedOut v lines b text mid → IsCarriedOut v line mid more after → AreCarriedOut v (lines ++ line ∷ []) b (text ++ more) after
 carried_more v [] line b mid after text more h k =
@@ -94,13 +94,13 @@ ran_start {W} contents v b out = record { text = []; short = All-nil IsInputLine
 pub short_line : (old new : Input) → TakesInputLine old new → IsInputLine new.line
 short_line old new (going, line, gives) = line
 
--- a line is read within the limit, and its LF or the end of the text too
+-- a line is read within the limit, and so is its LF or the end of the text
 within_behind : (text : List ℕ) (lines : List (List ℕ)) (old new : Input) → Given text lines old → TakesInputLine old new → IsWithinLimits new → (length (spelled lines) + length new.line < 16777216) ⊎ (length text ≤ 16777216)
 within_behind text lines old new (inl so) (going, line, inl gives) within = inl (omega (arith, so.counted, gives.counted, within.bytes, length-append new.line (10 ∷ [])))
 within_behind text lines old new (inl so) (going, line, inr last) within = inr (omega (arith, all_given text lines old new so last.0 last.2, within.bytes))
 within_behind text lines old new (inr done) (going, line, gives) within = let no = done.ended in cc
 
--- the next line comes after the lines given
+-- the next line follows the lines that were given
 is_next : (input : Option (List ℕ)) (lines : List (List ℕ)) (old new : Input) → AreOf input lines old → IsWithinLimits new → TakesInputLine old new → IsNextOfInput input lines new.line
 is_next None lines old new h within k = tt
 is_next (Some text) lines old new h within k =
@@ -116,7 +116,7 @@ before_bad : (input : Option (List ℕ)) (lines : List (List ℕ)) (old new : In
 before_bad input lines old new b h within (inl why) = inl (record { next = is_next input lines old new h within why.0; line = short_line old new why.0; refused = why.1 })
 before_bad input lines old new b h within (inr why) = inr (before_stop line.LineTooLong input lines old new h within why)
 
--- a run ends at the next line as that line's fault says
+-- a run ends at the next line with the fault of that line
 pub ends_at : {W : Type 0} (contents : W → Option (List ℕ)) (v : VerdictMap) (input : Option (List ℕ)) (lines : List (List ℕ)) (number : ℕ) (old now : Input) (b mid left : BenchState) (out new : W) (fault : BenchFault)
     → AreOf input lines old → IsWithinLimits now → number ≡ length lines + 1 → Ran contents v lines b out mid new → EndsAt number fault old now mid → LeavesAt fault mid left → EndsLeaving contents v input b out (Err fault) now new left
 ends_at {W} contents v input lines number old now b mid left out new BadConfig h within is ran why leaves = absurd why
@@ -126,7 +126,7 @@ ends_at {W} contents v input lines number old now b mid left out new Read h with
 ends_at {W} contents v input lines number old now b mid left out new Write h within is ran why leaves = tt
 ends_at {W} contents v input lines number old now b mid left out new NoMemory h within is ran why leaves = (lines, mid, of_first input lines old h, ran)
 
--- each line counts
+-- each line increases the number of bytes given
 comes_more : (old new : Input) → TakesInputLine old new → old.given + 1 ≤ new.given
 comes_more old new (going, line, inl gives) = let n = gives.counted in let len = length-append new.line (10 ∷ []) in omega (arith, n, len)
 comes_more old new (going, line, inr last) = let n = last.0.counted in let some = last.1 in omega (arith, n, some)
@@ -145,7 +145,7 @@ pub match_false : (A : Type 0) {B : Type 0} (b : Bool) → b ≡ false → Match
 match_false A false is h = h
 match_false A true is h = cc
 
--- a line was carried out with the verdicts that there were at the start
+-- a line was carried out with the verdicts that were valid at the start
 pub ran_on : {W : Type 0} (contents : W → Option (List ℕ)) (v w : VerdictMap) (lines : List (List ℕ)) (line : List ℕ) (b mid after : BenchState) (out between new : W)
     → w ≡ v → Ran contents v lines b out mid between → IsInputLine line → (more : List ℕ) × IsCarriedOut w line mid more after × Appends (contents between) (contents new) more
     → Ran contents v (lines ++ line ∷ []) b out after new
@@ -181,7 +181,7 @@ ends_unmade {A} {W} leaves contents v input b out now fault (inl bad) not_bad = 
 ends_unmade {A} {W} leaves contents v input b out now fault (inr none) not_bad =
     subst (λ (f : BenchFault). EndsRun {A = A} {W = W} leaves contents v input b out (Err f) now out) (sym none) (ends_before leaves contents v input b out now)
 
--- the fault that ends a run is independent of its results, and of the bench that it leaves
+-- the fault that ends a run does not depend on the run's result or on the bench that it leaves
 pub ends_err : {A W : Type 0} (leaves : A → BenchState → Type 0) (contents : W → Option (List ℕ)) (v : VerdictMap) (input : Option (List ℕ)) (b : BenchState) (out : W) (now : Input) (new : W) (left : BenchState) (fault : BenchFault)
     → EndsLeaving contents v input b out (Err fault) now new left → EndsRun leaves contents v input b out (Err fault) now new
 ends_err {A} {W} leaves contents v input b out now new left BadConfig h = absurd h
@@ -194,7 +194,7 @@ ends_err {A} {W} leaves contents v input b out now new left NoMemory h = h
 pub left_unread : (coming : Option (List ℕ)) → left_of (unread coming) ≡ coming
 left_unread coming = prepend_known-nil coming
 
--- what a run puts out is known by the bytes of its writer
+-- the bytes of the writer show the output of a run
 ran_in_bytes : {A : Type 0} (v : VerdictMap) (lines : List (List ℕ)) (b after : BenchState) (out new : Vec ℕ A) → Ran (λ (w : Vec ℕ A). Some w.items) v lines b out after new → Ran (λ (bytes : List ℕ). Some bytes) v lines b out.items after new.items
 ran_in_bytes {A} v lines b after out new h = record { text = h.text; short = h.short; carried = h.carried; wrote = h.wrote }
 

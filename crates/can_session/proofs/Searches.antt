@@ -1,4 +1,4 @@
--- The first LF of what is held, found from a place on before which there is none.
+-- The first LF in the held bytes, found by a search from an index before which there is no LF.
 use Rattle.std.proofs.Common.{◌≡◌, ℕ, ◌+◌, ◌-◌, ◌<◌, ◌≤◌, true, false, ◌||◌, if◌then◌else◌, List, [], ◌∷◌, ◌++◌, length, take, drop, get_or, Some, None, sym, ap, ◌∙◌, arith, nat_lt}
 use Rattle.std.specs.List.{list_any, position_or_len, position}
 use Rattle.std.proofs.lemmas.Bool.Decides.{nat_tests}
@@ -9,7 +9,7 @@ use Rattle.std.proofs.Math.Seq.{take-add}
 use Rattle.can_session.specs.Lines.{is_lf}
 use Rattle.can_session.specs.inner.Looks.{LineAt}
 
--- before the first LF there is none
+-- no LF comes before the first one
 none_before : (xs : List ℕ) → list_any is_lf (take (position_or_len is_lf xs) xs) ≡ false
 none_before xs =
     let n = position_or_len is_lf xs in
@@ -26,11 +26,11 @@ no_position p l e = grind (arith, nat_tests)
 is_ten : (b : ℕ) → is_lf b ≡ true → b ≡ 10
 is_ten b h = grind (arith, nat_tests)
 
--- no LF in either part
+-- if two parts have no LF, the joined parts have none
 pub both : (a b : List ℕ) → list_any is_lf a ≡ false → list_any is_lf b ≡ false → list_any is_lf (a ++ b) ≡ false
 both a b p q = list_any-append is_lf a b ∙ ap (λ t. t || list_any is_lf b) p ∙ q
 
--- an LF after what was searched ends a line
+-- an LF after the bytes already searched ends a line
 pub found : (held : List ℕ) (m searched n : ℕ) → m ≤ length held → m ≤ 4097 → searched ≤ m → list_any is_lf (take searched held) ≡ false
     → Some n ≡ position is_lf (drop searched (take m held)) → n < length (drop searched (take m held)) → LineAt held (searched + n)
 found held m searched n within few fits before at inside =
@@ -57,7 +57,7 @@ found held m searched n within few fits before at inside =
       within = omega arith;
     }
 
--- no LF in what was shown
+-- the bytes that were searched have no LF
 pub missed : (held : List ℕ) (m searched : ℕ) → m ≤ length held → searched ≤ m → list_any is_lf (take searched held) ≡ false
     → None ≡ position is_lf (drop searched (take m held)) → list_any is_lf (take m held) ≡ false
 missed held m searched within fits before none =

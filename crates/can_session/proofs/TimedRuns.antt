@@ -1,4 +1,4 @@
--- Attempts that are made as long as one is due.
+-- Attempts that the bench makes as long as one is due.
 use Rattle.std.proofs.Common.{◌≡◌, ℕ, ◌≤◌, Bool, false, List, length, Option, Some, None, Result, Ok, Err, is_ok, ◌++◌, sym, ap, subst, ◌∙◌}
 use Rattle.can_fault.specs.Sources.{VerdictMap}
 use Rattle.can_fault.specs.declared.verdict.Verdict.{Verdict}
@@ -22,7 +22,7 @@ use Rattle.can_session.specs.BusSteps.{NamedBus, head_on, waits_in_time, verdict
 use Rattle.can_session.specs.Benches.{BenchState, IsTriedIf, IsFull, sourced, next_moment_on, said_moment, said_decision, passed}
 use Rattle.can_session.specs.inner.Acts.{Puts}
 
--- an attempt is refused by no entry
+-- the legal reply to an attempt is never a refusal
 
 not_refused_head : (c : BusConfig) (past : List Entry) (m : ℕ) (v : Verdict) (why : Refusal) (w : ℕ) (p : Option Pending) → reply.Refused why ≡ tried_head c past m v w p → ⊥
 not_refused_head c past m v why w None is = cc
@@ -32,7 +32,7 @@ not_refused : (c : BusConfig) (past : List Entry) (m : ℕ) (v : Verdict) (why :
 not_refused c past m v why None is = cc
 not_refused c past m v why (Some w) is = not_refused_head c past m v why w (head_of past w) is
 
--- so it was refused for a full record
+-- if an attempt is refused, the record is full
 full : (old : Journal) (m : ℕ) (v : Verdict) (why : Refusal) (new : Journal) → Refuses old (event.Attempt m v) why new → old.config.limit ≤ length old.history
 full old m v refusal.RecordFull new h = h.0
 full old m v refusal.NoMemory new h = absurd h.1
@@ -46,7 +46,7 @@ refused old m v (Err why) new is h = full old m v why new h
 pub stops_full : (v : VerdictMap) (b : BenchState) (text : List ℕ) (after : BenchState) → IsTriedIf false v b text after → IsFull b
 stops_full v b text after (one, none) = refused b.bus.journal _ _ one.outcome one.journal none one.answers
 
--- ---- what an attempt came to and what was put out make one attempt of the bench
+-- the outcome of an attempt and its output make one attempt of the bench
 
 -- the bus after an attempt
 bus_left : (b bus : NamedBus) (source of_source : Verdict) → source ≡ of_source → bus.names ≡ b.names → bus.plan ≡ plan_left b source → bus.schedule ≡ b.schedule → bus ≡ record b { journal = bus.journal; plan = plan_left b of_source }
@@ -55,7 +55,7 @@ bus_left b bus source of_source is names plan schedule =
     ∙ ap (λ (p : PlanSeen). record { names = b.names; journal = bus.journal; plan = p; schedule = bus.schedule }) (plan ∙ ap (plan_left b) is)
     ∙ ap (λ (s : Option Schedule). record { names = b.names; journal = bus.journal; plan = plan_left b of_source; schedule = s }) schedule
 
--- the decision, the moment, and what is put out of both, as they were made one after another
+-- the decision, the moment and the line of an attempt, in the order in which they are made
 pub record Made (verdicts : VerdictMap) (b : BenchState) (bus : NamedBus) (source : Verdict) (decision : Decision) (waits : Bool) (moment : ℕ) (when : Option ℕ) (shown : Option Decision) (outcome : Result Attempt Refusal) : Type 0 where
   pub source_is : source ≡ sourced verdicts b.bus
   pub decision_is : decision ≡ decision_on b.bus source
@@ -69,7 +69,7 @@ pub record Made (verdicts : VerdictMap) (b : BenchState) (bus : NamedBus) (sourc
   pub plan : bus.plan ≡ plan_left b.bus source
   pub schedule : bus.schedule ≡ b.bus.schedule
 
--- the moment is that of the next attempt
+-- the moment is the moment of the next attempt
 moment_of : (verdicts : VerdictMap) (b : BenchState) (bus : NamedBus) (source : Verdict) (decision : Decision) (waits : Bool) (moment : ℕ) (when : Option ℕ) (shown : Option Decision) (outcome : Result Attempt Refusal) → Made verdicts b bus source decision waits moment when shown outcome
     → moment ≡ next_moment_on b
 moment_of verdicts b bus source decision waits moment when shown outcome h = h.moment_is ∙ ap (λ (w : Bool). attempt_moment b.moment w (head_on b.bus) b.bus.schedule) h.waits_is
@@ -104,7 +104,7 @@ tried_by verdicts b after bus source decision waits moment when shown outcome na
   put,
 )
 
--- with the verdicts of the start
+-- the attempt is made with the verdicts that were valid at the start
 pub tried_as : (v w : VerdictMap) (is other : Bool) (b : BenchState) (text : List ℕ) (after : BenchState) → w ≡ v → is ≡ other → IsTriedIf is w b text after → IsTriedIf other v b text after
 tried_as v w is other b text after same was h =
     subst (λ (u : VerdictMap). IsTriedIf other u b text after) same (subst (λ (t : Bool). IsTriedIf t w b text after) was h)

@@ -37,10 +37,10 @@ use Rattle.can_session.specs.Orders.Effect.{Does_nothing, Sets, Starts, Feeds, D
 use Rattle.can_session.specs.Orders.Effect.{TakesDown, BringsUp}
 use Rattle.can_session.specs.AttemptLines.{bench_attempt_line}
 
--- The work and the output of the bench: its lines, one after another (own choice).
+-- What each line of the bench's input does, and what the bench prints (own choice).
 
--- the state of a bench: the number of items that a socket holds, whether the lines of attempts show their faults, the
--- bus, the sessions by number, the moment set, and the input outside messages
+-- the state of a bench: the receive queue capacity of its sockets, whether the lines of attempts show faults, the bus,
+-- the sessions by number, the current moment, and whether sessions were fed bytes outside messages
 pub record BenchState : Type 0 where
   pub capacity : ℕ
   pub shows_faults : Bool
@@ -49,40 +49,40 @@ pub record BenchState : Type 0 where
   pub moment : ℕ
   pub ignored : IgnoredInput
 
--- session s: `Some None` if it was not started, `None` if there is no such number
+-- session `s`: `Some None` if it was not started, `None` if there is no session with this number
 abbrev pub session_at : BenchState → ℕ → Option (Option SessionState)
 session_at b s = slice_get b.sessions (s - 1)
 
--- the bench with session s like this, and its bus like that
+-- the bench after session `s` and the bus changed to these states
 abbrev pub with_session : BenchState → ℕ → SessionState → NamedBus → BenchState
 with_session b s st bus = record b { sessions = slice_set b.sessions (s - 1) (Some st); bus = bus }
 
--- the bench after these bytes, fed to session s, are noted
+-- the bench after it noted that session `s` was fed these bytes
 abbrev pub with_fed : BenchState → ℕ → List ℕ → BenchState
 with_fed b s bytes = record b { ignored = ignored_then b.ignored s bytes }
 
--- the output of a session in a line: its number, a space, the bytes and LF, or nothing at all
+-- the output of a session as a line: its number, a space, the bytes and LF; nothing if there are no bytes
 abbrev pub spoken : ℕ → List ℕ → List ℕ
 spoken s [] = []
 spoken s (b ∷ bs) = decimal s ++ 32 ∷ (b ∷ bs) ++ 10 ∷ []
 
--- a piece is fed to a session
+-- a session is fed a piece
 pub record Hears (moment : ℕ) (bytes : List ℕ) (old : SessionState) (p : NamedBus) (text : List ℕ)
     (new : SessionState) (q : NamedBus) : Type 0 where
   pub forgotten : List Bool
   pub turns : Turns BusStep moment old.dialog forgotten (messages_of (old.kept ++ bytes)) p q text new.dialog
   pub keeps : new.kept ≡ kept_of (old.kept ++ bytes)
 
--- a piece is fed to a session at this stage: one that is over hears nothing
+-- a session at this stage is fed a piece; a session that is over ignores it
 abbrev pub IsFedAt : Stage → ℕ → List ℕ → SessionState → NamedBus → List ℕ → SessionState → NamedBus → Type 0
 IsFedAt Ended moment bytes old p text new q = (new ≡ old) × (text ≡ []) × (q ≡ p)
 IsFedAt _ moment bytes old p text new q = Hears moment bytes old p text new q
 
--- a piece is fed to a session at a moment
+-- a session is fed a piece at this moment
 abbrev pub IsFed : ℕ → List ℕ → SessionState → NamedBus → List ℕ → SessionState → NamedBus → Type 0
 IsFed moment bytes = λ old. IsFedAt old.dialog.stage moment bytes old
 
--- items are given to a session until none is left
+-- a session delivers items to its client until none is left
 pub record IsDrained (old : SessionState) (p : NamedBus) (text : List ℕ) (new : SessionState)
     (q : NamedBus) : Type 0 where
   pub items : ℕ
@@ -94,13 +94,13 @@ pub record IsDrained (old : SessionState) (p : NamedBus) (text : List ℕ) (new 
   pub said : text ≡ before ++ last
   pub same : new ≡ old
 
--- a session ends without a text
+-- a session ends and prints nothing
 pub record IsEnded (old : SessionState) (p : NamedBus) (text : List ℕ) (new : SessionState)
     (q : NamedBus) : Type 0 where
   pub ends : Plays BusStep (ending old.dialog.stage old.dialog) p q text new.dialog
   pub keeps : new.kept ≡ old.kept
 
--- session s, which was started before, does this; its output is put out
+-- session `s`, which was started before, does this, and the bench prints its output
 pub record Speaks (does : SessionState → NamedBus → List ℕ → SessionState → NamedBus → Type 0) (s : ℕ)
     (b : BenchState) (text : List ℕ) (after : BenchState) : Type 0 where
   pub old : SessionState
@@ -112,14 +112,14 @@ pub record Speaks (does : SessionState → NamedBus → List ℕ → SessionStat
   pub text_is : text ≡ spoken s said
   pub after_is : after ≡ with_session b s new bus
 
--- session s, whose number was not used before, is started; its greeting is put out
+-- session `s`, whose number was not used before, starts, and the bench prints its greeting
 abbrev pub IsStarted : ℕ → BenchState → List ℕ → BenchState → Type 0
 IsStarted s b text after =
     (session_at b s ≡ Some None)
     × (text ≡ spoken s greeting)
     × (after ≡ with_session b s (beginning b.capacity) b.bus)
 
--- the verdict that the source has for the next attempt
+-- the verdict that the source gives to the next attempt
 abbrev pub sourced : VerdictMap → NamedBus → Verdict
 sourced verdicts bus = verdict_in verdicts (next_number_on bus)
 
@@ -127,17 +127,17 @@ sourced verdicts bus = verdict_in verdicts (next_number_on bus)
 abbrev pub next_moment_on : BenchState → ℕ
 next_moment_on b = attempt_moment b.moment (waits_in_time b.bus) (head_on b.bus) b.bus.schedule
 
--- the part of its line for the moment: nothing if the bus has no bit rates
+-- the moment that the line of an attempt shows: none if the bus has no bit rates
 abbrev pub said_moment : Option Schedule → ℕ → Option ℕ
 said_moment schedule moment = option_map (λ s. moment) schedule
 
--- the part of its line for the fault on the attempt and the rule that gave it, if faults are shown
+-- the decision that the line of an attempt shows: none if faults are not shown
 abbrev pub said_decision : Bool → Decision → Option Decision
 said_decision true decision = Some decision
 said_decision false decision = None
 
--- the bench after the time of an attempt with this verdict and this outcome has passed; before it an interface waited
--- for its restart in time or none did; a refused attempt takes no time
+-- the bench after an attempt with this verdict and outcome took its time. `waits` says whether an interface waited for
+-- its restart before the attempt. A refused attempt takes no time.
 abbrev pub passed : Bool → Verdict → Result Attempt Refusal → BenchState → BenchState
 passed waits v (Ok a) b = record b {
   moment = moment_left b.moment (schedule_left b.moment waits v a b.bus.schedule);
@@ -145,7 +145,7 @@ passed waits v (Ok a) b = record b {
 }
 passed waits v (Err why) b = b
 
--- an attempt, with the verdict that source and plan have for the next one
+-- the bench makes an attempt, with the verdict that the source and the plan give to the next attempt
 pub record IsTried (verdicts : VerdictMap) (b : BenchState) (text : List ℕ) (after : BenchState) : Type 0 where
   pub outcome : Result Attempt Refusal
   pub journal : Journal
@@ -157,16 +157,16 @@ pub record IsTried (verdicts : VerdictMap) (b : BenchState) (text : List ℕ) (a
     bus = record b.bus { journal = journal; plan = plan_left b.bus (sourced verdicts b.bus) };
   })
 
--- an attempt that is made, or one that is refused
+-- the bench makes an attempt, or the attempt is refused, as the flag says
 abbrev pub IsTriedIf : Bool → VerdictMap → BenchState → List ℕ → BenchState → Type 0
 IsTriedIf is_made verdicts b text after = (one : IsTried verdicts b text after) × (is_ok one.outcome ≡ is_made)
 
--- an attempt would begin before this moment, and there is a frame for it to try or an interface waits for its restart
+-- the next attempt would begin before this moment, and there is a frame to try or an interface waits for its restart
 abbrev pub is_attempt_due : ℕ → BenchState → Bool
 is_attempt_due moment b =
     begins_before b.moment moment b.bus.schedule && (is_some (head_on b.bus) || waits_in_time b.bus)
 
--- this many attempts, each of which was due and is made; the last one is the last step
+-- the bench makes exactly this many attempts, one after another, each of which is due
 abbrev pub AreTried : VerdictMap → ℕ → ℕ → BenchState → List ℕ → BenchState → Type 0
 AreTried verdicts moment zero b text after = (text ≡ []) × (after ≡ b)
 AreTried verdicts moment (suc n) b text after =
@@ -176,17 +176,17 @@ AreTried verdicts moment (suc n) b text after =
     × IsTriedIf true verdicts mid last after
     × (text ≡ before ++ last)
 
--- the bus's record has no room for an attempt
+-- the record of the bus has no room for another attempt
 abbrev pub IsFull : BenchState → Type 0
 IsFull b = b.bus.journal.config.limit ≤ length b.bus.journal.history
 
--- no attempt is due any more; or one is, and its refusal is put out, since the record is full
+-- no further attempt is due; or an attempt is due but the record is full, and the bench prints the refusal
 abbrev pub NoneFollows : VerdictMap → ℕ → BenchState → List ℕ → BenchState → Type 0
 NoneFollows verdicts moment b text after =
     ((is_attempt_due moment b ≡ false) × (text ≡ []) × (after ≡ b))
     ⊎ ((is_attempt_due moment b ≡ true) × IsFull b × IsTried verdicts b text after)
 
--- attempts are made as long as one is due before this moment
+-- the bench makes attempts as long as one is due before this moment
 pub record AreMade (verdicts : VerdictMap) (moment : ℕ) (b : BenchState) (text : List ℕ)
     (after : BenchState) : Type 0 where
   pub count : ℕ
@@ -197,7 +197,8 @@ pub record AreMade (verdicts : VerdictMap) (moment : ℕ) (b : BenchState) (text
   pub ends : NoneFollows verdicts moment mid last after
   pub said : text ≡ before ++ last
 
--- the same, and then this moment is set: the bus has bit rates, and the moment set before is no later
+-- the bench makes all attempts that are due before this moment, and then sets this moment. The bus has bit rates, and
+-- the moment set before is no later.
 pub record IsRun (verdicts : VerdictMap) (moment : ℕ) (b : BenchState) (text : List ℕ)
     (after : BenchState) : Type 0 where
   pub timed : b.bus.schedule ≢ None
@@ -206,34 +207,34 @@ pub record IsRun (verdicts : VerdictMap) (moment : ℕ) (b : BenchState) (text :
   pub made : AreMade verdicts moment b text over
   pub after_is : after ≡ record over { moment = moment }
 
--- a bench that cannot run to this moment: its bus has no bit rates, or a later moment is set
+-- the bench cannot run to this moment: its bus has no bit rates, or a later moment is set
 abbrev pub IsWrongRun : ℕ → BenchState → Type 0
 IsWrongRun moment b = (b.bus.schedule ≡ None) ⊎ (moment < b.moment)
 
--- the bus's plan takes a rule of faults
+-- the fault plan of the bus accepts this rule
 pub record IsInjected (rule : List ℕ) (b after : BenchState) : Type 0 where
   pub plan : PlanSeen
   pub takes : Injected b.bus.names rule b.bus.plan (Ok tt) plan
   pub after_is : after ≡ record b { bus = record b.bus { plan = plan } }
 
--- the bus's plan refuses it, not for lack of memory
+-- the fault plan of the bus refuses this rule, and the reason is not a lack of memory
 pub record IsWrongRule (rule : List ℕ) (b : BenchState) : Type 0 where
   pub why : RuleRefusal
   pub refuses : Injected b.bus.names rule b.bus.plan (Err why) b.bus.plan
   pub fault : why ≢ refusal.NoMemory
 
--- the output of a line that takes an interface down or brings it up: a note if the record is full
+-- the output of a line that takes an interface down or brings it up: a message if the record is full, otherwise nothing
 abbrev pub change_line : Result (Unit {0}) Refusal → List ℕ
 change_line (Ok done) = []
 change_line (Err why) = codes "record full\n"
 
--- the line is good: the bus did it, or its record is full
+-- whether the line is good: the bus made the change, or its record is full
 abbrev pub is_good_change : Result (Unit {0}) Refusal → Bool
 is_good_change (Ok done) = true
 is_good_change (Err RecordFull) = true
 is_good_change (Err why) = false
 
--- the bus has this event of the interface of this name, at the moment set: that goes down, or is restarted
+-- the bus handles this event, which takes the named interface down or restarts it, at the current moment
 pub record IsChanged (event_of : ℕ → ℕ → Event) (name : List ℕ) (b : BenchState) (text : List ℕ)
     (after : BenchState) : Type 0 where
   pub iface : ℕ
@@ -245,7 +246,7 @@ pub record IsChanged (event_of : ℕ → ℕ → Event) (name : List ℕ) (b : B
   pub text_is : text ≡ change_line outcome
   pub after_is : after ≡ record b { bus = record b.bus { journal = journal } }
 
--- the bus refuses it, not since its record is full
+-- the bus refuses this event, and the reason is not a full record
 pub record IsDenied (event_of : ℕ → ℕ → Event) (name : List ℕ) (b : BenchState) : Type 0 where
   pub iface : ℕ
   pub why : Refusal
@@ -254,11 +255,11 @@ pub record IsDenied (event_of : ℕ → ℕ → Event) (name : List ℕ) (b : Be
   pub answers : Answers done_reply b.bus.journal (event_of iface b.moment) (Err why) journal
   pub fault : why ≢ RecordFull
 
--- no interface has this name, or the bus refuses
+-- no interface has this name, or the bus refuses the change
 abbrev pub IsWrongChange : (ℕ → ℕ → Event) → List ℕ → BenchState → Type 0
 IsWrongChange event_of name b = (place_of b.bus.names name ≡ None) ⊎ IsDenied event_of name b
 
--- the work of a good line: the bench before it, its output, and the bench after it
+-- the effect of a good line: the bench before it, its output, and the bench after it
 abbrev pub Does : VerdictMap → Effect → BenchState → List ℕ → BenchState → Type 0
 Does verdicts Does_nothing b text after = (text ≡ []) × (after ≡ b)
 Does verdicts (Sets moment) b text after = (text ≡ []) × (after ≡ record b { moment = moment })
@@ -272,15 +273,15 @@ Does verdicts (Injects rule) b text after = (text ≡ []) × IsInjected rule b a
 Does verdicts (TakesDown name) b text after = IsChanged event.Down name b text after
 Does verdicts (BringsUp name) b text after = IsChanged event.Restart name b text after
 
--- a line is carried out
+-- the bench carries out a line
 pub record IsCarriedOut (verdicts : VerdictMap) (line : List ℕ) (b : BenchState) (text : List ℕ)
     (after : BenchState) : Type 0 where
   pub effect : Effect
   pub reads : order_of line ≡ Some effect
   pub does : Does verdicts effect b text after
 
--- a line is refused: it is wrong, it starts a session whose number was used before, its session was never started, it
--- runs to a moment and cannot, its rule is not taken, or its interface is not there or the bus refuses to bring it up
+-- the bench refuses a line. The line is wrong, its session was used before or never started, the bench cannot run to
+-- its moment, its rule is refused, its interface does not exist, or the bus refuses its change.
 abbrev pub IsRefused : Option Effect → BenchState → Type 0
 IsRefused None b = Unit {0}
 IsRefused (Some (Starts s)) b = session_at b s ≢ Some None
@@ -293,7 +294,7 @@ IsRefused (Some (TakesDown name)) b = IsWrongChange event.Down name b
 IsRefused (Some (BringsUp name)) b = IsWrongChange event.Restart name b
 IsRefused (Some _) b = ⊥
 
--- a bench after a line that it refused: as before, but a change that its bus refused is in the record
+-- the bench after it refused a line: it is unchanged, except that a change that the bus refused is in the record
 abbrev pub IsLeftBy : BenchState → BenchState → Type 0
 IsLeftBy b after =
     (after ≡ b)
@@ -301,7 +302,7 @@ IsLeftBy b after =
     × Answers done_reply b.bus.journal change (Err why) journal
     × (after ≡ record b { bus = record b.bus { journal = journal } }))
 
--- lines are carried out, one after another; the last one is the last step
+-- the bench carries out lines, one after another, and does nothing else
 abbrev pub AreCarriedOut : VerdictMap → List (List ℕ) → BenchState → List ℕ → BenchState → Type 0
 AreCarriedOut verdicts [] b text after = (text ≡ []) × (after ≡ b)
 AreCarriedOut verdicts (line ∷ lines) b text after =

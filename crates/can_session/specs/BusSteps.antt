@@ -30,9 +30,9 @@ use Rattle.can_dialog.specs.Calls.Call.{Names, Attach, Open, Close, SetFilters, 
 use Rattle.can_dialog.specs.Calls.Call.{Receive, Restart, Attempt, CountsOfSocket, CountsOfIface}
 use Rattle.can_dialog.specs.Calls.Call.{CountersOfIface, LoadAt, Inject, CountsRules, EndsRules, Down}
 
--- A bus as a port: each call but the look-ups and those of rules is one event of the bus.
+-- A bus as a port: each call is one event of the bus, except for look-ups and calls about rules.
 
--- the names of the interfaces, the bus, the plan of its faults, and the schedule of its attempts, if it has bit rates
+-- the names of the interfaces, the bus, its fault plan, and the schedule of its attempts if it has bit rates
 pub record NamedBus : Type 0 where
   pub names : List (List ℕ)
   pub journal : Journal
@@ -47,38 +47,38 @@ next_number_on bus = length (tape bus.journal.history)
 abbrev pub head_on : NamedBus → Option (ℕ × CanFrame)
 head_on bus = next_head bus.journal.config bus.journal.history
 
--- an attempt without a frame takes time: the bus has bit rates, and an interface waits for its restart
+-- an attempt that tries no frame takes time: the bus has bit rates, and an interface waits for its restart
 abbrev pub waits_in_time : NamedBus → Bool
 waits_in_time bus = is_some bus.schedule && is_counting bus.journal.config bus.journal.history
 
--- the verdict of the next attempt, for which the source has this one
+-- the verdict of the next attempt, if the source gives it this verdict
 abbrev pub verdict_on : NamedBus → Verdict → Verdict
 verdict_on bus source = given source bus.plan (next_number_on bus) (head_on bus)
 
--- the same, with the rule that gives it, if any
+-- the decision for the next attempt: its verdict and the rule that decided it, if any
 abbrev pub decision_on : NamedBus → Verdict → Decision
 decision_on bus source = decided_for source bus.plan (next_number_on bus) (head_on bus)
 
--- the plan after that attempt
+-- the plan after the next attempt
 abbrev pub plan_left : NamedBus → Verdict → PlanSeen
 plan_left bus source = plan_after source bus.plan (next_number_on bus) (head_on bus)
 
--- a bus's reply, as a port gives it
+-- the reply of a bus in the form that a port returns
 abbrev pub passed_on : {A : Type 0} → Result A Refusal → Result A PortRefusal
 passed_on (Ok a) = Ok a
 passed_on (Err why) = Err (port.Bus why)
 
--- the interface at a place among the names, if there is one
+-- the interface at this index among the names, or a refusal if there is no index
 abbrev pub interface_at : Option ℕ → Result ℕ PortRefusal
 interface_at None = Err (port.Bus refusal.NoInterface)
 interface_at (Some iface) = Ok iface
 
--- the error counters among the counts of an interface: 0/0 if there is no such interface
+-- the error counters in the counts of an interface: 0/0 if there is no such interface
 abbrev pub counters_in : Option IfaceStats → ErrorCounts
 counters_in None = at_start
 counters_in (Some counts) = counts.counters
 
--- one event of the bus, with the bus's reply
+-- the bus handles one event and replies
 abbrev pub IsEvent : {A : Type 0} → (A → Reply) → NamedBus → Event → Result A PortRefusal → NamedBus → Type 0
 IsEvent {A} told old event answer new =
     (outcome : Result A Refusal)
@@ -88,7 +88,7 @@ IsEvent {A} told old event answer new =
     × (new.plan ≡ old.plan)
     × (new.schedule ≡ old.schedule)
 
--- a fault rule is taken, or refused as the plan refuses it
+-- the plan accepts a fault rule, or refuses the rule and gives the reason
 abbrev pub IsRuleAnswered : NamedBus → List ℕ → Result (Unit {0}) PortRefusal → NamedBus → Type 0
 IsRuleAnswered old rule answer new =
     (outcome : Result (Unit {0}) RuleRefusal)
@@ -96,7 +96,7 @@ IsRuleAnswered old rule answer new =
     × Injected old.names rule old.plan outcome new.plan
     × (new ≡ record old { plan = new.plan })
 
--- a call on a bus with names
+-- the effect of each call on a bus with names
 abbrev pub BusStep : NamedBus → (call : Call) → CallReply call → NamedBus → Type 0
 BusStep old Names answer new = (answer ≡ old.names) × (new ≡ old)
 BusStep old (Attach name) answer new = (answer ≡ interface_at (place_of old.names name)) × (new ≡ old)

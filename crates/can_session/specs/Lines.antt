@@ -7,37 +7,38 @@ use Rattle.can_session.specs.declared.lines.InputFault.TheVariants.{LineTooLong,
 
 -- The lines of a text, and an input that is read line by line (own choice).
 
--- LF, which ends a line
+-- whether the byte is LF, which ends a line
 abbrev pub is_lf : ℕ → Bool
 is_lf b = b == 10
 
--- a byte at the front of the first line, or on its own if there is no line
+-- the lines with this byte at the front of the first line, or as the only line if there are no lines
 abbrev pub with_byte : ℕ → List (List ℕ) → List (List ℕ)
 with_byte b [] = (b ∷ []) ∷ []
 with_byte b (line ∷ lines) = (b ∷ line) ∷ lines
 
--- the lines of a text, without their LFs: each LF ends one, and what follows the last LF is one if it is not empty
+-- the lines of a text, without their LFs. Each LF ends a line, and the bytes after the last LF are a line if there are
+-- any.
 abbrev pub lines_of_text : List ℕ → List (List ℕ)
 lines_of_text [] = []
 lines_of_text (b ∷ bs) = if is_lf b then [] ∷ lines_of_text bs else with_byte b (lines_of_text bs)
 
--- the lines of a text that have their LF: as many as it has LFs
+-- the lines of a text that end with LF: one for each LF
 abbrev pub whole_lines : List ℕ → List (List ℕ)
 whole_lines text = take (count_by is_lf text) (lines_of_text text)
 
--- bytes that may be a line: no LF is among them, and they are not too many
+-- the bytes may be a line: they have no LF, and there are at most 4,096 bytes
 pub record IsInputLine (bytes : List ℕ) : Type 0 where
   pub unbroken : list_any is_lf bytes ≡ false
   pub short : length bytes ≤ 4096
 
--- a text that begins with too long a line: its first 4,097 bytes hold no LF
+-- the text begins with a line that is too long: its first 4,097 bytes have no LF
 pub record BeginsTooLong (text : List ℕ) : Type 0 where
   pub long : 4096 < length text
   pub unbroken : list_any is_lf (take 4097 text) ≡ false
 
--- an input that is read line by line: the current line, the number of bytes given as lines with their LFs, the bytes
--- read and not given, the rest of the reader if it is known, the number of reads that gave bytes, whether all was
--- given, and the fault that ended it, if any
+-- the state of an input that is read line by line: the current line, the number of bytes given as lines with their LFs,
+-- the bytes that were read but not given yet, the bytes that the reader still has, if they are known, the number of
+-- reads that returned bytes, whether the input has ended, and the fault that ended it, if any
 pub record Input : Type 0 where
   pub line : List ℕ
   pub given : ℕ
@@ -47,72 +48,73 @@ pub record Input : Type 0 where
   pub ended : Bool
   pub fault : Option InputFault
 
--- an input of which nothing was read
+-- an input before its first read
 abbrev pub unread : Option (List ℕ) → Input
 unread coming = record { line = []; given = 0; held = []; coming = coming; reads = 0; ended = false; fault = None }
 
--- an input after the next line was given: of what is held the line is this many bytes, and with its LF this many
+-- the input after it gave the next line, which has `line` bytes without its LF and `width` bytes with it
 abbrev pub after_line : ℕ → ℕ → Input → Input
 after_line line width i = record i { line = take line i.held; given = i.given + width; held = drop width i.held }
 
--- an input after all that is held was given as the last line
+-- the input after it gave all held bytes as the last line
 abbrev pub after_last : Input → Input
 after_last i = record i { line = i.held; given = i.given + length i.held; held = []; ended = true }
 
--- the bytes left to be given, if they are known
+-- the bytes that are not given yet, if they are known
 abbrev pub left_of : Input → Option (List ℕ)
 left_of i = prepend_known i.held i.coming
 
--- an input within its limits, of which each read that counts gave a byte; once it has ended nothing is left
+-- the input is within its limits: each counted read returned at least one byte, and no bytes are left after the end
 pub record IsWithinLimits (i : Input) : Type 0 where
   pub bytes : i.given + length i.held ≤ 16777216
   pub reads : i.reads ≤ i.given + length i.held
   pub over : i.ended ≡ true → (i.held ≡ []) × IsAtEnd i.coming
 
--- an input that has ended
+-- the input has ended
 pub record IsOver (i : Input) : Type 0 where
   pub ended : i.ended ≡ true
   pub held : i.held ≡ []
   pub coming : IsAtEnd i.coming
 
--- the number of bytes taken from an input: those given as lines, and those held
+-- the number of bytes read from an input: those given as lines and those still held
 abbrev pub came : Input → ℕ
 came i = i.given + length i.held
 
--- each read in between that counts gave a byte at least
+-- each counted read between the two states returned at least one byte
 pub record Counts (old new : Input) : Type 0 where
   pub more : old.reads ≤ new.reads
   pub bytes : new.reads + came old ≤ old.reads + came new
 
--- these bytes were left, and are given now, without a fault
+-- the input gives these bytes, which were left, without a fault
 pub record GivesBytes (old new : Input) (bytes : List ℕ) : Type 0 where
   pub taken : Consumes (left_of old) (left_of new) bytes
   pub counted : new.given ≡ old.given + length bytes
   pub reads : Counts old new
   pub fault : new.fault ≡ old.fault
 
--- the input had not ended, and the next line is the current one: it had its LF, or it is the last and not empty
+-- the input had not ended, and its current line is now the next one: the line ended with LF, or it is the last and not
+-- empty
 abbrev pub TakesInputLine : Input → Input → Type 0
 TakesInputLine old new =
     (old.ended ≡ false)
     × IsInputLine new.line
     × (GivesBytes old new (new.line ++ 10 ∷ []) ⊎ (GivesBytes old new new.line × (0 < length new.line) × IsOver new))
 
--- there was no line left
+-- no line was left, and the input has ended
 abbrev pub FindsEnd : Input → Input → Type 0
 FindsEnd old new = GivesBytes old new [] × IsOver new
 
--- whether there was a next line
+-- whether a next line was found, and what follows from that
 abbrev pub ComesNext : Bool → Input → Input → Type 0
 ComesNext found old new = MatchBool found (TakesInputLine old new) (FindsEnd old new)
 
--- no byte was given: the rest stays the same
+-- the input gives no bytes: the bytes that are left stay the same
 pub record Waits (old new : Input) : Type 0 where
   pub same : Keeps (left_of old) (left_of new)
   pub given : new.given ≡ old.given
   pub reads : Counts old new
 
--- all the bytes came that an input may have, and one more
+-- the reader returned one byte more than an input may have
 pub record Overruns (old new : Input) : Type 0 where
   pub byte : ℕ
   pub taken : Consumes (left_of old) new.coming (new.held ++ byte ∷ [])
@@ -120,28 +122,27 @@ pub record Overruns (old new : Input) : Type 0 where
   pub reads : Counts old new
   pub full : new.given + length new.held ≡ 16777216
 
--- a read that was not made or gave nothing of use: no read is left, a byte came too many, or a read that was left
--- failed
+-- a read was not made or failed: the limit on reads is reached, the input has one byte too many, or the reader failed
 abbrev pub Fails : InputFault → Input → Input → Type 0
 Fails LineTooLong old new = ⊥
 Fails TooLong old new = (Waits old new × (new.reads ≡ 16777216)) ⊎ Overruns old new
 Fails Read old new = Waits old new × (new.reads < 16777216)
 
--- why there is no next line: the bytes held begin with too long a line, or they are no whole line and no more can be
--- read
+-- why there is no next line: the held bytes begin with a line that is too long, or they have no LF and no more bytes
+-- can be read
 abbrev pub Halts : InputFault → Input → Input → Type 0
 Halts LineTooLong old new = Waits old new × BeginsTooLong new.held
 Halts fault old new = IsInputLine new.held × Fails fault old new
 
--- the input had not ended, and there is no next line: the fault is returned
+-- the input had not ended, and it has no next line: it returns this fault
 abbrev pub Stops : InputFault → Input → Input → Type 0
 Stops fault old new = (old.ended ≡ false) × (new.fault ≡ Some fault) × Halts fault old new
 
--- the fault was returned before, and is returned again
+-- the input returned this fault before and returns it again
 abbrev pub Repeats : InputFault → Input → Input → Type 0
 Repeats fault old new = (old.fault ≡ Some fault) × (new ≡ old)
 
--- one read put this many bytes after what is held
+-- one read adds this many bytes to the end of the held bytes
 pub record Fills (old new : Input) (count : ℕ) : Type 0 where
   pub waits : Waits old new
   pub bytes : List ℕ
@@ -152,11 +153,11 @@ pub record Fills (old new : Input) (count : ℕ) : Type 0 where
   pub fault : new.fault ≡ old.fault
   pub end : count ≡ 0 → IsAtEnd new.coming
 
--- each of these lines and its LF, one after another
+-- the text of these lines, each followed by LF
 abbrev pub spelled : List (List ℕ) → List ℕ
 spelled lines = flat_map (λ line. line ++ 10 ∷ []) lines
 
--- these lines of a text were given, each with its LF, and the others are left
+-- the input gave these lines of a text, each ended by LF, and the other lines are left
 pub record GivesLines (text : List ℕ) (lines : List (List ℕ)) (now : Input) : Type 0 where
   pub unbroken : AllByRecursion (λ line. list_any is_lf line ≡ false) lines
   pub rest : List ℕ
@@ -164,18 +165,18 @@ pub record GivesLines (text : List ℕ) (lines : List (List ℕ)) (now : Input) 
   pub split : text ≡ spelled lines ++ rest
   pub counted : now.given ≡ length (spelled lines)
 
--- all lines of a text were given, and the input has ended
+-- the input gave all lines of a text and has ended
 pub record HasEnded (text : List ℕ) (lines : List (List ℕ)) (now : Input) : Type 0 where
   pub ended : now.ended ≡ true
   pub all : lines ≡ lines_of_text text
   pub counted : now.given ≡ length text
 
--- the lines that an input gave of a text, up to its current line
+-- the lines that an input gave of a text, up to and including its current line
 abbrev pub Given : List ℕ → List (List ℕ) → Input → Type 0
 Given text lines now = GivesLines text lines now ⊎ HasEnded text lines now
 
--- the reader gave so much of a text, at most 16,777,216 bytes, and has the rest; the lines that have their LF in
--- it were given, and no long line is begun after them
+-- the reader returned the first part of a text, at most 16,777,216 bytes, and still has the rest. The input gave all
+-- lines that end with LF in this part, and at most 4,096 bytes follow them.
 pub record ReadsOn (text : List ℕ) (lines : List (List ℕ)) (now : Input) : Type 0 where
   pub read : List ℕ
   pub taken : Consumes (Some text) now.coming read
@@ -183,14 +184,14 @@ pub record ReadsOn (text : List ℕ) (lines : List (List ℕ)) (now : Input) : T
   pub whole : lines ≡ whole_lines read
   pub short : length read ≤ length (spelled lines) + 4096
 
--- the reader gave the first 16,777,216 bytes of a text in as many reads
+-- the reader returned the first 16,777,216 bytes of a text in 16,777,216 reads
 pub record ReadsOut (text : List ℕ) (lines : List (List ℕ)) (now : Input) : Type 0 where
   pub on : ReadsOn text lines now
   pub full : length on.read ≡ 16777216
   pub reads : now.reads ≡ 16777216
 
--- the reader gave the first 16,777,216 bytes of a text and one more; the lines that have their LF before that one were
--- given, and no long line is begun after them
+-- the reader returned the first 16,777,216 bytes of a text and one more. The input gave all lines that end with LF
+-- before that byte, and at most 4,096 bytes follow them.
 pub record ReadsOver (text : List ℕ) (lines : List (List ℕ)) (now : Input) : Type 0 where
   pub read : List ℕ
   pub byte : ℕ
@@ -199,7 +200,7 @@ pub record ReadsOver (text : List ℕ) (lines : List (List ℕ)) (now : Input) :
   pub whole : lines ≡ whole_lines read
   pub short : length read ≤ length (spelled lines) + 4096
 
--- the line after these is too long, and its 4,097th byte is within the limit of an input
+-- the line after these is too long, and its 4,097th byte is within the size limit of an input
 pub record ComesToLong (text : List ℕ) (lines : List (List ℕ)) : Type 0 where
   pub line : List ℕ
   pub more : List (List ℕ)
@@ -207,8 +208,8 @@ pub record ComesToLong (text : List ℕ) (lines : List (List ℕ)) : Type 0 wher
   pub long : 4096 < length line
   pub within : length (spelled lines) + 4097 ≤ 16777216
 
--- the lines that were given of a text before a fault: the one after them is too long, no more may be read, or the
--- reader failed before that
+-- the lines of a text that were given before a fault: the next line is too long, the size limit is reached, or the
+-- reader failed
 abbrev pub StopsAfter : InputFault → List ℕ → List (List ℕ) → Input → Type 0
 StopsAfter LineTooLong text lines now = ComesToLong text lines
 StopsAfter TooLong text lines now = ReadsOut text lines now ⊎ ReadsOver text lines now

@@ -8,10 +8,10 @@ use Rattle.can_session.specs.declared.order.Order.{Order}
 use Rattle.can_session.specs.declared.order.Order.TheVariants.{Nothing, At, Session, Feed}
 use Rattle.can_session.specs.declared.order.Order.TheVariants.{Drain, End, Attempt, Run, Fault, Down, Up}
 
--- The order that a line of the bench's input gives (own choice).
+-- The commands in the lines of the bench's input (own choice).
 
--- the order of a line: it sets a moment, in microseconds, starts, feeds, drains or ends a session, makes an attempt, or
--- those that begin before a moment, adds a fault rule, or takes the interface of a name down or brings it up
+-- the effect of a line: it sets a moment in microseconds; starts, feeds, drains or ends a session; makes one attempt,
+-- or all attempts that begin before a moment; adds a fault rule; or takes a named interface down or brings it up
 pub data Effect : Type 0 where
   Does_nothing : Effect
   Sets : ℕ → Effect
@@ -25,7 +25,7 @@ pub data Effect : Type 0 where
   TakesDown : List ℕ → Effect
   BringsUp : List ℕ → Effect
 
--- the effect that an order has
+-- the effect of an order
 abbrev pub effect_of : Order → Effect
 effect_of Nothing = Does_nothing
 effect_of (At moment) = Sets moment
@@ -39,23 +39,23 @@ effect_of (Fault rule) = Injects rule.now
 effect_of (Down name) = TakesDown name.now
 effect_of (Up name) = BringsUp name.now
 
--- the bytes before the first of these marks, and the bytes after it
+-- the bytes before the first occurrence of this byte, and the bytes after it
 abbrev pub parted : ℕ → List ℕ → Option (List ℕ × List ℕ)
 parted mark text = option_map (λ n. (take n text, drop (n + 1) text)) (position (λ b. b == mark) text)
 
--- sessions have the numbers 1 to 64
+-- the number, if it is a session number: 1 to 64
 abbrev pub session_number : ℕ → Option ℕ
 session_number n = if nat_le 1 n && nat_le n 64 then Some n else None
 
--- a session's number in decimal, without leading zeros
+-- the session number that a word spells, in decimal without leading zeros
 abbrev pub session_of : List ℕ → Option ℕ
 session_of word = if slice_index word 0 == 48 then None else option_and_then session_number (number_in 10 2 word)
 
--- a session's number, a space, and the bytes that it is fed
+-- the effect of `feed`, given the session number and the bytes after the space
 abbrev pub fed_by : List ℕ × List ℕ → Option Effect
 fed_by (session, bytes) = option_map (λ s. Feeds s bytes) (session_of session)
 
--- the order of a line with a space, by the word before the space and the bytes after it
+-- the effect of a line with a space, given the word before the first space and the bytes after it
 abbrev pub asked_by_word : List ℕ × List ℕ → Option Effect
 asked_by_word (word, rest) =
     if is_word word (codes "at") then option_map Sets (moment_in rest) else
@@ -68,12 +68,12 @@ asked_by_word (word, rest) =
     if is_word word (codes "down") then Some (TakesDown rest) else
     if is_word word (codes "up") then Some (BringsUp rest) else None
 
--- an empty line or one that begins with #
+-- whether the line is empty or begins with `#`
 abbrev pub is_remark : List ℕ → Bool
 is_remark [] = true
 is_remark (b ∷ bs) = b == 35
 
--- the order of a line, or `None` if the line is wrong
+-- the effect of a line, or `None` if the line is wrong
 abbrev pub order_of : List ℕ → Option Effect
 order_of line =
     if is_remark line then Some Does_nothing else

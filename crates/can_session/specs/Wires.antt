@@ -11,26 +11,26 @@ use Rattle.can_wire.specs.Schedules.{next_moment, begin_moment, after_tried, aft
 use Rattle.can_wire.specs.Wires.{moment_of, is_before}
 pub use Rattle.can_wire.specs.Schedules.{Schedule, nothing_yet}
 
--- When attempts are made on a bench whose bus has bit rates (own choice; how long frames and attempts last, and when
--- they begin and end on a schedule, is can_wire's).
+-- The time of attempts on a bench whose bus has bit rates (own choice; can_wire defines how long frames and attempts
+-- last, and when they begin and end on a schedule).
 
--- the schedule after this moment is set: the next attempt begins then, or once the wire is free
+-- the schedule after this moment is set: the next attempt begins at this moment, or once the wire is free
 abbrev pub set_to : ℕ → Schedule → Schedule
 set_to moment s = record s { since = moment }
 
--- the moment of the next attempt: the end of the frame that it tries; if it tries none, but an interface waits for its
--- restart, the end of the attempt; else its begin
+-- the moment of the next attempt: the end of the frame that it tries. An attempt without a frame has its end if an
+-- interface waits for its restart, otherwise its beginning.
 abbrev pub moment_on : Bool → Option (ℕ × CanFrame) → Schedule → ℕ
 moment_on waits None s = if waits then next_moment None s else begin_moment s
 moment_on waits (Some (iface, frame)) s = next_moment (Some frame) s
 
--- the same, if this moment is set; without bit rates it is this one
+-- the moment of the next attempt if this moment is set; without bit rates it is the moment that is set
 abbrev pub attempt_moment : ℕ → Bool → Option (ℕ × CanFrame) → Option Schedule → ℕ
 attempt_moment moment waits head None = moment
 attempt_moment moment waits head (Some s) = moment_on waits head (set_to moment s)
 
--- the schedule after an attempt with this verdict: one that tries no frame takes 11 bits if an interface waited for its
--- restart, and no time else
+-- the schedule after an attempt with this verdict. An attempt without a frame takes 11 bits if an interface waited for
+-- its restart, otherwise no time.
 abbrev pub schedule_after : Bool → Verdict → Attempt → Schedule → Schedule
 schedule_after waits v (attempt.Tried t) s = after_tried t.frame t.class v s
 schedule_after waits v (attempt.Idle restarted) s = if waits then after_idle s else after_no_time s
@@ -40,26 +40,26 @@ abbrev pub tried_in : Attempt → Option (ℕ × CanFrame)
 tried_in (attempt.Tried t) = Some (t.winner, t.frame)
 tried_in (attempt.Idle restarted) = None
 
--- the schedule after an attempt, if there is one, when this moment was set
+-- the schedule after an attempt, if the bus has a schedule; this moment was set before the attempt
 abbrev pub schedule_left : ℕ → Bool → Verdict → Attempt → Option Schedule → Option Schedule
 schedule_left moment waits v a schedule = option_map (λ s. schedule_after waits v a (set_to moment s)) schedule
 
--- the moment at which its wire is free
+-- the moment at which the wire of a schedule is free
 abbrev pub free_at : Schedule → ℕ
 free_at s = moment_of s.wire.free
 
--- the moment that is set after an attempt: that of the wire being free again
+-- the moment that is set after an attempt: the wire is free from then on
 abbrev pub moment_left : ℕ → Option Schedule → ℕ
 moment_left moment None = moment
 moment_left moment (Some s) = free_at s
 
--- whether an attempt would begin before this moment, if that one is set
+-- whether an attempt would begin before `moment`, if the moment `set` is set
 abbrev pub begins_before : ℕ → ℕ → Option Schedule → Bool
 begins_before set moment None = false
 begins_before set moment (Some s) = is_before set s.wire moment
 
--- the load of the wire at a moment, as a session reads it: the thousandths of the last whole second before it in which
--- the wire was busy, the busy microseconds in all, and the bit rates
+-- the load of the wire at a moment, as a session shows it: how much of the last whole second the wire was busy, in
+-- thousandths; how long it was busy in total, in microseconds; and the bit rates
 abbrev pub shown_at : ℕ → Schedule → BusLoad
 shown_at moment s = record {
   permille = permille_at moment (recent_of s.load);
@@ -68,7 +68,7 @@ shown_at moment s = record {
   dbitrate = s.wire.timing.rates.fast;
 }
 
--- if a bus has no bit rates all is 0
+-- the load of a bus at a moment: all 0 if the bus has no bit rates
 abbrev pub load_at : ℕ → Option Schedule → BusLoad
 load_at moment None = no_bus_load
 load_at moment (Some s) = shown_at moment s

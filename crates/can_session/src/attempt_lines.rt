@@ -10,7 +10,8 @@ use can_frame::{Iface, IfaceSet, Moment, Names, Text};
 use can_rules::Decision;
 use std::alloc::AllocError;
 
-/// Adds the line of an attempt, with its moment, and with its fault and the rule that gave it, if they are to be said.
+/// Adds the line of an attempt. The line includes the moment of the attempt, its fault and the rule that gave the fault, if these
+/// are given.
 pub fn put_attempt(
     said: &mut Vec<u8>,
     names: &Names,
@@ -70,7 +71,7 @@ fn put_end(
     said.extend_from_slice(b"\n")
 }
 
-// The interfaces that were restarted, and the moment.
+// Adds the interfaces that were restarted, and the moment.
 fn put_after(
     said: &mut Vec<u8>,
     names: &Names,
@@ -83,7 +84,7 @@ fn put_after(
     put_when(said, when)
 }
 
-// The moment of an attempt, if it is to be said.
+// Adds the moment of an attempt, if it is given.
 fn put_when(said: &mut Vec<u8>, when: Option<Moment>) -> Result<(), AllocError>
     ensures { OnOk result (said.new.items ≡ said.old.items ++ when_text when) }
 {
@@ -116,7 +117,7 @@ fn put_ending(said: &mut Vec<u8>, names: &Names, tried: &Tried) -> Result<(), Al
     put_set(said, names, tried.off)
 }
 
-// The names of the interfaces that came back, if any did.
+// Adds the names of the interfaces that were restarted, if there are any.
 fn put_restarted(said: &mut Vec<u8>, names: &Names, restarted: IfaceSet) -> Result<(), AllocError>
     ensures { OnOk result (said.new.items ≡ said.old.items ++ restarted_text names.now restarted) }
 {
@@ -137,7 +138,7 @@ fn put_name(said: &mut Vec<u8>, names: &Names, iface: Iface) -> Result<(), Alloc
     }
 }
 
-/// Adds the names of a set by rising number, joined by commas, or a dash.
+/// Adds the names of the interfaces in a set in ascending order, joined by commas, or a dash if there are none.
 pub fn put_set(said: &mut Vec<u8>, names: &Names, set: IfaceSet) -> Result<(), AllocError>
     ensures { OnOk result (said.new.items ≡ said.old.items ++ set_text names.now set) }
 {
@@ -161,7 +162,7 @@ pub fn put_set(said: &mut Vec<u8>, names: &Names, set: IfaceSet) -> Result<(), A
     Ok(())
 }
 
-// The first number from one on that is not in the set, or the count.
+// Returns the first number from `from` on that is not in the set, or `count` if all numbers from `from` to `count` are in the set.
 fn run_end(set: IfaceSet, from: u8, count: u8) -> u8
     requires from { from < count }
     requires few { count ≤ 16 }
@@ -179,7 +180,7 @@ fn run_end(set: IfaceSet, from: u8, count: u8) -> u8
     count
 }
 
-// The names from one place up to another, with a comma before them if they are not the first.
+// Adds the names of the interfaces from one number up to another, with a comma before them unless they are the first.
 fn put_run(
     said: &mut Vec<u8>,
     names: &Names,

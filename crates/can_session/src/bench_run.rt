@@ -18,20 +18,19 @@ use std::alloc::Global;
 use std::io::{Read, Write};
 use thiserror::Error;
 
-/// Why a run of the bench ended before the end of its input.
+/// The reason why a run of the bench ended before the end of its input.
 #[derive(Debug, Clone, Copy, PartialEq, Eq, Error)]
 pub enum BenchFault {
-    /// The configuration is none that a bench may have. Nothing was read or written.
+    /// The configuration is not valid for a bench. Nothing was read or written.
     #[error("bad bus")]
     BadConfig,
-    /// The number of the line, from 1. The lines before it were carried out.
+    /// The line with this number, counted from 1, is not valid. The lines before it were carried out.
     #[error("line {0}: bad line")]
     BadLine(u32),
-    /// The input has more than 16,777,216 bytes, or takes more reads. All whole lines that were read
-    /// were carried out.
+    /// The input has more than 16,777,216 bytes or needs more reads than that. All complete lines that were read were carried out.
     #[error("input too long")]
     TooLong,
-    /// The reader failed. All whole lines that were read were carried out.
+    /// The reader failed. All complete lines that were read were carried out.
     #[error("read fault")]
     Read,
     /// The writer failed.
@@ -42,32 +41,31 @@ pub enum BenchFault {
     NoMemory,
 }
 
-/// The parts that a bench is made with.
+/// The settings of a new bench.
 #[derive(Drop)]
 pub struct BenchConfig<F> {
-    /// The names of the interfaces, as many as the bus has.
+    /// The names of the interfaces. There must be one for each interface of the bus.
     pub names: Names,
     /// The bus.
     pub config: BusConfig,
-    /// The faults of its attempts.
+    /// The source of the faults of the attempts.
     pub script: F,
-    /// The number of items that a socket holds, 1 to 65,536.
+    /// The number of items that a socket holds, from 1 to 65,536.
     pub rx_capacity: u32,
-    /// The bit rates of the bus, if its attempts are to take time. Without them each attempt has
-    /// the moment that is set.
+    /// The bit rates of the bus, if its attempts are to take time. Without bit rates, each attempt happens at the moment that was
+    /// set last.
     pub timing: Option<Timing>,
-    /// Whether the lines of attempts show their faults, and the rules that gave them.
+    /// Whether the lines of attempts show the faults and the rules that gave them.
     pub shows_faults: bool,
 }
 
-/// Carries out the lines of an input on one bus, and writes what they put out: the bus's record.
+/// Carries out the lines of an input on one bus and writes their output. Returns the record of the bus.
 ///
-/// The output of each line is written in one call, so a writer that is slow for small writes wants
-/// a buffer around it. Before each read the writer is flushed, so that the source of the input has
-/// the replies to all lines so far. No more than 8,192 bytes of the input are kept, at any length.
-/// The time grows with the lines and with their work on the bus. `NoMemory` comes before the first
-/// line or in place of a line; the output of the lines before it was written. `bench_lines` reports
-/// more on how far the input was read.
+/// The output of each line is written in one call, so a writer that is slow for small writes should be buffered. The writer is
+/// flushed before each read, so the source of the input has the replies to all lines so far. At most 8,192 bytes of the input are
+/// kept, however long it is. The running time grows with the number of lines and with their work on the bus. `NoMemory` can be
+/// returned before the first line or in place of a line; the output of the earlier lines was then written. `bench_lines` reports
+/// more exactly how far the input was read.
 pub fn bench<F: FaultSource + Drop, R: Read + Drop, W: Write>(
     alloc: Global,
     config: BenchConfig<F>,
@@ -90,8 +88,8 @@ pub fn bench<F: FaultSource + Drop, R: Read + Drop, W: Write>(
     bench_noting(alloc, config, plan, input, out, &mut IgnoredInput::none())
 }
 
-/// Works as `bench` does, with a plan of the bus's faults besides the source. If the run comes to
-/// its end, it notes input of sessions outside messages.
+/// Works like `bench`, with a plan of faults for the bus in addition to the source of faults. If the run reaches its end, `ignored`
+/// shows which sessions had input outside messages.
 pub fn bench_noting<F: FaultSource + Drop, R: Read + Drop, W: Write>(
     alloc: Global,
     config: BenchConfig<F>,
@@ -136,9 +134,8 @@ pub fn bench_noting<F: FaultSource + Drop, R: Read + Drop, W: Write>(
     Ok(state.into_record())
 }
 
-/// Works as `bench` does, over lines of which nothing was read. Afterwards they are at the end of
-/// the run, which shows how far the reader was read. So a reader that failed and a line that is too
-/// long are told apart.
+/// Works like `bench`, over `lines` from which nothing has been read. Afterwards `lines` shows how far the input was read, so a
+/// reader that failed can be distinguished from a line that is too long.
 pub fn bench_lines<F: FaultSource + Drop, R: Read + Drop, W: Write>(
     alloc: Global,
     config: BenchConfig<F>,
@@ -174,10 +171,11 @@ pub fn bench_lines<F: FaultSource + Drop, R: Read + Drop, W: Write>(
     Ok(state.into_record())
 }
 
-/// Carries out the lines of a text on a bench, which goes on from the calls before, and adds what they put out.
-/// After a fault the lines before it were carried out, and their output was added. After `BadLine` the bench can go on.
-/// After `NoMemory` and `Write`, which also comes for want of memory, a line may be half done, and after `Write` output
-/// may be missing.
+/// Carries out the lines of a text on a bench and adds their output. The bench continues from the previous calls.
+///
+/// After a fault, the lines before the faulty line were carried out and their output was added. After `BadLine` the bench can
+/// continue. After `NoMemory` or `Write`, a line may be half done; `Write` can also mean a lack of memory, and then output may be
+/// missing.
 pub fn take_lines<F: FaultSource>(
     alloc: Global,
     state: &mut Bench,
@@ -194,7 +192,7 @@ pub fn take_lines<F: FaultSource>(
     run(alloc, state, script, &mut lines, out)
 }
 
-/// Carries out the lines that are left.
+/// Carries out the remaining lines.
 fn run<F: FaultSource, R: Read + Drop, W: Write>(
     alloc: Global,
     state: &mut Bench,
@@ -217,7 +215,7 @@ fn run<F: FaultSource, R: Read + Drop, W: Write>(
     }
 }
 
-/// Carries out the next line, which has this number, if there is one: whether there was.
+/// Carries out the next line, which has this number. Returns false if there are no more lines.
 fn go_on<F: FaultSource, R: Read + Drop, W: Write>(
     state: &mut Bench,
     script: &mut F,
@@ -247,8 +245,8 @@ fn go_on<F: FaultSource, R: Read + Drop, W: Write>(
     Ok(true)
 }
 
-/// Goes on to the next line, which has this number, if there is one: whether there is. Before a read what was put out
-/// is flushed.
+/// Goes on to the next line, which has this number. Returns false if there are no more lines. The output is flushed before each
+/// read.
 fn next_line<R: Read + Drop, W: Write>(
     lines: &mut Lines<R>,
     number: u32,
@@ -274,7 +272,7 @@ fn next_line<R: Read + Drop, W: Write>(
     }
 }
 
-/// Writes what a line puts out, if it puts out anything.
+/// Writes the output of a line, if there is any.
 fn put<W: Write>(out: &mut W, said: &[u8]) -> Result<(), BenchFault>
     ensures wrote { OnOk result (Appends (W.contents out.old) (W.contents out.new) said.now) }
     ensures fault { OnErr result (result ≡ Err BenchFault.Write) }
@@ -288,7 +286,7 @@ fn put<W: Write>(out: &mut W, said: &[u8]) -> Result<(), BenchFault>
     }
 }
 
-/// The report of a fault of the input, at the line of this number.
+/// Returns the report of an input fault at the line with this number.
 fn bench_fault(fault: InputFault, number: u32) -> BenchFault
     ensures { result ≡ input_fault_of number fault }
 {

@@ -1,4 +1,4 @@
-//! The beginning of a bench.
+//! The start of a bench.
 ghost use Rattle.std.specs.Prelude.{◌≡◌, [], ◌↔◌, None, Err, replicate, OnOk, IfOk, IfErr};
 ghost use Rattle.can_event.specs.Events.{IsConfig};
 ghost use Rattle.can_session.specs.Runs.{IsStartFault};
@@ -9,7 +9,7 @@ use can_dialog::Session;
 use can_frame::Moment;
 use std::alloc::{AllocError, Global};
 
-/// A bus without history.
+/// Returns a bus without history.
 pub fn make_bus(alloc: Global, config: BusConfig) -> Result<RingBus, BenchFault>
     ensures made { IfOk result (λ b. b ≡ record { config = config; history = [] }) }
     ensures proper { OnOk result (IsConfig config) }
@@ -23,7 +23,7 @@ pub fn make_bus(alloc: Global, config: BusConfig) -> Result<RingBus, BenchFault>
     }
 }
 
-/// The moment at which a bench starts.
+/// Returns the moment at which a bench starts.
 pub fn the_start() -> Moment
     ensures { result ≡ 0 }
 {
@@ -33,7 +33,7 @@ pub fn the_start() -> Moment
     }
 }
 
-/// Places for 64 sessions, none of them started.
+/// Returns places for 64 sessions, none of which has started.
 pub fn no_sessions(alloc: Global) -> Result<Vec<Option<Session>>, AllocError>
     ensures { IfOk result (λ sessions. sessions.items ≡ replicate 64 None) }
 {

@@ -28,7 +28,7 @@ use can_wire::Timing;
 use std::alloc::{AllocError, Global};
 use std::marker::Model;
 
-/// One bus with up to 64 sessions, at a moment. `take_lines` carries out lines on it.
+/// One bus with up to 64 sessions, and the current moment. `take_lines` carries out lines on a bench.
 #[derive(Drop)]
 pub struct Bench {
     alloc: Global,
@@ -63,7 +63,7 @@ impl Model for Bench {
 }
 
 impl Bench {
-    /// A bench before its first line.
+    /// Returns a bench before its first line.
     pub fn new(
         alloc: Global,
         names: Names,
@@ -97,14 +97,14 @@ impl Bench {
         })
     }
 
-    /// Returns the input of its sessions that is outside messages.
+    /// Returns which sessions had input outside messages.
     pub fn ignored(&self) -> IgnoredInput
         ensures { result ≡ self.now.ignored }
     {
         self.ignored
     }
 
-    /// Returns the record of its bus so far.
+    /// Returns the record of the bus so far.
     pub fn record(&self) -> &Record
         ensures record { IsRecordOfBench result.now self.now }
         ensures legal { IsLegal result.now.config result.now.history }
@@ -112,14 +112,14 @@ impl Bench {
         self.port.bus().record()
     }
 
-    /// The names of the interfaces.
+    /// Returns the names of the interfaces.
     pub fn names(&self) -> &Names
         ensures { result.now ≡ self.now.bus.names }
     {
         self.port.names()
     }
 
-    /// The record of its bus.
+    /// Returns the record of the bus.
     pub fn into_record(self) -> Record
         ensures record { IsRecordOfBench result self }
         ensures legal { IsLegal result.config result.history }
@@ -129,8 +129,8 @@ impl Bench {
         port.into_bus().into_record()
     }
 
-    /// Carries out a line, and keeps what it puts out, if the line is good: whether it is. Another line leaves the
-    /// bench as it was, but a change that the bus refused is in the record.
+    /// Carries out a line and puts its output into `said`. Returns whether the line was valid. An invalid line leaves the bench
+    /// unchanged, except that the record contains a change that the bus refused.
     pub fn take_line<F: FaultSource>(
         &mut self,
         script: &mut F,
@@ -168,7 +168,7 @@ impl Bench {
         }
     }
 
-    /// Runs one act of a session, if it was started, and puts its text after the number: whether it was.
+    /// Runs one act of a session and adds the session's number and its output. Returns false if the session was not started.
     #[inline(always)]
     fn run_act(
         &mut self,
@@ -195,7 +195,7 @@ impl Bench {
         }
     }
 
-    /// Starts a session, and returns whether its number was not used before.
+    /// Starts a session. Returns false if the session was started before.
     fn start(&mut self, session: SessionNumber, said: &mut Vec<u8>) -> Result<bool, AllocError>
         requires { said.old.items ≡ [] }
         ensures started { IfOk result (λ good. MatchBool good
@@ -219,7 +219,7 @@ impl Bench {
         self.moment = moment;
     }
 
-    /// Gives the bus a rule of faults, if it can be taken: whether it was.
+    /// Adds a fault rule to the bus. Returns whether the rule was accepted.
     fn inject(&mut self, rule: &[u8]) -> Result<bool, AllocError>
         ensures taken { IfOk result (λ good. MatchBool good
             (IsInjected rule.now self.old self.new) (IsWrongRule rule.now self.old)) }
@@ -234,8 +234,8 @@ impl Bench {
         }
     }
 
-    /// Takes the interface of this name down at the moment set, and returns whether there is one.
-    /// If the record is full, it puts that out.
+    /// Takes the interface with this name down at the current moment. Returns false if there is no such interface or if the bus
+    /// refuses. If the record is full, it adds `record full` and returns true.
     fn take_down(&mut self, name: &[u8], said: &mut Vec<u8>) -> Result<bool, AllocError>
         requires { said.old.items ≡ [] }
         ensures changed { IfOk result (λ good. MatchBool good
@@ -250,8 +250,8 @@ impl Bench {
         put_change(said, outcome)
     }
 
-    /// Restarts the interface of this name at the moment set, if it is bus off or down, and returns
-    /// whether there is one. If the record is full, it puts that out.
+    /// Restarts the interface with this name at the current moment, if the interface is bus off or down. Returns false if there is
+    /// no such interface or if the bus refuses. If the record is full, it adds `record full` and returns true.
     fn bring_up(&mut self, name: &[u8], said: &mut Vec<u8>) -> Result<bool, AllocError>
         requires { said.old.items ≡ [] }
         ensures changed { IfOk result (λ good. MatchBool good
@@ -266,7 +266,7 @@ impl Bench {
         put_change(said, outcome)
     }
 
-    /// Puts the next frame on the bus, with the verdict that the next attempt has: whether the attempt is made.
+    /// Makes the next attempt to send a frame on the bus and adds its line. Returns whether the bus made the attempt.
     fn attempt<F: FaultSource>(
         &mut self,
         script: &mut F,
@@ -287,7 +287,8 @@ impl Bench {
         Ok(outcome.is_ok())
     }
 
-    /// Makes attempts as long as one is due before a moment, and sets the moment, if it can run to it: whether it can.
+    /// Makes all attempts that are due before a moment, and then sets the current moment to it. Returns false if the bus has no bit
+    /// rates or if the moment is in the past.
     fn run<F: FaultSource>(
         &mut self,
         script: &mut F,
@@ -309,7 +310,7 @@ impl Bench {
         Ok(true)
     }
 
-    /// Makes attempts as long as one is due before a moment.
+    /// Makes all attempts that are due before a moment. It stops if the bus refuses an attempt.
     fn make_due<F: FaultSource>(
         &mut self,
         script: &mut F,
@@ -328,8 +329,8 @@ impl Bench {
         Ok(())
     }
 
-    /// Returns whether an attempt would begin before a moment, and there is a frame for it to try
-    /// or an interface waits for its restart.
+    /// Returns whether an attempt would begin before this moment and either has a frame to send or lets time pass for an interface
+    /// that waits for its restart.
     fn is_due(&self, moment: Moment) -> bool
         ensures { result ≡ is_attempt_due moment self.now }
     {
@@ -337,7 +338,7 @@ impl Bench {
             && (self.port.next_head().is_some() || self.port.waits_in_time())
     }
 
-    /// Returns the part of an attempt's line for its moment.
+    /// Returns the moment to show in the line of an attempt. Only attempts of a bus with bit rates show it.
     fn said_moment(&self, moment: Moment) -> Option<Moment>
         ensures { result ≡ said_moment self.now.bus.schedule moment }
     {
@@ -348,7 +349,7 @@ impl Bench {
         }
     }
 
-    /// Returns the part of its line for the fault and the rule that gave it.
+    /// Returns the decision to show in the line of an attempt, if faults are shown.
     fn said_decision(&self, decision: Decision) -> Option<Decision>
         ensures { result ≡ said_decision self.now.shows_faults decision }
     {
@@ -359,8 +360,8 @@ impl Bench {
         }
     }
 
-    /// Lets the time of an attempt with this verdict and this outcome pass; before it an interface
-    /// waited for its restart in time or none did.
+    /// Advances the current moment by the time that an attempt took. `waits` is true if an interface was waiting for its restart in
+    /// time before the attempt.
     fn pass(&mut self, waits: bool, verdict: Verdict, outcome: &Result<Attempt, Refusal>)
         ensures { self.new ≡ passed waits verdict outcome.now self.old }
     {
@@ -373,8 +374,8 @@ impl Bench {
     }
 }
 
-/// Puts out that the record is full, if it kept an interface from being taken down or brought up.
-/// Returns whether that is so, or it was done.
+/// Adds `record full` if a full record prevented a change of an interface. Returns true in this case and if the change was made,
+/// and false if the bus refused the change for another reason.
 fn put_change(said: &mut Vec<u8>, outcome: Result<(), Refusal>) -> Result<bool, AllocError>
     requires { said.old.items ≡ [] }
     ensures good { IfOk result (λ good. good ≡ is_good_change outcome) }
@@ -390,7 +391,7 @@ fn put_change(said: &mut Vec<u8>, outcome: Result<(), Refusal>) -> Result<bool, 
     }
 }
 
-/// Notes what an act feeds to a session.
+/// Notes the bytes that an act feeds to a session.
 fn note(ignored: &mut IgnoredInput, session: SessionNumber, act: Act<'_>)
     ensures { ignored.new ≡ noted_by act.entry session ignored.old }
 {

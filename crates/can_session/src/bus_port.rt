@@ -24,9 +24,8 @@ use can_wire::Schedule;
 use std::alloc::{AllocError, Global};
 use std::marker::Model;
 
-/// A bus as a port: the bus with the names of its interfaces and the plan of its faults. Each call
-/// is one event of the bus, except look-ups of a name, of counts and of error counters, and the
-/// calls about rules.
+/// A bus as a port, with the names of its interfaces and the plan of its faults. Each call is one event of the bus, except calls
+/// that look up names, counts or error counters and calls about fault rules.
 #[derive(Drop)]
 pub struct BusPort<T: BoundedQueue<Pending>, R: BoundedQueue<Received>, A: Arbiter> {
     alloc: Global,
@@ -54,8 +53,8 @@ impl<T: BoundedQueue<Pending>, R: BoundedQueue<Received>, A: Arbiter> Model for 
 }
 
 impl<T: BoundedQueue<Pending>, R: BoundedQueue<Received>, A: Arbiter> BusPort<T, R, A> {
-    /// The port of a bus whose interfaces have these names, the first interface 0. Memory that calls take
-    /// is asked of `alloc`.
+    /// Returns the port of a bus. The interfaces have these names, starting with interface 0. The calls allocate memory from
+    /// `alloc`.
     pub fn new(alloc: Global, names: Names, bus: Bus<T, R, A>) -> BusPort<T, R, A>
         ensures { result ≡ record {
           names = names;
@@ -67,8 +66,8 @@ impl<T: BoundedQueue<Pending>, R: BoundedQueue<Received>, A: Arbiter> BusPort<T,
         BusPort::with_plan(alloc, names, bus, Plan::new(alloc), None)
     }
 
-    /// The same, with a plan of the bus's faults, and the schedule of its attempts, if it has bit
-    /// rates.
+    /// Returns the port of a bus that has a plan of faults and, if it has bit rates, a schedule of its attempts. It is otherwise
+    /// like `new`.
     pub fn with_plan(
         alloc: Global,
         names: Names,
@@ -92,7 +91,7 @@ impl<T: BoundedQueue<Pending>, R: BoundedQueue<Received>, A: Arbiter> BusPort<T,
         }
     }
 
-    /// The names of the interfaces.
+    /// Returns the names of the interfaces.
     pub fn names(&self) -> &Names
         ensures { result.now ≡ self.now.names }
     {
@@ -106,21 +105,21 @@ impl<T: BoundedQueue<Pending>, R: BoundedQueue<Received>, A: Arbiter> BusPort<T,
         &self.bus
     }
 
-    /// The bus, taken out.
+    /// Returns the bus and gives up the port.
     pub fn into_bus(self) -> Bus<T, R, A>
         ensures { result ≡ self.journal }
     {
         self.bus
     }
 
-    /// The number of the next attempt that tries a frame.
+    /// Returns the number that the next attempt with a frame will have.
     pub fn next_attempt(&self) -> u64
         ensures { result ≡ next_number_on self.now }
     {
         self.bus.next_attempt()
     }
 
-    /// The interface and the frame that the next attempt tries, if it tries one.
+    /// Returns the interface and the frame that the next attempt tries, or `None` if there is no frame to try.
     pub fn next_head(&self) -> Option<(Iface, Frame)>
         ensures { result ≡ head_on self.now }
     {
@@ -134,15 +133,15 @@ impl<T: BoundedQueue<Pending>, R: BoundedQueue<Received>, A: Arbiter> BusPort<T,
         self.schedule.is_some()
     }
 
-    /// Returns whether the bus has bit rates, and an interface waits for its restart: then an
-    /// attempt without a frame takes time.
+    /// Returns whether the bus has bit rates and an interface is waiting for its restart. If so, an attempt without a frame takes
+    /// time.
     pub(crate) fn waits_in_time(&self) -> bool
         ensures { result ≡ waits_in_time self.now }
     {
         self.schedule.is_some() && self.bus.is_counting()
     }
 
-    /// Returns whether the next attempt would begin before a moment, if this one is set.
+    /// Returns whether the next attempt would begin before `moment` if the current moment is `set`.
     pub(crate) fn begins_before(&self, set: Moment, moment: Moment) -> bool
         ensures { result ≡ begins_before set moment self.now.schedule }
     {
@@ -152,8 +151,8 @@ impl<T: BoundedQueue<Pending>, R: BoundedQueue<Received>, A: Arbiter> BusPort<T,
         }
     }
 
-    /// The moment of the next attempt, if this one is set. If it tries no frame, `waits` is whether
-    /// an interface waits for its restart.
+    /// Returns the moment of the next attempt if the current moment is `set`. `waits` is whether an interface is waiting for its
+    /// restart; it matters only if the attempt has no frame.
     pub(crate) fn next_moment(&self, set: Moment, waits: bool) -> Moment
         ensures { result ≡ attempt_moment set waits (head_on self.now) self.now.schedule }
     {
@@ -163,10 +162,11 @@ impl<T: BoundedQueue<Pending>, R: BoundedQueue<Received>, A: Arbiter> BusPort<T,
         }
     }
 
-    /// Tries the frame that wins the bus, if a live interface has one to send, and restarts the
-    /// interfaces whose time it is. The verdict is the source's, or the plan's if the source's is
-    /// good. Returns the verdict, the rule that gave it, if any, and the outcome. Refusal:
-    /// `RecordFull`.
+    /// Tries the frame that wins arbitration, if a live interface has one to send, and restarts the interfaces whose restart is
+    /// due. The source gives the verdict, or the plan gives it if the source says good. Returns the verdict with the rule that gave
+    /// it, if any, and the outcome.
+    ///
+    /// Refusal: `RecordFull`.
     pub fn attempt(
         &mut self,
         moment: Moment,
@@ -185,14 +185,16 @@ impl<T: BoundedQueue<Pending>, R: BoundedQueue<Received>, A: Arbiter> BusPort<T,
         (decision, outcome)
     }
 
-    /// The interface with this name.
+    /// Returns the interface with this name, if there is one.
     pub(crate) fn find(&self, name: &[u8]) -> Option<Iface>
         ensures { result ≡ place_of self.now.names name.now }
     {
         self.names.find_bytes(name)
     }
 
-    /// Takes an interface down, at a moment. Refusals, in this order: `RecordFull`, `NoInterface`.
+    /// Takes an interface down at this moment.
+    ///
+    /// Refusals, in this order: `RecordFull`, `NoInterface`.
     pub(crate) fn take_down(&mut self, iface: Iface, moment: Moment) -> Result<(), Refusal>
         ensures answer { Answers done_reply self.old.journal (event.Down iface moment) result
             self.new.journal }
@@ -201,8 +203,9 @@ impl<T: BoundedQueue<Pending>, R: BoundedQueue<Received>, A: Arbiter> BusPort<T,
         self.bus.down(iface, moment)
     }
 
-    /// Restarts an interface that is bus off or down, at a moment. Refusals, in this order: `RecordFull`, `NoInterface`,
-    /// `NotBusOff`.
+    /// Restarts an interface that is bus off or down at this moment.
+    ///
+    /// Refusals, in this order: `RecordFull`, `NoInterface`, `NotBusOff`.
     pub(crate) fn bring_up(&mut self, iface: Iface, moment: Moment) -> Result<(), Refusal>
         ensures answer { Answers done_reply self.old.journal (event.Restart iface moment) result
             self.new.journal }
@@ -211,7 +214,7 @@ impl<T: BoundedQueue<Pending>, R: BoundedQueue<Received>, A: Arbiter> BusPort<T,
         self.bus.restart(iface, moment)
     }
 
-    /// Gives the plan a rule of faults, after those that it has.
+    /// Adds a fault rule at the end of the plan.
     ///
     /// Refusals, in this order, which change nothing: `BadRule`, `UnknownInterface`, `TooManyRules`, `NoMemory`.
     pub fn take_rule(&mut self, rule: &[u8]) -> Result<(), RuleRefusal>
@@ -221,8 +224,8 @@ impl<T: BoundedQueue<Pending>, R: BoundedQueue<Received>, A: Arbiter> BusPort<T,
         self.plan.inject(rule, &self.names)
     }
 
-    /// Lets the time of an attempt with this verdict and this outcome pass, from this moment, if
-    /// the bus has bit rates. Returns the moment at which the wire is free again.
+    /// On a bus with bit rates, notes in the schedule the time that an attempt took. The current moment is `set`. Returns the
+    /// moment at which the wire is free again.
     pub(crate) fn pass_time(
         &mut self,
         set: Moment,
@@ -243,8 +246,8 @@ impl<T: BoundedQueue<Pending>, R: BoundedQueue<Received>, A: Arbiter> BusPort<T,
         Some(schedule.wire().free_at())
     }
 
-    /// The verdict of the next attempt, for which the source has this one, and the rule that gives it, if one does. The
-    /// plan counts it.
+    /// Returns the verdict of the next attempt and the rule that gives it, if any. The source's verdict is `source`. The plan
+    /// counts the attempt.
     fn next_decision(&mut self, source: Verdict) -> Decision
         ensures decision { result ≡ decision_on self.old source }
         ensures verdict { result.verdict ≡ verdict_on self.old source }
@@ -261,7 +264,7 @@ impl<T: BoundedQueue<Pending>, R: BoundedQueue<Received>, A: Arbiter> BusPort<T,
     }
 }
 
-/// A bus's reply, as a port gives it.
+/// Converts a reply of the bus into a reply of a port.
 fn pass_on<V>(outcome: Result<V, Refusal>) -> Result<V, PortRefusal>
     ensures { result ≡ passed_on outcome }
 {
@@ -291,7 +294,7 @@ impl<T: BoundedQueue<Pending>, R: BoundedQueue<Received>, A: Arbiter> Port for B
         }
     }
 
-    // The calls that a session makes most, without an event and a reply between.
+    // These calls are the most frequent ones of a session, so they use neither an event nor a reply value.
     fn send(&mut self, socket: SocketId, frame: Frame) -> Result<u64, PortRefusal> {
         pass_on(self.bus.send(socket, frame))
     }

@@ -1,21 +1,21 @@
-//! The input of sessions outside messages, noted so that a run can report it.
+//! Notes which sessions had input outside messages, so that a run can report it.
 ghost use Rattle.std.specs.Prelude.{◌≡◌, true, false};
 ghost use Rattle.can_proto.specs.Messages.{has_mark};
 ghost use Rattle.can_session.specs.IgnoredInput.{begun_after, is_set, has_outside, none_ignored, ignored_then};
 
 use crate::order::SessionNumber;
 
-/// Which sessions of a run were fed bytes outside messages, and which a message that was not ended. Spaces, tabs, CR and
+/// Which sessions of a run were fed bytes outside messages, and which were fed a message that has not ended. Spaces, tabs, CR and
 /// LF outside messages do not count.
 #[derive(Debug, Clone, Copy, PartialEq, Eq)]
 pub struct IgnoredInput {
-    // A flag for each session.
+    // One flag for each session.
     begun: [bool; 64],
     outside: [bool; 64],
 }
 
 impl IgnoredInput {
-    /// No session was fed yet.
+    /// Returns a value that says that no session was fed anything yet.
     pub fn none() -> IgnoredInput
         ensures { result ≡ none_ignored }
     {
@@ -25,22 +25,21 @@ impl IgnoredInput {
         }
     }
 
-    /// Returns whether the session's last message was begun and not ended.
+    /// Returns whether the session's last message has begun but not ended.
     pub fn has_begun(&self, session: SessionNumber) -> bool
         ensures { result ≡ is_set self.now.begun session }
     {
         self.begun[session.place()]
     }
 
-    /// Returns whether the session was fed bytes outside messages, or a message that a `<` inside
-    /// began anew.
+    /// Returns whether the session was fed bytes outside messages, or a message that a second `<` began anew.
     pub fn has_outside(&self, session: SessionNumber) -> bool
         ensures { result ≡ is_set self.now.outside session }
     {
         self.outside[session.place()]
     }
 
-    /// Looks at what a session is fed.
+    /// Notes the bytes that are fed to a session.
     pub fn hear(&mut self, session: SessionNumber, bytes: &[u8])
         ensures { self.new ≡ ignored_then self.old session bytes.now }
     {
@@ -53,7 +52,7 @@ impl IgnoredInput {
     }
 }
 
-// Returns whether a message is begun and not ended after these bytes: the last mark decides.
+// Returns whether a message is open after these bytes. The last mark decides.
 fn is_begun_after(bytes: &[u8], was_begun: bool) -> bool
     ensures { result ≡ begun_after was_begun bytes.now }
 {
@@ -68,7 +67,7 @@ fn is_begun_after(bytes: &[u8], was_begun: bool) -> bool
     was_begun
 }
 
-// Returns whether some of the bytes are outside messages, or in a message that a `<` begins anew.
+// Returns whether any of the bytes are outside messages, or in a message that a second `<` begins anew.
 fn are_outside(bytes: &[u8], was_begun: bool) -> bool
     ensures { result ≡ has_outside was_begun bytes.now }
 {
@@ -89,7 +88,7 @@ fn are_outside(bytes: &[u8], was_begun: bool) -> bool
     false
 }
 
-// Returns whether the bytes are one message and no more, as they mostly are.
+// Returns whether the bytes are exactly one message, which is the most frequent case.
 fn is_message(bytes: &[u8]) -> bool
     ensures { result ≡ true → has_outside false bytes.now ≡ false }
 {
@@ -99,8 +98,7 @@ fn is_message(bytes: &[u8]) -> bool
     }
 }
 
-// Returns whether a message begins or ends among the bytes. No byte decides early, so that the
-// compiler can compare many at once.
+// Returns whether the bytes contain a mark. The loop never ends early, so the compiler can compare many bytes at once.
 fn has_marks(bytes: &[u8]) -> bool
     ensures { result ≡ has_mark bytes.now }
 {

@@ -12,9 +12,9 @@ ghost use Rattle.can_session.specs.declared.lines.InputFault.{InputFault};
 ghost use Rattle.can_session.specs.declared.lines.InputFault.TheVariants.{TooLong, Read};
 ghost use Rattle.can_session.specs.IgnoredInput.{AreMessagesInOrder, begun_after, has_outside};
 
-/// The calls of `Lines` together give the lines of the reader's text, in order. At a fault they
-/// give the lines before too long a line, or all lines of the text read that have their LF. The
-/// place in the input distinguishes a reader that failed from an input that is too long.
+/// The calls of `Lines` together return the lines of the reader's text in order. After a fault they have returned all lines before
+/// the line that is too long, or all lines of the text read so far that end with LF. The position in the input shows whether the
+/// reader failed or the input is too long.
 pub fn lines_given_are_those_of_the_text()
     ensures start { (text : List ℕ) (now : Input) →
         left_of now ≡ Some text → now.given ≡ 0 → Given text [] now }
@@ -31,8 +31,8 @@ pub fn lines_given_are_those_of_the_text()
         StopsAfter Read text lines now → ¬ StopsAfter TooLong text others now }
 {}
 
-/// Nothing of a stream is outside messages exactly if it is messages with only blanks between them;
-/// the last may have no end. Two pieces of a stream give the same one after the other as joined.
+/// A stream has no bytes outside messages exactly if it consists of messages separated only by blanks, where the last message may
+/// be unfinished. Two pieces of a stream give the same result when they are fed separately or together.
 pub fn nothing_is_outside_messages_and_blanks()
     ensures order { (bytes : List ℕ) →
         (has_outside false bytes ≡ false) ↔ AreMessagesInOrder bytes (begun_after false bytes) }
@@ -43,8 +43,8 @@ pub fn nothing_is_outside_messages_and_blanks()
         begun_after begun (piece ++ more) ≡ begun_after (begun_after begun piece) more }
 {}
 
-/// On a bus without bit rates attempts have the moment that is set, their lines leave it out, and
-/// they take no time.
+/// On a bus without bit rates, each attempt happens at the moment that was set last. Its line does not show the moment, and the
+/// attempt takes no time.
 pub fn attempts_take_no_time_without_bit_rates()
     ensures moment { (b : BenchState) → b.bus.schedule ≡ None → next_moment_on b ≡ b.moment }
     ensures said { (b : BenchState) (moment : ℕ) → b.bus.schedule ≡ None →
@@ -55,15 +55,14 @@ pub fn attempts_take_no_time_without_bit_rates()
         b.bus.schedule ≡ None → is_attempt_due moment b ≡ false }
 {}
 
-/// If faults are not shown, the lines of attempts do not depend on them.
+/// If faults are not shown, the lines of attempts do not depend on the faults.
 pub fn lines_have_faults_only_where_they_are_shown()
     ensures { (b : BenchState) (decision : Decision) → b.shows_faults ≡ false →
         said_decision b.shows_faults decision ≡ None }
 {}
 
-/// On a bus with bit rates an attempt begins neither before the moment that is set nor before the
-/// wire is free. Afterwards the wire is free no earlier than that. Its moment is not before that of
-/// the previous attempt.
+/// On a bus with bit rates, an attempt does not begin before the moment that is set or before the wire is free. Afterwards, the
+/// wire does not become free earlier than the attempt began. The moment of an attempt is never before that of the previous attempt.
 pub fn one_attempt_comes_after_another()
     ensures begins { (s : Schedule) (moment : ℕ) →
         (moment * 1000 ≤ next_begin (set_to moment s))

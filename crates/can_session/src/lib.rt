@@ -1,11 +1,11 @@
 //! The bench: one bus with up to 64 sessions, driven by the lines of an input.
 //!
-//! `bench` reads the lines, carries them out one after another, and writes the output of each. `take_lines` carries out
-//! those of a text, on a [`Bench`] that goes on.
-//! `specs/Benches.antt` defines the work of a line, `specs/Runs.antt` the end of a run. If the bus
-//! has bit rates its attempts take time, as `specs/Wires.antt` defines. The sessions are
-//! can_dialog's. Their port is the bus with its names ([`BusPort`]), and they can be named through
-//! this crate too.
+//! `bench` reads the lines, carries them out one after another, and writes the output of each line. `take_lines` carries out the
+//! lines of a text on a [`Bench`] that can continue afterwards. `specs/Benches.antt` defines what a line does, and
+//! `specs/Runs.antt` defines how a run ends. If the bus has bit rates, its attempts take time, as `specs/Wires.antt` defines.
+//!
+//! The sessions are those of can_dialog, and this crate re-exports their names. Their port is a bus with the names of its
+//! interfaces ([`BusPort`]).
 #![tactic(auto)]
 
 mod attempt_faults;

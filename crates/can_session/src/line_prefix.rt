@@ -1,4 +1,5 @@
-//! The output of a session in a line: its number, a space, its words and LF, or nothing at all.
+//! The output of a session in a line: the session's number, a space, its words and LF. The output is empty if the session has no
+//! words.
 ghost use Rattle.std.specs.Prelude.{◌≡◌, ◌++◌, ◌∷◌, ◌<◌, [], length, OnOk, IfOk};
 ghost use Rattle.std.specs.Fmt.{decimal};
 
@@ -6,7 +7,7 @@ use crate::numbers::put_number;
 use crate::order::SessionNumber;
 use std::alloc::AllocError;
 
-/// Puts the session's number and a space, and returns how long they are.
+/// Adds the session's number and a space, and returns the length of both in bytes.
 pub fn begin_output(said: &mut Vec<u8>, session: SessionNumber) -> Result<usize, AllocError>
     requires { said.old.items ≡ [] }
     ensures text { OnOk result (said.new.items ≡ decimal session ++ 32 ∷ []) }
@@ -17,7 +18,7 @@ pub fn begin_output(said: &mut Vec<u8>, session: SessionNumber) -> Result<usize,
     Ok(said.len())
 }
 
-/// Puts LF after the words of a session, or removes all if it said none. `begun` bytes come before its words.
+/// Adds LF after the words of a session, or removes everything if there are no words. The words begin after `begun` bytes.
 pub fn end_output(said: &mut Vec<u8>, begun: usize) -> Result<(), AllocError>
     ensures none { length said.old.items ≡ begun → said.new.items ≡ [] }
     ensures some { OnOk result (begun < length said.old.items →

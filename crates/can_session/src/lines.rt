@@ -10,35 +10,35 @@ use std::alloc::{AllocError, Global};
 use std::io::Read;
 use std::marker::Model;
 
-/// The most bytes of a line, without its LF.
+/// The largest number of bytes in a line, without its LF.
 pub const LONGEST_LINE: usize = 4096;
 
-/// The most bytes, and the most reads, of an input.
+/// The largest number of bytes in an input, and the largest number of reads from it.
 pub const LONGEST_INPUT: usize = 16_777_216;
 
-/// Why there is no next line.
+/// The reason why there is no next line.
 #[derive(Debug, Clone, Copy, PartialEq, Eq)]
 pub enum InputFault {
     /// The line has more than 4,096 bytes.
     LineTooLong,
-    /// The input has more bytes than it may have, or needs more reads.
+    /// The input has more bytes or needs more reads than allowed.
     TooLong,
     /// The reader failed.
     Read,
 }
 
-/// The lines of an input, one at a time: a line ends with LF, which the last one may lack. No more than 8,192
-/// bytes of the input are kept, and each byte is looked at once.
+/// Reads an input line by line. Each line ends with LF, except that the last line may lack it. At most 8,192 bytes of the input are
+/// kept, and each byte is examined once.
 #[derive(Drop)]
 pub struct Lines<R: Read + Drop> {
     input: R,
-    // The bytes held: they begin with the current line, and its LF if it has one.
+    // The held bytes. They begin with the current line and its LF, if it has one.
     buffer: ReadBuffer,
-    // The length of the current line without its LF, and with it.
+    // The length of the current line without its LF (`line`) and with its LF (`width`).
     line: usize,
     width: usize,
     given: usize,
-    // The number of reads that gave bytes.
+    // The number of reads that returned bytes.
     reads: usize,
     is_over: bool,
     fault: Option<InputFault>,
@@ -74,7 +74,7 @@ impl<R: Read + Drop> Model for Lines<R> {
 }
 
 impl<R: Read + Drop> Lines<R> {
-    /// The lines of an input that is yet to be read. Takes 8,192 bytes of memory.
+    /// Returns the lines of an input from which nothing has been read. Takes 8,192 bytes of memory.
     pub fn new(alloc: Global, input: R) -> Result<Lines<R>, AllocError>
         ensures { IfOk result (λ l. l ≡ unread (R.remaining input)) }
     {
@@ -91,14 +91,14 @@ impl<R: Read + Drop> Lines<R> {
         })
     }
 
-    /// The current line, without its LF: after `next_line` has returned true, the one that it found.
+    /// Returns the current line without its LF. After `next_line` has returned true, this is the line that it found.
     pub fn line(&self) -> &[u8]
         ensures { result.now ≡ self.now.line }
     {
         &self.buffer.as_slice()[..self.line]
     }
 
-    /// Goes on to the next line without a read, if it was read whole: whether it was.
+    /// Goes on to the next line if that line was already read completely. Returns whether it was. Nothing is read.
     pub fn take_held(&mut self) -> bool
         ensures took { MatchBool result (TakesInputLine self.old self.new) (self.new ≡ self.old) }
         ensures fine { result ≡ true → self.old.fault ≡ None }
@@ -116,11 +116,11 @@ impl<R: Read + Drop> Lines<R> {
         }
     }
 
-    /// Goes on to the next line, of at most 4,096 bytes, and returns whether there is one. It reads
-    /// only while no whole line was read, so at a fault all whole lines before it were given:
-    /// `LineTooLong` at the 4,097th byte of a line, `TooLong` at the byte or the read past the
-    /// limit, `Read` if the reader failed. After a fault nothing more is read, and each call
-    /// returns that fault.
+    /// Goes on to the next line, which may have at most 4,096 bytes. Returns false at the end of the input. It reads only until it
+    /// has a complete line, so all complete lines before a fault have been returned.
+    ///
+    /// Faults: `LineTooLong` at the 4,097th byte of a line, `TooLong` at the byte or the read past the limit, and `Read` if the
+    /// reader failed. After a fault nothing more is read, and each call returns the same fault.
     pub fn next_line(&mut self) -> Result<bool, InputFault>
         ensures ok { IfOk result (λ found. ComesNext found self.old self.new) }
         ensures fine { OnOk result (self.old.fault ≡ None) }
@@ -141,7 +141,7 @@ impl<R: Read + Drop> Lines<R> {
         found
     }
 
-    // Reads on to the next line.
+    // Reads until the next line is complete or the input ends.
     fn read_line(&mut self) -> Result<bool, InputFault>
         requires going { self.old.ended ≡ false }
         requires within { IsWithinLimits self.old }
@@ -167,7 +167,7 @@ impl<R: Read + Drop> Lines<R> {
         }
     }
 
-    // Returns the fault from now on.
+    // Makes each later call return this fault.
     fn stop(&mut self, fault: InputFault)
         ensures within { IsWithinLimits self.new }
         ensures told { self.new ≡ record self.old { fault = Some fault } }
@@ -190,14 +190,14 @@ impl<R: Read + Drop> Lines<R> {
         self.is_over
     }
 
-    // Returns the bytes that were read and not given.
+    // Returns the bytes that were read but not yet returned in a line.
     fn held(&self) -> &[u8]
         ensures { result.now ≡ self.now.held }
     {
         &self.buffer.as_slice()[self.width..]
     }
 
-    // Gives the line at the front of what is held: `line` bytes, and `width` with its LF.
+    // Makes the first `line` of the held bytes the current line. The line takes `width` bytes with its LF.
     fn give(&mut self, line: usize, width: usize)
         requires line { line ≤ width }
         requires width { width ≤ length self.old.held }
@@ -211,7 +211,7 @@ impl<R: Read + Drop> Lines<R> {
         self.given += width;
     }
 
-    // Gives all that is held as the last line.
+    // Makes all held bytes the last line.
     fn finish(&mut self)
         requires end { IsAtEnd self.old.coming }
         ensures within { IsWithinLimits self.new }
@@ -225,8 +225,8 @@ impl<R: Read + Drop> Lines<R> {
         self.is_over = true;
     }
 
-    // Reads once, and returns how many bytes came. It asks the reader for no byte past the input's
-    // limit, except for the one that shows that the limit is passed.
+    // Reads once and returns the number of bytes read. At most one byte past the input's limit is requested, to find out whether
+    // the input is too long.
     fn fill(&mut self) -> Result<usize, InputFault>
         requires short { length self.old.held ≤ 4096 }
         requires going { self.old.ended ≡ false }
@@ -257,17 +257,17 @@ impl<R: Read + Drop> Lines<R> {
     }
 }
 
-// The beginning of the bytes held.
+// The result of looking for a line at the start of the held bytes.
 enum LineSearch {
-    // A line of this many bytes and its LF.
+    // A line of this many bytes, and its LF.
     Line(usize),
-    // More bytes than a line may have.
+    // More bytes than a line may have, without LF.
     Long,
-    // The beginning of a line, or nothing.
+    // An incomplete line, or nothing.
     Begun,
 }
 
-// Looks for a line; the first bytes were searched before and hold no LF.
+// Looks for a line in the held bytes. The first `searched` bytes are known to contain no LF.
 fn find_line(held: &[u8], searched: usize) -> LineSearch
     requires searched { searched ≤ length held.now }
     requires short { searched ≤ 4096 }

@@ -16,7 +16,7 @@ pub fn put_number(said: &mut Vec<u8>, number: u64) -> Result<(), AllocError>
     put_digits(said, number)
 }
 
-// Adds a number by a text of its digits.
+// Adds a number through a separate text of its digits.
 #[inline(never)]
 fn put_digits(said: &mut Vec<u8>, number: u64) -> Result<(), AllocError>
     ensures { OnOk result (said.new.items ≡ said.old.items ++ decimal number) }

@@ -7,7 +7,7 @@ use crate::byte_search::place_of;
 use can_frame::{Moment, read_decimal, read_moment};
 use std::marker::Model;
 
-/// The number of a session, 1 to 64.
+/// The number of a session, from 1 to 64.
 #[derive(Debug, Clone, Copy, PartialEq, Eq)]
 pub struct SessionNumber {
     number: u8,
@@ -26,7 +26,7 @@ impl Model for SessionNumber {
 }
 
 impl SessionNumber {
-    /// The session of this number, if it is from 1 to 64.
+    /// Returns the session with this number, if the number is from 1 to 64.
     pub fn new(number: u8) -> Option<SessionNumber>
         ensures { result ≡ session_number number }
     {
@@ -36,7 +36,7 @@ impl SessionNumber {
         Some(SessionNumber { number })
     }
 
-    /// The number, 1 to 64.
+    /// Returns the number, from 1 to 64.
     pub fn number(self) -> u8
         ensures number { result ≡ self }
         ensures low { 1 ≤ result }
@@ -45,7 +45,7 @@ impl SessionNumber {
         self.number
     }
 
-    /// Its place among all sessions, from 0.
+    /// Returns the index of the session among all sessions, from 0.
     pub fn place(self) -> usize
         ensures place { result ≡ self - 1 }
         ensures within { result < 64 }
@@ -54,10 +54,10 @@ impl SessionNumber {
     }
 }
 
-/// The order of a line of the bench's input.
+/// The order that a line of the bench's input gives.
 #[derive(Clone, Copy)]
 pub enum Order<'a> {
-    /// Do nothing: an empty line or a remark.
+    /// Do nothing. The line is empty or a comment.
     Nothing,
     /// Set the moment.
     At(Moment),
@@ -65,23 +65,23 @@ pub enum Order<'a> {
     Session(SessionNumber),
     /// Feed these bytes to a session.
     Feed(SessionNumber, &'a [u8]),
-    /// Give a session the items that its socket received.
+    /// Deliver to a session the items that its socket received.
     Drain(SessionNumber),
     /// End a session.
     End(SessionNumber),
-    /// Put a frame on the bus.
+    /// Attempt to send a frame on the bus.
     Attempt,
-    /// Put frames on the bus as long as they begin before this moment.
+    /// Make all attempts that begin before this moment.
     Run(Moment),
     /// Add the fault rule with this text to the bus.
     Fault(&'a [u8]),
-    /// Take the interface of this name down.
+    /// Take the interface with this name down.
     Down(&'a [u8]),
-    /// Bring the interface of this name up, by a restart.
+    /// Bring the interface with this name up by a restart.
     Up(&'a [u8]),
 }
 
-/// The order that a line spells, without its LF, or `None` if it spells none.
+/// Returns the order that a line without its LF spells, or `None` if the line is not valid.
 pub fn read_order(line: &[u8]) -> Option<Order<'_>>
     ensures { option_map effect_of result ≡ order_of line.now }
 {
@@ -104,7 +104,7 @@ pub fn read_order(line: &[u8]) -> Option<Order<'_>>
     read_asked(word, rest)
 }
 
-// The order of a line with a space, by what comes before the space and what follows it.
+// Returns the order of a line that is split at its first space.
 fn read_asked<'a>(word: &[u8], rest: &'a [u8]) -> Option<Order<'a>>
     ensures { option_map effect_of result ≡ asked_by_word (word.now, rest.now) }
 {
@@ -131,7 +131,7 @@ fn read_asked<'a>(word: &[u8], rest: &'a [u8]) -> Option<Order<'a>>
     }
 }
 
-// Lines that begin with the words of most lines are not searched for a space.
+// Lines that begin with the most frequent words are not searched for a space.
 
 // Returns the bytes after `at` and a space.
 fn after_at(line: &[u8]) -> Option<&[u8]>
@@ -163,14 +163,14 @@ fn after_drain(line: &[u8]) -> Option<&[u8]>
     }
 }
 
-// Returns the order of the word `at`, by the bytes after it.
+// Returns the order of a line that begins with `at`, given the bytes after that word.
 fn read_at(rest: &[u8]) -> Option<Order<'_>>
     ensures { option_map effect_of result ≡ option_map Effect.Sets (moment_in rest.now) }
 {
     Some(Order::At(read_moment(rest)?))
 }
 
-// Parses what follows `feed`.
+// Reads the bytes after `feed`.
 fn read_feed(rest: &[u8]) -> Option<Order<'_>>
     ensures { option_map effect_of result ≡ option_and_then fed_by (parted 32 rest.now) }
 {
@@ -178,14 +178,14 @@ fn read_feed(rest: &[u8]) -> Option<Order<'_>>
     Some(Order::Feed(read_session(session)?, bytes))
 }
 
-// Parses what follows `drain`.
+// Reads the bytes after `drain`.
 fn read_drain(rest: &[u8]) -> Option<Order<'_>>
     ensures { option_map effect_of result ≡ option_map Effect.Drains (session_of rest.now) }
 {
     Some(Order::Drain(read_session(rest)?))
 }
 
-// Returns whether a line is empty or a remark.
+// Returns whether a line is empty or a comment.
 fn is_remark(line: &[u8]) -> bool
     ensures { result ≡ is_remark line.now }
 {
@@ -195,14 +195,14 @@ fn is_remark(line: &[u8]) -> bool
     }
 }
 
-// Returns whether a word of a line is the one of this name.
+// Returns whether the word of a line equals this name.
 fn is_word(word: &[u8], name: &[u8]) -> bool
     ensures { result ≡ is_word word.now name.now }
 {
     word == name
 }
 
-// Returns the bytes before the first of these marks, and those after it.
+// Returns the bytes before the first `mark` and the bytes after it.
 fn split_at_first(text: &[u8], mark: u8) -> Option<(&[u8], &[u8])>
     ensures { option_map (λ parts. (parts.0.now, parts.1.now)) result ≡ parted mark text.now }
 {
@@ -210,7 +210,7 @@ fn split_at_first(text: &[u8], mark: u8) -> Option<(&[u8], &[u8])>
     Some((&text[..place], &text[place + 1..]))
 }
 
-/// The number of a session: 1 to 64, without leading zeros.
+/// Reads the number of a session, from 1 to 64, without leading zeros.
 fn read_session(word: &[u8]) -> Option<SessionNumber>
     ensures { result ≡ session_of word.now }
 {

@@ -1,4 +1,4 @@
-//! The bytes between a reader and the lines that are made of them.
+//! The buffer between a reader and the lines made of its bytes.
 ghost use Rattle.std.specs.Prelude.{◌≡◌, ◌+◌, ◌-◌, ◌<◌, ◌≤◌, [], length, take, drop, slice_range, IfOk, OnErr};
 ghost use Rattle.std.specs.Io.KnownBytes.{Keeps, IsAtEnd};
 ghost use Rattle.can_session.specs.inner.Reads.{Gains};
@@ -8,10 +8,10 @@ use std::io;
 use std::io::Read;
 use std::marker::Model;
 
-/// The most bytes that a buffer holds.
+/// The largest number of bytes that a buffer holds.
 const ROOM: usize = 8192;
 
-/// Bytes that were read and not yet used, in order, at most 8,192.
+/// Bytes that were read but not yet used, in order. There are at most 8,192 of them.
 #[derive(Drop)]
 pub struct ReadBuffer {
     bytes: Vec<u8>,
@@ -50,7 +50,7 @@ impl ReadBuffer {
         &all[start..end]
     }
 
-    /// Removes this many bytes at the front.
+    /// Removes this many bytes from the front.
     pub fn consume(&mut self, count: usize)
         requires { count ≤ length self.old }
         ensures { self.new ≡ drop count self.old }
@@ -58,7 +58,7 @@ impl ReadBuffer {
         self.start += count;
     }
 
-    /// Keeps this many bytes from the front.
+    /// Keeps only the first `count` bytes.
     pub fn truncate(&mut self, count: usize)
         requires { count ≤ length self.old }
         ensures { self.new ≡ take count self.old }
@@ -66,7 +66,7 @@ impl ReadBuffer {
         self.end = self.start + count;
     }
 
-    /// Reads once, at most this many bytes, and returns how many came.
+    /// Reads once, at most this many bytes, and returns the number of bytes read.
     pub fn read_from<R: Read>(&mut self, input: &mut R, most: usize) -> io::Result<usize>
         requires some { 0 < most }
         requires room { length self.old < 8192 }
@@ -87,7 +87,7 @@ impl ReadBuffer {
     }
 }
 
-// Moves the bytes between two places to the front, and returns their end.
+// Moves the bytes between two indexes to the front and returns the index after the moved bytes.
 fn move_to_front(bytes: &mut [u8], start: usize, end: usize) -> usize
     requires ordered { start ≤ end }
     requires within { end ≤ length bytes.old }
@@ -101,7 +101,7 @@ fn move_to_front(bytes: &mut [u8], start: usize, end: usize) -> usize
     end - start
 }
 
-// Reads once, after the bytes that end here.
+// Reads once into the place after the first `end` bytes, and returns the number of bytes read.
 fn read_behind<R: Read>(
     bytes: &mut [u8],
     end: usize,

@@ -1,4 +1,4 @@
-//! The attempts of a bench whose bus has bit rates, on a schedule.
+//! Schedules the attempts of a bench whose bus has bit rates.
 ghost use Rattle.std.specs.Prelude.{◌≡◌, option_map};
 ghost use Rattle.can_session.specs.Wires.{nothing_yet, set_to, moment_on, schedule_after, shown_at};
 
@@ -8,7 +8,7 @@ use can_frame::{Frame, Iface, Moment};
 use can_proto::BusLoad;
 use can_wire::{Schedule, Timing};
 
-/// The schedule of a bus before its first attempt, if it has bit rates.
+/// Returns the schedule of a bus before its first attempt, if the bus has bit rates.
 pub fn first_schedule(timing: Option<Timing>) -> Option<Schedule>
     ensures { result ≡ option_map nothing_yet timing }
 {
@@ -18,7 +18,7 @@ pub fn first_schedule(timing: Option<Timing>) -> Option<Schedule>
     }
 }
 
-/// The schedule after this moment is set.
+/// Returns the schedule after the current moment is set to this one.
 pub fn set_to(mut schedule: Schedule, moment: Moment) -> Schedule
     ensures { result ≡ set_to moment schedule }
 {
@@ -26,8 +26,8 @@ pub fn set_to(mut schedule: Schedule, moment: Moment) -> Schedule
     schedule
 }
 
-/// The moment of the next attempt, which tries this frame, if any. If it tries none, `waits` is
-/// whether an interface waits for its restart.
+/// Returns the moment of the next attempt. The attempt tries this frame, if there is one. `waits` is whether an interface is
+/// waiting for its restart; it matters only without a frame.
 pub fn moment_on(schedule: &Schedule, waits: bool, head: Option<(Iface, Frame)>) -> Moment
     ensures { result ≡ moment_on waits head schedule.now }
 {
@@ -38,8 +38,8 @@ pub fn moment_on(schedule: &Schedule, waits: bool, head: Option<(Iface, Frame)>)
     }
 }
 
-/// Notes in a schedule what an attempt with this verdict came to, before which an interface waited for its restart or
-/// none did.
+/// Notes in a schedule the outcome of an attempt that had this verdict. `waits` is whether an interface was waiting for its restart
+/// before the attempt.
 pub fn note_attempt(schedule: &mut Schedule, waits: bool, verdict: Verdict, attempt: &Attempt)
     ensures { schedule.new ≡ schedule_after waits verdict attempt.now schedule.old }
 {
@@ -50,7 +50,7 @@ pub fn note_attempt(schedule: &mut Schedule, waits: bool, verdict: Verdict, atte
     }
 }
 
-/// The load of the wire in the last whole second before a moment, and in all.
+/// Returns the load of the wire: its share of the last whole second before a moment, and its total busy time.
 pub fn load_at(schedule: &Schedule, moment: Moment) -> BusLoad
     ensures { result ≡ shown_at moment schedule.now }
 {

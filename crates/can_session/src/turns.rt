@@ -14,21 +14,21 @@ use can_frame::Moment;
 use can_queue::RingQueue;
 use std::alloc::{AllocError, Global};
 
-/// The bus of a bench, with its names.
+/// The port of a bench's bus.
 pub type BenchPort = BusPort<RingQueue<Pending>, RingQueue<Received>, IndexArbiter>;
 
-/// The work of a session at a line.
+/// An act of a session that a line asks for.
 #[derive(Clone, Copy)]
 pub enum Act<'a> {
-    /// It is fed these bytes.
+    /// The session is fed these bytes.
     Feed(&'a [u8]),
-    /// It is given its items until none is left.
+    /// The session receives its items until none is left.
     Drain,
-    /// It ends.
+    /// The session ends.
     End,
 }
 
-/// Starts a session with this number, and keeps the text of its first line.
+/// Starts a session with this number and adds its first output.
 pub fn start_session(
     alloc: Global,
     capacity: u32,
@@ -45,7 +45,7 @@ pub fn start_session(
     Ok(session)
 }
 
-/// A session at its start, and adds its greeting.
+/// Returns a session at its start and adds its greeting.
 fn greeted(alloc: Global, capacity: u32, said: &mut Vec<u8>) -> Result<Session, AllocError>
     ensures { IfOk result (λ s.
         (s ≡ beginning capacity) × (said.new.items ≡ said.old.items ++ greeting)) }
@@ -57,7 +57,7 @@ fn greeted(alloc: Global, capacity: u32, said: &mut Vec<u8>) -> Result<Session, 
     }
 }
 
-/// Runs one act of a session, and adds its text.
+/// Runs one act of a session and adds the session's output.
 #[inline(always)]
 pub fn carry_out(
     session: &mut Session,
@@ -80,7 +80,7 @@ pub fn carry_out(
     }
 }
 
-/// Feeds a session a piece, and adds its text. A session that is over reads nothing.
+/// Feeds a piece of input to a session and adds the session's output. A session that is over reads nothing.
 fn feed(
     session: &mut Session,
     alloc: Global,
@@ -99,7 +99,7 @@ fn feed(
     }
 }
 
-/// Gives a session its items until there is none, and adds what it says.
+/// Delivers items to a session until there are no more, and adds the session's output.
 fn drain(session: &mut Session, port: &mut BenchPort, said: &mut Vec<u8>) -> Result<(), AllocError>
     ensures { OnOk result (Adds IsDrained
         session.old port.old said.old.items session.new port.new said.new.items) }

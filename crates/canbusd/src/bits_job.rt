@@ -1,4 +1,4 @@
-//! The job that writes the bits of a frame.
+//! The job of `canbusd bits`, which writes the bits of a frame.
 ghost use Rattle.std.specs.Prelude.{◌≡◌, ◌⊎◌, IfErr, OnOk};
 ghost use Rattle.canbusd.specs.Outcomes.{WritesBits};
 ghost use Rattle.canbusd_io.specs.declared.program_error.ProgramError.TheVariants as told;
@@ -9,7 +9,7 @@ use canbusd_options::BitsOptions;
 use std::alloc::Global;
 use std::io::Write;
 
-/// Writes the bits of a frame and, for each other frame, the bit at which its sender falls silent.
+/// Writes the bits of a frame. For each other frame, it also writes the bit at which the sender of that frame stops sending.
 pub fn write_bits<'a, W: Write>(
     alloc: Global,
     options: &BitsOptions,

@@ -23,13 +23,13 @@ const FAILED: u8 = 1;
 
 const BAD_WORDS: u8 = 2;
 
-/// Carries out a command line, which begins with the program's name, and returns its status.
+/// Carries out a command line, which begins with the program's name, and returns its exit status.
 ///
-/// Status 0 means that the requested job was done, or help was requested, and all output was written. Status 1 means a
-/// fault: a line `canbusd: TEXT` and its notes are written to the errors. If not all output was written, the status is
-/// 1 and the text is `write fault`. Status 2 means that the words ask for no job, and the error text is the parser's.
+/// Status 0 means that the requested job was done, or help was requested, and all output was written. Status 1 means a fault: a
+/// line `canbusd: TEXT` and its notes are written to `errors`. If not all output was written, the status is 1 and the text is
+/// `write fault`. Status 2 means that the command line does not ask for a job, and the error text is that of the parser.
 ///
-/// A server may wait for its clients for ever. Other command lines wait only for their input.
+/// A server may wait for its clients forever. Other jobs wait only for their input.
 pub fn run_words<
     H: ServerRuntime,
     R: Read + Drop + Send + 'static,
@@ -55,7 +55,7 @@ pub fn run_words<
     }
 }
 
-// Carries out a job and returns its status.
+// Carries out a job and returns the exit status.
 fn carry_out<H: ServerRuntime, R: Read + Drop + Send + 'static, W: Write + Drop, E: Write + Send>(
     rt: &H,
     alloc: Global,
@@ -82,7 +82,7 @@ fn carry_out<H: ServerRuntime, R: Read + Drop + Send + 'static, W: Write + Drop,
     status
 }
 
-// Does a job. Returns whether the whole job was done; if not, it has reported each fault.
+// Does a job. Returns whether the whole job was done. If it was not, each fault has been reported.
 fn do_job<'a, H: ServerRuntime, R: Read + Drop + Send + 'static, W: Write + Drop, E: Write + Send>(
     rt: &H,
     alloc: Global,
@@ -104,7 +104,7 @@ fn do_job<'a, H: ServerRuntime, R: Read + Drop + Send + 'static, W: Write + Drop
     Ok(true)
 }
 
-// Reports the fault of the words, or writes the help that they ask for. Returns the status.
+// Reports an error in the command line, or writes the help that it asks for. Returns the exit status.
 fn tell_words<W: Write + Drop, E: Write>(
     alloc: Global,
     error: &Error,
@@ -127,7 +127,7 @@ fn tell_words<W: Write + Drop, E: Write>(
     finish(alloc, outcome, output, errors)
 }
 
-// Flushes the output, even after a fault, and reports a failure to do so. Returns the status.
+// Flushes the output, even after a fault, and reports an error in doing so. Returns the exit status.
 fn finish<W: Write + Drop, E: Write>(
     alloc: Global,
     outcome: Result<(), Report<'_>>,
@@ -150,7 +150,7 @@ fn finish<W: Write + Drop, E: Write>(
     }
 }
 
-// Returns the report for output that was not written: the job's own report if it has one, or this late one.
+// Returns the report of output that was not written: the report of the job if it is about writing, and otherwise `late`.
 fn write_fault<'a>(outcome: Result<(), Report<'a>>, late: Report<'a>) -> Report<'a> {
     let Err(failure) = outcome else {
         return late;
@@ -163,7 +163,7 @@ fn write_fault<'a>(outcome: Result<(), Report<'a>>, late: Report<'a>) -> Report<
     }
 }
 
-/// Reports the fault of a command line and returns its status.
+/// Reports the fault of a command line and returns the exit status.
 pub fn fail<E: Write>(failure: &Report<'_>, errors: &mut E) -> u8
     ensures { result ≡ 1 }
 {

@@ -14,9 +14,9 @@ use std::alloc::{AllocError, Global};
 use std::io::{BufRead, BufReader, Write};
 use std::rt::Files;
 
-/// Audits the record whose text the files of the options have, one after another, and writes the number of its entries if
-/// it is a legal history, or with events those of its entries, as far as they are legal. The faults of the run are read
-/// first, if they are asked for.
+/// Audits a record whose text is in the files of the options, one after another. If the record is a legal history, writes the
+/// number of its entries. With `--events`, writes the events of the entries instead, up to the first entry that is not legal. The
+/// faults of the run are read first, if they are given.
 pub fn audit_files<'a, H: Files, W: Write, E: Write>(
     rt: &H,
     alloc: Global,
@@ -38,7 +38,8 @@ pub fn audit_files<'a, H: Files, W: Write, E: Write>(
     audit_asked(rt, alloc, options, asked, ifaces, output, errors)
 }
 
-// The events that options ask for, if they do, with the faults of the run; and the number of interfaces that these name.
+// Returns what the options ask for about events, with the faults of the run, and the number of interfaces that the faults have
+// names for.
 fn read_asked<'a, H: Files>(
     rt: &H,
     alloc: Global,
@@ -61,7 +62,7 @@ fn read_asked<'a, H: Files>(
     Ok((Some(Wanted { timing, faults }), Some(known.ifaces)))
 }
 
-// The same as `audit_files`, with what is asked for.
+// Audits the files as `audit_files` does. The faults of the run have already been read.
 fn audit_asked<'a, H: Files, W: Write, E: Write>(
     rt: &H,
     alloc: Global,
@@ -95,7 +96,7 @@ fn audit_asked<'a, H: Files, W: Write, E: Write>(
     }
 }
 
-// An audit that was given nothing yet, with events if they are asked for.
+// Returns an audit that has taken no lines. It collects events if the options ask for them.
 fn new_audit<'a>(alloc: Global, asked: Option<Wanted>) -> Result<TextAudit, Report<'a>>
     ensures written { IfOk result (λ audit. HasWritten (wanted_of asked) [] [] audit) }
     ensures none { IfOk result (λ audit. held_events audit.events ≡ []) }
@@ -111,7 +112,7 @@ fn new_audit<'a>(alloc: Global, asked: Option<Wanted>) -> Result<TextAudit, Repo
     }
 }
 
-// The lines of the rules that the bus takes after the last entry, and of each end of all rules.
+// Returns the lines about the rules that the bus gets, and about each removal of all rules, after the last entry.
 fn last_rules<'a>(alloc: Global, audit: &mut TextAudit) -> Result<Vec<u8>, Report<'a>>
     ensures lines { IfOk result (λ lines. lines.items ≡ rules_last audit.old.events) }
     ensures phase { audit.new.phase ≡ audit.old.phase }
@@ -123,14 +124,14 @@ fn last_rules<'a>(alloc: Global, audit: &mut TextAudit) -> Result<Vec<u8>, Repor
     }
 }
 
-// Whether an audit is asked for events.
+// Returns whether the options ask for events.
 fn is_with_events(asked: &Option<Wanted>) -> bool
     ensures { result ≡ asks_events asked.now }
 {
     asked.is_some()
 }
 
-// The files with these paths.
+// Opens the files with these paths.
 fn open_files<'a, H: Files>(
     rt: &H,
     alloc: Global,
@@ -148,7 +149,7 @@ fn open_files<'a, H: Files>(
     Ok(files)
 }
 
-// The name of the text of these files in notes on its lines.
+// Returns the name that notes use for the joined text of these files.
 fn joined_name(alloc: Global, paths: &[&str]) -> Result<String, AllocError> {
     let mut name = String::new(alloc);
     for (place, path) in paths.iter().enumerate() {
@@ -160,12 +161,12 @@ fn joined_name(alloc: Global, paths: &[&str]) -> Result<String, AllocError> {
     Ok(name)
 }
 
-/// Audits the record of a text, which the file with this path has, and writes the number of its entries if it is a legal
-/// history, or with events those of its entries, as far as they are legal. If `ifaces` is given its bus has to have so many
-/// interfaces.
+/// Audits a record. Its text comes from the file with this path. If the record is a legal history, writes the number of its
+/// entries. With events, writes the events of the entries instead, up to the first entry that is not legal. If `ifaces` is given,
+/// the bus must have this many interfaces.
 ///
-/// The text is read line by line and once, so it may come through a pipe. Neither it nor its record is held, nor more of
-/// the events than those of the lines that one read gave.
+/// The text is read once and line by line, so it may come through a pipe. Neither the text nor the record is kept in memory, and
+/// only the events of the lines from one read are.
 pub fn audit_lines<'a, R: BufRead, W: Write>(
     alloc: Global,
     path: &str,
@@ -203,8 +204,8 @@ pub fn audit_lines<'a, R: BufRead, W: Write>(
     )
 }
 
-/// The same of a text that may be cut off, as a run that was killed leaves it: writes the number of its entries, and that
-/// it is cut off, if the record is a legal history as far as it reaches.
+/// Audits a record whose text may be cut off, as a killed run leaves it. If the record is legal as far as it goes, writes the
+/// number of its entries and that it is cut off. It is otherwise like `audit_lines`.
 pub fn audit_cut_lines<'a, R: BufRead, W: Write, E: Write>(
     alloc: Global,
     path: &str,

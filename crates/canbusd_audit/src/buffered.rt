@@ -13,16 +13,16 @@ use std::io::{BufRead, Error, ErrorKind};
 /// The result of one read of an input.
 #[derive(Debug, Clone, Copy)]
 pub enum Buffered {
-    /// No byte, since the input has ended.
+    /// The read returned no bytes, because the input has ended.
     End,
-    /// Whole lines, which were taken, and maybe a part of the next one; or nothing, if the read was interrupted.
+    /// Complete lines were taken, and a part of the next line may remain. If the read was interrupted, nothing was taken.
     Lines,
-    /// A line at fault, which it still holds, after those that were taken.
+    /// A line is wrong. It is still in the input, and the lines before it were taken.
     Wrong(ReadFault),
 }
 
-/// Takes the whole lines that an input holds, up to the one that makes the record's bus known, and counts them. It reads
-/// once if the input holds nothing.
+/// Takes the complete lines that an input holds and counts them. It stops after the line that makes the record's bus known. If the
+/// input holds nothing, it reads once.
 pub fn take_held<R: BufRead>(
     alloc: Global,
     input: &mut R,
@@ -49,7 +49,7 @@ pub fn take_held<R: BufRead>(
     }
 }
 
-// The result of a read that failed.
+// Returns the result of a read that failed.
 fn unfilled(error: Error) -> io::Result<Buffered>
     ensures { IfOk result (λ held. held ≡ Buffered.Lines) }
 {
@@ -60,8 +60,8 @@ fn unfilled(error: Error) -> io::Result<Buffered>
     }
 }
 
-// Takes the whole lines that these bytes begin with, up to the one that makes the record's bus known, and counts them.
-// Returns the number of their bytes, and the fault of the line after them, if it is at fault.
+// Takes the complete lines at the start of these bytes and counts them. It stops after the line that makes the record's bus known.
+// Returns the number of bytes taken, and the fault of the next line if that line is wrong.
 fn carry_held(
     alloc: Global,
     held: &[u8],
@@ -92,14 +92,14 @@ fn carry_held(
     (len, None)
 }
 
-// Whether an audit knows the bus of its record now, and did not before.
+// Returns whether an audit has just learned the bus of its record.
 fn learned_bus(was_known: bool, audit: &TextAudit) -> bool
     ensures { was_known ≡ false → result ≡ is_some (bus_taken audit.now.phase) }
 {
     !was_known && knows_bus(audit)
 }
 
-// Whether the bus of an audit's record is known.
+// Returns whether the bus of an audit's record is known.
 fn knows_bus(audit: &TextAudit) -> bool
     ensures { result ≡ is_some (bus_taken audit.now.phase) }
 {

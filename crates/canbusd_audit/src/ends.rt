@@ -12,8 +12,8 @@ use std::alloc::Global;
 use std::io;
 use std::io::Write;
 
-/// Reports the result of the audit of a text that has ended and begins with this line: writes the number of a legal
-/// record's entries, or with events the last rules, which are these lines, and their last line.
+/// Reports the result of an audit after the whole text was read. `first` is the first line of the text. If the record is legal,
+/// writes the number of its entries. With events, writes the last lines about rules and the end line instead.
 pub fn tell_end<'a, W: Write>(
     alloc: Global,
     path: &str,
@@ -39,7 +39,7 @@ pub fn tell_end<'a, W: Write>(
     }
 }
 
-// Writes the number of a whole record's entries.
+// Writes the number of entries of a complete record.
 fn write_count<'a, W: Write>(
     alloc: Global,
     count: usize,
@@ -56,7 +56,8 @@ fn write_count<'a, W: Write>(
     written.map_err(|error| write_failure(alloc, OUTPUT, &error))
 }
 
-/// The same of a text that may be cut off, before these bytes.
+/// Reports the result of an audit of a text that may be cut off. `torn` are the bytes after the last LF. It is otherwise like
+/// `tell_end`.
 pub fn tell_cut<'a, W: Write, E: Write>(
     alloc: Global,
     path: &str,
@@ -82,7 +83,7 @@ pub fn tell_cut<'a, W: Write, E: Write>(
     }
 }
 
-// Writes the number of entries of a record that is cut off before these bytes, and a note on the number of these bytes.
+// Writes the number of entries of a record that is cut off. A note says how many bytes of an incomplete line were ignored.
 fn tell_off<'a, W: Write, E: Write>(
     alloc: Global,
     count: usize,
@@ -108,7 +109,7 @@ fn tell_off<'a, W: Write, E: Write>(
     written.map_err(|error| write_failure(alloc, OUTPUT, &error))
 }
 
-// Writes the last rules of a whole record, and its last line.
+// Writes the last lines about rules and the end line of a complete record.
 fn write_end<W: Write>(
     output: &mut W,
     count: usize,
@@ -126,7 +127,7 @@ fn write_end<W: Write>(
     }
 }
 
-// The same of a record that is cut off.
+// Writes the last lines about rules and the end line of a record that is cut off.
 fn write_cut<W: Write>(
     output: &mut W,
     count: usize,
@@ -144,7 +145,7 @@ fn write_cut<W: Write>(
     }
 }
 
-// The report of a text that is no record's, and ends in these bytes without LF.
+// Returns the report of a text that is not the text of a record. `torn` are the bytes after the last LF.
 fn text_failure<'a>(
     alloc: Global,
     path: &str,
@@ -158,7 +159,7 @@ fn text_failure<'a>(
     Report::with(alloc, ProgramError::Record(fault), note)
 }
 
-// The report of a record with a wrong entry.
+// Returns the report of a record with a wrong entry.
 fn wrong_failure<'a>(alloc: Global, path: &str, wrong: &WrongLine) -> Report<'a>
     requires { FitsLines wrong.now }
     ensures { result.error ≡ told.WrongEntry wrong.now.place }
@@ -167,8 +168,8 @@ fn wrong_failure<'a>(alloc: Global, path: &str, wrong: &WrongLine) -> Report<'a>
     Report::with(alloc, ProgramError::WrongEntry(wrong.place), note)
 }
 
-// The line of the text that a fault of the whole text is about: its last bytes, which are none if a line is missing. If
-// each line is right, and the version is one that the text does not need, it is the first line.
+// Returns the line to show with a fault of the whole text. It is usually `torn`, the bytes after the last LF, which are empty if a
+// line is missing. If the version is wrong but each line is right, it is the first line.
 fn last_shown<'a>(first: &'a [u8], torn: &'a [u8], fault: ReadFault) -> &'a [u8] {
     match fault {
         ReadFault::BadVersion if !first.is_empty() => first,

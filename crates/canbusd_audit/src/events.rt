@@ -1,4 +1,4 @@
-//! The output of the events of a record's entries.
+//! Writes the events of a record's entries.
 ghost use Rattle.std.specs.Prelude.{◌≡◌, ◌++◌, [], IfErr, List, OnOk, ℕ};
 ghost use Rattle.std.specs.Io.KnownBytes.{Appends};
 ghost use Rattle.can_replay.specs.declared.wanted.Wanted.{Wanted as AWanted};
@@ -11,7 +11,7 @@ use std::alloc::Global;
 use std::io;
 use std::io::Write;
 
-/// Writes the events that an audit holds, if it has any.
+/// Writes the events that an audit has collected, if there are any.
 pub fn put_events<'a, W: Write>(
     alloc: Global,
     audit: &mut TextAudit,
@@ -40,7 +40,7 @@ pub fn put_events<'a, W: Write>(
     }
 }
 
-// Writes bytes and flushes them, as a reader may wait for them.
+// Writes bytes and flushes them, because a reader may be waiting for them.
 fn write_out<W: Write>(output: &mut W, bytes: &[u8]) -> io::Result<()>
     ensures { OnOk result (Appends (W.contents output.old) (W.contents output.new) bytes.now) }
 {

@@ -1,18 +1,18 @@
-//! Several readers, read as one.
+//! Joins several readers into one.
 
 use std::io;
 use std::io::Read;
 
-/// The bytes of several readers, one after another.
+/// A reader of the bytes of several readers, one after another.
 #[derive(Drop)]
 pub struct Joined<R> {
     parts: Vec<R>,
-    /// The place of the one that is read.
+    /// The index of the current reader.
     place: usize,
 }
 
 impl<R> Joined<R> {
-    /// The readers, before the first of them is read.
+    /// Returns the joined readers before the first read.
     pub fn new(parts: Vec<R>) -> Joined<R> {
         Joined { parts, place: 0 }
     }

@@ -1,4 +1,4 @@
-//! Whether a record is of the bus that the faults of a run have names for.
+//! Checks whether a record is from a bus with as many interfaces as the faults of the run have names for.
 ghost use Rattle.std.specs.Prelude.{◌≡◌, ◌++◌, ◌⊎◌, [], IfErr, List, OnOk, ℕ};
 ghost use Rattle.can_replay.specs.declared.wanted.Wanted.{Wanted as AWanted};
 ghost use Rattle.can_replay.specs.EventTexts.{HasWritten, has_events, held_events};
@@ -11,8 +11,8 @@ use canbusd_io::{ProgramError, Report};
 use std::alloc::{AllocError, Global};
 use std::io::Write;
 
-/// Writes the events that an audit holds, if it has any. If the bus of its record is known, and `ifaces` is given, the
-/// bus has to have so many interfaces.
+/// Writes the events that an audit has collected, if there are any. If `ifaces` is given and the bus of the record is known, the
+/// bus must have this many interfaces.
 pub fn put_known<'a, W: Write>(
     alloc: Global,
     path: &str,
@@ -38,7 +38,7 @@ pub fn put_known<'a, W: Write>(
     put_events(alloc, audit, output)
 }
 
-// Refuses the bus of an audit's record if it is known and has another number of interfaces.
+// Refuses the record if its bus is known and has a different number of interfaces.
 fn check_bus<'a>(
     alloc: Global,
     path: &str,
@@ -62,7 +62,7 @@ fn check_bus<'a>(
     Err(Report::with(alloc, ProgramError::OtherBus, note))
 }
 
-// The number of names and that of interfaces.
+// Returns a note with the number of names and the number of interfaces.
 fn other_note(alloc: Global, path: &str, named: u8, ifaces: u8) -> Result<String, AllocError> {
     format!(in alloc; "  names in --faults: {named}, interfaces of {path}: {ifaces}\n")
 }

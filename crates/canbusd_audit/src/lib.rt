@@ -1,14 +1,18 @@
-//! `canbusd audit`: whether the text of a record is that of a legal history.
+//! `canbusd audit`: checks whether the text of a record is that of a legal history.
 //!
-//! The audit itself is `can_replay::TextAudit`, which takes the lines as they are read. Proved here: `ok N entries` is
-//! written only of the text of a legal record with N entries, and a fault is the one that the audit found: the first wrong
-//! line, or the first wrong entry; `ok N entries, then cut off` is written only of a text that is the front of such a
-//! record's, up to the lines of N entries. With events these lines give way to the events of the entries, the time of their
-//! frames on the wire at the bit rates of the options, and the rules that gave attempts their verdicts, by faults that some
-//! text spells for the names of the options. Of a legal record all events are written and nothing else, and before a fault
-//! those of the legal entries before it. The names are as many as the bus has interfaces, also before a fault; if they are
-//! not, nothing is written. A fault of the reader, of the writer or of memory says nothing of the record. No contract knows
-//! the bytes of a file: the fault of an audit is one of the file with its path, or of a text that it may hold.
+//! The audit itself is `can_replay::TextAudit`, which takes the lines as they are read. These facts are proved here. `ok N entries`
+//! is written only for the text of a legal record with N entries. `ok N entries, then cut off` is written only for a text that
+//! begins such a record and ends after the lines of N entries. A fault is the one that the audit found: the first wrong line or the
+//! first wrong entry.
+//!
+//! With `--events`, the events of the entries are written instead of these lines. They show when each frame was on the wire at the
+//! bit rates of the options, and which rules gave attempts their verdicts. The rules are those of faults that some text spells for
+//! the names in the options. For a legal record, all events are written and nothing else. Before a fault, the events of the legal
+//! entries before it are written. If the number of names differs from the number of the bus's interfaces, nothing is written, even
+//! if there is a fault later.
+//!
+//! A fault of the reader, of the writer or of memory says nothing about the record. No contract says what bytes a file has. So a
+//! fault of an audit is a fault of the file with its path, or of a text that the file may contain.
 #![tactic(auto)]
 
 mod audit_job;

@@ -16,12 +16,12 @@ use std::alloc::Global;
 use std::io::{BufRead, Write};
 use std::str;
 
-/// Takes the lines of an input to its end, and returns their number. The bytes after the last LF are left. After each read
-/// the events of an audit that has them are written. If `ifaces` is given the bus of the record has to have so many
-/// interfaces: if it has another number nothing is written.
+/// Takes the lines of an input up to its end and returns their number. The bytes after the last LF remain in `torn`. If the audit
+/// collects events, they are written after each read. If `ifaces` is given, the bus of the record must have this many interfaces;
+/// if it does not, nothing is written.
 ///
-/// If a line is at fault, the lines after it are read all the same: an input that is no UTF-8 text is reported as such,
-/// wherever it is not.
+/// If a line is wrong, the lines after it are still read, because an input that is not UTF-8 text is reported as such, wherever the
+/// bad bytes are.
 pub fn take_lines<'a, R: BufRead, W: Write>(
     alloc: Global,
     path: &str,
@@ -76,7 +76,7 @@ pub fn take_lines<'a, R: BufRead, W: Write>(
     Err(Report::new(alloc, ProgramError::Read))
 }
 
-/// Takes the bytes after the last LF as the last line, if there are any. So many lines come before it.
+/// Takes the bytes after the last LF as the last line, if there are any. `lines` is the number of lines before it.
 pub fn take_last<'a>(
     alloc: Global,
     path: &str,
@@ -108,7 +108,7 @@ pub fn take_last<'a>(
     }
 }
 
-// The report of a last line that is at fault.
+// Returns the report of a wrong last line.
 fn torn_failure<'a>(
     alloc: Global,
     path: &str,
@@ -126,7 +126,7 @@ fn torn_failure<'a>(
     Report::with(alloc, ProgramError::Record(fault), note)
 }
 
-// The report of a line at fault that the input still holds, after this many others.
+// Returns the report of a wrong line that is still in the input. `lines` is the number of lines before it.
 #[inline(never)]
 fn held_failure<'a, R: BufRead>(
     alloc: Global,
@@ -144,7 +144,7 @@ fn held_failure<'a, R: BufRead>(
     }
 }
 
-// The report of a line that is at fault.
+// Returns the report of a wrong line.
 fn line_failure<'a, R: BufRead>(
     alloc: Global,
     path: &str,
@@ -162,7 +162,7 @@ fn line_failure<'a, R: BufRead>(
     }
 }
 
-// Reads on from a line that is at fault, and sees whether this line and all after it are UTF-8 text.
+// Reads the input after a wrong line. Checks that this line and all later lines are UTF-8 text.
 fn read_rest<'a, R: BufRead>(
     alloc: Global,
     path: &str,
@@ -184,8 +184,7 @@ fn read_rest<'a, R: BufRead>(
     Err(Report::new(alloc, ProgramError::Read))
 }
 
-// Reads the next line, with its LF, and returns whether there is one. If not, the rest of the input was read, which has
-// no LF.
+// Reads the next line with its LF. Returns false if the rest of the input has no LF; the rest was then read.
 fn next_line<'a, R: BufRead>(
     alloc: Global,
     path: &str,
@@ -203,7 +202,7 @@ fn next_line<'a, R: BufRead>(
     }
 }
 
-// Whether bytes end in LF.
+// Returns whether the bytes end with LF.
 fn has_end(bytes: &[u8]) -> bool
     ensures yes { IsTrue result → slice_get bytes.now (length bytes.now - 1) ≡ Some 10 }
     ensures no { result ≡ false → slice_get bytes.now (length bytes.now - 1) ≢ Some 10 }

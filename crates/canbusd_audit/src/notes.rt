@@ -1,14 +1,14 @@
-//! Notes on the lines of a text that is no record's.
+//! Notes on the lines of a text that is not the text of a record.
 ghost use Rattle.std.specs.Prelude.{◌≡◌};
 
 use can_record_text::ReadFault;
 use canbusd_io::{Report, SourceLine, WITH_CR};
 use std::alloc::{AllocError, Global};
 
-/// The number of lines of a record's text before those of its entries.
+/// The number of lines in a record's text before the lines of its entries.
 pub const HEAD: u64 = 2;
 
-/// A line of a record's text that is wrong, and the form of the line that a record has in its place.
+/// Returns a note with a wrong line of a record's text and the form that the line should have.
 pub fn record_note(
     alloc: Global,
     path: &str,
@@ -36,7 +36,7 @@ pub fn record_note(
     format!(in alloc; "  {line}\n  {form}\n")
 }
 
-// The form of a line after the second. A text that has ended there has no such line, or one without LF.
+// Returns the form of a line after the second line. If the text ended there, the line is missing or has no LF.
 fn entry_form(line: &[u8]) -> &'static str {
     if line.is_empty() {
         "the text ends here, before its line end COUNT"
@@ -47,8 +47,8 @@ fn entry_form(line: &[u8]) -> &'static str {
     }
 }
 
-/// The fault of a text that ends before its last line. If the text has the lines before its entries, a note says that `--cut`
-/// audits these.
+/// Adds a note to the report of a text that ends before its end line. The note says that `--cut` audits the entries, if the text
+/// has the two lines before its entries.
 pub fn with_cut_note<'a>(alloc: Global, failure: Report<'a>, fault: ReadFault) -> Report<'a>
     ensures { result.error ≡ failure.entry.error }
 {
@@ -61,7 +61,7 @@ pub fn with_cut_note<'a>(alloc: Global, failure: Report<'a>, fault: ReadFault) -
     }
 }
 
-// The note that `--cut` audits the entries of a text that has this many.
+// Returns the note that `--cut` audits the entries of the text, with their number.
 fn cut_note(alloc: Global, entries: u64) -> Result<String, AllocError> {
     format!(in alloc; "  with --cut the {entries} entries before it are audited\n")
 }

@@ -8,7 +8,7 @@ use can_replay::WrongLine;
 use canbusd_io::{Shown, SourceLine};
 use std::alloc::{AllocError, Global};
 
-/// The line of a wrong entry in the text of a record, and the one that would be legal there.
+/// Returns a note with the line of a wrong entry and the line that would be legal in its place.
 pub fn wrong_note(alloc: Global, path: &str, wrong: &WrongLine) -> Result<String, AllocError>
     requires { FitsLines wrong.now }
 {
@@ -28,7 +28,7 @@ pub fn wrong_note(alloc: Global, path: &str, wrong: &WrongLine) -> Result<String
     }
 }
 
-// The line of an event with this reply in the text of a record, without its LF.
+// Returns the line of an event with this reply in the text of a record, without its LF.
 fn shown_line(alloc: Global, event: &Event, reply: &Reply) -> Result<Vec<u8>, AllocError>
     requires { FitsReply event.now reply.now }
 {

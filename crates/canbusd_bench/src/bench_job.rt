@@ -30,14 +30,14 @@ use std::rt::Files;
 #[derive(Drop)]
 struct Ran<'a> {
     record: Record,
-    /// The fault of a refused message, if the options are strict.
+    /// The report of the first refused message, if the options are strict and there was one.
     refusal: Option<Report<'a>>,
 }
 
-/// Runs the bench with these options over the lines of an input. It checks first the names, then the script, and then
-/// the limits of the bus. After a complete run it writes the output, and then the record and the log. It writes each of
-/// these two even if the other fails; a fault of the record is reported first. `ignored` receives the input of sessions
-/// outside messages. If the options are strict, a refused message is a fault, which is reported last.
+/// Runs the bench with these options over the lines of an input. The names are checked first, then the script, and then the limits
+/// of the bus. After a complete run, the output is written first, and then the record and the log. The log is written even if the
+/// record could not be written; the fault of the record is then reported first. `ignored` receives which sessions had input outside
+/// messages. If the options are strict, a refused message is a fault, which is reported last.
 pub fn run_bench<'a, H: Files, R: Read + Drop, W: Write>(
     rt: &H,
     alloc: Global,
@@ -66,7 +66,7 @@ pub fn run_bench<'a, H: Files, R: Read + Drop, W: Write>(
     }
 }
 
-// Runs the bench with these options, and writes all its output, even if the run has a fault. A fault of the output is
+// Runs the bench with these options and writes all its output, even if the run has a fault. A fault in writing the output is
 // reported first.
 fn run_out<'a, H: Files, R: Read + Drop, W: Write>(
     rt: &H,
@@ -93,7 +93,7 @@ fn run_out<'a, H: Files, R: Read + Drop, W: Write>(
     Ok(Ran { record, refusal })
 }
 
-// Writes the record and the log of a run, if the options ask for them. It never writes the log over the record.
+// Writes the record and the log of a run, if the options ask for them. The log is never written over the record.
 fn save_run<'a, H: Files>(
     rt: &H,
     alloc: Global,
@@ -118,7 +118,7 @@ fn save_run<'a, H: Files>(
     logged
 }
 
-// Returns whether two paths name one file, for example by links. Returns false if the files have no inode numbers.
+// Returns whether two paths lead to the same file, for example through links. Returns false if the files have no inode numbers.
 fn is_one_file<H: Files>(rt: &H, record: Option<&str>, log: &str) -> bool {
     let Some(record) = record else {
         return false;
@@ -131,7 +131,7 @@ fn is_one_file<H: Files>(rt: &H, record: Option<&str>, log: &str) -> bool {
     }
 }
 
-// Runs the bench with these names and with the faults of the script in the options.
+// Runs the bench with these names and with the faults of the script that the options name.
 fn run_scripted<'a, H: Files, R: Read + Drop, W: Write>(
     rt: &H,
     alloc: Global,
@@ -151,7 +151,7 @@ fn run_scripted<'a, H: Files, R: Read + Drop, W: Write>(
     run_on(alloc, options, names, plan, input, output, ignored)
 }
 
-// Runs the bench with these names and faults.
+// Runs the bench with these names and these faults.
 fn run_on<'a, R: Read + Drop, W: Write>(
     alloc: Global,
     options: &BenchOptions<'_>,
@@ -189,7 +189,7 @@ fn run_on<'a, R: Read + Drop, W: Write>(
     }
 }
 
-// Returns the report of a fault of the bench.
+// Returns the notes on a fault of the bench.
 fn bench_note<R: Read + Drop>(
     alloc: Global,
     fault: BenchFault,

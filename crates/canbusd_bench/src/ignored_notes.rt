@@ -1,8 +1,8 @@
-//! The notes after a complete run.
+//! Writes notes on ignored input after a complete run.
 use can_session::{IgnoredInput, SessionNumber};
 use std::io::Write;
 
-/// Reports the sessions that were fed a message without its end, or bytes outside messages.
+/// Writes a note on each session that was fed an unfinished message or bytes outside messages.
 pub fn tell_ignored<E: Write>(ignored: &IgnoredInput, errors: &mut E) {
     for number in 1..65_u8 {
         if let Some(session) = SessionNumber::new(number) {

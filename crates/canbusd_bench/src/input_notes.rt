@@ -1,4 +1,4 @@
-//! The report of a wrong line of the bench's input.
+//! Writes the note on a wrong line of the bench's input.
 use can_session::lines::LONGEST_LINE;
 use can_session::{Order, SessionNumber, read_order};
 use canbusd_io::{Shown, SourceLine, WITH_CR, fixed_note, rule_note};
@@ -10,8 +10,8 @@ use std::str;
 const CHANGE_FORM: &str =
     "down NAME or up NAME: one space comes before the name of an interface, as down can0";
 
-/// Returns a note with the wrong line of the bench's input and its fault. The bus has these names; `is_timed` is true
-/// if it has bit rates.
+/// Returns a note with the wrong line of the bench's input and the reason. `bus` is the names of the bus, and `is_timed` is true if
+/// the bus has bit rates.
 pub fn input_note(
     alloc: Global,
     place: &str,
@@ -49,8 +49,8 @@ fn missing_note(alloc: Global, session: SessionNumber) -> Result<String, AllocEr
     format!(in alloc; "  no line before it starts session {number}\n")
 }
 
-// Returns the cause for which an interface cannot be taken down or brought up: no interface has this name, or it is
-// already up.
+// Returns the reason why an interface cannot be taken down or brought up: no interface has this name, or the interface is already
+// up.
 fn iface_note(alloc: Global, name: &[u8], bus: &str) -> Result<String, AllocError> {
     if let [.., b'\r'] = name {
         return fixed_note(alloc, WITH_CR);
@@ -65,7 +65,7 @@ fn iface_note(alloc: Global, name: &[u8], bus: &str) -> Result<String, AllocErro
     }
 }
 
-// Returns the cause for which a bench cannot run to a time.
+// Returns the reason why a bench cannot run to a moment.
 fn run_note(is_timed: bool) -> &'static str {
     if is_timed {
         "the moment set is a later one"
@@ -74,7 +74,7 @@ fn run_note(is_timed: bool) -> &'static str {
     }
 }
 
-// Returns the expected form of a line that spells no order.
+// Returns the form that a line should have if it is not a valid order.
 fn form_of(line: &[u8], is_timed: bool) -> &'static str {
     if line.len() > LONGEST_LINE {
         return "a line has at most 4096 bytes";

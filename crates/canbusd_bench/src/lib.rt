@@ -1,8 +1,8 @@
-//! `canbusd bench` runs a bench on one bus, from the lines of an input.
+//! `canbusd bench` runs a bench on one bus from the lines of an input.
 //!
-//! `can_session::bench_noting` is the bench itself. It is proved that a run that ends without a fault is a run of that
-//! bench. The bench has the names before the first `@` and the configuration of the options. It has the faults of the
-//! script that the options name, if any. With `--strict` its output has no refusal.
+//! `can_session::bench_noting` is the bench itself. It is proved that a run that ends without a fault is a run of that bench. The
+//! bench has the names before the first `@`, the configuration of the options, and the faults of the script that the options name,
+//! if any. With `--strict`, the output of such a run contains no refusal.
 #![tactic(auto)]
 
 mod bench_job;

@@ -5,23 +5,23 @@ use std::alloc::Global;
 use std::io;
 use std::io::{Error, Read};
 
-/// The smallest number of last bytes that the reader keeps. The bench never holds more of its input at once.
+/// The smallest number of recent bytes that the reader keeps. The bench never holds more of its input at once.
 const KEPT: usize = 8192;
 
-/// A reader that keeps the last bytes of its input, to show one of their lines, and its last error.
+/// A reader that keeps the most recent bytes of its input, so that a line can be shown, and its last error.
 #[derive(Drop)]
 pub struct Recent<R: Read + Drop> {
     input: R,
     bytes: Vec<u8>,
-    // The number of lines that ended before the bytes kept.
+    // The number of lines that ended before the kept bytes.
     lines_gone: u64,
-    // Whether there was no memory for some bytes.
+    // Whether bytes were lost for lack of memory.
     is_lost: bool,
     error: Option<Error>,
 }
 
 impl<R: Read + Drop> Recent<R> {
-    /// Returns a reader that keeps at most 24,576 bytes, and no bytes before the first read.
+    /// Returns a reader that keeps at most 24,576 bytes. It has kept no bytes yet.
     pub fn new(alloc: Global, input: R) -> Recent<R>
         ensures { result.input ≡ input }
     {
@@ -34,7 +34,7 @@ impl<R: Read + Drop> Recent<R> {
         }
     }
 
-    /// Returns the line of this number, from 1, as far as it was read. It must begin within the last 8,192 bytes.
+    /// Returns the line with this number, counted from 1, as far as it was read. The line must begin within the last 8,192 bytes.
     pub fn line(&self, number: u32) -> Option<&[u8]> {
         if self.is_lost {
             return None;
@@ -44,12 +44,12 @@ impl<R: Read + Drop> Recent<R> {
         self.bytes.split(|byte| *byte == b'\n').nth(place as usize)
     }
 
-    /// Returns the error of the last failed read, if any.
+    /// Returns the error of the last read that failed, if any.
     pub fn error(&self) -> Option<Error> {
         self.error
     }
 
-    // Keeps the bytes of one read, at most 8,192.
+    // Keeps the bytes of one read. There are at most 8,192 of them.
     fn keep(&mut self, read: &[u8])
         ensures { self.new.input ≡ self.old.input }
     {
@@ -61,7 +61,7 @@ impl<R: Read + Drop> Recent<R> {
         }
     }
 
-    // Drops all but the last 8,192 bytes.
+    // Drops all kept bytes except the last 8,192.
     fn forget(&mut self)
         ensures { self.new.input ≡ self.old.input }
     {

@@ -8,31 +8,31 @@ use std::alloc::{AllocError, Global};
 use std::io;
 use std::io::{Error, ErrorKind, Write};
 
-/// The beginning of a refusal, before a text that begins with a small letter.
+/// The bytes at the start of a refusal. A lower-case letter follows them.
 const FRONT: [u8; 8] = *b"< error ";
 
-/// The value of `seen` after a whole beginning and its small letter.
+/// The value of `seen` after the start of a refusal and a lower-case letter were found.
 const FOUND: u8 = 9;
 
-/// The largest number of bytes kept of a piece.
+/// The largest number of bytes that are kept of a piece.
 const KEPT: usize = 80;
 
-/// A writer that passes its output on and, if it is on, looks for the first refusal in it.
+/// A writer that passes its output on. If `is_on` is true, it looks for the first refusal in the output.
 #[derive(Drop)]
 pub struct Watch<'w, W> {
     writer: &'w mut W,
     is_on: bool,
     // The number of bytes written so far.
     written: u64,
-    // The number of last bytes that may begin a refusal.
+    // The number of last bytes that may be the start of a refusal, or `FOUND`.
     seen: u8,
-    // The first bytes of the piece with the first refusal, and below it the number of bytes before that piece.
+    // The first bytes of the piece that contains the first refusal. `place` is the number of bytes before that piece.
     piece: Vec<u8>,
     place: u64,
 }
 
 impl<'w, W> Watch<'w, W> {
-    /// Returns a watcher that has written nothing.
+    /// Returns a watcher that has written nothing yet.
     pub fn new(alloc: Global, is_on: bool, writer: &'w mut W) -> Watch<'w, W>
         ensures writer { result.writer ≡ writer.entry }
         ensures on { result.is_on ≡ is_on }
@@ -49,7 +49,7 @@ impl<'w, W> Watch<'w, W> {
         }
     }
 
-    /// Returns the writer, and a fault if the watcher saw a refusal.
+    /// Returns the writer, and a report if the output contained a refusal.
     pub fn finish<'a>(self, alloc: Global) -> (&'w mut W, Option<Report<'a>>)
         ensures writer { result.0 ≡ self.entry.writer }
         ensures some { IfSome result.1 (λ failure. failure.error ≡ fault.Refused) }
@@ -67,14 +67,14 @@ impl<'w, W> Watch<'w, W> {
         }
     }
 
-    // Returns the place of the first refusal.
+    // Returns a note on the place of the first refusal.
     fn note(&self, alloc: Global) -> Result<String, AllocError> {
         let piece = self.piece.strip_suffix(b"\n").unwrap_or(&self.piece);
         let (place, piece) = (self.place, Shown::cut(piece));
         format!(in alloc; "  {OUTPUT}, byte {place}: {piece}\n")
     }
 
-    // Looks for a refusal in a piece that was written.
+    // Looks for a refusal in a piece of output that was written.
     fn look(&mut self, piece: &[u8])
         requires { self.old.is_on ≡ true → self.old.written + length piece.now < 2 ^ 64 }
         ensures writer { self.new.writer ≡ self.old.writer }
@@ -116,7 +116,7 @@ impl<W: Write> Write for Watch<'_, W> {
     }
 }
 
-// Returns the number of last bytes that may begin a refusal, after this piece.
+// Returns the number of last bytes that may be the start of a refusal, after this piece was written.
 #[tactic(auto, using(std::proofs::lemmas::List::Sums::fold_more))]
 fn seen_in(seen: u8, piece: &[u8]) -> u8
     ensures { result ≡ seen_in seen piece.now }

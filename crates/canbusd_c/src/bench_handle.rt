@@ -1,11 +1,11 @@
-//! A bench as C has it. Nothing checks that C hands in a pointer that `canbusd_c_bench_new` gave and that was not freed, or
-//! that it calls with one from one thread at a time.
+//! A bench that a C program holds. Nothing checks that a pointer from C was returned by `canbusd_c_bench_new` and was not freed, or
+//! that only one thread uses it at a time.
 ghost use Rattle.canbusd_c.specs.Benching.{KeptBench};
 ghost use Rattle.canbusd_c.specs.contracts.local_bench.LocalBench.{the_row};
 
 use std::marker::Model;
 
-/// A bench in the hands of C: a pointer to the box that the bench is in.
+/// A handle of a bench for C: a pointer to the box that contains the bench.
 #[repr(C)]
 #[derive(Drop)]
 pub struct BenchHandle {

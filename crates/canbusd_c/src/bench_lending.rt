@@ -16,7 +16,7 @@ impl BenchHandle {
         unsafe { &mut *self.at.cast::<LocalBench>() }
     }
 
-    /// Returns the box that it points to, to be dropped.
+    /// Returns the box of this handle, so that the caller can drop the box.
     pub(crate) fn into_parts(self, alloc: Global) -> Parts<LocalBench, Global>
         ensures { result.value ≡ self.value }
     {

@@ -1,4 +1,4 @@
-//! The work of each export on the bench of its handle.
+//! Carries out each export on the bench of a handle.
 ghost use Rattle.std.specs.Prelude.{◌≡◌, ◌≢◌, IfErr, IfOk, Ok};
 ghost use Rattle.can_rules.specs.Plans.{ReadsPlan};
 ghost use Rattle.canbusd_c.specs.Codes.{IsUntouched};
@@ -16,7 +16,7 @@ use can_rules::Plan;
 use std::alloc::Global;
 use std::str;
 
-/// Makes a bench, or returns the code of the fault. If a line of the faults is wrong, its number is written.
+/// Makes a bench, or returns the code of the error. If a line of the faults is wrong, the line number is written to `line`.
 pub fn make_bench(
     alloc: Global,
     names: &[u8],
@@ -46,7 +46,7 @@ pub fn make_bench(
     }
 }
 
-/// Returns the faults that a text spells.
+/// Returns the faults that a text spells. If a line is wrong, the line number is written to `line`.
 fn plan_in(alloc: Global, faults: &[u8], names: &Names, line: &mut usize) -> Result<Plan, u32>
     ensures read { IfOk result (λ plan. ReadsPlan names.now faults.now (Ok plan)) }
     ensures same { IfOk result (λ plan. line.new ≡ line.old) }
@@ -63,7 +63,7 @@ fn plan_in(alloc: Global, faults: &[u8], names: &Names, line: &mut usize) -> Res
     }
 }
 
-/// Carries out lines, and writes as much of their output as there is room for, with its length.
+/// Carries out lines. Writes their output, as far as it fits into the buffer, and the length of the whole output.
 pub fn take(
     bench: &mut LocalBench,
     lines: &[u8],
@@ -82,7 +82,7 @@ pub fn take(
     }
 }
 
-/// Writes as much of the last lines' output as there is room for, and its length.
+/// Writes the output of the last lines, as far as it fits into the buffer, and the length of the whole output.
 pub fn write_output(bench: &LocalBench, to: &mut [u8], len: &mut usize)
     ensures { IsTextOut bench.now.output to.old len.new to.new }
 {
@@ -90,7 +90,7 @@ pub fn write_output(bench: &LocalBench, to: &mut [u8], len: &mut usize)
     put_front(bench.output(), to);
 }
 
-/// Writes as much of the text of the record as there is room for, and its length.
+/// Writes the text of the record, as far as it fits into the buffer, and the length of the whole text.
 pub fn write_record(alloc: Global, bench: &LocalBench, to: &mut [u8], len: &mut usize) -> u32
     ensures written { IsTextCall (bench_record bench.now) to.old result len.new to.new }
     ensures kept { IsUntouched result len.old len.new }
@@ -104,7 +104,7 @@ pub fn write_record(alloc: Global, bench: &LocalBench, to: &mut [u8], len: &mut 
     OK
 }
 
-/// Writes as much of the log as there is room for, and its length.
+/// Writes the log, as far as it fits into the buffer, and the length of the whole log.
 pub fn write_log(alloc: Global, bench: &LocalBench, to: &mut [u8], len: &mut usize) -> u32
     ensures written { IsTextCall (bench_log bench.now) to.old result len.new to.new }
     ensures kept { IsUntouched result len.old len.new }

@@ -1,4 +1,4 @@
-//! The work of each export on the bus of its handle.
+//! Carries out each export on the bus of a handle.
 ghost use Rattle.std.specs.Prelude.{◌≡◌};
 ghost use Rattle.can_event.specs.declared.event.Event.TheVariants as event;
 ghost use Rattle.can_rules.specs.Plans.{without_rules};
@@ -17,7 +17,7 @@ use crate::shaping::{frame_in, item_out, option_in, tried_out};
 use can_bus::{Attempt, Received, Refusal, SocketId};
 use can_frame::{Iface, Moment};
 
-/// Opens a socket on the interface of a number.
+/// Opens a socket on the interface with this number.
 pub fn open(bus: &mut LocalBus, iface: u32, capacity: u32, socket: &mut u32) -> u32
     ensures opened { IsOpenCall (iface_of_number iface) capacity bus.old result socket.new bus.new }
     ensures kept { IsUntouched result socket.old socket.new }
@@ -72,7 +72,7 @@ pub fn send(bus: &mut LocalBus, socket: u32, frame: &CFrame, number: &mut u64) -
     }
 }
 
-/// Takes the oldest item of a socket.
+/// Takes the oldest item from the receive queue of a socket.
 pub fn receive(bus: &mut LocalBus, socket: u32, item: &mut CItem) -> u32
     ensures received { IsReceiveCall socket bus.old result item.new bus.new }
     ensures kept { IsUntouched result item.old item.new }
@@ -82,7 +82,7 @@ pub fn receive(bus: &mut LocalBus, socket: u32, item: &mut CItem) -> u32
     item_code(&outcome, &room, item)
 }
 
-/// The code of a receive into a buffer. An item that was taken is written.
+/// Returns the code of a receive. If an item was taken, it is written to `item`.
 fn item_code(outcome: &Result<bool, Refusal>, room: &Received, item: &mut CItem) -> u32
     ensures told { IsItemTold room.now outcome.now result item.new }
     ensures kept { IsUntouched result item.old item.new }
@@ -97,7 +97,7 @@ fn item_code(outcome: &Result<bool, Refusal>, room: &Received, item: &mut CItem)
     }
 }
 
-/// Makes an attempt at a moment.
+/// Makes an attempt to send a frame at this moment.
 pub fn attempt(bus: &mut LocalBus, moment: u64, tried: &mut CTried) -> u32
     ensures attempted { IsAttemptCall (moment_of_micros moment) bus.old result tried.new bus.new }
     ensures kept { IsUntouched result tried.old tried.new }
@@ -109,7 +109,7 @@ pub fn attempt(bus: &mut LocalBus, moment: u64, tried: &mut CTried) -> u32
     tried_code(&outcome, tried)
 }
 
-/// The code of an attempt. An attempt that was made is written.
+/// Returns the code of an attempt. If the attempt was made, its result is written to `tried`.
 fn tried_code(outcome: &Result<Attempt, Refusal>, tried: &mut CTried) -> u32
     ensures told { IsAttemptTold outcome.now result tried.new }
     ensures kept { IsUntouched result tried.old tried.new }
@@ -123,7 +123,7 @@ fn tried_code(outcome: &Result<Attempt, Refusal>, tried: &mut CTried) -> u32
     }
 }
 
-/// Runs to a moment.
+/// Makes all attempts that are due before this moment. Their number is written to `made`.
 pub fn run(bus: &mut LocalBus, moment: u64, made: &mut u64) -> u32
     ensures ran { IsRunCall (moment_of_micros moment) bus.old result made.new bus.new }
     ensures kept { IsUntouched result made.old made.new }
@@ -162,14 +162,14 @@ pub fn down(bus: &mut LocalBus, iface: u32, moment: u64) -> u32
     }
 }
 
-/// Gives the bus a rule of faults.
+/// Adds a fault rule to the bus.
 pub fn inject(bus: &mut LocalBus, rule: &[u8]) -> u32
     ensures { IsInjectCall rule.now bus.old result bus.new }
 {
     rule_code(bus.inject(rule))
 }
 
-/// The interface of a number: there are 16.
+/// Returns the interface with this number, if the number is less than 16.
 pub fn iface_of(number: u32) -> Option<Iface>
     ensures { result ≡ iface_of_number number }
 {
@@ -180,7 +180,7 @@ pub fn iface_of(number: u32) -> Option<Iface>
     }
 }
 
-/// The moment of a number of microseconds.
+/// Returns the moment with this number of microseconds, if it is in range.
 pub fn moment_of(micros: u64) -> Option<Moment>
     ensures { result ≡ moment_of_micros micros }
 {

@@ -1,4 +1,4 @@
-//! The functions that C calls. Each is a function of `calls`, `looks` or `benching` on the bus or the bench of a handle.
+//! The functions that C calls. Each calls a function of `calls`, `looks` or `benching` for the bus or the bench of a handle.
 ghost use Rattle.std.specs.Prelude.{◌≡◌};
 ghost use Rattle.can_event.specs.declared.event.Event.TheVariants as event;
 ghost use Rattle.can_rules.specs.Plans.{without_rules};
@@ -41,7 +41,7 @@ pub extern "C" fn canbusd_c_free(alloc: Global, handle: Handle) {
     drop(handle.into_parts(alloc).into_box());
 }
 
-/// Opens a socket on an interface. `capacity` items may wait there.
+/// Opens a socket on an interface. The receive queue of the socket holds `capacity` items.
 #[unsafe(no_mangle)]
 pub extern "C" fn canbusd_c_open(
     handle: &mut Handle,
@@ -108,7 +108,7 @@ pub extern "C" fn canbusd_c_send(
     calls::send(handle.lend(), socket, frame, number)
 }
 
-/// Takes the oldest item of a socket.
+/// Takes the oldest item from the receive queue of a socket.
 #[unsafe(no_mangle)]
 pub extern "C" fn canbusd_c_receive(handle: &mut Handle, socket: u32, item: &mut CItem) -> u32
     ensures received { IsReceiveCall socket handle.old.value result item.new handle.new.value }
@@ -117,7 +117,7 @@ pub extern "C" fn canbusd_c_receive(handle: &mut Handle, socket: u32, item: &mut
     calls::receive(handle.lend(), socket, item)
 }
 
-/// Makes an attempt at a moment.
+/// Makes an attempt to send a frame at this moment.
 #[unsafe(no_mangle)]
 pub extern "C" fn canbusd_c_attempt(handle: &mut Handle, moment: u64, tried: &mut CTried) -> u32
     ensures attempted { IsAttemptCall (moment_of_micros moment) handle.old.value result tried.new
@@ -127,7 +127,7 @@ pub extern "C" fn canbusd_c_attempt(handle: &mut Handle, moment: u64, tried: &mu
     calls::attempt(handle.lend(), moment, tried)
 }
 
-/// Runs to a moment.
+/// Makes all attempts that are due before this moment.
 #[unsafe(no_mangle)]
 pub extern "C" fn canbusd_c_run(handle: &mut Handle, moment: u64, made: &mut u64) -> u32
     ensures ran { IsRunCall (moment_of_micros moment) handle.old.value result made.new
@@ -155,7 +155,7 @@ pub extern "C" fn canbusd_c_down(handle: &mut Handle, iface: u32, moment: u64) -
     calls::down(handle.lend(), iface, moment)
 }
 
-/// Gives the bus a rule of faults.
+/// Adds a fault rule to the bus.
 #[unsafe(no_mangle)]
 pub extern "C" fn canbusd_c_inject(handle: &mut Handle, rule: &[u8]) -> u32
     ensures { IsInjectCall rule.now handle.old.value result handle.new.value }
@@ -172,7 +172,7 @@ pub extern "C" fn canbusd_c_end_rules(handle: &mut Handle)
     handle.lend().end_rules();
 }
 
-/// The counts of an interface, its error counts and its state.
+/// Writes the counts, the error counters and the state of an interface to `status`.
 #[unsafe(no_mangle)]
 pub extern "C" fn canbusd_c_status(handle: &mut Handle, iface: u32, status: &mut CStatus) -> u32
     ensures read { IsCountsCall 2 status_out
@@ -182,7 +182,7 @@ pub extern "C" fn canbusd_c_status(handle: &mut Handle, iface: u32, status: &mut
     looks::status(handle.lend(), iface, status)
 }
 
-/// The counts of a socket.
+/// Writes the counts of a socket to `stats`.
 #[unsafe(no_mangle)]
 pub extern "C" fn canbusd_c_stats(handle: &mut Handle, socket: u32, stats: &mut CStats) -> u32
     ensures read { IsCountsCall 5 stats_out (socket_counts handle.old.value socket) stats.old result
@@ -192,7 +192,7 @@ pub extern "C" fn canbusd_c_stats(handle: &mut Handle, socket: u32, stats: &mut 
     looks::stats(handle.lend(), socket, stats)
 }
 
-/// How busy the wire is at a moment.
+/// Writes to `load` how busy the wire is at a moment.
 #[unsafe(no_mangle)]
 pub extern "C" fn canbusd_c_load(handle: &mut Handle, moment: u64, load: &mut CLoad) -> u32
     ensures read { IsLoadCall (moment_of_micros moment) handle.old.value result load.new }
@@ -202,7 +202,7 @@ pub extern "C" fn canbusd_c_load(handle: &mut Handle, moment: u64, load: &mut CL
     looks::load(handle.lend(), moment, load)
 }
 
-/// The text of the record, as much of it as there is room for, and its length.
+/// Writes the text of the record, as far as it fits into the buffer, and the length of the whole text.
 #[unsafe(no_mangle)]
 pub extern "C" fn canbusd_c_record(
     alloc: Global,
@@ -257,7 +257,7 @@ pub extern "C" fn canbusd_c_bench_free(alloc: Global, handle: BenchHandle) {
     drop(handle.into_parts(alloc).into_box());
 }
 
-/// Carries out lines, and writes as much of their output as there is room for, with its length.
+/// Carries out lines. Writes their output, as far as it fits into the buffer, and the length of the whole output.
 #[unsafe(no_mangle)]
 pub extern "C" fn canbusd_c_bench_take(
     handle: &mut BenchHandle,
@@ -272,7 +272,7 @@ pub extern "C" fn canbusd_c_bench_take(
     benching::take(handle.lend(), lines, to, len, line)
 }
 
-/// Writes as much of the last lines' output as there is room for, and its length.
+/// Writes the output of the last lines, as far as it fits into the buffer, and the length of the whole output.
 #[unsafe(no_mangle)]
 pub extern "C" fn canbusd_c_bench_output(handle: &mut BenchHandle, to: &mut [u8], len: &mut usize)
     ensures written { IsTextOut handle.old.value.output to.old len.new to.new }
@@ -281,7 +281,7 @@ pub extern "C" fn canbusd_c_bench_output(handle: &mut BenchHandle, to: &mut [u8]
     benching::write_output(handle.lend(), to, len);
 }
 
-/// Writes as much of the text of the record as there is room for, and its length.
+/// Writes the text of the record, as far as it fits into the buffer, and the length of the whole text.
 #[unsafe(no_mangle)]
 pub extern "C" fn canbusd_c_bench_record(
     alloc: Global,
@@ -297,7 +297,7 @@ pub extern "C" fn canbusd_c_bench_record(
     benching::write_record(alloc, handle.lend(), to, len)
 }
 
-/// Writes as much of the log as there is room for, and its length.
+/// Writes the log, as far as it fits into the buffer, and the length of the whole log.
 #[unsafe(no_mangle)]
 pub extern "C" fn canbusd_c_bench_log(
     alloc: Global,

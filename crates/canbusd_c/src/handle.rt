@@ -1,11 +1,11 @@
-//! A bus as C has it. Nothing checks that C hands in a pointer that `canbusd_c_new` gave and that was not freed, or that it
-//! calls with one from one thread at a time.
+//! A bus that a C program holds. Nothing checks that a pointer from C was returned by `canbusd_c_new` and was not freed, or that
+//! only one thread uses it at a time.
 ghost use Rattle.canbusd_c.specs.Locals.{Local};
 ghost use Rattle.canbusd_c.specs.contracts.local_bus.LocalBus.{the_row};
 
 use std::marker::Model;
 
-/// A bus in the hands of C: a pointer to the box that the bus is in.
+/// A handle of a bus for C: a pointer to the box that contains the bus.
 #[repr(C)]
 #[derive(Drop)]
 pub struct Handle {

@@ -16,7 +16,7 @@ impl Handle {
         unsafe { &mut *self.at.cast::<LocalBus>() }
     }
 
-    /// The box that it points to, to be dropped.
+    /// Returns the box of this handle, so that the caller can drop the box.
     pub(crate) fn into_parts(self, alloc: Global) -> Parts<LocalBus, Global>
         ensures { result.value ≡ self.value }
     {

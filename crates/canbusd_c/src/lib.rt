@@ -1,9 +1,9 @@
-//! A bus and a bench inside a C program, which libcanbusd.so calls. `libcanbusd/canbusd.c` is between them and the program:
-//! it tests pointers, and has the texts of the codes.
+//! A bus and a bench for use inside a C program. libcanbusd.so calls this crate. `libcanbusd/canbusd.c` is between this crate and
+//! the program: it checks pointers and contains the texts of the codes.
 //!
-//! Each export lends the bus of its handle to a function of `calls`, and has that function's contract. The contracts are
-//! those of the bus and of the bench: the events of `specs/Locals.antt` are can_bus's, its attempts those of a bench. The
-//! exports of a bench lend can_session's to a function of `benching`, by `specs/Benching.antt`.
+//! Each export for a bus lends the bus of its handle to a function of `calls` or `looks`, and has that function's contract. The
+//! contracts say what happens to the bus: `specs/Locals.antt` uses the events of can_bus and the attempts of a bench. Each export
+//! for a bench lends a bench of can_session to a function of `benching`, as `specs/Benching.antt` defines.
 #![tactic(auto)]
 
 pub mod bench_handle;

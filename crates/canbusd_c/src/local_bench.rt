@@ -12,7 +12,7 @@ use can_wire::Timing;
 use std::alloc::Global;
 use std::marker::Model;
 
-/// A bench, and the output of the last call's lines.
+/// A bench and the output of the lines of the last call.
 #[derive(Drop)]
 pub struct LocalBench {
     alloc: Global,
@@ -33,7 +33,7 @@ impl Model for LocalBench {
 }
 
 impl LocalBench {
-    /// A bench before its first line.
+    /// Returns a bench before its first line.
     pub fn new(
         alloc: Global,
         names: Names,
@@ -57,7 +57,7 @@ impl LocalBench {
         })
     }
 
-    /// Carries out lines, and keeps their output in place of the one before.
+    /// Carries out lines. Their output replaces the output of the previous call.
     pub fn take(&mut self, lines: &[u8]) -> Result<(), BenchFault>
         ensures { KeepsLines lines.now self.old result self.new }
     {
@@ -71,7 +71,7 @@ impl LocalBench {
         )
     }
 
-    /// Returns the output of the last call's lines.
+    /// Returns the output of the lines of the last call.
     pub fn output(&self) -> &[u8]
         ensures { result.now ≡ self.now.output }
     {

@@ -28,19 +28,19 @@ use std::alloc::Global;
 use std::marker::Model;
 use thiserror::Error;
 
-/// Why a bus does not run to a moment.
+/// The reason why a bus does not run to a moment.
 #[derive(Debug, Clone, Copy, PartialEq, Eq, Error)]
 pub enum RunFault {
-    /// It has no bit rates, or a later moment is set.
+    /// The bus has no bit rates, or its current moment is later.
     #[error("cannot run")]
     BadRun,
-    /// The record has no room for an attempt that is due.
+    /// The record has no space for an attempt that is due.
     #[error("record full")]
     RecordFull,
 }
 
-/// A bus with the names of its interfaces, the plan of its faults and the schedule of its attempts, at a moment. Each call
-/// is that of the bus or of a bench.
+/// A bus with the names of its interfaces, the plan of its faults, the schedule of its attempts and the current moment. Each call
+/// does what the same call of a bus or a bench does.
 #[derive(Drop)]
 pub struct LocalBus {
     alloc: Global,
@@ -67,7 +67,7 @@ impl Model for LocalBus {
 }
 
 impl LocalBus {
-    /// A bus on which nothing was done, whose interfaces have these names.
+    /// Returns a new bus whose interfaces have these names.
     pub fn new(
         alloc: Global,
         names: Names,
@@ -103,7 +103,7 @@ impl LocalBus {
         self.bus.close(id)
     }
 
-    /// Sets the filters of a socket to a copy of these, as `Bus::set_filters` does.
+    /// Sets the filters of a socket to a copy of these filters, as `Bus::set_filters` does.
     pub fn set_filters(&mut self, id: SocketId, filters: &FilterSet) -> Result<(), Refusal>
         ensures { IsLocalEvent done_reply self.old (event.SetFilters id filters.now) result
             self.new }
@@ -125,7 +125,7 @@ impl LocalBus {
         self.bus.send(id, frame)
     }
 
-    /// Takes the oldest item of a socket into the room, as `Bus::receive_into` does.
+    /// Takes the oldest item from the receive queue of a socket into `room`, as `Bus::receive_into` does.
     pub fn receive_into(&mut self, id: SocketId, room: &mut Received) -> Result<bool, Refusal>
         ensures { IsLocalEvent (taken_reply room.new) self.old (event.Receive id) result self.new }
     {
@@ -146,9 +146,9 @@ impl LocalBus {
         self.bus.down(iface, moment)
     }
 
-    /// Sets the moment, and tries the frame that wins the bus, as the attempt of a bench does: with the verdict that the
-    /// rules give. On a bus with bit rates the attempt begins at the moment or once the wire is free, and the moment that
-    /// is set then is that of the wire being free again.
+    /// Sets the current moment and tries the frame that wins arbitration, as the attempt of a bench does. The fault rules give the
+    /// verdict. On a bus with bit rates, the attempt begins at that moment or when the wire becomes free, whichever is later.
+    /// Afterwards the current moment is the one at which the wire is free again.
     pub fn attempt_at(&mut self, moment: Moment) -> Result<Attempt, Refusal>
         ensures { IsLocalTry (local_at_moment moment self.old) result self.new }
     {
@@ -156,7 +156,7 @@ impl LocalBus {
         self.attempt()
     }
 
-    /// Tries the frame that wins the bus, at the moment set.
+    /// Tries the frame that wins arbitration, at the current moment or when the wire becomes free.
     fn attempt(&mut self) -> Result<Attempt, Refusal>
         ensures { IsLocalTry self.old result self.new }
     {
@@ -168,7 +168,7 @@ impl LocalBus {
         outcome
     }
 
-    /// Makes attempts as long as one is due before a moment, and sets the moment: how many were made.
+    /// Makes all attempts that are due before a moment, and sets the current moment to it. Returns the number of attempts.
     pub fn run_to(&mut self, moment: Moment) -> Result<u64, RunFault>
         ensures { IsLocalRun moment self.old result self.new }
     {
@@ -183,7 +183,7 @@ impl LocalBus {
         Ok(self.len() - before)
     }
 
-    /// Makes attempts as long as one is due before a moment.
+    /// Makes all attempts that are due before a moment.
     fn make_due(&mut self, moment: Moment) -> Result<(), RunFault>
         ensures { AreDueMade moment self.old result self.new }
     {
@@ -196,7 +196,7 @@ impl LocalBus {
         Ok(())
     }
 
-    /// Whether the bus can run to a moment: it has bit rates, and no later moment is set.
+    /// Returns whether the bus can run to a moment. It must have bit rates, and the current moment must not be later.
     fn can_run(&self, moment: Moment) -> bool
         ensures { result ≡ can_run_to moment self.now }
     {
@@ -210,14 +210,14 @@ impl LocalBus {
         self.moment = moment;
     }
 
-    /// How many entries the record has.
+    /// Returns the number of entries in the record.
     fn len(&self) -> u64
         ensures { result ≡ length self.now.bus.journal.history }
     {
         self.bus.len()
     }
 
-    /// Tries the frame that wins the bus at a moment with a verdict, as `Bus::attempt` does.
+    /// Tries the frame that wins arbitration, at this moment and with this verdict, as `Bus::attempt` does.
     fn try_head(&mut self, moment: Moment, verdict: Verdict) -> Result<Attempt, Refusal>
         ensures { IsLocalEvent reply.Attempted self.old (event.Attempt moment verdict) result
             self.new }
@@ -225,7 +225,7 @@ impl LocalBus {
         self.bus.attempt(moment, verdict)
     }
 
-    /// Gives the plan a rule of faults, as `Plan::inject` does.
+    /// Adds a fault rule to the plan, as `Plan::inject` does.
     pub fn inject(&mut self, rule: &[u8]) -> Result<(), RuleRefusal>
         ensures takes { Injected self.old.bus.names rule.now self.old.bus.plan result
             self.new.bus.plan }
@@ -241,7 +241,7 @@ impl LocalBus {
         self.plan.end_rules();
     }
 
-    /// How many items found room on an open socket, found none, and were taken.
+    /// Returns the counts of an open socket: items that were queued, items that were dropped and items that were taken.
     pub fn socket_stats(&self, id: SocketId) -> Option<SocketStats>
         ensures { result
             ≡ socket_stats_of self.now.bus.journal.config self.now.bus.journal.history id.0 }
@@ -249,7 +249,7 @@ impl LocalBus {
         self.bus.socket_stats(id)
     }
 
-    /// Returns the counts of the frames of an interface, and its error counters.
+    /// Returns the frame counts and the error counters of an interface.
     pub fn iface_stats(&self, iface: Iface) -> Option<IfaceStats>
         ensures { result
             ≡ iface_stats_of self.now.bus.journal.config self.now.bus.journal.history iface }
@@ -257,7 +257,7 @@ impl LocalBus {
         self.bus.iface_stats(iface)
     }
 
-    /// How busy the wire is at a moment.
+    /// Returns how busy the wire is at a moment.
     pub fn load(&self, moment: Moment) -> BusLoad
         ensures { result ≡ load_at moment self.now.bus.schedule }
     {
@@ -267,7 +267,7 @@ impl LocalBus {
         }
     }
 
-    /// The record of the bus.
+    /// Returns the record of the bus.
     pub fn record(&self) -> &Record
         ensures config { result.now.config ≡ self.now.bus.journal.config }
         ensures history { result.now.history ≡ self.now.bus.journal.history }
@@ -277,14 +277,15 @@ impl LocalBus {
         self.bus.record()
     }
 
-    /// Whether the bus has bit rates, and an interface waits for its restart.
+    /// Returns whether the bus has bit rates and an interface is waiting for its restart.
     fn waits_in_time(&self) -> bool
         ensures { result ≡ waits_in_time self.now.bus }
     {
         self.schedule.is_some() && self.bus.is_counting()
     }
 
-    /// The moment of the next attempt. Where it tries no frame, `waits` is whether an interface waits for its restart.
+    /// Returns the moment of the next attempt. `waits` is whether an interface is waiting for its restart; it matters only if the
+    /// attempt has no frame.
     fn next_moment(&self, waits: bool) -> Moment
         ensures { result ≡ next_local_moment waits self.now }
     {
@@ -298,7 +299,7 @@ impl LocalBus {
         }
     }
 
-    /// The verdict of the next attempt. The plan counts it.
+    /// Returns the verdict of the next attempt. The plan counts the attempt.
     fn next_verdict(&mut self) -> Verdict
         ensures verdict { result ≡ verdict_on self.old.bus Good }
         ensures after { self.new ≡ local_with_plan self.old (plan_left self.old.bus Good) }
@@ -310,7 +311,8 @@ impl LocalBus {
         }
     }
 
-    /// Lets the time of an attempt pass that had this verdict and came to this.
+    /// Advances the schedule and the current moment by the time that an attempt took. `waits` is whether an interface was waiting
+    /// for its restart before the attempt.
     fn pass(&mut self, waits: bool, verdict: Verdict, outcome: &Result<Attempt, Refusal>)
         ensures { self.new ≡ local_passed waits verdict outcome.now self.old }
     {
@@ -325,15 +327,15 @@ impl LocalBus {
         self.moment = schedule.wire().free_at();
     }
 
-    /// Whether an attempt would begin before a moment, and there is a frame for it to try, or an interface waits for its
-    /// restart.
+    /// Returns whether an attempt would begin before this moment and either has a frame to send or lets time pass for an interface
+    /// that waits for its restart.
     fn is_due(&self, moment: Moment) -> bool
         ensures { result ≡ is_local_due moment self.now }
     {
         self.begins_before(moment) && (self.bus.next_head().is_some() || self.waits_in_time())
     }
 
-    /// Whether the next attempt would begin before a moment.
+    /// Returns whether the next attempt would begin before a moment.
     fn begins_before(&self, moment: Moment) -> bool
         ensures { result ≡ begins_before self.now.moment moment self.now.bus.schedule }
     {
@@ -344,7 +346,7 @@ impl LocalBus {
     }
 }
 
-/// The moment at which a bus starts.
+/// Returns the moment at which a bus starts.
 fn the_start() -> Moment
     ensures { result ≡ 0 }
 {

@@ -1,4 +1,4 @@
-//! The reads of a bus: counts, load and record.
+//! Reads from a bus: counts, load and record. It also sets filters.
 ghost use Rattle.std.specs.Prelude.{◌≡◌, ◌<◌, ◌≤◌, ◌+◌, length, take, drop, IfOk, Some, None, replicate, ◌∷◌, [], true};
 ghost use Rattle.can_filter.specs.Filters.{CanFilter};
 ghost use Rattle.can_event.specs.declared.event.Event.TheVariants as event;
@@ -22,7 +22,7 @@ use can_filter::{Filter, FilterError, FilterSet};
 use can_record_text::record_text;
 use std::alloc::Global;
 
-/// The counts of an interface.
+/// Writes the counts, the error counters and the state of an interface to `status`.
 pub fn status(bus: &LocalBus, iface: u32, status: &mut CStatus) -> u32
     ensures { IsCountsCall 2 status_out (iface_counts bus.now (iface_of_number iface)) status.old
         result status.new }
@@ -39,7 +39,7 @@ pub fn status(bus: &LocalBus, iface: u32, status: &mut CStatus) -> u32
     }
 }
 
-/// The counts of a socket.
+/// Writes the counts of a socket to `stats`.
 pub fn stats(bus: &LocalBus, socket: u32, stats: &mut CStats) -> u32
     ensures { IsCountsCall 5 stats_out (socket_counts bus.now socket) stats.old result stats.new }
 {
@@ -52,7 +52,7 @@ pub fn stats(bus: &LocalBus, socket: u32, stats: &mut CStats) -> u32
     }
 }
 
-/// How busy the wire is at a moment.
+/// Writes to `load` how busy the wire is at a moment.
 pub fn load(bus: &LocalBus, moment: u64, load: &mut CLoad) -> u32
     ensures read { IsLoadCall (moment_of_micros moment) bus.now result load.new }
     ensures kept { IsUntouched result load.old load.new }
@@ -64,7 +64,7 @@ pub fn load(bus: &LocalBus, moment: u64, load: &mut CLoad) -> u32
     OK
 }
 
-/// The text of the record, as much of it as there is room for, and its length.
+/// Writes the text of the record, as far as it fits into the buffer, and the length of the whole text.
 pub fn write_record(alloc: Global, bus: &LocalBus, to: &mut [u8], len: &mut usize) -> u32
     ensures written { IsRecordCall bus.now to.old result len.new to.new }
     ensures kept { IsUntouched result len.old len.new }
@@ -78,7 +78,7 @@ pub fn write_record(alloc: Global, bus: &LocalBus, to: &mut [u8], len: &mut usiz
     OK
 }
 
-/// Writes as much of a text as there is room for.
+/// Writes as much of a text as fits into the buffer.
 pub fn put_front(text: &[u8], to: &mut [u8])
     ensures { IsFront text.now to.old to.new }
 {
@@ -86,7 +86,7 @@ pub fn put_front(text: &[u8], to: &mut [u8])
     to[..end].copy_from_slice(&text[..end]);
 }
 
-/// The filters of structs, or the code of why there are none.
+/// Returns the filters in an array of structs, or the code of the first error.
 fn listed_filters(alloc: Global, filters: &[CFilter]) -> Result<Vec<Filter>, u32>
     ensures { AreFilters (filters_of_structs filters.now) result }
 {

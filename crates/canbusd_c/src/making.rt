@@ -1,4 +1,4 @@
-//! How a bus is made.
+//! Makes a bus from the arguments that C passes.
 ghost use Rattle.std.specs.Prelude.{◌≡◌, ◌≢◌, IfOk, IfErr, OnOk};
 ghost use Rattle.can_frame.specs.Names.{names_in, AreNames};
 ghost use Rattle.canbusd_c.specs.Making.{HasRates, IsConfigIn, IsMadeOf, IsNoBus, IsNoConfig, IsNoNames, IsNoTiming, timing_of_numbers};
@@ -13,7 +13,7 @@ use can_wire::Timing;
 use std::alloc::Global;
 use std::str;
 
-/// Makes a bus, or the code of why there is none.
+/// Makes a bus, or returns the code of the error.
 pub fn make(alloc: Global, names: &[u8], config: &CConfig) -> Result<Box<LocalBus>, u32>
     ensures made { IfOk result (λ bus. IsMadeOf names.now config.now bus.value) }
     ensures refused { IfErr result (λ code. code ≢ 0) }
@@ -32,7 +32,7 @@ pub fn make(alloc: Global, names: &[u8], config: &CConfig) -> Result<Box<LocalBu
     }
 }
 
-/// The names that a text joins by commas.
+/// Returns the names in a text, where commas separate the names.
 pub fn names_of(alloc: Global, names: &[u8]) -> Result<Names, u32>
     ensures read { IfOk result (λ found. found ≡ names_in names.now) }
     ensures refused { IfErr result (λ code. code ≢ 0) }
@@ -49,7 +49,7 @@ pub fn names_of(alloc: Global, names: &[u8]) -> Result<Names, u32>
     }
 }
 
-/// The bit rates of a struct, if it has any.
+/// Returns the bit rates in a configuration, if it has any.
 pub fn timing_in(config: &CConfig) -> Result<Option<Timing>, u32>
     ensures read { IfOk result (λ timing.
         timing ≡ timing_of_numbers config.now.bitrate config.now.data_bitrate) }
@@ -74,7 +74,7 @@ pub fn timing_in(config: &CConfig) -> Result<Option<Timing>, u32>
     }
 }
 
-/// The configuration of a bus with so many interfaces.
+/// Returns the configuration of a bus with `ifaces` interfaces.
 pub fn config_in(ifaces: u8, config: &CConfig) -> Result<BusConfig, u32>
     ensures read { IfOk result (λ made. IsConfigIn ifaces config.now made) }
     ensures refused { IfErr result (λ code. code ≢ 0) }

@@ -1,11 +1,11 @@
-//! A box with its fields in sight: a pointer, and the allocator that frees it.
+//! A box as its two fields: a pointer and the allocator that frees it.
 ghost use Rattle.std.specs.Prelude.{◌≡◌};
 ghost use Rattle.std.specs.Box.Ownership.{box_owns};
 
 use std::alloc::Allocator;
 use std::marker::Model;
 
-/// The parts of a box.
+/// The two fields of a box.
 pub(crate) struct Parts<T, A: Allocator> {
     pub(crate) ptr: *mut T,
     pub(crate) alloc: A,

@@ -1,7 +1,7 @@
-//! The structs that C passes and gets: numbers, as canbusd.h declares them.
+//! The structs that C programs pass and receive. They consist of numbers and are declared in canbusd.h.
 
-/// A frame, as struct canfd_frame of linux/can.h: the identifier with its marks, CAN_EFF_FLAG and CAN_RTR_FLAG, how many
-/// bytes there are, and the flags, CANFD_BRS, CANFD_ESI and CANFD_FDF.
+/// A frame, as struct canfd_frame of linux/can.h. `id` is the identifier with CAN_EFF_FLAG and CAN_RTR_FLAG, `len` is the number of
+/// bytes, and `flags` has CANFD_BRS, CANFD_ESI and CANFD_FDF.
 #[repr(C)]
 #[derive(Debug, Clone, Copy, Drop)]
 pub struct CFrame {
@@ -12,8 +12,7 @@ pub struct CFrame {
     pub bytes: [u8; 64],
 }
 
-/// A frame or an error message frame that a socket received, with the interface that it comes from, its number there and
-/// its moment.
+/// A frame or error message frame that a socket received, with the sending interface, its number at that interface and its moment.
 #[repr(C)]
 #[derive(Debug, Clone, Copy, Drop)]
 pub struct CItem {
@@ -27,20 +26,20 @@ pub struct CItem {
 #[repr(C)]
 #[derive(Debug, Clone, Copy, Drop)]
 pub struct CConfig {
-    /// 0: each frame is acknowledged; 1: only if a receiver has it whole.
+    /// 0 if each frame is acknowledged, or 1 if a frame is acknowledged only if a receiver gets it completely.
     pub ack: u32,
-    /// The interfaces whose sockets get a frame for each fault, bit by bit.
+    /// The interfaces whose sockets receive a frame for each fault, one bit for each interface.
     pub reporting: u32,
     pub tx_capacity: u32,
     pub limit: u32,
     pub auto_restart: u32,
-    /// 0 for a bus on which frames take no time.
+    /// The nominal bit rate, or 0 for a bus on which frames take no time.
     pub bitrate: u32,
-    /// 0 for the nominal one.
+    /// The data bit rate, or 0 if it is the nominal bit rate.
     pub data_bitrate: u32,
 }
 
-/// A filter of linux/can.h.
+/// A filter, as struct can_filter of linux/can.h.
 #[repr(C)]
 #[derive(Debug, Clone, Copy, Drop)]
 pub struct CFilter {
@@ -48,7 +47,7 @@ pub struct CFilter {
     pub mask: u32,
 }
 
-/// The counts of a closed socket: items that nobody took, and items that found no room.
+/// The counts of a closed socket: items that nobody took, and items that were dropped because the queue was full.
 #[repr(C)]
 #[derive(Debug, Clone, Copy, Drop)]
 pub struct CClosed {
@@ -56,7 +55,7 @@ pub struct CClosed {
     pub dropped: u64,
 }
 
-/// The result of an attempt. Its class is 0 if no frame was tried, and all but `restarted` is 0 then.
+/// The result of an attempt. If no frame was tried, `class` and all other fields except `restarted` are 0.
 #[repr(C)]
 #[derive(Debug, Clone, Copy, Drop)]
 pub struct CTried {
@@ -71,7 +70,7 @@ pub struct CTried {
     pub unused: u32,
 }
 
-/// The counts of the frames of an interface, its error counts and its state.
+/// The frame counts, the error counters and the state of an interface.
 #[repr(C)]
 #[derive(Debug, Clone, Copy, Drop)]
 pub struct CStatus {
@@ -86,7 +85,7 @@ pub struct CStatus {
     pub refused: u64,
 }
 
-/// The counts of the items offered to a socket.
+/// The counts of the items that were offered to a socket.
 #[repr(C)]
 #[derive(Debug, Clone, Copy, Drop)]
 pub struct CStats {
@@ -95,7 +94,7 @@ pub struct CStats {
     pub taken: u64,
 }
 
-/// How busy the wire is.
+/// The load of the wire.
 #[repr(C)]
 #[derive(Debug, Clone, Copy, Drop)]
 pub struct CLoad {

@@ -1,4 +1,4 @@
-//! Between the structs of C and the types of the bus.
+//! Converts between the structs of C and the types of the bus.
 ghost use Rattle.std.specs.Prelude.{◌≡◌, ◌≤◌, length, take, option_map};
 ghost use Rattle.canbusd_c.specs.Shapes.{id_of_word, classic_of_struct, frame_of_struct, fd_of_struct, frame_of_struct_with, padded_to_64, frame_out, error_out, item_frame, item_out, no_frame_struct, class_out, tried_out, option_of_numbers, state_out, status_out, stats_out, load_out};
 
@@ -19,7 +19,7 @@ const NUMBER: u32 = 0x1FFF_FFFF;
 
 const FDF: u8 = 4;
 
-/// The identifier of an identifier word.
+/// Returns the identifier in an identifier word, or `None` if it is out of range.
 fn id_in(word: u32) -> Option<CanId>
     ensures { result ≡ id_of_word word }
 {
@@ -33,7 +33,7 @@ fn id_in(word: u32) -> Option<CanId>
     }
 }
 
-/// The data frame or remote frame of a struct.
+/// Returns the data frame or remote frame in a struct, if it is valid.
 fn classic_in(id: CanId, frame: &CFrame) -> Option<Frame>
     ensures { result ≡ classic_of_struct id frame.now }
 {
@@ -47,7 +47,7 @@ fn classic_in(id: CanId, frame: &CFrame) -> Option<Frame>
     }
 }
 
-/// The FD frame of a struct.
+/// Returns the FD frame in a struct, if it is valid.
 fn fd_in(id: CanId, frame: &CFrame, flags: Option<FdFlags>) -> Option<Frame>
     ensures { result ≡ fd_of_struct id frame.now flags }
 {
@@ -58,7 +58,7 @@ fn fd_in(id: CanId, frame: &CFrame, flags: Option<FdFlags>) -> Option<Frame>
     Frame::fd_with(id, flags, &frame.bytes[..frame.len as usize]).ok()
 }
 
-/// The frame of a struct, if it is one.
+/// Returns the frame in a struct, if it is valid.
 pub fn frame_in(frame: &CFrame) -> Option<Frame>
     ensures { result ≡ frame_of_struct frame.now }
 {
@@ -75,7 +75,7 @@ pub fn frame_in(frame: &CFrame) -> Option<Frame>
     }
 }
 
-/// Bytes, and then zeros.
+/// Returns these bytes followed by zeros.
 fn padded(bytes: &[u8]) -> [u8; 64]
     requires { length bytes.now ≤ 64 }
     ensures { result ≡ padded_to_64 bytes.now }
@@ -85,7 +85,7 @@ fn padded(bytes: &[u8]) -> [u8; 64]
     all
 }
 
-/// A frame as a struct.
+/// Returns a frame as a struct.
 fn frame_out(frame: &Frame) -> CFrame
     ensures { result ≡ frame_out frame.now }
 {
@@ -99,7 +99,7 @@ fn frame_out(frame: &Frame) -> CFrame
     }
 }
 
-/// The flags of a frame in a struct.
+/// Returns the flags of a frame in a struct.
 fn flags_out(frame: &Frame) -> u8
     ensures { result ≡ (frame_out frame.now).flags }
 {
@@ -110,7 +110,7 @@ fn flags_out(frame: &Frame) -> u8
     }
 }
 
-/// An error message frame as a struct.
+/// Returns an error message frame as a struct.
 fn error_out(error: &ErrorFrame) -> CFrame
     ensures { result ≡ error_out error.now }
 {
@@ -135,7 +135,7 @@ pub fn item_out(received: &Received) -> CItem
     }
 }
 
-/// A frame or an error message frame as a struct.
+/// Returns a frame or an error message frame as a struct.
 fn item_frame(item: &Item) -> CFrame
     ensures { result ≡ item_frame item.now }
 {
@@ -158,7 +158,7 @@ fn no_frame() -> CFrame
     }
 }
 
-/// The number of a class.
+/// Returns the number that C uses for the class of an attempt.
 fn class_out(class: Class) -> u32
     ensures { result ≡ class_out class }
 {
@@ -190,7 +190,7 @@ pub fn tried_out(attempt: &Attempt) -> CTried
     }
 }
 
-/// A frame that was tried, as a struct.
+/// Returns a frame that was tried as a struct.
 fn frame_tried(tried: &Tried) -> CTried
     ensures { result ≡ tried_out (Attempt.Tried tried.now) }
 {
@@ -207,7 +207,7 @@ fn frame_tried(tried: &Tried) -> CTried
     }
 }
 
-/// The option of a number, set to another.
+/// Returns the option with this number, set to `value`.
 pub fn option_in(option: u32, value: u32) -> Option<Opt>
     ensures { result ≡ option_of_numbers option value }
 {
@@ -221,7 +221,7 @@ pub fn option_in(option: u32, value: u32) -> Option<Opt>
     }
 }
 
-/// The number of a state.
+/// Returns the number that C uses for a state.
 fn state_out(state: State) -> u32
     ensures { result ≡ state_out state }
 {
@@ -234,7 +234,7 @@ fn state_out(state: State) -> u32
     }
 }
 
-/// The counts of an interface, as a struct.
+/// Returns the counts of an interface as a struct.
 pub fn status_out(stats: &IfaceStats) -> CStatus
     ensures { result ≡ status_out stats.now }
 {
@@ -252,7 +252,7 @@ pub fn status_out(stats: &IfaceStats) -> CStatus
     }
 }
 
-/// The counts of a socket, as a struct.
+/// Returns the counts of a socket as a struct.
 pub fn stats_out(stats: &SocketStats) -> CStats
     ensures { result ≡ stats_out stats.now }
 {
@@ -263,7 +263,7 @@ pub fn stats_out(stats: &SocketStats) -> CStats
     }
 }
 
-/// The load of a wire, as a struct.
+/// Returns the load of a wire as a struct.
 pub fn load_out(load: &BusLoad) -> CLoad
     ensures { result ≡ load_out load.now }
 {

@@ -1,4 +1,4 @@
-//! A bus as the words of a command line describe it: its faults and its configuration.
+//! Builds a bus from its description on the command line: the faults and the configuration.
 ghost use Rattle.std.specs.Prelude.{◌≡◌, ◌≤◌, length, IfErr, IfOk, Ok};
 ghost use Rattle.can_frame.specs.Names.{names_in};
 ghost use Rattle.can_rules.specs.Plans.{ReadsPlan};
@@ -17,8 +17,8 @@ use canbusd_options::{BusSettings, BusWord, FaultsWord};
 use std::alloc::{AllocError, Global};
 use std::rt::Files;
 
-/// The faults of a bus that has these names, and the text of its script. If its word names no script there are no faults,
-/// and the text is empty.
+/// Reads the faults of a bus with these names, and returns them with the text of their script. If the BUS argument names no script,
+/// there are no faults and the text is empty.
 pub fn read_plan<'a, H: Files>(
     rt: &H,
     alloc: Global,
@@ -38,13 +38,13 @@ pub fn read_plan<'a, H: Files>(
 /// The faults that a bus had in a run.
 #[derive(Drop)]
 pub struct KnownFaults {
-    /// How many interfaces of the bus they have names for: all of them.
+    /// The number of interfaces of the bus. All of them have names.
     pub ifaces: u8,
     /// The faults.
     pub faults: RunFaults,
 }
 
-/// The faults that a bus had in a run, as a word names them. Its names are looked at first, and then its file.
+/// Reads the faults that a bus had in a run, from a `NAMES@FILE` argument. The names are checked before the file is read.
 pub fn read_faults<'a, H: Files>(
     rt: &H,
     alloc: Global,
@@ -61,7 +61,7 @@ pub fn read_faults<'a, H: Files>(
     Ok(KnownFaults { ifaces, faults })
 }
 
-/// The bus that settings describe, for these names.
+/// Returns the configuration of a bus with these names and settings.
 pub fn bus_config(settings: BusSettings, names: &Names) -> BusConfig
     ensures { result ≡ config_of settings (length names.now) }
 {
@@ -79,7 +79,7 @@ pub fn bus_config(settings: BusSettings, names: &Names) -> BusConfig
     }
 }
 
-// The interfaces of a bus that has this many.
+// Returns the set of the first `count` interfaces.
 fn first_ifaces(count: u8) -> IfaceSet
     requires { count ≤ 16 }
     ensures { result ≡ first_ifaces_of count }
@@ -87,7 +87,7 @@ fn first_ifaces(count: u8) -> IfaceSet
     IfaceSet(((1_u32 << count) - 1) as u16)
 }
 
-/// The first option that is past its limits, if there is one; `--limit` is at most this.
+/// Returns a note on the first option whose value is out of range, or an empty text. `most` is the largest value of `--limit`.
 pub fn limits_note(alloc: Global, settings: &BusSettings, most: u32) -> Result<String, AllocError> {
     let limits = [
         ("txqueue", settings.tx_capacity, 1, MAX_TX_CAPACITY),

@@ -1,5 +1,5 @@
-//! Files that are written under another name, and get their own once they are whole. Until then the file of an earlier run
-//! stays as it was.
+//! Files that are written under a temporary name and get their own name once they are complete. Until then, the file of an earlier
+//! run stays unchanged.
 use crate::files::open_failure;
 use crate::report::Report;
 use crate::shown::Shown;
@@ -10,9 +10,9 @@ use std::os::unix::fs::FileTypeExt;
 use std::rt::Files;
 use std::{fs, io};
 
-/// A file, and the draft that is written until it is whole: beside it, with `.new` after the name. If the path leads to
-/// something other than a plain file, as a device, it is written in place. The draft of a run that was cut off is set aside
-/// with `.cut` after the name.
+/// A file and its draft, the file that is written until the text is complete. The draft is in the same folder and has the same name
+/// with `.new` at the end. If the path leads to something other than a regular file, such as a device, the text is written there
+/// directly. The draft of a run that was cut off can be set aside under the name with `.cut` at the end.
 #[derive(Drop)]
 pub struct Draft {
     path: String,
@@ -21,8 +21,8 @@ pub struct Draft {
 }
 
 impl Draft {
-    /// The file of a bus, by the bus's first name and the kind of file. Nothing is written. A link there that leads to a
-    /// plain file is not followed: the file takes its place.
+    /// Returns the file of a bus. Its name consists of the bus's first name and the kind of file. Nothing is written. If the path
+    /// is a symbolic link to a regular file, the new file replaces the link.
     pub fn new<H: Files>(
         rt: &H,
         alloc: Global,
@@ -38,7 +38,7 @@ impl Draft {
         Draft::of(alloc, path, is_plain)
     }
 
-    /// The file with this path. Nothing is written. A link there is followed.
+    /// Returns the file with this path. Nothing is written. A symbolic link at the path is followed.
     pub fn at<H: Files>(rt: &H, alloc: Global, path: String) -> Result<Draft, AllocError> {
         let is_plain = match fs::symlink_metadata(rt, &path) {
             Ok(found) => found.is_file(),
@@ -68,25 +68,26 @@ impl Draft {
         &self.path
     }
 
-    /// The path that is written.
+    /// Returns the path of the draft.
     pub fn draft(&self) -> &str {
         &self.draft
     }
 
-    /// The path to which the draft of a run that was cut off is set aside.
+    /// Returns the path to which the draft of a run that was cut off is moved.
     pub fn aside(&self) -> &str {
         &self.aside
     }
 
-    /// Removes the draft that an earlier run or another program has left, unless the file is written in place. A link there
-    /// is removed and not followed.
+    /// Removes a draft that an earlier run or another program has left, unless the file is written directly. If the draft is a
+    /// symbolic link, the link itself is removed.
     pub fn clear<H: Files>(&self, rt: &H) {
         if self.is_apart() {
             let _ = fs::remove_file(rt, &self.draft);
         }
     }
 
-    /// Whether a draft with more bytes than these is left, which is a plain file; never if the file is written in place.
+    /// Returns whether there is a draft that is a regular file of more than this many bytes. Returns false if the file is written
+    /// directly.
     pub fn has_more_than<H: Files>(&self, rt: &H, bytes: u64) -> bool {
         match fs::symlink_metadata(rt, &self.draft) {
             Ok(found) => self.is_apart() && found.is_file() && found.len() > bytes,
@@ -94,17 +95,17 @@ impl Draft {
         }
     }
 
-    /// Sets the draft aside.
+    /// Moves the draft to the path of drafts that are set aside.
     pub fn set_aside<H: Files>(&self, rt: &H) -> io::Result<()> {
         fs::rename(rt, &self.draft, &self.aside)
     }
 
-    /// Puts the draft back that was set aside.
+    /// Moves the draft that was set aside back to its old path.
     pub fn put_back<H: Files>(&self, rt: &H) {
         let _ = fs::rename(rt, &self.aside, &self.draft);
     }
 
-    /// Removes a draft that was set aside before, if there is one.
+    /// Removes a draft that was set aside earlier, if there is one.
     pub fn clear_aside<H: Files>(&self, rt: &H) -> io::Result<()> {
         match fs::remove_file(rt, &self.aside) {
             Err(error) if error.kind() != ErrorKind::NotFound => Err(error),
@@ -112,14 +113,14 @@ impl Draft {
         }
     }
 
-    /// Removes the file of an earlier run, unless the file is written in place.
+    /// Removes the file of an earlier run, unless the file is written directly.
     pub fn remove_older<H: Files>(&self, rt: &H) {
         if self.is_apart() {
             let _ = fs::remove_file(rt, &self.path);
         }
     }
 
-    /// Looks whether the file can be made, and leaves the folder as it is.
+    /// Checks whether the file can be created. The folder is left unchanged.
     pub fn look<H: Files>(&self, rt: &H) -> io::Result<()> {
         if self.is_apart() {
             match File::create_new(rt, &self.draft) {
@@ -134,7 +135,7 @@ impl Draft {
         Ok(())
     }
 
-    /// Looks whether a draft can be set aside: a folder can't be replaced.
+    /// Checks whether the draft can be set aside. It cannot if there is a folder at that path.
     pub fn look_aside<H: Files>(&self, rt: &H) -> io::Result<()> {
         match fs::symlink_metadata(rt, &self.aside) {
             Ok(found) if self.is_apart() && found.is_dir() => Err(ErrorKind::IsADirectory.into()),
@@ -142,7 +143,7 @@ impl Draft {
         }
     }
 
-    /// As `look`, for a file that has to be read again once it is written: a fifo is refused.
+    /// Checks the same as `look` for a file that must be readable after it is written. A FIFO is refused.
     pub fn look_for_record<H: Files>(&self, rt: &H) -> io::Result<()> {
         let is_fifo = match fs::metadata(rt, &self.path) {
             Ok(found) => found.file_type().is_fifo(),
@@ -154,7 +155,7 @@ impl Draft {
         self.look(rt)
     }
 
-    /// Makes the draft, in place of any older one, and opens it: each write goes to its end.
+    /// Creates the draft, replaces any older draft, and opens it for appending.
     pub fn make<H: Files<File = File>>(&self, rt: &H) -> io::Result<File> {
         if !self.is_apart() {
             return fs::create(rt, &self.path);
@@ -166,7 +167,7 @@ impl Draft {
             .open(rt, &self.draft)
     }
 
-    /// Gives a file that is whole its name. One that is not is removed.
+    /// Gives a complete file its own name. A file that is not complete is removed.
     pub fn keep<'a, H: Files>(
         &'a self,
         rt: &H,
@@ -182,8 +183,8 @@ impl Draft {
         }
     }
 
-    /// Gives a file its name, also if only its first part was written; unless another file has that name already: then the
-    /// part stays under the draft's name.
+    /// Gives a file its own name, even if only its first part was written. If the file is incomplete and another file already has
+    /// that name, the part keeps the draft's name.
     pub fn keep_part<'a, H: Files>(
         &'a self,
         rt: &H,
@@ -217,7 +218,7 @@ impl Draft {
             .map_err(|error| open_failure(alloc, &self.path, &error))
     }
 
-    /// Gives the file its name.
+    /// Gives the file its own name.
     pub fn take_name<H: Files>(&self, rt: &H) -> io::Result<()> {
         if !self.is_apart() {
             return Ok(());

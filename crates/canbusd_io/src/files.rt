@@ -1,4 +1,4 @@
-//! The files that the program reads, whose bytes no contract knows.
+//! Functions that read files. No contract says what bytes a file has.
 ghost use Rattle.std.specs.Prelude.{◌≡◌, IfErr};
 ghost use Rattle.canbusd_io.specs.declared.program_error.ProgramError.TheVariants as fault;
 ghost use Rattle.canbusd_io.specs.Files.{IsOfFile, IsOfReading};
@@ -14,13 +14,13 @@ use std::fs;
 use std::io::{Error, ErrorKind, Read};
 use std::rt::Files;
 
-/// The name of standard input in a report.
+/// The name that reports use for standard input.
 pub const INPUT: &str = "standard input";
 
-/// The name of standard output in a report.
+/// The name that reports use for standard output.
 pub const OUTPUT: &str = "standard output";
 
-/// The file with this path, which is read in at most 16,777,216 reads.
+/// Opens the file with this path. It can be read at most 16,777,216 times.
 pub fn open_file<'a, H: Files>(
     rt: &H,
     alloc: Global,
@@ -34,7 +34,7 @@ pub fn open_file<'a, H: Files>(
     }
 }
 
-/// The text of the file with this path.
+/// Returns the text of the file with this path.
 pub(crate) fn read_file<'a, H: Files>(
     rt: &H,
     alloc: Global,
@@ -46,7 +46,7 @@ pub(crate) fn read_file<'a, H: Files>(
     read_text(alloc, path, &mut file)
 }
 
-/// All bytes that a reader of the file with this path has, as UTF-8 text.
+/// Reads all bytes of a file with this path and returns them as UTF-8 text.
 pub fn read_text<'a, R: Read>(
     alloc: Global,
     path: &'a str,
@@ -77,7 +77,7 @@ fn text_of<'a>(alloc: Global, path: &str, bytes: Vec<u8>) -> Result<String, Repo
     })
 }
 
-/// The line of a file whose bytes are no UTF-8 text, with its LF or without.
+/// Returns a note on a line of a file that is not UTF-8 text. The line may end with LF.
 pub fn utf8_note(
     alloc: Global,
     path: &str,
@@ -88,7 +88,7 @@ pub fn utf8_note(
     format!(in alloc; "  {line}\n  this line is no UTF-8 text\n")
 }
 
-/// The report of a file or a stream that was not opened.
+/// Returns the report of a file or stream that could not be opened.
 pub(crate) fn open_failure<'a>(alloc: Global, path: &'a str, error: &Error) -> Report<'a>
     ensures { result.error ≡ fault.CannotOpen path.entry }
 {
@@ -99,7 +99,7 @@ pub(crate) fn open_failure<'a>(alloc: Global, path: &'a str, error: &Error) -> R
     )
 }
 
-/// The report of a fault of reading a file or a stream.
+/// Returns the report of an error in reading a file or stream.
 pub fn read_failure<'a>(alloc: Global, place: &str, error: &Error) -> Report<'a>
     ensures { IsOfReading result.error }
 {
@@ -110,7 +110,7 @@ pub fn read_failure<'a>(alloc: Global, place: &str, error: &Error) -> Report<'a>
     }
 }
 
-/// The report of a fault of writing to a file or a stream.
+/// Returns the report of an error in writing a file or stream.
 pub fn write_failure<'a>(alloc: Global, place: &str, error: &Error) -> Report<'a>
     ensures { result.error ≡ fault.Write }
 {

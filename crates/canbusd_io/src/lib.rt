@@ -1,13 +1,12 @@
-//! Files and words that the program reads and writes besides its streams, as names and scripts of a bus, records and
-//! logs; and the texts of its errors.
+//! The files that the program reads and writes, such as scripts of faults, records and logs, and the texts of its errors.
 //!
-//! `read_names`, `read_plan` and `bus_config` make a bus of the words that describe it, and `read_faults` the faults that it had
-//! in a run; `save_record` and `save_log` write what a run leaves. A command line that was not carried out gives a `Report`: a
-//! `ProgramError`, and notes after its text.
+//! `read_names`, `read_plan` and `bus_config` build a bus from its description on the command line. `read_faults` reads the faults
+//! that a bus had in a run. `save_record` and `save_log` write the files of a run. If a command line could not be carried out, the
+//! result is a `Report`: a `ProgramError` and the notes that follow its text.
 //!
-//! Proved here: the configuration is that of the settings, some text spells the faults of a script for the names of its bus,
-//! and a file gets the record's text or the lines of its log; a report has the error that it was made of. No contract knows
-//! the bytes of a file. Tests show that of a file or a client only printable ASCII is shown.
+//! Four facts are proved here. The configuration is that of the settings. The faults of a script are spelled by some text for the
+//! names of the bus. A file gets the record's text or the lines of its log. A report contains the error that it was made with. No
+//! contract says what bytes a file has. Tests show that only printable ASCII characters of a file or a client are shown.
 #![tactic(auto)]
 
 mod buses;

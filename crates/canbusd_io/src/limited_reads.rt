@@ -1,14 +1,14 @@
-//! Readers that are read a bounded number of times, so that none is read for ever.
+//! Readers with a limited number of reads, so that no input is read forever.
 
 use can_session::lines::LONGEST_INPUT;
 use std::alloc::Global;
 use std::io;
 use std::io::{Error, ErrorKind, Read};
 
-/// The largest number of reads of a file: the last one finds its end.
+/// The largest number of reads of a file. The last read finds the end of the file.
 pub(crate) const MOST_READS: u32 = LONGEST_INPUT as u32;
 
-/// A reader that is read at most this many times. One read more is a fault, whose text has their number.
+/// A reader that can be read at most `most` times. One more read is an error, and the text of the error contains this number.
 #[derive(Drop)]
 pub struct LimitedReads<R> {
     reader: R,
@@ -18,7 +18,7 @@ pub struct LimitedReads<R> {
 }
 
 impl<R> LimitedReads<R> {
-    /// The reader, before its first read.
+    /// Returns the reader before its first read.
     pub fn new(alloc: Global, reader: R, most: u32) -> LimitedReads<R> {
         LimitedReads {
             reader,
@@ -39,7 +39,7 @@ impl<R: Read> Read for LimitedReads<R> {
     }
 }
 
-// The fault of a read that is one too many.
+// Returns the error of a read beyond the limit.
 fn too_many(alloc: Global, most: u32) -> Error {
     match format!(in alloc; "it is not read in {most} reads") {
         Ok(words) => Error::other(&words),

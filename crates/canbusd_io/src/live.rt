@@ -26,25 +26,25 @@ use std::io::{Error, ErrorKind, Write};
 use std::rt::Files;
 use std::snapshot::Snapshot;
 
-/// A text of a bus that gets lines while a server runs: its record or its log. It is made as a draft.
+/// A record or log of a bus that gets lines while a server runs. It is first written as a draft.
 #[derive(Drop)]
 pub struct LiveText<F: Write + OpenFile + Drop, B: Drop> {
     draft: Draft,
-    /// The configuration of the bus, or its names: its lines are written with them.
+    /// The configuration of the bus for a record, or the names of the bus for a log. The lines are written with it.
     pub bus: B,
     pub file: LiveFile<F>,
-    /// The file before its first line, which only contracts see: it takes no memory.
+    /// The file before its first line. Only contracts see it, and it takes no memory.
     pub start: Snapshot<LiveFile<F>>,
 }
 
-/// The record of a bus, which gets the lines of its entries. Its file gets its name once it is whole.
+/// The record of a bus, which gets a line for each entry. The file gets its own name once it is complete.
 pub type LiveRecord<F> = LiveText<F, BusConfig>;
 
-/// The log of a bus, which gets the lines of its tried frames.
+/// The log of a bus, which gets a line for each frame that was tried.
 pub type LiveLog<F> = LiveText<F, Names>;
 
 impl<F: Write + OpenFile + Drop, B: Drop> LiveText<F, B> {
-    // A text in a file that gets nothing, which errors call by this path.
+    // Returns a text in an empty file. Errors name the file by this path.
     fn begin(
         alloc: Global,
         draft: Draft,
@@ -67,19 +67,19 @@ impl<F: Write + OpenFile + Drop, B: Drop> LiveText<F, B> {
         })
     }
 
-    /// The path that errors call it by.
+    /// Returns the path by which errors name the file.
     pub fn path(&self) -> &str {
         &self.file.path
     }
 
-    /// Removes its file, unless it has its name.
+    /// Removes the draft of the file, unless the file already has its own name.
     pub fn remove<H: Files>(&self, rt: &H) {
         self.draft.clear(rt);
     }
 }
 
 impl<B: Drop> LiveText<File, B> {
-    // A text that has no line, whose file is made.
+    // Creates the file of a text that has no lines yet.
     fn make<H: Files<File = File>>(
         rt: &H,
         alloc: Global,
@@ -101,7 +101,7 @@ impl<B: Drop> LiveText<File, B> {
 }
 
 impl LiveText<File, BusConfig> {
-    /// The record of a bus with this configuration, whose first two lines are in its file.
+    /// Creates the record of a bus with this configuration and writes its first two lines.
     pub fn new<H: Files<File = File>>(
         rt: &H,
         alloc: Global,
@@ -121,7 +121,7 @@ impl LiveText<File, BusConfig> {
 }
 
 impl LiveText<File, Names> {
-    /// The log of a bus with these names, which has no line.
+    /// Creates the log of a bus with these names. The log has no lines yet.
     pub fn new<H: Files<File = File>>(
         rt: &H,
         alloc: Global,
@@ -139,7 +139,7 @@ impl LiveText<File, Names> {
 }
 
 impl<F: Write + OpenFile + Drop> LiveText<F, BusConfig> {
-    // The same record with its first two lines in its file.
+    // Writes the first two lines of the record and returns the record.
     fn with_front(mut self, alloc: Global) -> io::Result<LiveText<F, BusConfig>>
         ensures lines { IfOk result (λ live. Gets (whole_contents F.contents) self.file.out
             live.file.out (front_lines version.Four self.bus [])) }
@@ -156,7 +156,7 @@ impl<F: Write + OpenFile + Drop> LiveText<F, BusConfig> {
         }
     }
 
-    /// Writes the lines of the entries that come next. A fault ends the file, and is reported once.
+    /// Writes the lines of the next entries. After a fault the file gets no more lines, and the fault is reported only once.
     pub fn keep(&mut self, alloc: Global, entries: &PackedRecord) -> Result<(), Report<'static>>
         requires { All HasFittingReply entries.now.entries }
         ensures lines { TakesText (whole_contents F.contents) self.old.file.out self.new.file.out
@@ -172,8 +172,8 @@ impl<F: Write + OpenFile + Drop> LiveText<F, BusConfig> {
         self.settle(alloc, put)
     }
 
-    /// Writes the lines of the last entries and the line of the end, after which there are this many entries, and gives
-    /// the file its name, and the faults of the run theirs. A file that is over gets neither.
+    /// Writes the lines of the last entries and the end line, which says that there are `count` entries. Then it gives the file and
+    /// the run's faults their own names. If the file had a fault, neither gets its name.
     pub fn finish<H: Files>(
         &mut self,
         rt: &H,
@@ -199,7 +199,7 @@ impl<F: Write + OpenFile + Drop> LiveText<F, BusConfig> {
         self.name_both(rt, alloc, faults)
     }
 
-    // Writes the lines of the last entries and the line of the end.
+    // Writes the lines of the last entries and the end line.
     fn end(
         &mut self,
         alloc: Global,
@@ -221,7 +221,7 @@ impl<F: Write + OpenFile + Drop> LiveText<F, BusConfig> {
         self.settle(alloc, put)
     }
 
-    // Gives the file its name, unless it is over, and the faults of the run theirs.
+    // Gives the file and the run's faults their own names.
     fn name_both<H: Files>(
         &self,
         rt: &H,
@@ -269,7 +269,7 @@ fn entries_note(alloc: Global, entries: u64) -> Result<String, AllocError> {
     format!(in alloc; "  it has the first {entries} entries, and no end\n")
 }
 
-// Removes the file of a start that failed.
+// Removes the file of a start that failed and returns the error.
 fn removed<H: Files>(rt: &H, draft: &Draft, error: Error) -> Error
     ensures { result ≡ error }
 {
@@ -278,13 +278,13 @@ fn removed<H: Files>(rt: &H, draft: &Draft, error: Error) -> Error
 }
 
 impl<F: Write + OpenFile + Drop> LiveText<F, Names> {
-    /// Gives the file its name, in the place of the log of an earlier run.
+    /// Gives the file its own name. It replaces the log of an earlier run.
     pub fn take_name<H: Files>(&self, rt: &H) -> io::Result<()> {
         self.draft.take_name(rt)
     }
 
-    /// Writes the lines of the entries that come next. A fault ends the file, and is reported once; the log is called by
-    /// this name.
+    /// Writes the lines of the next entries. After a fault the file gets no more lines, and the fault is reported only once. The
+    /// report calls the log by `name`.
     pub fn keep<'a>(
         &mut self,
         alloc: Global,

@@ -1,4 +1,4 @@
-//! The faults of the run of a bus, in a file beside its record.
+//! The faults of a bus in a run, in a file next to its record.
 use crate::draft::Draft;
 use crate::files::write_failure;
 use crate::live_file::{LiveFile, Remains};
@@ -9,21 +9,22 @@ use std::io;
 use std::io::{Error, ErrorKind, Write};
 use std::rt::Files;
 
-/// The faults of the run of a bus, for an audit: the script that it began with, and the lines of the rules that came or went
-/// later. The file is written as a draft, and gets its name after the record; a run without faults has none. A file that
-/// lacks a line would give later attempts to another rule, so the first write that fails leaves it empty.
+/// The faults of a bus in a run, which an audit can read. They consist of the script at the start and a line for each rule that was
+/// added or removed later. The file is written as a draft and gets its own name after the record. A run without faults has no such
+/// file. If a line were missing, later attempts would be assigned to the wrong rule, so the first write that fails leaves the file
+/// empty.
 #[derive(Drop)]
 pub struct LiveFaults {
     draft: Draft,
     script: String,
     is_synced: bool,
-    // The file once it is made. Then it has the script.
+    // The file, after it was created. It then contains the script.
     file: Option<LiveFile<File>>,
     has_fault: bool,
 }
 
 impl LiveFaults {
-    /// The faults of a run with this script, in a file that is not made yet.
+    /// Returns the faults of a run with this script. The file is not created yet.
     pub fn new(
         draft: Draft,
         mut script: String,
@@ -41,19 +42,19 @@ impl LiveFaults {
         })
     }
 
-    /// The path that is written.
+    /// Returns the path of the draft.
     pub fn path(&self) -> &str {
         self.draft.draft()
     }
 
-    /// Makes the file, with the script.
+    /// Creates the file and writes the script.
     pub fn begin<H: Files<File = File>>(&mut self, rt: &H, alloc: Global) -> io::Result<()> {
         let file = begun(rt, alloc, &self.draft, &self.script, self.is_synced)?;
         self.file = Some(file);
         Ok(())
     }
 
-    /// Writes the lines that come next. A fault ends the file, and is reported once.
+    /// Writes the next lines. After a fault the file gets no more lines, and the fault is reported only once.
     pub fn keep(&mut self, alloc: Global, lines: &[u8]) -> Result<(), Report<'static>> {
         if self.has_fault || lines.is_empty() {
             return Ok(());
@@ -65,7 +66,7 @@ impl LiveFaults {
         self.checked(alloc, kept)
     }
 
-    /// Writes all lines of a run at its end, in a file that is made only if it had faults.
+    /// Writes all lines of a run at its end. The file is created only if the run had faults.
     pub fn keep_all<H: Files<File = File>>(
         &mut self,
         rt: &H,
@@ -79,7 +80,7 @@ impl LiveFaults {
         self.keep(alloc, lines)
     }
 
-    // It gets no more lines after a fault.
+    // Returns the report of a failed write. After a failure the file gets no more lines.
     fn checked(&mut self, alloc: Global, kept: io::Result<()>) -> Result<(), Report<'static>> {
         match kept {
             Ok(()) => Ok(()),
@@ -90,18 +91,19 @@ impl LiveFaults {
         }
     }
 
-    /// It gets no more lines, since some were lost.
+    /// Notes that lines were lost. The file then gets no more lines.
     pub fn give_up(&mut self) {
         self.has_fault = true;
     }
 
-    /// Removes the file of an earlier run. Callers do so before the record gets its name: a server that is killed then leaves
-    /// no record beside the faults of another run.
+    /// Removes the file of an earlier run. Callers do this before the record gets its own name. If the server is killed in between,
+    /// no record is left next to the faults of another run.
     pub fn make_way<H: Files>(&self, rt: &H) {
         self.draft.remove_older(rt);
     }
 
-    /// Gives the file its name, which its record has by now. If the run had no faults, or lines were lost, it is removed.
+    /// Gives the file its own name after the record has got its name. If the run had no faults or lines were lost, the file is
+    /// removed.
     pub fn finish<H: Files>(&self, rt: &H, alloc: Global) -> Result<(), Report<'static>> {
         if self.has_fault || !matches!(&self.file, Some(file) if file.has_lines()) {
             self.draft.clear(rt);
@@ -112,12 +114,12 @@ impl LiveFaults {
             .map_err(|error| self.failure(alloc, &error))
     }
 
-    /// Removes the file, which has no name yet.
+    /// Removes the draft of the file.
     pub fn remove<H: Files>(&self, rt: &H) {
         self.draft.clear(rt);
     }
 
-    /// Whether no line was lost.
+    /// Returns whether no line was lost.
     pub fn is_whole(&self) -> bool {
         !self.has_fault
     }
@@ -127,7 +129,7 @@ impl LiveFaults {
     }
 }
 
-// A file that has the script.
+// Creates a file and writes the script into it.
 fn begun<H: Files<File = File>>(
     rt: &H,
     alloc: Global,
@@ -142,7 +144,7 @@ fn begun<H: Files<File = File>>(
     Ok(live)
 }
 
-// Writes lines, and hands them to the system. After a fault the file has whole lines, and gets no more.
+// Writes lines and flushes them. After a fault, the file is cut to zero length and gets no more lines.
 fn put_lines(file: &mut LiveFile<File>, lines: &[u8]) -> io::Result<()> {
     let Some(out) = &mut file.out else {
         return Ok(());

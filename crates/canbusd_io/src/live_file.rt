@@ -8,7 +8,7 @@ use std::fs::OpenFile;
 use std::io;
 use std::io::{BufWriter, Error, Write};
 
-/// The largest number of bytes that go out in one write.
+/// The largest number of bytes in one write.
 const BLOCK: usize = 65_536;
 
 /// The part of a file that is kept after a fault.
@@ -16,23 +16,23 @@ const BLOCK: usize = 65_536;
 pub enum Remains {
     /// Its whole lines.
     WholeLines,
-    /// Nothing, as a file that lacks a line would say something else.
+    /// Nothing, because the file would be misleading if a line were missing.
     Nothing,
 }
 
-/// A file that gets lines while a server runs. With the first fault it is over: it is cut to the part that is kept, and gets
-/// no more.
+/// A file that gets lines while a server runs. After its first fault, the file is cut to the part that is kept and gets no more
+/// lines.
 #[derive(Drop)]
 pub struct LiveFile<F: Write + OpenFile + Drop> {
     pub path: String,
     remains: Remains,
-    /// Whether each flush waits until the disk has all lines.
+    /// Whether each flush waits until all lines are on the disk.
     pub is_synced: bool,
-    /// The writer that its lines go to, until it is over.
+    /// The writer of the file's lines, or `None` after a fault.
     pub out: Option<BufWriter<WholeLines<F>>>,
 }
 
-/// The error that ended a file, and the number of its whole lines.
+/// The error that ended a file, and the number of complete lines in the file.
 #[derive(Drop)]
 pub struct FileOver {
     pub whole_lines: u64,
@@ -40,7 +40,7 @@ pub struct FileOver {
 }
 
 impl<F: Write + OpenFile + Drop> LiveFile<F> {
-    /// A file that has nothing yet.
+    /// Returns a file without lines.
     pub fn new(
         alloc: Global,
         path: String,
@@ -60,12 +60,12 @@ impl<F: Write + OpenFile + Drop> LiveFile<F> {
         })
     }
 
-    /// Whether it has lines, and is not over.
+    /// Returns whether the file has lines and had no fault.
     pub fn has_lines(&self) -> bool {
         matches!(&self.out, Some(out) if out.get_ref().lines > 0)
     }
 
-    /// Hands the lines that were put to the system. The file is over if that fails, or if they were not put.
+    /// Flushes the lines after a write with the outcome `put`. If the write or the flush failed, the file gets no more lines.
     pub fn settle(&mut self, put: io::Result<()>) -> Result<(), FileOver>
         ensures put { OnOk result (IsOk put) }
         ensures stays { OnOk result (Stays (whole_contents F.contents) self.old.out self.new.out) }
@@ -96,7 +96,7 @@ impl<F: Write + OpenFile + Drop> LiveFile<F> {
         }
     }
 
-    // Waits until the disk has all lines.
+    // Waits until all lines are on the disk.
     fn sync(&self) -> io::Result<()> {
         match &self.out {
             Some(out) => out.get_ref().inner.sync_data(),
@@ -104,7 +104,7 @@ impl<F: Write + OpenFile + Drop> LiveFile<F> {
         }
     }
 
-    // Ends the file: for the fault of its last write, or else for this one.
+    // Ends the file. The reason is the error of the last write, if there was one, and otherwise `error`.
     fn end(&mut self, error: Error) -> FileOver
         ensures { self.new.out ≡ None }
     {

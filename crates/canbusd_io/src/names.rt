@@ -1,4 +1,4 @@
-//! The names of a bus's interfaces, joined by commas as they are given.
+//! Reads the names of a bus's interfaces, which are given joined by commas.
 ghost use Rattle.std.specs.Prelude.{◌≡◌, IfErr, IfOk, OnOk};
 ghost use Rattle.can_frame.specs.Names.{AreNames, names_in};
 ghost use Rattle.canbusd_io.specs.Files.{IsOfNames};
@@ -10,7 +10,7 @@ use crate::shown::Shown;
 use can_frame::{Names, NamesError, is_name};
 use std::alloc::{AllocError, Global};
 
-/// The names of a bus.
+/// Reads the names of a bus.
 pub fn read_names<'a>(alloc: Global, names: &str) -> Result<Names, Report<'a>>
     ensures names { IfOk result (λ n. n ≡ names_in names.now) }
     ensures good { OnOk result (AreNames (names_in names.now)) }
@@ -26,7 +26,7 @@ pub fn read_names<'a>(alloc: Global, names: &str) -> Result<Names, Report<'a>>
     })
 }
 
-// The name that is wrong or given twice, or the number of names that are too many.
+// Returns a note on the name that is wrong or given twice, or on the number of names if there are too many.
 fn names_note(alloc: Global, names: &str) -> Result<String, AllocError> {
     let count = names.split(',').count();
     if count > 16 {

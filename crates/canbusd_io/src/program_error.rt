@@ -4,23 +4,23 @@ use can_rules::PlanError;
 use can_session::BenchFault;
 use thiserror::Error;
 
-/// Why a command line was not carried out, in the words that the program prints.
+/// The reason why a command line was not carried out. The program prints its text.
 #[derive(Debug, Clone, Copy, PartialEq, Eq, Error)]
 pub enum ProgramError<'a> {
-    /// The names are none that the interfaces of a bus may have.
+    /// The names are not valid for the interfaces of a bus.
     #[error("bad bus")]
     BadNames,
-    /// The path of a file.
+    /// The file with this path could not be opened.
     #[error("cannot open {0}")]
     CannotOpen(&'a str),
-    /// A file cannot be read, or is no UTF-8 text.
+    /// A file could not be read or is not UTF-8 text.
     #[error("read fault")]
     Read,
     #[error("{0}")]
     Script(PlanError),
     #[error("{0}")]
     Bench(BenchFault),
-    /// A message of a session was refused in a run of the bench, which is strict.
+    /// A message of a session was refused in a strict run of the bench.
     #[error("message refused")]
     Refused,
     /// No server can have these buses.
@@ -28,22 +28,22 @@ pub enum ProgramError<'a> {
     Buses(BusFault),
     #[error("cannot listen")]
     CannotListen,
-    /// The first name of a bus to which a pass of another came back.
+    /// The bus with this first name got back a pass of another bus.
     #[error("bus {0}: wrong station")]
     WrongStation(&'a str),
-    /// The log of the bus with this first name has only this many whole lines.
+    /// The log of the bus with this first name has only this many complete lines.
     #[error("log of {name}: {whole_lines} whole lines")]
     Log { name: &'a str, whole_lines: u64 },
     #[error("{0}")]
     Record(ReadFault),
-    /// The first entry of a record that is no legal history, counted from 0.
+    /// The first entry of a record that is not legal, counted from 0.
     #[error("entry {0}: wrong")]
     WrongEntry(usize),
     #[error("write fault")]
     Write,
     #[error("no memory")]
     NoMemory,
-    /// The names given for a record's interfaces are not as many as its bus has.
+    /// The number of names given for a record differs from the number of interfaces of its bus.
     #[error("names of another bus")]
     OtherBus,
 }

@@ -4,7 +4,7 @@ use crate::program_error::ProgramError;
 use std::alloc::{AllocError, Global};
 use std::io::Write;
 
-/// An error of the program, with the notes that are printed after its text.
+/// An error of the program and the notes that are printed after its text.
 #[derive(Drop)]
 pub struct Report<'a> {
     pub error: ProgramError<'a>,
@@ -12,7 +12,7 @@ pub struct Report<'a> {
 }
 
 impl<'a> Report<'a> {
-    /// An error without notes.
+    /// Returns a report without notes.
     pub fn new(alloc: Global, error: ProgramError<'a>) -> Report<'a>
         ensures { result.error ≡ error.entry }
     {
@@ -22,7 +22,7 @@ impl<'a> Report<'a> {
         }
     }
 
-    /// An error with notes, or without if there was no memory for them.
+    /// Returns a report with notes, or without notes if there was no memory for them.
     pub fn with(
         alloc: Global,
         error: ProgramError<'a>,
@@ -36,7 +36,7 @@ impl<'a> Report<'a> {
         }
     }
 
-    /// The report with one note more, if there is memory for it.
+    /// Returns the report with one more note, if there is memory for it.
     pub fn and(mut self, note: &str) -> Report<'a>
         ensures { result.error ≡ self.entry.error }
     {
@@ -44,7 +44,7 @@ impl<'a> Report<'a> {
         self
     }
 
-    /// Writes `canbusd: TEXT` and the notes.
+    /// Writes `canbusd: TEXT` and then the notes.
     pub fn write_to<E: Write>(&self, errors: &mut E) {
         let error = self.error;
         let _ = writeln!(errors, "canbusd: {error}");
@@ -52,7 +52,7 @@ impl<'a> Report<'a> {
     }
 }
 
-/// Reports the errors that end only a part of a job.
+/// Reports errors that end only a part of a job.
 #[derive(Drop)]
 pub struct Reporter<'e, E: Write> {
     errors: &'e mut E,
@@ -60,7 +60,7 @@ pub struct Reporter<'e, E: Write> {
 }
 
 impl<'e, E: Write> Reporter<'e, E> {
-    /// Nothing was reported yet.
+    /// Returns a reporter that has reported nothing yet.
     pub fn new(errors: &'e mut E) -> Reporter<'e, E>
         ensures { result.has_reported ≡ false }
     {
@@ -70,7 +70,7 @@ impl<'e, E: Write> Reporter<'e, E> {
         }
     }
 
-    /// Reports the error of a part of a job, if there was one.
+    /// Reports the error of a part of a job, if there was an error.
     pub fn report(&mut self, outcome: Result<(), Report<'_>>)
         ensures kept { IsTrue self.old.has_reported → IsTrue self.new.has_reported }
         ensures reported { IfErr outcome.entry (λ _. IsTrue self.new.has_reported) }
@@ -82,7 +82,7 @@ impl<'e, E: Write> Reporter<'e, E> {
         }
     }
 
-    /// Whether an error was reported.
+    /// Returns whether an error was reported.
     pub fn has_reported(&self) -> bool
         ensures { result ≡ self.now.has_reported }
     {

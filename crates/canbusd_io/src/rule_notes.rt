@@ -1,4 +1,4 @@
-//! Notes on a rule of faults that is wrong, in a script or in a line of the bench.
+//! Notes on an invalid fault rule, in a script or in a line of the bench.
 use crate::names::read_names;
 use crate::notes::{WITH_CR, fixed_note};
 use crate::shown::Shown;
@@ -6,7 +6,7 @@ use can_rules::{WrongWord, read_later, read_rule};
 use canbusd_options::has_name;
 use std::alloc::{AllocError, Global};
 
-/// The reason why a rule was not taken, for a bus whose names are given as a word of the command line has them.
+/// Returns a note that says why a rule was not accepted. The names of the bus are given as on the command line.
 pub fn rule_note(alloc: Global, rule: &str, bus: &str) -> Result<String, AllocError> {
     if rule.ends_with('\r') {
         return fixed_note(alloc, WITH_CR);
@@ -21,7 +21,7 @@ pub fn rule_note(alloc: Global, rule: &str, bus: &str) -> Result<String, AllocEr
     }
 }
 
-/// The reason why a line of a rule that came during a run was not taken.
+/// Returns a note that says why a line about a later change of the rules was not accepted.
 pub(crate) fn later_note(alloc: Global, line: &str, bus: &str) -> Result<String, AllocError> {
     if line.ends_with('\r') {
         return fixed_note(alloc, WITH_CR);
@@ -40,7 +40,8 @@ pub(crate) fn later_note(alloc: Global, line: &str, bus: &str) -> Result<String,
     }
 }
 
-// The first name of a rule that the bus does not have: of its senders, or else of the interfaces that see the fault.
+// Returns a note on the first name in a rule that the bus does not have. It looks first at the senders and then at the interfaces
+// that see the fault.
 fn unknown_note(alloc: Global, rule: &str, bus: &str) -> Result<String, AllocError> {
     let senders = match rule.split_once(" from ") {
         Some((_, rest)) => rest.split(' ').next().unwrap_or(""),
@@ -55,7 +56,7 @@ fn unknown_note(alloc: Global, rule: &str, bus: &str) -> Result<String, AllocErr
     unknown_name_note(alloc, rule.rsplit(' ').next().unwrap_or(""), bus)
 }
 
-/// The first name of a list that the bus does not have.
+/// Returns a note on the first name in a list that the bus does not have.
 pub(crate) fn unknown_name_note(
     alloc: Global,
     list: &str,

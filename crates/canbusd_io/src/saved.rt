@@ -1,4 +1,4 @@
-//! The files that a run leaves: the record of a bus, and its log. If it leaves none, a note says so.
+//! The files of a run: the record of a bus and its log. If a run writes no file, a note says so.
 ghost use Rattle.std.specs.Prelude.{◌≡◌, ◌-◌, ◌==◌, count_by, IfErr, OnOk};
 ghost use Rattle.can_record_text.specs.Texts.{text_of};
 ghost use Rattle.canbusd_io.specs.declared.program_error.ProgramError.TheVariants as fault;
@@ -20,11 +20,12 @@ use std::fs;
 use std::io::{BufWriter, Error, ErrorKind, Write};
 use std::rt::Files;
 
-/// The number of bytes of a log that go out in one write.
+/// The number of bytes of a log that are written at once.
 const LOG_BLOCK: usize = 65_536;
 
-/// Writes the text of a record to the file with this path. A file that is there stays as it is until the new one is whole: it is
-/// written beside it, with `.new` after the name, unless that is no plain file.
+/// Writes the text of a record to the file with this path. The text is first written to a file whose name ends with `.new`, so an
+/// existing file stays unchanged until the new text is complete. If the existing file is not a regular file, the text is written
+/// there directly.
 pub fn save_record<'a, H: Files>(
     rt: &H,
     alloc: Global,
@@ -49,7 +50,7 @@ pub fn save_record<'a, H: Files>(
     }
 }
 
-/// The same, to the file `at`: its faults are reported for `path`, whose file it will be.
+/// Writes the text of a record to the file `at`. Errors are reported for `path`, which will be the name of the file.
 pub fn save_record_at<'a, H: Files>(
     rt: &H,
     alloc: Global,
@@ -67,8 +68,8 @@ pub fn save_record_at<'a, H: Files>(
     put_record(alloc, path, record, &mut file)
 }
 
-/// Writes the log of a bus's record to the file with this path. A fault says how many whole lines the file has, and calls
-/// the log by the first name of the bus.
+/// Writes the log of a bus's record to the file with this path. If there is an error, the report says how many complete lines the
+/// file has and calls the log by the first name of the bus.
 pub fn save_log<'a, H: Files>(
     rt: &H,
     alloc: Global,
@@ -81,7 +82,8 @@ pub fn save_log<'a, H: Files>(
     save_log_at(rt, alloc, path, path, bus, record)
 }
 
-/// The same, to the file `at`: its faults are reported for `path`, whose file it will be.
+/// Writes the log of a bus's record to the file `at`. An error in opening the file is reported for `path`, which will be the name
+/// of the file.
 pub fn save_log_at<'a, H: Files>(
     rt: &H,
     alloc: Global,
@@ -105,8 +107,8 @@ pub fn save_log_at<'a, H: Files>(
     }
 }
 
-/// A fault of a run that ended before it wrote this file of its own, the record or the log, if it was to write one: with
-/// a note that says so.
+/// Adds a note to the error of a run that ended before it wrote its record or its log. No note is added if the run was not asked to
+/// write that file.
 pub fn without<'a, H: Files>(
     rt: &H,
     alloc: Global,
@@ -150,7 +152,7 @@ fn create<'a, H: Files>(
     fs::create(rt, at).map_err(|error| open_failure(alloc, path, &error))
 }
 
-// Writes the text of a record, to its last byte.
+// Writes the complete text of a record.
 fn put_record<'a, W: Write>(
     alloc: Global,
     path: &str,
@@ -165,7 +167,7 @@ fn put_record<'a, W: Write>(
         .map_err(|error| write_failure(alloc, path, &error))
 }
 
-// Writes the lines of a log; on a fault, how many lines the writer took whole.
+// Writes the lines of a log. If there is an error, returns how many complete lines the writer accepted.
 fn put_log<W: Write>(names: &Names, record: &Record, file: &mut W) -> Result<(), u64>
     ensures { OnOk result (Took W.contents file.old file.new (log_text names.now «record».now)) }
 {
@@ -176,7 +178,8 @@ fn put_log<W: Write>(names: &Names, record: &Record, file: &mut W) -> Result<(),
     file.flush().map_err(|_| lines)
 }
 
-// The report of a fault of writing a log: a buffer took this many whole lines, and has these bytes left.
+// Returns the report of an error in writing a log. `lines` is the number of complete lines in a buffer, and `unwritten` are the
+// bytes still in the buffer.
 fn log_failure<'a>(alloc: Global, name: &'a str, lines: u64, unwritten: &[u8]) -> Report<'a>
     ensures { result.error ≡ fault.Log name.entry (lines - count_by (λ b. b == 10) unwritten.now) }
 {
@@ -184,7 +187,7 @@ fn log_failure<'a>(alloc: Global, name: &'a str, lines: u64, unwritten: &[u8]) -
     Report::new(alloc, ProgramError::Log { name, whole_lines })
 }
 
-// The report of a fault of writing a record.
+// Returns the report of an error in writing a record.
 fn record_failure<'a>(alloc: Global, path: &str, error: &Error) -> Report<'a>
     ensures { IsOfWriting result.error }
 {

@@ -1,4 +1,4 @@
-//! Scripts of faults: the file, and the notes on a wrong line of it.
+//! Reads scripts of faults and writes notes on a wrong line of a script.
 ghost use Rattle.std.specs.Prelude.{◌≡◌, List, ℕ, IfErr, IfOk, Ok};
 ghost use Rattle.can_rules.specs.Plans.{ReadsPlan};
 ghost use Rattle.can_rules.specs.RunFaults.{ReadsRunFaults};
@@ -16,8 +16,8 @@ use can_rules::{Plan, PlanError, RunFaults, begins_as_later, begins_as_rule};
 use std::alloc::{AllocError, Global};
 use std::rt::Files;
 
-/// The faults that the script in the file with this path spells for a bus with these names, and its text. The names are given
-/// as read, and as a word of the command line has them.
+/// Reads the script at this path for a bus, and returns its faults and its text. The names of the bus are given twice: in `names`,
+/// and in `bus` as on the command line.
 pub fn read_script<'a, H: Files>(
     rt: &H,
     alloc: Global,
@@ -33,7 +33,8 @@ pub fn read_script<'a, H: Files>(
     Ok((plan, text))
 }
 
-/// The same of the faults that a bus with these names had in a run, with those that it got while the run went on.
+/// Reads the faults that a bus had in a run. In addition to a script, the file has the rules that were added or removed during the
+/// run.
 pub fn read_run_faults<'a, H: Files>(
     rt: &H,
     alloc: Global,
@@ -49,7 +50,7 @@ pub fn read_run_faults<'a, H: Files>(
     run_faults_in(alloc, path, &text, bus, names)
 }
 
-// The text of the script with this path.
+// Returns the text of the script at this path.
 fn read_script_file<'a, H: Files>(
     rt: &H,
     alloc: Global,
@@ -60,7 +61,7 @@ fn read_script_file<'a, H: Files>(
     read_file(rt, alloc, path).map_err(|failure| failure.and(path_note(path)))
 }
 
-// A note on a mistake that the path of a script may have.
+// Returns a note on a likely mistake in the path of a script, or an empty text.
 fn path_note(path: &str) -> &'static str {
     if path.is_empty() {
         "  the path of a script comes after @\n"
@@ -71,7 +72,7 @@ fn path_note(path: &str) -> &'static str {
     }
 }
 
-// The faults that the text of a file spells.
+// Returns the faults that the text of a file spells.
 fn script_in<'a>(
     alloc: Global,
     path: &str,
@@ -91,7 +92,7 @@ fn script_in<'a>(
     }
 }
 
-// The same of the faults of a run.
+// Returns the faults of a run that the text of a file spells.
 fn run_faults_in<'a>(
     alloc: Global,
     path: &str,
@@ -111,7 +112,7 @@ fn run_faults_in<'a>(
     }
 }
 
-// The report of a fault of a script.
+// Returns the report of an error in a script.
 fn script_failure<'a>(
     alloc: Global,
     fault: PlanError,
@@ -125,7 +126,7 @@ fn script_failure<'a>(
     }
 }
 
-// The line of a script that is wrong, and the reason.
+// Returns a note with the wrong line of a script and the reason.
 fn script_note(
     alloc: Global,
     path: &str,
@@ -145,7 +146,7 @@ fn script_note(
     with_line(alloc, path, number, line, &note)
 }
 
-// The same of the faults of a run.
+// Returns a note with the wrong line in a file of a run's faults and the reason.
 fn run_note(
     alloc: Global,
     path: &str,
@@ -163,7 +164,7 @@ fn run_note(
     }
 }
 
-// The number of the line that is wrong.
+// Returns the number of the wrong line.
 fn wrong_line(fault: PlanError) -> Option<usize> {
     match fault {
         PlanError::Script(
@@ -176,7 +177,7 @@ fn wrong_line(fault: PlanError) -> Option<usize> {
     }
 }
 
-// A line of a script before a note on it.
+// Puts a line of a script before the note on it.
 fn with_line(
     alloc: Global,
     path: &str,
@@ -188,7 +189,7 @@ fn with_line(
     format!(in alloc; "  {line}\n{note}")
 }
 
-// The reason why a line that is no rule is wrong.
+// Returns a note that says why a line that is not a rule is wrong.
 fn numbered_note(
     alloc: Global,
     text: &str,
@@ -225,7 +226,7 @@ fn bad_verdict_note(alloc: Global, line: &str) -> Result<String, AllocError> {
     fixed_note(alloc, verdict_note(verdict))
 }
 
-// The mistake in the words that follow the number of a line and a space.
+// Returns the mistake in the words that follow the number of a line and a space.
 fn verdict_note(verdict: &str) -> &'static str {
     if verdict.starts_with(' ') || verdict.contains("  ") {
         return "words are parted by one space";
@@ -247,7 +248,7 @@ fn verdict_note(verdict: &str) -> &'static str {
     "VERDICT is good, lastbit, global bit, global form, local stuff NAMES, local crc NAMES or local form NAMES"
 }
 
-// Whether a line begins with a number that an attempt may have.
+// Returns whether a line begins with a number that an attempt may have, and a space.
 fn has_number(line: &str) -> bool {
     match line.split_once(' ') {
         Some((number, _)) => {
@@ -259,13 +260,13 @@ fn has_number(line: &str) -> bool {
     }
 }
 
-// The first name after the last space that the bus does not have.
+// Returns a note on the first name after the last space that the bus does not have.
 fn unknown_note(alloc: Global, line: &str, names: &str) -> Result<String, AllocError> {
     let list = line.rsplit(' ').next().unwrap_or("");
     unknown_name_note(alloc, list, names)
 }
 
-// The first line that has the attempt of this line.
+// Returns a note with the number of the first line that is for the same attempt as this line.
 fn repeated_note(alloc: Global, text: &str, number: usize) -> Result<String, AllocError> {
     let attempt = attempt_of(line_of(text, number));
     let place = text
@@ -276,7 +277,7 @@ fn repeated_note(alloc: Global, text: &str, number: usize) -> Result<String, All
     format!(in alloc; "  line {first} has a verdict for this attempt\n")
 }
 
-// The number at the start of a line of a script.
+// Returns the number at the start of a line of a script.
 fn attempt_of(line: &str) -> Option<u32> {
     let (number, _) = line.split_once(' ')?;
     number.parse().ok()

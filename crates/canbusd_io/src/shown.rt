@@ -2,10 +2,10 @@ ghost use Rattle.std.specs.Prelude.{◌≡◌, ◌&&◌, if◌then◌else◌, na
 
 use std::fmt;
 
-/// The number of bytes of a line or a name that are shown.
+/// The largest number of bytes that are shown of a line or a name.
 const MOST_SHOWN: usize = 72;
 
-/// Bytes as they may go to a terminal: a byte that is no printable ASCII is shown as `?`.
+/// Bytes in a form that is safe for a terminal. A byte that is not printable ASCII is shown as `?`.
 #[derive(Clone, Copy)]
 pub struct Shown<'a> {
     bytes: &'a [u8],
@@ -13,7 +13,7 @@ pub struct Shown<'a> {
 }
 
 impl<'a> Shown<'a> {
-    /// All of a text.
+    /// Shows a whole text.
     pub fn whole(text: &'a str) -> Shown<'a> {
         Shown {
             bytes: text.as_bytes(),
@@ -21,7 +21,7 @@ impl<'a> Shown<'a> {
         }
     }
 
-    /// The first 72 bytes, and `..` if there are more.
+    /// Shows the first 72 bytes, and `..` if there are more.
     pub fn cut(bytes: &'a [u8]) -> Shown<'a> {
         let len = bytes.len().min(MOST_SHOWN);
         Shown {
@@ -43,7 +43,7 @@ impl fmt::Display for Shown<'_> {
     }
 }
 
-// The character of a byte from the space to `~`; of any other it is `?`.
+// Returns the character of a byte from the space to `~`, and `?` for any other byte.
 fn printable(byte: u8) -> char
     ensures { result ≡ (if nat_le 32 byte && nat_le byte 126 then byte else 63) }
 {
@@ -54,7 +54,7 @@ fn printable(byte: u8) -> char
     }
 }
 
-/// A line and its place, as `FILE:NUMBER: TEXT`.
+/// A line and its position, shown as `FILE:NUMBER: TEXT`.
 #[derive(Clone, Copy)]
 pub struct SourceLine<'a> {
     file: &'a str,
@@ -63,7 +63,7 @@ pub struct SourceLine<'a> {
 }
 
 impl<'a> SourceLine<'a> {
-    /// The line of this number, from 1, of a file, as errors show it.
+    /// Returns the line with this number, counted from 1, of a file. It is shown in errors.
     pub fn new(file: &'a str, number: u64, text: &'a [u8]) -> SourceLine<'a> {
         SourceLine { file, number, text }
     }

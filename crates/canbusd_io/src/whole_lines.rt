@@ -1,25 +1,25 @@
-//! A writer that counts the whole lines that went out, for a file that is cut to them after a fault.
+//! A writer that counts the complete lines written, so that a file can be cut after its last complete line if there is a fault.
 ghost use Rattle.std.specs.Prelude.{◌≡◌};
 
 use can_frame::count_of;
 use std::io;
 use std::io::{Error, Write};
 
-/// A writer, and the number of whole lines that it took.
+/// A writer and the number of complete lines that it has accepted.
 #[derive(Drop)]
 pub struct WholeLines<F: Write + Drop> {
     pub inner: F,
-    /// The number of lines that it took to their ends, and of their bytes.
+    /// The number of complete lines written, and the number of their bytes.
     pub lines: u64,
     pub bytes: u64,
-    /// The number of bytes that it took after the last of them.
+    /// The number of bytes written after the last complete line.
     pub torn: u64,
-    /// The fault of its last write, if there was one.
+    /// The error of the last write that failed, if there was one.
     pub why: Option<Error>,
 }
 
 impl<F: Write + Drop> WholeLines<F> {
-    /// A writer that took nothing yet.
+    /// Returns a writer that has accepted nothing yet.
     pub fn new(inner: F) -> WholeLines<F>
         ensures { result.inner ≡ inner }
     {
@@ -32,7 +32,7 @@ impl<F: Write + Drop> WholeLines<F> {
         }
     }
 
-    // It took these bytes.
+    // Counts these bytes, which the writer has accepted.
     fn count(&mut self, taken: &[u8])
         ensures { self.new.inner ≡ self.old.inner }
     {

@@ -1,4 +1,4 @@
-//! The words of audit.
+//! The options and arguments of `canbusd audit`.
 ghost use Rattle.std.specs.Prelude.{◌≡◌, codes, false, map, IfErr, IfOk};
 ghost use Rattle.clap.specs.Words.{app_of, kind_of, rule_of};
 ghost use Rattle.clap.specs.declared.error.kind.ErrorKind.TheVariants.{ValueValidation};
@@ -22,32 +22,32 @@ const FAULTS: &str = "faults";
 
 const FILE: &str = "FILE";
 
-/// The words of `canbusd audit`.
+/// The command line of `canbusd audit`.
 #[derive(Debug, Drop)]
 pub struct AuditOptions<'a> {
-    /// The paths of the files that have the text of a record, one after another.
+    /// The paths of the files whose joined contents are the text of a record.
     pub files: Vec<&'a str>,
-    /// Whether the text may be cut off.
+    /// Whether the text may end before the record does.
     pub is_cut: bool,
     /// The output of the audit.
     pub output: AuditOutput<'a>,
 }
 
-/// The output of an audit of a legal record.
+/// The output after an audit of a legal record.
 #[derive(Debug, Clone, Copy)]
 pub enum AuditOutput<'a> {
-    /// How many entries it has.
+    /// The number of entries in the record.
     Count,
-    /// The events that the entries brought about.
+    /// The events that resulted from the entries.
     Events(EventsAsked<'a>),
 }
 
-/// The bit rates and the faults of a run, by which the lines of its attempts have more fields.
+/// The bit rates and the faults of a run. If they are given, the lines of attempts have more fields.
 #[derive(Debug, Clone, Copy)]
 pub struct EventsAsked<'a> {
-    /// The bit rates of the bus, if they are given. They give the time of each attempt on the wire.
+    /// The bit rates of the bus, if they are given. They determine when each attempt was on the wire.
     pub timing: Option<Timing>,
-    /// The faults that the bus had, if they are given. They give the rule that each verdict came from.
+    /// The faults that the bus had, if they are given. They show which rule gave each verdict.
     pub faults: Option<FaultsWord<'a>>,
 }
 
@@ -64,7 +64,7 @@ pub fn audit_options<'a>(alloc: Global, audit: &ArgMatches<'a>) -> Result<AuditO
     })
 }
 
-// The output that the words ask for.
+// Returns the output that the command line asks for.
 fn output_given<'a>(alloc: Global, audit: &ArgMatches<'a>) -> Result<AuditOutput<'a>, Error>
     ensures given { IfOk result (λ output. IsOutput (rows_in audit.now) output) }
     ensures taken { IfErr result (λ e. GiveOutput (rows_in audit.now) → IsNoMemory e) }
@@ -84,7 +84,8 @@ fn output_given<'a>(alloc: Global, audit: &ArgMatches<'a>) -> Result<AuditOutput
     Ok(AuditOutput::Count)
 }
 
-// The bit rates of the bus, if they are given: a record has no names, so its names are those of the faults.
+// Returns the bit rates of the bus, if they are given. A record contains no names, so the names of the bus are taken from
+// `--faults`.
 #[tactic(auto, using(crate::proofs::Rules::text_in_rows))]
 fn audit_timing(alloc: Global, audit: &ArgMatches<'_>) -> Result<Option<Timing>, Error>
     ensures given { IfOk result (λ timing. IsAuditTimed (rows_in audit.now) timing) }
@@ -100,7 +101,7 @@ fn audit_timing(alloc: Global, audit: &ArgMatches<'_>) -> Result<Option<Timing>,
     }
 }
 
-// The faults that the bus had, if they are given.
+// Returns the faults that the bus had, if they are given.
 #[tactic(auto, using(crate::proofs::Rules::text_in_rows))]
 fn faults_given<'a>(alloc: Global, audit: &ArgMatches<'a>) -> Result<Option<FaultsWord<'a>>, Error>
     ensures given { IfOk result (λ faults. AreFaults (rows_in audit.now) faults) }
@@ -116,7 +117,7 @@ fn faults_given<'a>(alloc: Global, audit: &ArgMatches<'a>) -> Result<Option<Faul
     }
 }
 
-// The fault of names without a file.
+// Returns the error for a `--faults` value that has names but no file.
 fn no_file_error(alloc: Global, word: &str) -> Result<Error, AllocError>
     ensures { IfOk result (λ e. kind_of e ≡ ValueValidation) }
 {

@@ -1,4 +1,4 @@
-//! The words of bench.
+//! The options and arguments of `canbusd bench`.
 ghost use Rattle.std.specs.Prelude.{◌≡◌, ◌↔◌, codes, false, IfErr, IfOk, IsTrue};
 ghost use Rattle.clap.specs.Words.{app_of, rule_of};
 ghost use Rattle.canbusd_options.specs.BusWords.{path_of};
@@ -25,20 +25,20 @@ const STRICT: &str = "strict";
 
 const SHOW_FAULTS: &str = "show-faults";
 
-/// The words of `canbusd bench`.
+/// The command line of `canbusd bench`.
 #[derive(Debug, Clone, Copy)]
 pub struct BenchOptions<'a> {
     pub settings: BusSettings,
     pub bus: BusWord<'a>,
     /// The bit rates of the bus, if it has any.
     pub timing: Option<Timing>,
-    /// The path of the file that gets the record, if it is wanted.
+    /// The path of the file for the record, if a record is wanted.
     pub record: Option<&'a str>,
-    /// The path of the file that gets the log, if it is wanted.
+    /// The path of the file for the log, if a log is wanted.
     pub log: Option<&'a str>,
-    /// Whether a message that is refused is a fault of the run.
+    /// Whether a refused message counts as a fault of the run.
     pub is_strict: bool,
-    /// Whether the lines of attempts have their faults, and the rules that gave them.
+    /// Whether the lines of attempts show the faults and the rules that gave them.
     pub shows_faults: bool,
 }
 
@@ -72,7 +72,8 @@ pub fn bench_options<'a>(alloc: Global, bench: &ArgMatches<'a>) -> Result<BenchO
     })
 }
 
-// Whether both are given and name the same file, up to `.` and doubled slashes. Links are not followed.
+// Returns whether both paths are given and name the same file. `.` and doubled slashes make no difference, and links are not
+// followed.
 fn are_one_file(record: Option<&str>, log: Option<&str>) -> bool
     ensures { IsTrue result ↔ AreOneFile (path_of «record».entry) (path_of log.entry) }
 {
@@ -82,7 +83,7 @@ fn are_one_file(record: Option<&str>, log: Option<&str>) -> bool
     }
 }
 
-// Whether two paths have the same steps: then each begins with the other.
+// Returns whether two paths have the same steps. They do exactly if each path begins with the other.
 #[tactic(auto, using(crate::proofs::Steps::both_begin, crate::proofs::Steps::begins))]
 fn have_same_steps(path: Path<'_>, other: Path<'_>) -> bool
     ensures { IsTrue result ↔ (components_of path.entry ≡ components_of other.entry) }
@@ -90,7 +91,7 @@ fn have_same_steps(path: Path<'_>, other: Path<'_>) -> bool
     path.starts_with(other) && other.starts_with(path)
 }
 
-// A path without the `.` that it may begin with.
+// Returns a path without a leading `.`.
 fn without_dot(path: &str) -> Path<'_>
     ensures { components_of result ≡ path_steps path.now }
 {

@@ -1,4 +1,4 @@
-//! The words for bit rates, which the commands share.
+//! The options for bit rates, which several commands share.
 ghost use Rattle.std.specs.Prelude.{◌≡◌, false, map, not, IfErr, IfOk, OnOk, Some};
 ghost use Rattle.std.specs.List.{find};
 ghost use Rattle.clap.specs.Words.{app_of, kind_of, rule_of};
@@ -28,8 +28,8 @@ const MOST_BITRATE: u32 = 1_000_000;
 
 const MOST_DBITRATE: u32 = 20_000_000;
 
-/// A word of an option for bit rates: `N`, for all buses that have none of their own, or `NAME=N`, for the bus that has
-/// an interface of this name.
+/// A value of an option for bit rates. `N` applies to all buses that have no value of their own, and `NAME=N` to the bus that has
+/// an interface with this name.
 #[derive(Debug, Clone, Copy)]
 struct RateWord<'a> {
     name: Option<&'a str>,
@@ -54,7 +54,7 @@ impl<'a> RateWord<'a> {
     }
 }
 
-// Whether a word is for the bus of these names, or, with no names, for all buses.
+// Returns whether a value is for the bus with these names or, if no names are given, for all buses.
 fn is_for(word: &str, bus: Option<&str>) -> bool
     ensures { result ≡ is_word_for (word_in bus.entry) word.now }
 {
@@ -65,7 +65,7 @@ fn is_for(word: &str, bus: Option<&str>) -> bool
     }
 }
 
-// Whether a word is for all buses, or for a bus of these words BUS.
+// Returns whether a value is for all buses or for one of these buses, which are given as BUS arguments.
 fn is_known(buses: &[&str], word: &str) -> bool
     ensures { result ≡ is_known_to (map (λ bus. bus.now) buses.now) word.now }
 {
@@ -75,7 +75,7 @@ fn is_known(buses: &[&str], word: &str) -> bool
             .any(|bus| is_for(word, Some(BusWord::read(bus).names)))
 }
 
-/// An option for bit rates, with the words that it was given.
+/// An option for bit rates with the values that were given for it.
 #[derive(Debug, Clone, Copy)]
 struct RateOption<'m, 'a> {
     verb: Subcommand,
@@ -84,7 +84,7 @@ struct RateOption<'m, 'a> {
 }
 
 impl<'m, 'a> RateOption<'m, 'a> {
-    // The number that it gives a bus: by the word for this bus, or else by the one for all.
+    // Returns the number that the option gives a bus: the value for this bus if there is one, otherwise the value for all buses.
     fn number_for(&self, bus: Option<&str>) -> Option<&'a str>
         ensures { word_in result
             ≡ number_of (word_in bus.entry) (map (λ word. word.now) self.now.words.now) }
@@ -100,7 +100,7 @@ impl<'m, 'a> RateOption<'m, 'a> {
         self.words.iter().copied().find(|word| is_for(word, bus))
     }
 
-    // Whether at most one of its words is for a bus.
+    // Returns whether at most one value of the option is for this bus.
     fn is_once(&self, bus: Option<&str>) -> bool
         ensures { result ≡ is_once_for (map (λ word. word.now) self.now.words.now)
             (word_in bus.entry) }
@@ -108,7 +108,7 @@ impl<'m, 'a> RateOption<'m, 'a> {
         self.words.iter().filter(|word| is_for(word, bus)).count() <= 1
     }
 
-    // A word for none of the buses of these words BUS.
+    // Returns a value that is for none of these buses, which are given as BUS arguments.
     fn unknown_word(&self, buses: &[&str]) -> Option<&'a str>
         ensures { word_in result
             ≡ find (λ word. not (is_known_to (map (λ bus. bus.now) buses.now) word))
@@ -120,7 +120,7 @@ impl<'m, 'a> RateOption<'m, 'a> {
             .find(|word| !is_known(buses, word))
     }
 
-    // A bus of these words BUS for which there are two words.
+    // Returns one of these buses, which are given as BUS arguments, that has two values.
     fn bus_with_two<'b>(&self, buses: &[&'b str]) -> Option<&'b str>
         ensures { word_in result ≡ find (λ bus. not (is_once_for
             (map (λ word. word.now) self.now.words.now) (Some (names_part bus))))
@@ -132,7 +132,8 @@ impl<'m, 'a> RateOption<'m, 'a> {
             .find(|bus| !self.is_once(Some(BusWord::read(bus).names)))
     }
 
-    // Refuses words that do not go with the buses of these words BUS: for none of them, or two for one.
+    // Refuses values that do not match these buses, which are given as BUS arguments. A value must be for at least one bus, and a
+    // bus may have only one value.
     fn check_buses(&self, alloc: Global, buses: &[&str]) -> Result<(), Error>
         ensures given { OnOk result (GoWithBuses (map (λ bus. bus.now) buses.now)
             (map (λ word. word.now) self.now.words.now)) }
@@ -152,7 +153,7 @@ impl<'m, 'a> RateOption<'m, 'a> {
         }
     }
 
-    // Refuses a word that writes no number within its limits.
+    // Refuses a value whose number is not valid or is out of range.
     fn check_numbers(&self, alloc: Global, most: u32) -> Result<(), Error>
         ensures given { OnOk result (AreRatesWithin most
             (map (λ word. word.now) self.now.words.now)) }
@@ -167,7 +168,7 @@ impl<'m, 'a> RateOption<'m, 'a> {
         Ok(())
     }
 
-    // The fault of a word with a name that no interface has.
+    // Returns the error for a value with a name that no interface has.
     fn unknown_error(&self, alloc: Global, word: &str) -> Result<Error, AllocError>
         ensures { IfOk result (λ e. kind_of e ≡ ValueValidation) }
     {
@@ -181,7 +182,7 @@ impl<'m, 'a> RateOption<'m, 'a> {
         self.verb.error(alloc, &message)
     }
 
-    // The fault of two words for a bus, or for all.
+    // Returns the error for two values for the same bus, or for all buses.
     fn twice_error(&self, alloc: Global, bus: &str) -> Result<Error, AllocError>
         ensures { IfOk result (λ e. kind_of e ≡ ValueValidation) }
     {
@@ -191,7 +192,7 @@ impl<'m, 'a> RateOption<'m, 'a> {
     }
 }
 
-/// The options for bit rates of a command line.
+/// The options for bit rates on a command line.
 #[derive(Debug, Clone, Copy)]
 pub struct GivenRates<'m, 'a> {
     bitrate: RateOption<'m, 'a>,
@@ -199,7 +200,7 @@ pub struct GivenRates<'m, 'a> {
 }
 
 impl<'m, 'a> GivenRates<'m, 'a> {
-    /// The words of these options, which go with the buses of these words BUS.
+    /// Reads these options. Their values must match these buses, which are given as BUS arguments.
     pub fn read(
         alloc: Global,
         verb: Subcommand,
@@ -228,8 +229,8 @@ impl<'m, 'a> GivenRates<'m, 'a> {
         Ok(GivenRates { bitrate, dbitrate })
     }
 
-    /// Returns the bit rates, if they are given, of the bus with these names, or of a bus whose names are not known. The
-    /// data bit rate is not slower.
+    /// Returns the bit rates of the bus with these names, if they are given. `bus` is `None` if the names of the bus are not known.
+    /// The data bit rate is at least the nominal bit rate.
     pub fn timing(&self, alloc: Global, bus: Option<&str>) -> Result<Option<Timing>, Error>
         ensures given { IfOk result (λ timing. HasRatesOf self.now (word_in bus.entry) timing) }
         ensures taken { IfErr result (λ e.
@@ -244,7 +245,7 @@ impl<'m, 'a> GivenRates<'m, 'a> {
         }
     }
 
-    /// Refuses numbers out of their limits, also those that no bus takes.
+    /// Refuses all numbers that are out of range, even if no bus uses them.
     pub fn check_numbers(&self, alloc: Global) -> Result<(), Error>
         ensures given { OnOk result (AreNumbersOf self.now) }
         ensures taken { IfErr result (λ e. AreNumbersOf self.now → IsNoMemory e) }
@@ -254,7 +255,7 @@ impl<'m, 'a> GivenRates<'m, 'a> {
         self.dbitrate.check_numbers(alloc, MOST_DBITRATE)
     }
 
-    // The fault of a bit rate for data without a nominal one.
+    // Returns the error for a data bit rate without a nominal bit rate.
     fn lone_error(&self, alloc: Global, bus: Option<&str>) -> Result<Error, AllocError>
         ensures { IfOk result (λ e. kind_of e ≡ ValueValidation) }
     {
@@ -269,7 +270,8 @@ impl<'m, 'a> GivenRates<'m, 'a> {
     }
 }
 
-/// Returns the bit rates of a bus, if they are given. It is a bus of these words BUS, or its names are not known.
+/// Returns the bit rates of a bus, if they are given. `buses` are the BUS arguments, and `bus` is `None` if the names of the bus
+/// are not known.
 pub fn timing_given(
     alloc: Global,
     verb: Subcommand,
@@ -289,7 +291,7 @@ pub fn timing_given(
     Ok(timing)
 }
 
-// The bit rates that texts write. Without a second text FD frames do not switch.
+// Returns the bit rates that these texts spell. If the second text is missing, FD frames do not switch to a faster bit rate.
 fn timing_of(
     alloc: Global,
     verb: Subcommand,
@@ -309,7 +311,7 @@ fn timing_of(
     Ok(Timing::new(nominal, Some(fast)).unwrap())
 }
 
-/// Adds the options for bit rates, with this help of the first one.
+/// Adds the options for bit rates to a command. `help` describes the first option.
 pub fn with_bit_rates<'a>(
     alloc: Global,
     command: Command<'a>,
@@ -322,7 +324,7 @@ pub fn with_bit_rates<'a>(
         .arg(rate_option(alloc, DBITRATE, "[NAME=]M", DBITRATE_HELP))
 }
 
-// An option that may be there for each bus.
+// Returns an option that may be given once for each bus.
 fn rate_option<'a>(alloc: Global, name: &'a str, value: &'a str, help: &'a str) -> Arg<'a>
     ensures rule { rule_of result ≡ several_rule name.entry.now }
     ensures local { result.global ≡ false }

@@ -1,4 +1,4 @@
-//! The words of bits.
+//! The options and arguments of `canbusd bits`.
 ghost use Rattle.std.specs.Prelude.{◌≡◌, codes, false, map, IfErr, IfNone, IfOk, IfSome};
 ghost use Rattle.can_frame.specs.Frames.{CanFrame};
 ghost use Rattle.clap.specs.Words.{app_of, kind_of, rule_of};
@@ -20,12 +20,12 @@ const FRAME: &str = "FRAME";
 
 const OTHER: &str = "OTHER";
 
-/// The words of `canbusd bits`.
+/// The command line of `canbusd bits`.
 #[derive(Debug, Drop)]
 pub struct BitsOptions {
     /// The frame whose bits are written.
     pub frame: Frame,
-    /// Frames that compete with it.
+    /// The frames that compete with `frame` in arbitration.
     pub others: Vec<Frame>,
     /// The bit rates of the bus, if they are given.
     pub timing: Option<Timing>,
@@ -44,7 +44,7 @@ pub fn bits_options(alloc: Global, bits: &ArgMatches<'_>) -> Result<BitsOptions,
     })
 }
 
-// The frames that texts spell.
+// Returns the frames that these texts spell.
 fn read_frames(alloc: Global, words: &[&str]) -> Result<Vec<Frame>, Error>
     ensures given { IfOk result (λ frames.
         AreFramesOf frames.items (map (λ word. word.now) words.now)) }
@@ -59,7 +59,7 @@ fn read_frames(alloc: Global, words: &[&str]) -> Result<Vec<Frame>, Error>
     Ok(frames)
 }
 
-// The frame that a text spells.
+// Returns the frame that a text spells.
 fn read_frame(alloc: Global, word: &str) -> Result<Frame, Error>
     ensures given { IfOk result (λ frame. IsFrameOf frame word.now) }
     ensures taken { IfErr result (λ e. GiveFrame word.now → IsNoMemory e) }
@@ -71,7 +71,7 @@ fn read_frame(alloc: Global, word: &str) -> Result<Frame, Error>
     }
 }
 
-// The frame that a text spells, if it does: it may spell nothing, or an error message frame.
+// Returns the frame that a text spells. Returns `None` if the text is not valid or spells an error message frame.
 fn frame_in(word: &str) -> Option<Frame>
     ensures some { IfSome result (λ frame. IsFrameOf frame word.now) }
     ensures none { IfNone result ((frame : CanFrame) → IsFrameOf frame word.now → ⊥) }
@@ -83,7 +83,7 @@ fn frame_in(word: &str) -> Option<Frame>
     }
 }
 
-// The fault of a text that spells no frame.
+// Returns the error for a text that does not spell a frame.
 fn frame_error(alloc: Global, word: &str) -> Result<Error, AllocError>
     ensures { IfOk result (λ e. kind_of e ≡ ValueValidation) }
 {

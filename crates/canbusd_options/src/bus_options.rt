@@ -1,4 +1,5 @@
-//! The options of a bus, which bench and serve share, and readers of an option's text, number or flag.
+//! The options of a bus, which `bench` and `serve` share. This file also has functions that read the text, the number or the flag
+//! of an option.
 ghost use Rattle.std.specs.Prelude.{◌≡◌, ◌↔◌, ◌≤◌, ◌^◌, codes, false, map, IfErr, IfNone, IfOk, IfSome, IsTrue};
 ghost use Rattle.std.specs.Str.Parse.{IsNumeral, digits_value};
 ghost use Rattle.clap.specs.Words.{app_of, kind_of, rule_of};
@@ -31,7 +32,7 @@ const RXQUEUE: &str = "rxqueue";
 
 pub const LIMIT: &str = "limit";
 
-/// The most events of a run that keeps its record, if no limit is given.
+/// The default for the largest number of events in a run that keeps its record.
 pub const USUAL_LIMIT: &str = "1000000";
 
 const AUTO_RESTART: &str = "auto-restart";
@@ -41,21 +42,22 @@ pub const BUS: &str = "BUS";
 /// The settings of a bus and of its sockets.
 #[derive(Debug, Clone, Copy)]
 pub struct BusSettings {
-    /// Whether frames are always acknowledged, or only by receivers.
+    /// Whether frames are always acknowledged or only by receivers.
     pub ack: AckMode,
     /// Whether each fault is reported to the sockets.
     pub is_reporting: bool,
-    /// How many frames an interface keeps to be sent.
+    /// The number of frames that the transmit queue of an interface holds.
     pub tx_capacity: u32,
-    /// How many items a socket keeps.
+    /// The number of items that the receive queue of a socket holds.
     pub rx_capacity: u32,
-    /// How many events the run has at most.
+    /// The largest number of events in the run.
     pub limit: u32,
-    /// How many attempts an interface stays bus off before it is restarted; 0: until a restart is asked for.
+    /// The number of attempts for which an interface stays bus off before it is restarted. If it is 0, the interface is restarted
+    /// only on request.
     pub auto_restart: u32,
 }
 
-/// The command whose words are read.
+/// The command whose command line is read.
 #[derive(Debug, Clone, Copy)]
 pub enum Subcommand {
     Bench,
@@ -65,7 +67,7 @@ pub enum Subcommand {
 }
 
 impl Subcommand {
-    /// A fault of the words of this command, with its usage.
+    /// Returns an error in the command line of this command, with the usage of the command.
     pub fn error(self, alloc: Global, message: &str) -> Result<Error, AllocError>
         ensures { IfOk result (λ e. kind_of e ≡ ValueValidation) }
     {
@@ -79,7 +81,7 @@ impl Subcommand {
     }
 }
 
-/// Returns the settings of a bus by the options of a command, with this limit if none is given.
+/// Returns the settings of a bus from the options of a command. `limit` is the default of `--limit`.
 pub fn settings_given(
     alloc: Global,
     verb: Subcommand,
@@ -117,7 +119,7 @@ fn ack_mode(alloc: Global, verb: Subcommand, matches: &ArgMatches<'_>) -> Result
     Err(verb.error(alloc, &message)?)
 }
 
-// The number that an option was given, in only decimal digits. Its limits are for the message.
+// Returns the value of an option, which must be a number of decimal digits only. `limits` is used in the error message.
 #[tactic(auto, using(crate::proofs::Rules::text_in_rows))]
 fn number_given(
     alloc: Global,
@@ -139,7 +141,7 @@ fn number_given(
     )
 }
 
-// The limit that was given, or else this one.
+// Returns the value of `--limit`, or the default if the option was not given.
 #[tactic(auto, using(crate::proofs::Rules::text_in_rows))]
 fn limit_given(
     alloc: Global,
@@ -157,7 +159,7 @@ fn limit_given(
     number_of(alloc, verb, LIMIT, text, "1 to 16777216")
 }
 
-// The number that a text writes, in only decimal digits, which an option was given.
+// Returns the number that the value of an option spells. The value must have decimal digits only.
 fn number_of(
     alloc: Global,
     verb: Subcommand,
@@ -175,7 +177,7 @@ fn number_of(
     }
 }
 
-/// The number that an option was given, in only decimal digits, within limits.
+/// Returns the value of an option, which must be a number of decimal digits only from `least` to `most`.
 #[tactic(auto, using(crate::proofs::Rules::text_in_rows))]
 pub fn number_within(
     alloc: Global,
@@ -196,7 +198,7 @@ pub fn number_within(
     text_within(alloc, verb, option, text, least, most)
 }
 
-/// The number that a text writes, in only decimal digits and within limits, which an option was given.
+/// Returns the number that the value of an option spells. The value must have decimal digits only and be from `least` to `most`.
 pub fn text_within(
     alloc: Global,
     verb: Subcommand,
@@ -220,7 +222,7 @@ pub fn text_within(
     }
 }
 
-// The fault of an option whose text is no number within limits.
+// Returns the error for an option whose value is not a number in the allowed range.
 fn number_error(
     alloc: Global,
     verb: Subcommand,
@@ -236,7 +238,7 @@ fn number_error(
     verb.error(alloc, &message)
 }
 
-// The number that a text of only decimal digits writes.
+// Returns the number that a text of decimal digits spells.
 fn number_in(text: &str) -> Option<u32>
     ensures some { IfSome result (λ n. IsNumberOfText n text.now) }
     ensures none { IfNone result (IsNumeral 10 text.now → 2 ^ 32 ≤ digits_value 10 text.now) }
@@ -247,7 +249,7 @@ fn number_in(text: &str) -> Option<u32>
     text.parse().ok()
 }
 
-/// Whether the flag of this name is among the words.
+/// Returns whether this flag was given.
 #[tactic(auto, using(crate::proofs::Rules::text_in_rows))]
 pub fn is_on(matches: &ArgMatches<'_>, flag: &str) -> bool
     ensures { IsTrue result ↔ (value_of (rows_in matches.now) flag.now ≡ codes "true") }
@@ -255,14 +257,14 @@ pub fn is_on(matches: &ArgMatches<'_>, flag: &str) -> bool
     matches.get_str(flag).unwrap_or("") == "true"
 }
 
-/// The texts that an option was given, which may be there several times.
+/// Returns all values of an option that may be given several times.
 pub fn words_given<'m, 'a>(matches: &'m ArgMatches<'a>, option: &str) -> &'m [&'a str]
     ensures { map (λ word. word.now) result.now ≡ words_of (rows_in matches.now) option.now }
 {
     matches.get_strs(option).unwrap_or_default()
 }
 
-/// Adds the options of a bus.
+/// Adds the options of a bus to a command.
 pub fn with_bus_options<'a>(alloc: Global, command: Command<'a>) -> Result<Command<'a>, AllocError>
     ensures { IfOk result (λ c. app_of c ≡ with_bus_rules (app_of command.entry)) }
 {
@@ -305,7 +307,7 @@ fn report_option<'a>(alloc: Global) -> Arg<'a>
         .help("Make error message frames of each fault too, not only of changes of state")
 }
 
-/// An option with a number.
+/// Returns an option whose value is a number, with a default.
 pub fn number_option<'a>(
     alloc: Global,
     name: &'a str,
@@ -323,7 +325,7 @@ pub fn number_option<'a>(
         .help(help)
 }
 
-/// An option without a default.
+/// Returns an option without a default.
 pub fn free_option<'a>(alloc: Global, name: &'a str, value: &'a str, help: &'a str) -> Arg<'a>
     ensures rule { rule_of result ≡ option_rule name.entry.now }
     ensures local { result.global ≡ false }
@@ -334,7 +336,7 @@ pub fn free_option<'a>(alloc: Global, name: &'a str, value: &'a str, help: &'a s
         .help(help)
 }
 
-/// The last word of bench, and each of the last words of serve.
+/// Returns the argument BUS, which comes last in `bench` and is repeated at the end of `serve`.
 pub fn bus_argument<'a>(alloc: Global) -> Arg<'a>
     ensures rule { rule_of result ≡ word_rule (codes "BUS") }
     ensures local { result.global ≡ false }

@@ -1,4 +1,4 @@
-//! The job that a command line asks for.
+//! Reads the command line and returns the job that it asks for.
 ghost use Rattle.std.specs.Prelude.{◌≡◌, map, string_bytes, IfErr, IfOk};
 ghost use Rattle.clap.specs.Words.{app_of, fault_of};
 ghost use Rattle.canbusd_options.specs.Help.{AskHelp, IsOfKinds, IsNoMemory, ShowsHelp};
@@ -16,18 +16,18 @@ use std::alloc::{AllocError, Global};
 /// The job that a command line asks for.
 #[derive(Debug, Drop)]
 pub enum Job<'a> {
-    /// To carry out the lines of the input.
+    /// Carry out the lines of the input.
     Bench(BenchOptions<'a>),
-    /// To serve clients.
+    /// Serve clients.
     Serve(ServeOptions<'a>),
-    /// To audit a record.
+    /// Audit a record.
     Audit(AuditOptions<'a>),
-    /// To write the bits of a frame.
+    /// Write the bits of a frame.
     Bits(BitsOptions),
 }
 
-/// Returns the job that the words of a command line ask for; the first word is the program's name. An error is a
-/// fault of the words, a request for help or the version, or no memory.
+/// Returns the job that the words of a command line ask for. The first word is the program's name. An error is a fault of the
+/// command line, a request for help or the version, or a lack of memory.
 pub fn read_options<'a>(alloc: Global, words: &'a [String]) -> Result<Job<'a>, Error>
     ensures asked { IfOk result (λ job. IsAsked (map string_bytes words.now) job) }
     ensures taken { IfErr result (λ e. AskJob (map string_bytes words.now) → IsNoMemory e) }

@@ -1,8 +1,8 @@
-//! The words of the command line of canbusd: its commands, their options and their help.
+//! The command line of canbusd: its commands, their options and their help.
 //!
-//! `read_options` reads the words: the job that it returns is the one that they ask for, by the arguments and defaults of
-//! specs/Program and clap's definition of how words are read. A misspelt name of an option is refused by that proof. Words
-//! that ask for a job are refused only for want of memory.
+//! `read_options` reads the words of the command line. It is proved that the job that it returns is the one that the words ask for,
+//! by the arguments and defaults of specs/Program and by clap's definition of how words are read. By this proof, a misspelt name of
+//! an option is refused. Words that ask for a job are refused only if there is not enough memory.
 #![tactic(auto)]
 
 mod audit_options;

@@ -1,4 +1,4 @@
-//! When a server writes its records, and the options that go with it.
+//! Reads when a server writes its records, and checks the options that depend on this.
 ghost use Rattle.std.specs.Prelude.{◌≡◌, ◌↔◌, codes, IfErr, IfNone, IfOk, IfSome, IsNone};
 ghost use Rattle.canbusd_options.specs.Help.{IsNoMemory, RefusesValue};
 ghost use Rattle.canbusd_options.specs.Options.{CanRecord, GoWith, IsRecording, value_of, most_sessions, recording_text, rows_in, server_limit, usual_sessions};
@@ -16,22 +16,22 @@ const LIVE: &str = "live";
 
 const NONE: &str = "none";
 
-/// The most events of a long run.
+/// The default for the largest number of events in a long run.
 const LONG_LIMIT: &str = "4294967294";
 
-/// When the records of a server's buses are written.
+/// The time at which the records of a server's buses are written.
 #[derive(Debug, Clone, Copy, PartialEq, Eq)]
 pub enum Recording {
-    /// At the end, with the logs. Until then they are in memory.
+    /// At the end, together with the logs. Until then the records are kept in memory.
     AtEnd,
-    /// While the server runs, with the logs.
+    /// While the server runs, together with the logs.
     Live,
-    /// Never. Logs are written while it runs.
+    /// Never. Logs are written while the server runs.
     Never,
 }
 
 impl Recording {
-    /// Reads a word: `end`, `live` or `none`.
+    /// Reads the value of `--record`: `end`, `live` or `none`.
     fn read(text: &str) -> Option<Recording>
         ensures some { IfSome result (λ r. text.now ≡ recording_text r) }
         ensures none { IfNone result (¬ (IsRecording text.now)) }
@@ -48,7 +48,7 @@ impl Recording {
         None
     }
 
-    /// The limit of each bus, if none is given.
+    /// Returns the default of `--limit`, which applies to each bus.
     pub fn limit(self) -> &'static str
         ensures { result.now ≡ server_limit self }
     {
@@ -58,7 +58,7 @@ impl Recording {
         }
     }
 
-    /// How many sessions a server has, if the number is not given.
+    /// Returns the default number of sessions of a server.
     pub fn usual_sessions(self) -> &'static str
         ensures { result.now ≡ usual_sessions self }
     {
@@ -68,7 +68,7 @@ impl Recording {
         }
     }
 
-    /// The most sessions of a server.
+    /// Returns the largest number of sessions that a server may have.
     pub fn most_sessions(self) -> u32
         ensures { result ≡ most_sessions self }
     {
@@ -78,7 +78,7 @@ impl Recording {
         }
     }
 
-    /// Returns why the options do not go with it, if they do not.
+    /// Returns a message if other options are not allowed with this value, or `None` if they are.
     fn clash(self, serve: &ArgMatches<'_>) -> Option<&'static str>
         ensures { IsNone result ↔ GoWith self (rows_in serve.now) }
     {
@@ -90,7 +90,7 @@ impl Recording {
     }
 }
 
-/// Returns when records are written, or a fault of the words if another option does not go with that.
+/// Returns when records are written. It is an error if another option is not allowed with this value.
 #[tactic(auto, using(crate::proofs::Rules::text_in_rows))]
 pub fn recording_given(alloc: Global, serve: &ArgMatches<'_>) -> Result<Recording, Error>
     ensures given { IfOk result (λ r.

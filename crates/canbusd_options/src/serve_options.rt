@@ -1,4 +1,4 @@
-//! The words of serve.
+//! The options and arguments of `canbusd serve`.
 ghost use Rattle.std.specs.Prelude.{◌≡◌, ◌≤◌, codes, false, is_some, map, All, IfErr, IfOk, Some};
 ghost use Rattle.std.specs.List.{AllZip, list_any};
 ghost use Rattle.clap.specs.Words.{app_of, rule_of};
@@ -47,44 +47,45 @@ const LEAST_WRITE: u32 = 256;
 
 const MOST_WRITE: u32 = 65_536;
 
-/// The words of `canbusd serve`.
+/// The command line of `canbusd serve`.
 #[derive(Debug, Drop)]
 pub struct ServeOptions<'a> {
     pub settings: BusSettings,
     pub buses: Vec<BusWord<'a>>,
-    /// The bit rates of each bus, in their order, if it has any.
+    /// The bit rates of each bus, in the order of the buses. A bus without bit rates has `None`.
     pub timings: Vec<Option<Timing>>,
-    /// The address at which it listens: a Unix path if it begins with `/` or `.`, else host and port.
+    /// The address at which the server listens. It is a Unix path if it begins with `/` or `.`, and otherwise a host and a port.
     pub address: &'a str,
-    /// How many sessions it serves: 1 to 4,000, in long runs to 4,294,967,295; the most if the number is not given.
+    /// The number of sessions that the server accepts, from 1 to 4,000, or to 4,294,967,295 in long runs. The default is the
+    /// largest number.
     pub sessions: u32,
-    /// How many milliseconds pass after each attempt of a bus without bit rates, at most 60,000.
+    /// The pause in milliseconds after each attempt of a bus without bit rates, at most 60,000.
     pub pace_ms: u32,
-    /// The most bytes of frames that a client gets in one write, 256 to 65,536.
+    /// The largest number of bytes of frames in one write to a client, from 256 to 65,536.
     pub write_bytes: u32,
-    /// The folder that gets logs and records, if they are wanted.
+    /// The folder for logs and records, if they are wanted.
     pub folder: Option<&'a str>,
     /// When records are written.
     pub recording: Recording,
-    /// How many milliseconds live text may wait before it goes to its file, at most 60,000.
+    /// The largest time in milliseconds for which live text waits before it is written to its file, at most 60,000.
     pub flush_ms: u32,
-    /// Whether each such write waits until the disk has the text.
+    /// Whether each write of live text waits until the text is on the disk.
     pub is_synced: bool,
     /// Whether the end of standard input ends the run.
     pub is_until_eof: bool,
-    /// Whether sessions and changes of the buses are reported while they happen.
+    /// Whether sessions and changes of the buses are reported while the server runs.
     pub is_verbose: bool,
 }
 
 impl ServeOptions<'_> {
-    /// The bit rates of the bus at a place, if it has any.
+    /// Returns the bit rates of the bus at this index, if it has any.
     pub fn timing_at(&self, place: usize) -> Option<Timing>
         ensures { result ≡ timing_at self.now.timings.items place }
     {
         *self.timings.get(place)?
     }
 
-    /// Whether a bus has bit rates.
+    /// Returns whether any bus has bit rates.
     pub fn has_timings(&self) -> bool
         ensures { result ≡ list_any is_some self.now.timings.items }
     {
@@ -124,7 +125,7 @@ pub fn serve_options<'a>(alloc: Global, serve: &ArgMatches<'a>) -> Result<ServeO
     })
 }
 
-// How many sessions the server serves.
+// Returns the number of sessions that the server accepts.
 #[tactic(auto, using(crate::proofs::Rules::text_in_rows))]
 fn sessions_given(
     alloc: Global,
@@ -145,7 +146,7 @@ fn sessions_given(
     text_within(alloc, Subcommand::Serve, SESSIONS, text, 1, most)
 }
 
-// How many milliseconds live text may wait.
+// Returns the largest time in milliseconds for which live text may wait.
 #[tactic(auto, using(crate::proofs::Rules::text_in_rows))]
 fn flush_given(alloc: Global, serve: &ArgMatches<'_>) -> Result<u32, Error>
     ensures number { IfOk result (λ n.
@@ -160,7 +161,7 @@ fn flush_given(alloc: Global, serve: &ArgMatches<'_>) -> Result<u32, Error>
     text_within(alloc, Subcommand::Serve, FLUSH, text, 0, MOST_FLUSH)
 }
 
-// The bit rates of the buses of these words.
+// Returns the bit rates of the buses, which are given as BUS arguments.
 fn timings_given(
     alloc: Global,
     serve: &ArgMatches<'_>,

@@ -3,7 +3,7 @@ use canbusd_io::limits_note;
 use canbusd_options::{BusWord, Recording, ServeOptions, has_name};
 use std::alloc::{AllocError, Global};
 
-/// Returns why no server can have these buses.
+/// Returns a note that says why no server can have these buses.
 pub fn buses_note(alloc: Global, options: &ServeOptions<'_>) -> Result<String, AllocError> {
     let buses = options.buses.as_slice();
     let count = buses.len();
@@ -16,7 +16,7 @@ pub fn buses_note(alloc: Global, options: &ServeOptions<'_>) -> Result<String, A
     }
 }
 
-// The highest limit of a bus.
+// Returns the largest value of `--limit` for this kind of recording.
 fn most_limit(recording: Recording) -> u32 {
     match recording {
         Recording::AtEnd => MAX_LIMIT,
@@ -24,7 +24,7 @@ fn most_limit(recording: Recording) -> u32 {
     }
 }
 
-// A name that is on two buses, none of which has it twice.
+// Returns a name that two buses have. A name that only one bus has twice does not count.
 fn shared_name<'a>(buses: &[BusWord<'a>]) -> Option<&'a str> {
     buses.iter().flat_map(|bus| bus.names.split(',')).find(|name| {
         buses.iter().filter(|bus| has_name(bus.names, name)).count() > 1

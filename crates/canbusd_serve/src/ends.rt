@@ -1,4 +1,4 @@
-//! The rest of a server's buses at its end.
+//! The number of entries of each bus at the end of a server.
 ghost use Rattle.std.specs.Prelude.{◌≡◌, OnOk};
 ghost use Rattle.canbusd_io.specs.Files.{Took};
 ghost use Rattle.canbusd_serve.specs.Served.{bus_end_line, end_lines, journals};
@@ -11,11 +11,11 @@ use canbusd_options::BusWord;
 use std::alloc::Global;
 use std::io::Write;
 
-/// The rest of a bus, which had a number of entries.
+/// The end of a bus, with the number of its entries.
 pub trait Ended: Leaves {
     ghost use Rattle.std.specs.Prelude.{◌≡◌, length};
 
-    /// Returns how many entries it had.
+    /// Returns the number of entries that the bus had.
     fn count(&self) -> u64
         ensures { result ≡ length (Self.journal self.now).history };
 }
@@ -32,7 +32,7 @@ impl Ended for LongEnd {
     }
 }
 
-/// Puts out how many entries each bus had.
+/// Writes the number of entries of each bus to the output.
 pub fn put_ends<'a, L: Ended, W: Write>(
     alloc: Global,
     buses: &[BusWord<'_>],

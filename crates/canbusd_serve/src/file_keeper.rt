@@ -1,4 +1,4 @@
-//! The destination of the entries of a long run: the files of its bus, while it is served.
+//! Writes the entries of a long run to the files of its bus while the server runs.
 ghost use Rattle.std.specs.Prelude.{◌≡◌, ◌++◌, [], All};
 ghost use Rattle.can_server.specs.Keeping.{AreLegalLast};
 ghost use Rattle.can_record_text.specs.inner.StoredLines.{HasFittingReply};
@@ -18,14 +18,13 @@ use std::sync::Wait;
 use std::time::Instant;
 use std::{io, time};
 
-/// The most seconds that a write may take before a report that the bus waits for the file.
+/// The time in seconds after which a slow write is reported: the bus waits for the file.
 const PATIENCE: u64 = 1;
 
-/// The least number of seconds between two such reports.
+/// The smallest time in seconds between two reports of slow writes.
 const PAUSE: u64 = 60;
 
-/// The files of a bus, which have the lines of the entries that they were given, as far as they are not over. Contracts see
-/// these entries.
+/// The files of a bus. Each file without a fault contains the lines of all entries that it was given. Contracts see these entries.
 #[derive(Drop)]
 pub struct KeptFiles<F: Write + OpenFile + Drop> {
     files: LiveFiles<F>,
@@ -45,7 +44,7 @@ impl<F: Write + OpenFile + Drop> Model for KeptFiles<F> {
 }
 
 impl<F: Write + OpenFile + Drop> KeptFiles<F> {
-    /// Files that were given nothing.
+    /// Returns files that were given no entries yet.
     pub fn new(files: LiveFiles<F>) -> KeptFiles<F>
         requires { HaveLines F.contents [] files }
         ensures { result ≡ [] }
@@ -65,15 +64,15 @@ impl<F: Write + OpenFile + Drop> KeptFiles<F> {
     }
 }
 
-/// Writes the entries of a bus to its files.
+/// Writes the entries of a bus to the files of the bus.
 #[derive(Drop)]
 pub struct FileKeeper<'o, 'h, 'a, 'l, F: Write + OpenFile + Drop, H, E: Write> {
     pub host: &'o Host<'h, 'a, 'l, H, E>,
     pub bus: usize,
     pub kept: KeptFiles<F>,
-    /// The faults of the bus, if its record is wanted.
+    /// The faults of the bus, if the record of the bus is wanted.
     pub faults: Option<LiveFaults>,
-    /// The time of the last report that the bus waits for a file.
+    /// The time of the last report of a slow write.
     pub reported: Option<Instant>,
 }
 
@@ -81,7 +80,8 @@ impl<F: Write + OpenFile + Drop, H: Wait + time::Clock, E: Write> Keeper
     for FileKeeper<'_, '_, '_, '_, F, H, E> {
     ghost given = { λ keeper. keeper.kept };
 
-    // The lines of rules go first, so that a record that is read meanwhile has no entry before the rules that count for it.
+    // The lines about rules are written first. If the record is read in the meantime, it contains no entry that comes after rules
+    // that were not yet written.
     fn keep(&mut self, block: &Block) {
         keep_faults(self.host, &mut self.faults, &block.changes);
         keep_entries(
@@ -94,7 +94,7 @@ impl<F: Write + OpenFile + Drop, H: Wait + time::Clock, E: Write> Keeper
     }
 }
 
-// Writes entries to the files of a bus.
+// Writes entries to the record and the log of a bus.
 fn keep_entries<F: Write + OpenFile + Drop, H: Wait + time::Clock, E: Write>(
     host: &Host<'_, '_, '_, H, E>,
     bus: usize,
@@ -113,7 +113,7 @@ fn keep_entries<F: Write + OpenFile + Drop, H: Wait + time::Clock, E: Write>(
     kept.given.note(entries);
 }
 
-// Writes the lines about the rules of a bus, if they are wanted.
+// Writes the lines about the rules of a bus, if these are wanted.
 fn keep_faults<H: Wait + time::Clock, E: Write>(
     host: &Host<'_, '_, '_, H, E>,
     faults: &mut Option<LiveFaults>,
@@ -148,7 +148,7 @@ fn keep_record<F: Write + OpenFile + Drop, H: Wait + time::Clock, E: Write>(
     host.report(kept);
 }
 
-// Writes the lines of their tried frames to its log.
+// Writes the lines of the tried frames among the entries to the log of a bus.
 fn keep_log<F: Write + OpenFile + Drop, H: Wait + time::Clock, E: Write>(
     host: &Host<'_, '_, '_, H, E>,
     bus: usize,
@@ -171,8 +171,8 @@ fn keep_log<F: Write + OpenFile + Drop, H: Wait + time::Clock, E: Write>(
     host.report(kept);
 }
 
-// Returns whether a report is due that a write which began at this time took long. If so, the time
-// of the last report becomes now.
+// Returns whether the write that began at `begun` was slow and has to be reported. If so, the time of the last report is set to
+// now.
 fn is_late<R: time::Clock>(
     rt: &R,
     begun: io::Result<Instant>,

@@ -1,4 +1,4 @@
-//! The questions and reports of a server while it runs.
+//! The clock and the reports of a server while it runs.
 ghost use Rattle.std.specs.Prelude.{◌≡◌, ◌-◌, ◌^◌, ◌/◌, min};
 ghost use Rattle.std.specs.Duration.{as_nanos};
 
@@ -14,15 +14,14 @@ use std::sync::{Mutex, Wait};
 use std::time::Duration;
 use std::{io, time};
 
-/// The last moment, in microseconds.
+/// The latest moment that can be represented, in microseconds.
 const LAST: u128 = 9_999_999_999_999_999;
 
-/// The report of a bus whose record is nearly full.
+/// The report for a bus whose record is nearly full.
 const NEARLY_FULL: &str =
     "the record is nine tenths full; serve --record live or --record none has no such end";
 
-/// The start of a server with bit rates. Its moments go on from the start by a clock that cannot be
-/// set.
+/// The time at which a server with bit rates started. From then on, its moments come from a clock that cannot be set.
 #[derive(Debug, Clone, Copy)]
 pub struct Start {
     since_1970: Duration,
@@ -30,7 +29,7 @@ pub struct Start {
 }
 
 impl Start {
-    /// Now, by both clocks: `None` if one can't be read.
+    /// Returns the current time of both clocks, or `None` if a clock cannot be read.
     pub fn now<H: time::Clock>(rt: &H) -> Option<Start> {
         let since_1970 = rt.since_1970().ok()?;
         let monotonic = rt.monotonic().ok()?;
@@ -40,15 +39,15 @@ impl Start {
         })
     }
 
-    /// The time since 1970 when the steady clock has this time.
+    /// Returns the time since 1970 that corresponds to this time of the steady clock.
     fn since_1970(&self, monotonic: Duration) -> Duration {
         let passed = monotonic.saturating_sub(self.monotonic);
         self.since_1970.saturating_add(passed)
     }
 }
 
-/// The system's clock, and the output for reports: that a bus came to its end before the server,
-/// and all else if that is asked for.
+/// The system's clock and the output for reports. Problems of a bus, such as a full record or a late driver, are always reported.
+/// Other notices are reported only with `--verbose`.
 #[derive(Drop)]
 pub struct Host<'h, 'a, 'l, H, E: Write> {
     pub rt: &'h H,
@@ -57,12 +56,12 @@ pub struct Host<'h, 'a, 'l, H, E: Write> {
     pub errors: Mutex<&'h mut E>,
     /// Whether a bus has lost its driver.
     pub has_lost: &'l AtomicBool,
-    /// The start, if its buses have bit rates.
+    /// The time of the start, if any bus has bit rates.
     pub start: Option<Start>,
 }
 
 impl<H: Wait + time::Clock, E: Write> Clock for Host<'_, '_, '_, H, E> {
-    /// The time since 1970, as far as moments reach.
+    /// Returns the time since 1970. A later time than the latest moment is cut to that moment.
     fn now(&self) -> Moment {
         match self.since_1970() {
             Ok(since) => moment_of(since),
@@ -100,8 +99,8 @@ impl<H: Wait + time::Clock, E: Write> Clock for Host<'_, '_, '_, H, E> {
 }
 
 impl<'a, H: Wait + time::Clock, E: Write> Host<'_, 'a, '_, H, E> {
-    /// The time since 1970. With bit rates it is that of the steady clock after the start, so a
-    /// change of the system's clock does not disturb a bus.
+    /// Returns the time since 1970. If a bus has bit rates, it is computed with the steady clock from the start, so a change of the
+    /// system's clock does not disturb a bus.
     fn since_1970(&self) -> io::Result<Duration> {
         match &self.start {
             Some(start) => Ok(start.since_1970(self.rt.monotonic()?)),
@@ -109,7 +108,7 @@ impl<'a, H: Wait + time::Clock, E: Write> Host<'_, 'a, '_, H, E> {
         }
     }
 
-    /// Writes the line of a notice, if it has one.
+    /// Writes the line of a notice if `--verbose` was given.
     fn put_line(&self, notice: &Notice) {
         if !self.options.is_verbose {
             return;
@@ -121,7 +120,7 @@ impl<'a, H: Wait + time::Clock, E: Write> Host<'_, 'a, '_, H, E> {
         }
     }
 
-    /// Reports that a file is over, if it is.
+    /// Reports the fault of a file, if there is one.
     pub fn report(&self, kept: Result<(), Report<'_>>) {
         if let Err(failure) = kept {
             let mut errors = self.errors.lock(self.rt);
@@ -129,7 +128,7 @@ impl<'a, H: Wait + time::Clock, E: Write> Host<'_, 'a, '_, H, E> {
         }
     }
 
-    /// Reports that a bus waits for one of its files.
+    /// Reports that a bus is waiting for one of its files.
     pub fn note_wait(&self, bus: usize, path: &str) {
         let name = self.name_of(bus);
         let path = Shown::whole(path);
@@ -137,12 +136,12 @@ impl<'a, H: Wait + time::Clock, E: Write> Host<'_, 'a, '_, H, E> {
         let _ = writeln!(errors, "note: bus {name}: waits for {path}");
     }
 
-    /// The name by which a bus is called, empty if there is none.
+    /// Returns the name by which a bus is called, or an empty text if there is no such bus.
     pub fn name_of(&self, bus: usize) -> &'a str {
         first_name_at(&self.options.buses, bus)
     }
 
-    /// Writes the report of a bus: a note, or a fault if the status will be 1.
+    /// Writes a report about a bus. `kind` is a note, or a fault if the exit status will be 1.
     fn put(&self, kind: &str, bus: usize, what: &str) {
         let name = self.name_of(bus);
         let mut errors = self.errors.lock(self.rt);
@@ -150,7 +149,7 @@ impl<'a, H: Wait + time::Clock, E: Write> Host<'_, 'a, '_, H, E> {
     }
 }
 
-// The moment this long after 1970, or the last moment.
+// Returns the moment at this time after 1970, or the latest moment if the time is later.
 fn moment_of(since: Duration) -> Moment
     ensures { result ≡ min (as_nanos since / 1000) (10 ^ 16 - 1) }
 {

@@ -1,10 +1,10 @@
-//! `canbusd serve`: a server on the buses of its options, and the logs and records that it leaves.
+//! `canbusd serve`: a server for the buses in its options, and the logs and records that it writes.
 //!
-//! The server itself is can_server's. Three facts are proved. A server is made of the buses that its
-//! options describe. A server that ends well put out the number of entries of each bus's legal
-//! record; the files of each bus of a long run, as far as they are wanted, are there and have its
-//! whole history. A server that ends in a fault has a bus whose names or script are at fault, or
-//! cannot serve its buses, as `IsOfServer` lists. No contract knows how many items a socket holds.
+//! The server itself is that of can_server. Three facts are proved. First, a server consists of the buses that its options
+//! describe. Second, a server that ends without a fault has written the number of entries of each bus's legal record to its output.
+//! In a long run, the wanted files of each bus exist and contain its whole history. Third, if a server ends with a fault, the names
+//! or the script of a bus are wrong, or the server cannot serve its buses, as `IsOfServer` lists. No contract says how many items a
+//! socket holds.
 #![tactic(auto)]
 
 mod buses_notes;

@@ -13,20 +13,21 @@ use std::io::{Error, ErrorKind};
 use std::net::{Net, TcpListener, TcpStream};
 use std::rt::Files;
 
-/// The report if another program listens at the port.
+/// The note that is added if another program listens at the port.
 const FREE_PORT: &str = "  with port 0, as in --listen 127.0.0.1:0, the system picks a free one\n";
 
-/// An acceptor at the address of a server, and the text of its address.
+/// An acceptor at the address of a server, and the address as text.
 #[derive(Drop)]
 pub struct Listening {
     pub acceptors: [Acceptor; 1],
-    /// The address as it was given; if its port is 0, the address that the listener got.
+    /// The address as it was given. If its port is 0, this is the address that the system assigned.
     pub heard: String,
-    /// The socket's file, if the address is a Unix path.
+    /// The file of the socket, if the address is a Unix path.
     pub file: Option<SocketFile>,
 }
 
-/// Listens at an address, for this many sessions: a Unix path if it begins with `/` or `.`, else host and port.
+/// Listens at an address for this many sessions. The address is a Unix path if it begins with `/` or `.`, and otherwise a host and
+/// a port.
 pub fn listen<'a, H: Files<File = File> + Net<Listener = TcpListener, Stream = TcpStream>>(
     rt: &H,
     alloc: Global,
@@ -72,7 +73,7 @@ fn open<'a>(
     }
 }
 
-/// Returns why nobody can connect.
+/// Returns the report of an address at which the server cannot listen.
 pub fn listen_failure<'a>(alloc: Global, place: &str, error: &Error) -> Report<'a>
     ensures { result.error ≡ fault.CannotListen }
 {
@@ -87,7 +88,7 @@ pub fn listen_failure<'a>(alloc: Global, place: &str, error: &Error) -> Report<'
     failure
 }
 
-/// Removes the file that listening made.
+/// Removes the file of the socket, if there is one.
 pub fn leave<H: Files>(rt: &H, file: Option<SocketFile>) {
     if let Some(file) = file {
         file.remove(rt);
@@ -124,7 +125,7 @@ fn is_path(address: &str) -> bool {
     address.starts_with('/') || address.starts_with('.')
 }
 
-// Returns whether the port is left to the system.
+// Returns whether the system chooses the port.
 fn is_port_open(address: &str) -> bool
     ensures { IsTrue result → LeavesPort address.now }
 {

@@ -1,4 +1,4 @@
-//! The files that a server writes while it serves, if its runs are long.
+//! The files that a server writes during a long run.
 ghost use Rattle.std.specs.Prelude.{◌≡◌, ◌++◌, [], length, reverse, All, IfErr, IfOk, IsSome, IsTrue};
 ghost use Rattle.can_bus.specs.Long.{handed_entries};
 ghost use Rattle.can_record_text.specs.Spelling.{end_words, entry_lines, spell};
@@ -20,17 +20,17 @@ use std::fs::{File, OpenFile};
 use std::io::Write;
 use std::rt::Files;
 
-/// The files of a bus that are written while it is served, as far as they are wanted.
+/// The files of a bus that are written while the server runs. A file that is not wanted is `None`.
 #[derive(Drop)]
 pub struct LiveFiles<F: Write + OpenFile + Drop> {
     pub record: Option<LiveRecord<F>>,
     pub log: Option<LiveLog<F>>,
-    /// Whether one of them had a fault; without one none is over.
+    /// Whether any of the files had a fault. If this is false, all files still get lines.
     has_fault: bool,
 }
 
 impl<F: Write + OpenFile + Drop> LiveFiles<F> {
-    /// Writes the lines of entries to the record, if it is wanted.
+    /// Writes the lines of these entries to the record, if a record is wanted.
     pub fn keep_record(
         &mut self,
         alloc: Global,
@@ -52,8 +52,8 @@ impl<F: Write + OpenFile + Drop> LiveFiles<F> {
         kept
     }
 
-    /// Writes the lines of the last entries and the line of the end to the record, if it is wanted,
-    /// and gives it and its faults their names. There are this many entries then.
+    /// Writes the lines of the last entries and the end line to the record, if a record is wanted. Then it gives the record and its
+    /// faults their own names. `count` is the number of all entries.
     fn finish_record<H: Files>(
         &mut self,
         rt: &H,
@@ -78,7 +78,7 @@ impl<F: Write + OpenFile + Drop> LiveFiles<F> {
         kept
     }
 
-    /// Writes the lines of their tried frames to the log, which is called by this name, if it is wanted.
+    /// Writes the lines of the tried frames among these entries to the log, if a log is wanted. Reports call the log by `name`.
     pub fn keep_log<'a>(
         &mut self,
         alloc: Global,
@@ -99,7 +99,7 @@ impl<F: Write + OpenFile + Drop> LiveFiles<F> {
         kept
     }
 
-    /// Returns whether those that the options want are there, and had no fault.
+    /// Returns whether all files that the options ask for exist and had no fault.
     fn are_there(&self, options: &ServeOptions<'_>) -> bool
         ensures { IsTrue result → AreThere options.now self.now }
     {
@@ -116,11 +116,10 @@ impl<F: Write + OpenFile + Drop> LiveFiles<F> {
     }
 }
 
-/// The files of each bus that are written while it is served; their records have their first lines.
-/// The logs replace those of an earlier run only once all are there. If one can't be made the
-/// others are removed again.
+/// Creates the files of each bus that are written while the server runs, and writes the first lines of the records. The logs
+/// replace those of an earlier run only after all files were created. If a file cannot be created, the other files are removed.
 ///
-/// `CannotOpen`, with the folder, if it does not take one of the files.
+/// Returns `CannotOpen` with the folder if a file cannot be created there.
 pub fn open_all<'a, H: Files<File = File>>(
     rt: &H,
     alloc: Global,
@@ -152,7 +151,7 @@ pub fn open_all<'a, H: Files<File = File>>(
     }
 }
 
-// Gives the log of each bus its name.
+// Gives the log of each bus its own name.
 fn name_logs<'a, H: Files<File = File>>(
     rt: &H,
     alloc: Global,
@@ -175,7 +174,7 @@ fn name_logs<'a, H: Files<File = File>>(
     Ok(())
 }
 
-// Removes the files of a start that failed, except logs that already have their names.
+// Removes the files of a start that failed, except logs that already have their own names.
 fn remove_all<H: Files<File = File>>(rt: &H, all: &[LiveFiles<File>]) {
     for files in all {
         if let Some(record) = &files.record {
@@ -187,7 +186,7 @@ fn remove_all<H: Files<File = File>>(rt: &H, all: &[LiveFiles<File>]) {
     }
 }
 
-// The folder that gets files while its server runs.
+// Returns the folder for files that are written while the server runs.
 fn live_folder<'a>(options: &ServeOptions<'a>) -> Option<&'a str> {
     match options.recording {
         Recording::Live | Recording::Never => options.folder,
@@ -275,9 +274,9 @@ fn open_log<'a, H: Files<File = File>>(
     ))
 }
 
-/// Writes the missing lines of the files of each bus, and gives its record and the faults of it
-/// their names. Returns whether they are as the options want, without a fault, which ends only its
-/// file. The caller shows that they got the entries handed out of the history that the bus left.
+/// Writes the missing lines to the files of each bus, and gives the record and its faults their own names. Returns whether all
+/// wanted files exist and had no fault. A fault ends only its own file. The caller must show that the files got all entries that
+/// were taken from the history of the bus.
 pub fn finish_all<F: Write + OpenFile + Drop, H: Files, E: Write>(
     rt: &H,
     alloc: Global,
@@ -309,7 +308,7 @@ pub fn finish_all<F: Write + OpenFile + Drop, H: Files, E: Write>(
     finish_all(rt, alloc, options, buses, files, faults, settled, reporter) && are_there
 }
 
-// The faults of the first bus, if records are wanted, and those of the others.
+// Returns the faults of the first bus, if records are wanted, and the faults of the other buses.
 fn split_first(faults: &[LiveFaults]) -> (Option<&LiveFaults>, &[LiveFaults]) {
     match faults.split_first() {
         Some((first, others)) => (Some(first), others),
@@ -317,7 +316,7 @@ fn split_first(faults: &[LiveFaults]) -> (Option<&LiveFaults>, &[LiveFaults]) {
     }
 }
 
-// Now the record of the bus is the text of its whole history.
+// Completes the files of a bus. Its record is now the text of its whole history.
 fn finish<F: Write + OpenFile + Drop, H: Files, E: Write>(
     rt: &H,
     alloc: Global,

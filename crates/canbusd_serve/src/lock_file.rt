@@ -1,7 +1,7 @@
-//! Files that a server locks while it runs, so that no other server takes the files next to them.
+//! Files that a server locks while it runs, so that no other server uses the files next to them.
 //!
-//! A lock file has mode 0600, so that another user can't lock it, and is no link. A server removes
-//! it at its end; a server that was killed leaves it, unlocked, for the next one.
+//! A lock file has mode 0600, so that no other user can lock it, and it is not a symbolic link. A server removes its lock file at
+//! the end. A server that was killed leaves its lock file unlocked, and the next server can use it.
 
 use std::alloc::Global;
 use std::fs::{File, Metadata, TryLockError};
@@ -10,10 +10,10 @@ use std::os::unix::fs::{MetadataExt, OpenOptionsExt};
 use std::rt::Files;
 use std::{fs, io};
 
-/// How often a lock is tried, each time at a file that another server has just made or removed.
+/// The number of tries to lock a file. A server tries again if another server has just created or removed the file.
 const TRIES: u32 = 16;
 
-/// A file that is locked.
+/// A file that this server has locked.
 #[derive(Drop)]
 pub struct LockFile {
     path: String,
@@ -21,8 +21,8 @@ pub struct LockFile {
 }
 
 impl LockFile {
-    /// Makes the file at a path, or takes the one that is there, and locks it. `AddrInUse` if
-    /// another server has it, `InvalidInput` if a link is there.
+    /// Locks the file at a path. The file is created if it does not exist. Returns `AddrInUse` if another server has locked it, and
+    /// `InvalidInput` if it is a symbolic link.
     pub fn take<H: Files<File = File>>(rt: &H, alloc: Global, path: &str) -> io::Result<LockFile> {
         for _ in 0..TRIES {
             let Some(file) = open(rt, path)? else {
@@ -41,7 +41,7 @@ impl LockFile {
         Err(Error::from(ErrorKind::AddrInUse))
     }
 
-    /// Removes the file, unless something was written to it. It stays locked until it is dropped.
+    /// Removes the file, unless something was written into it. The file stays locked until it is dropped.
     pub fn remove<H: Files>(&self, rt: &H) {
         let Ok(found) = self.file.metadata() else {
             return;
@@ -52,8 +52,7 @@ impl LockFile {
     }
 }
 
-// The file at a path, which is made if there is none. `None` if it is there at one moment and not
-// at the next.
+// Opens the file at a path, or creates it. Returns `None` if the file was removed in the meantime.
 fn open<H: Files<File = File>>(rt: &H, path: &str) -> io::Result<Option<File>> {
     let made = File::options()
         .read(true)
@@ -67,7 +66,7 @@ fn open<H: Files<File = File>>(rt: &H, path: &str) -> io::Result<Option<File>> {
     }
 }
 
-// The file at a path, if it is no link.
+// Opens the existing file at a path, unless it is a symbolic link.
 fn open_old<H: Files<File = File>>(rt: &H, path: &str) -> io::Result<Option<File>> {
     if matches!(fs::symlink_metadata(rt, path), Ok(found) if found.is_symlink()) {
         return Err(Error::new(ErrorKind::InvalidInput, "its lock file is a link"));
@@ -78,7 +77,7 @@ fn open_old<H: Files<File = File>>(rt: &H, path: &str) -> io::Result<Option<File
     }
 }
 
-// Returns whether this file is the one at a path.
+// Returns whether this file is the one at the path.
 fn is_at<H: Files>(rt: &H, path: &str, file: &Metadata) -> bool {
     match fs::symlink_metadata(rt, path) {
         Ok(found) => found.dev() == file.dev() && found.ino() == file.ino(),

@@ -1,4 +1,4 @@
-//! The lines of `serve --verbose`.
+//! The lines that `serve --verbose` writes.
 ghost use Rattle.std.specs.Prelude.{◌≡◌, [], None, IfSome, slice_get};
 ghost use Rattle.canbusd_options.specs.BusWords.{first_name_of};
 
@@ -8,7 +8,7 @@ use canbusd_options::BusWord;
 use std::alloc::{AllocError, Global};
 use std::net::SocketAddr;
 
-/// A line about a notice: the moment, as in a log, then the session or the bus, and the event.
+/// Returns the line for a notice: the moment as in a log, then the session or the bus, and the event.
 pub fn notice_line(
     alloc: Global,
     moment: Moment,
@@ -88,7 +88,7 @@ fn from_text(alloc: Global, from: Option<SocketAddr>) -> Result<String, AllocErr
     }
 }
 
-// The name of an interface, empty if there is none.
+// Returns the name of an interface, or an empty text if there is no such interface.
 fn name_at<'a>(buses: &[BusWord<'a>], bus: usize, iface: Iface) -> &'a str {
     match buses.get(bus) {
         Some(bus) => bus
@@ -100,7 +100,7 @@ fn name_at<'a>(buses: &[BusWord<'a>], bus: usize, iface: Iface) -> &'a str {
     }
 }
 
-/// The name by which a bus is called, empty if there is none.
+/// Returns the name by which a bus is called, or an empty text if there is no such bus.
 pub fn first_name_at<'a>(buses: &[BusWord<'a>], bus: usize) -> &'a str
     ensures known { IfSome (slice_get buses.now bus)
         (λ word. result.now ≡ first_name_of word.names.now) }

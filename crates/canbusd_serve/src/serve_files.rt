@@ -1,4 +1,4 @@
-//! The records and logs that a server leaves.
+//! The records and logs that a server writes.
 ghost use Rattle.std.specs.Prelude.{IfErr, IsTrue};
 ghost use Rattle.canbusd_serve.specs.Served.{IsOfServing};
 
@@ -16,11 +16,11 @@ use std::fs::File;
 use std::io::{Error, ErrorKind, Write};
 use std::rt::Files;
 
-/// The most bytes of a record's text that has no entry and no end: its first two lines.
+/// The largest number of bytes in the first two lines of a record. A record of this size or less has no entries and no end line.
 const MOST_OF_FRONT: u64 = 61;
 
-/// Locks the folder for this server, by a file in it. `CannotOpen` if another server has it. `None`
-/// if it takes no file, or its file system has no locks.
+/// Locks the folder for this server with a lock file in the folder. Returns `CannotOpen` if another server has locked it. Returns
+/// `None` if no file can be created there or the file system has no locks.
 pub fn lock_folder<'a, H: Files<File = File>>(
     rt: &H,
     alloc: Global,
@@ -44,9 +44,8 @@ pub fn lock_folder<'a, H: Files<File = File>>(
     }
 }
 
-/// Checks that the folder takes the files that are written from the start on: the record of each
-/// bus with its faults and its log, as far as they are wanted. The folder stays as it is.
-/// `CannotOpen`, with the folder, if it does not take them.
+/// Checks that the folder accepts the files that the options ask for: the record of each bus with its faults, and a log that is
+/// written while the server runs. The folder is left unchanged. Returns `CannotOpen` with the folder if it does not accept a file.
 pub fn look_at_folder<'a, H: Files<File = File>>(
     rt: &H,
     alloc: Global,
@@ -74,7 +73,7 @@ pub fn look_at_folder<'a, H: Files<File = File>>(
     Ok(())
 }
 
-// Looks whether the folder takes a file that an audit reads, and one that is set aside.
+// Checks whether the folder accepts a file that an audit reads, and whether a draft can be set aside there.
 fn look_at_record<'a, H: Files<File = File>>(
     rt: &H,
     alloc: Global,
@@ -92,9 +91,8 @@ fn look_at_record<'a, H: Files<File = File>>(
     }
 }
 
-/// Sets aside the records of these buses that interrupted runs left, with their faults, and reports
-/// it. The files of a start that failed are removed: their first lines must not take the place of
-/// such a record.
+/// Sets aside the records and faults that interrupted runs of these buses left, and reports each one. A record that has only its
+/// first lines is removed: it comes from a start that failed, and must not replace a record that was set aside.
 pub fn set_all_aside<'a, H: Files<File = File>, E: Write>(
     rt: &H,
     alloc: Global,
@@ -119,9 +117,9 @@ pub fn set_all_aside<'a, H: Files<File = File>, E: Write>(
     Ok(())
 }
 
-// Sets aside the rest of a record, and then its faults. Those that were set aside before make way
-// first, so a server that is killed meanwhile leaves no record next to the faults of another run.
-// If the faults can't follow, the record comes back, so that the next start finds both.
+// Sets aside an incomplete record and then its faults. Faults that were set aside earlier are removed first. If the server is
+// killed in between, no record is left next to the faults of another run. If the faults cannot be set aside, the record is moved
+// back, so that the next start finds both files.
 fn set_aside<'a, H: Files<File = File>>(
     rt: &H,
     alloc: Global,
@@ -154,7 +152,7 @@ fn aside_note(alloc: Global, record: &Draft) -> Result<String, AllocError> {
     format!(in alloc; "note: {draft} of a run that was cut off is {aside} now\n")
 }
 
-/// The record, the log and the faults of a bus, which are to be written.
+/// The record, the log and the faults of a bus that will be written.
 #[derive(Drop)]
 pub struct Drafts {
     pub record: Draft,
@@ -162,7 +160,7 @@ pub struct Drafts {
     pub faults: Draft,
 }
 
-/// The files of a bus in a folder. Nothing is written.
+/// Returns the files of a bus in a folder. Nothing is written.
 pub fn drafts_of<'a, H: Files>(
     rt: &H,
     alloc: Global,
@@ -185,7 +183,7 @@ pub fn drafts_of<'a, H: Files>(
     }
 }
 
-/// The report of a folder that does not take a file.
+/// Returns the report of a folder in which a file cannot be created.
 pub fn open_failure<'a>(alloc: Global, folder: &'a str, path: &str, error: &Error) -> Report<'a>
     ensures { IsOfServing result.error }
 {
@@ -196,8 +194,8 @@ pub fn open_failure<'a>(alloc: Global, folder: &'a str, path: &str, error: &Erro
     )
 }
 
-/// Writes the record and the log of each bus into a folder, and gives its faults, which are written, their name. A fault ends
-/// only its file.
+/// Writes the record and the log of each bus into a folder. Then it gives the faults, which were written earlier, their own name. A
+/// fault ends only its own file.
 pub fn save_all<H: Files, E: Write>(
     rt: &H,
     alloc: Global,

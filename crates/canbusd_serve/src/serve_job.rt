@@ -45,7 +45,7 @@ use std::thread::Threads;
 use std::time::{Clock, Duration};
 use std::{mem, thread};
 
-/// The parts of the system that a server uses: files, the clock, threads and sockets.
+/// The parts of the system that a server uses: files, clocks, threads and sockets.
 pub trait ServerRuntime: Files<File = File>
     + Clock
     + Threads
@@ -62,20 +62,19 @@ impl<
         + Sync,
 > ServerRuntime for R {}
 
-/// An input, which a thread of its own reads.
+/// An input that is read by a separate thread.
 trait Input: Read + Drop + Send + 'static {}
 
 impl<R: Read + Drop + Send + 'static> Input for R {}
 
-/// Serves the buses that the options describe until their sessions have come and ended, or, if that
-/// is asked for, until the input has ended. It puts out its address, and at the end the number of
-/// entries of each bus's record; then it writes the records and logs. Returns whether all of that
-/// was written and each bus kept its driver. Each fault is reported among the errors, and so is a
-/// bus whose record is full.
+/// Serves the buses of the options until all their sessions are over or, if the options ask for it, until the end of the input. It
+/// writes its address to the output, and at the end the number of entries of each bus's record. Then it writes the records and
+/// logs. Returns whether all of this was written and each bus kept its driver. Each fault, and each bus whose record is full, is
+/// reported to `errors`.
 ///
-/// It looks at the names of each bus first, and at its script; then at the limits of the buses, and
-/// then it listens. A folder that takes no files is a fault before anybody can connect. The input
-/// is read only if its end is asked for.
+/// The names and the script of each bus are checked first, and then the limits of the buses. After that the server listens. A
+/// folder in which files cannot be written is reported before any client can connect. The input is read only if the options ask for
+/// its end.
 pub fn run_serve<'a, H: ServerRuntime, R: Read + Drop + Send + 'static, W: Write, E: Write + Send>(
     rt: &H,
     alloc: Global,
@@ -109,22 +108,22 @@ struct Run<N: RollName> {
     scrolls: Vec<Scroll<N>>,
 }
 
-// The parts that a server runs with.
+// The values that a run of the server uses.
 #[derive(Drop)]
 struct ServerRun<'r, 'a, H: ServerRuntime> {
     rt: &'r H,
     alloc: Global,
     options: &'r ServeOptions<'a>,
-    // Whether a bus has lost its driver. The loss was reported.
+    // Whether a bus has lost its driver. The loss was already reported.
     has_lost: AtomicBool,
-    // The folder, locked until the last file is written.
+    // The lock of the folder, which is held until the last file is written.
     lock: OnceLock<LockFile>,
-    // The faults of each bus, if its record is wanted. While it is served its keeper has them.
+    // The faults of each bus, if its record is wanted. While the bus is served, its keeper has them.
     faults: Mutex<Vec<LiveFaults>>,
 }
 
 impl<'r, 'a, H: ServerRuntime> ServerRun<'r, 'a, H> {
-    // Serves, and writes the files.
+    // Serves the buses and writes the files.
     fn serve_buses<R: Input, W: Write, E: Write + Send>(
         &self,
         input: R,
@@ -153,7 +152,7 @@ impl<'r, 'a, H: ServerRuntime> ServerRun<'r, 'a, H> {
         }
     }
 
-    // Returns the parts of the buses of the options.
+    // Returns the parts of all buses that the options describe.
     fn read_benches(&self) -> Result<Vec<Bench<Perfect, Open>>, Report<'a>>
         ensures made { IfOk result (λ benches. AreAllBenches self.now.options.now benches.items) }
         ensures timed { IfOk result (λ benches. AreBusesTimed self.now.options.now benches.items) }
@@ -169,7 +168,7 @@ impl<'r, 'a, H: ServerRuntime> ServerRun<'r, 'a, H> {
         Ok(benches)
     }
 
-    // Returns the parts of the bus at a place, which has this word.
+    // Returns the parts of the bus at this index, which has this BUS argument.
     fn read_bench(&self, place: usize, bus: BusWord<'a>) -> Result<Bench<Perfect, Open>, Report<'a>>
         ensures made { IfOk result (λ bench. IsBenchOf self.now.options.now bus.entry bench) }
         ensures timed { IfOk result (λ bench.
@@ -197,7 +196,7 @@ impl<'r, 'a, H: ServerRuntime> ServerRun<'r, 'a, H> {
         })
     }
 
-    // Notes the destination of a bus's faults, which begin with this script.
+    // Adds the file for a bus's faults. The faults begin with this script.
     fn add_faults(&self, bus: &BusWord<'_>, script: String) -> Result<(), AllocError> {
         let folder = match self.options.recording {
             Recording::AtEnd | Recording::Live => self.options.folder,
@@ -214,7 +213,7 @@ impl<'r, 'a, H: ServerRuntime> ServerRun<'r, 'a, H> {
         Ok(())
     }
 
-    // Makes the files of the faults that are written while it is served, or none.
+    // Creates the files of faults that are written while the server runs, if there are any.
     fn begin_faults(&self) -> Result<(), Report<'a>>
         ensures { IfErr result (λ failure. IsOfServing failure.error) }
     {
@@ -245,7 +244,7 @@ impl<'r, 'a, H: ServerRuntime> ServerRun<'r, 'a, H> {
         }
     }
 
-    // Serves the buses that are made of these, and writes what they leave. Returns whether a fault was reported.
+    // Serves the buses that consist of these parts, and writes their records and logs. Returns whether a fault was reported.
     fn run_whole<N: RollName + MeterName + Send + Sync, R: Input, W: Write, E: Write + Send>(
         &self,
         benches: Vec<Bench<Perfect, Open>>,
@@ -280,8 +279,8 @@ impl<'r, 'a, H: ServerRuntime> ServerRun<'r, 'a, H> {
         Ok(reporter.has_reported() || !is_whole)
     }
 
-    // Serves the buses of long runs that are made of these, and ends their files, which it returns. Before them it returns
-    // whether a fault was reported.
+    // Serves the buses of long runs that consist of these parts, and completes their files. Returns whether a fault was reported,
+    // and the files.
     fn run_live<N: RollName + MeterName + Send + Sync, R: Input, W: Write, E: Write + Send>(
         &self,
         benches: Vec<Bench<Perfect, Open>>,
@@ -318,13 +317,13 @@ impl<'r, 'a, H: ServerRuntime> ServerRun<'r, 'a, H> {
         Ok((has_fault || !are_whole(&faults), files))
     }
 
-    // The faults of each bus.
+    // Takes the faults of all buses.
     fn take_faults(&self) -> Vec<LiveFaults> {
         mem::replace(&mut *self.faults.lock(self.rt), Vec::new(self.alloc))
     }
 
-    // Serves the buses that are made of these parts, and settles them. Returns the rest of each,
-    // and the files that were written meanwhile.
+    // Serves the buses that consist of these parts, and settles them. Returns what is left of each bus, and the files that were
+    // written while the server ran.
     fn settle<N: BusName + Send + Sync, L: Leaves, R: Input, W: Write, E: Write + Send>(
         &self,
         benches: Vec<Bench<Perfect, Open>>,
@@ -375,7 +374,7 @@ impl<'r, 'a, H: ServerRuntime> ServerRun<'r, 'a, H> {
         Report::new(self.alloc, ProgramError::WrongStation(name))
     }
 
-    // Listens, and serves the buses of a hub.
+    // Listens at the address and serves the buses of a hub.
     fn serve_hub<N: BusName + Send + Sync, L: Leaves, R: Input, W: Write, E: Write + Send>(
         &self,
         hub: &Hub<N, Perfect, Open, L>,
@@ -405,7 +404,7 @@ impl<'r, 'a, H: ServerRuntime> ServerRun<'r, 'a, H> {
         served
     }
 
-    // Checks the other needs of the server, puts out its address, and serves.
+    // Checks everything else that the server needs, writes its address to the output, and serves.
     fn serve_acceptors<N: BusName + Send + Sync, L: Leaves, R: Input, W: Write, E: Write + Send>(
         &self,
         hub: &Hub<N, Perfect, Open, L>,
@@ -443,8 +442,8 @@ impl<'r, 'a, H: ServerRuntime> ServerRun<'r, 'a, H> {
         self.serve_until(hub, scrolls, files, acceptors, until, errors)
     }
 
-    // Locks the folder, looks whether it takes the files, and sets aside what was left there of records that are to be
-    // written. Before that nothing in it has changed.
+    // Locks the folder, checks whether it accepts the files, and sets aside incomplete records of earlier runs. Nothing else in the
+    // folder has been changed before this.
     fn take_folder<E: Write>(&self, errors: &mut E) -> Result<(), Report<'a>>
         ensures { IfErr result (λ failure. IsOfServing failure.error) }
     {
@@ -491,7 +490,7 @@ impl<'r, 'a, H: ServerRuntime> ServerRun<'r, 'a, H> {
         }
     }
 
-    // When the clock of the buses starts, if one of them has bit rates.
+    // Returns when the clock of the buses starts, if any bus has bit rates.
     fn start(&self) -> Option<Start> {
         if self.options.has_timings() {
             Start::now(self.rt)
@@ -500,7 +499,7 @@ impl<'r, 'a, H: ServerRuntime> ServerRun<'r, 'a, H> {
         }
     }
 
-    // Serves the buses, in long runs each with a scribe that writes its files.
+    // Serves the buses. In long runs, each bus has a scribe that writes its files.
     fn serve_kept<N: BusName + Send + Sync, L: Leaves, E: Write + Send>(
         &self,
         hub: &Hub<N, Perfect, Open, L>,
@@ -519,14 +518,14 @@ impl<'r, 'a, H: ServerRuntime> ServerRun<'r, 'a, H> {
             files: Vec::with_capacity(self.alloc, hub.count())?,
             scrolls: Vec::with_capacity(self.alloc, hub.count())?,
         };
-        // With capacity for the faults that come back at the end.
+        // There is capacity for the faults that come back at the end.
         let room = Vec::with_capacity(self.alloc, hub.count())?;
         let faults = mem::replace(&mut *self.faults.lock(self.rt), room);
         if faults.is_empty() {
             self.keep_no_changes(hub);
         }
         let mut kept = keepers_of(self.alloc, host, files, faults, scrolls)?;
-        // With a name of its own the iterator lends each keeper for as long as there are scribes.
+        // The iterator has a name, so it lends each keeper for as long as the scribes exist.
         let each = kept.iter_mut();
         let scribes = scribes_of(self.alloc, self.options, each)?;
         let until = until.as_ref();
@@ -546,7 +545,7 @@ impl<'r, 'a, H: ServerRuntime> ServerRun<'r, 'a, H> {
         Ok(run)
     }
 
-    // Keeps nothing of what becomes of the rules of the buses, since no file of a run's faults is written.
+    // Discards changes of the buses' rules, because no file of faults is written.
     fn keep_no_changes<N: BusName, L: Leaves>(&self, hub: &Hub<N, Perfect, Open, L>) {
         let buses = hub.buses();
         for bus in 0..buses.count() {
@@ -554,8 +553,7 @@ impl<'r, 'a, H: ServerRuntime> ServerRun<'r, 'a, H> {
         }
     }
 
-    // Writes the lines about the rules of a bus that were not taken yet, now that no more calls are
-    // made.
+    // After the last call, writes the remaining lines about changes of a bus's rules.
     fn keep_rest<N: BusName + Send + Sync, L: Leaves, E: Write + Send>(
         &self,
         hub: &Hub<N, Perfect, Open, L>,
@@ -581,8 +579,8 @@ impl<'r, 'a, H: ServerRuntime> ServerRun<'r, 'a, H> {
         let _ = self.faults.lock(self.rt).push(faults);
     }
 
-    // A stream that ends with the input. Its reader is a thread that is never joined, since a read
-    // of the input may wait for longer than the run.
+    // Returns a stream that ends when the input ends. The thread that reads the input is never joined, because a read may take
+    // longer than the run.
     fn end_of<R: Input>(&self, input: R) -> Result<UnixStream, Report<'a>>
         ensures { IfErr result (λ failure. IsOfServing failure.error) }
     {
@@ -597,7 +595,7 @@ impl<'r, 'a, H: ServerRuntime> ServerRun<'r, 'a, H> {
     }
 }
 
-// The keepers of these files, each with the scroll of its bus.
+// Returns keepers for these files. Each keeper has the scroll of its bus.
 fn keepers_of<'o, 'h, 'a, 'l, N: BusName, F: Write + OpenFile + Drop, H: Wait + Clock, E: Write>(
     alloc: Global,
     host: &'o Host<'h, 'a, 'l, H, E>,
@@ -629,12 +627,12 @@ fn keepers_of<'o, 'h, 'a, 'l, N: BusName, F: Write + OpenFile + Drop, H: Wait + 
     Ok(kept)
 }
 
-// Returns whether no line of these was lost.
+// Returns whether no lines of these faults were lost.
 fn are_whole(faults: &[LiveFaults]) -> bool {
     faults.iter().all(|own| own.is_whole())
 }
 
-// The scribes of long runs, one for each of these keepers.
+// Returns the scribes of a long run, one for each keeper.
 fn scribes_of<'k, N: BusName, K: Keeper + Drop>(
     alloc: Global,
     options: &ServeOptions<'_>,
@@ -654,7 +652,7 @@ fn scribes_of<'k, N: BusName, K: Keeper + Drop>(
     Ok(Some(scribes))
 }
 
-// Reads an input to its end, and then shuts a stream down, which ends the server: `--until-eof`.
+// Reads an input to its end and then shuts down a stream, which ends the server. `--until-eof` uses it.
 fn end_with<R: Read + Drop>(mut input: R, stream: &UnixStream) {
     let mut piece = [0; 4096];
     for _ in 0..u64::MAX {
@@ -668,7 +666,7 @@ fn end_with<R: Read + Drop>(mut input: R, stream: &UnixStream) {
     let _ = stream.shutdown(Shutdown::Both);
 }
 
-// Returns how much memory a bus takes.
+// Returns a note on how much memory a bus takes.
 fn memory_note(recording: Recording) -> &'static str {
     match recording {
         Recording::AtEnd => "each bus reserves 108 bytes of memory for each event of --limit",
@@ -676,7 +674,7 @@ fn memory_note(recording: Recording) -> &'static str {
     }
 }
 
-// Puts out the server's address, for others to read at once.
+// Writes the server's address to the output and flushes it, so that others can read it at once.
 fn put_listening<'a, W: Write>(alloc: Global, heard: &str, output: &mut W) -> Result<(), Report<'a>>
     ensures put { OnOk result (Took W.contents output.old output.new (listening_line heard.now)) }
     ensures fault { IfErr result (λ failure. failure.error ≡ fault.Write) }

@@ -1,8 +1,8 @@
-//! The file of a Unix path at which a server listens. No other server can have it at the same time.
+//! The socket file of a server that listens at a Unix path. No other server can have the path at the same time.
 //!
-//! Next to the socket PATH a server locks the file PATH.lock, and removes both at its end. A server
-//! that was killed leaves them, unlocked, for the next one. A server never connects to another to
-//! see whether it is alive: the lock shows it.
+//! A server locks the file PATH.lock next to the socket PATH, and removes both files at the end. A server that was killed leaves
+//! both files unlocked, and the next server can use them. The lock shows whether another server is alive, so a server never
+//! connects to another one to find out.
 
 use crate::lock_file::LockFile;
 use std::alloc::Global;
@@ -14,19 +14,20 @@ use std::os::unix::net::{UnixListener, UnixStream};
 use std::rt::Files;
 use std::{fs, io};
 
-/// The file of a socket, with its lock.
+/// The file of a socket, and its lock.
 #[derive(Drop)]
 pub struct SocketFile {
     path: String,
     lock: LockFile,
-    /// The device and the number of the socket's file. No other file has both while the socket is open.
+    /// The device number and the inode number of the socket's file. While the socket is open, no other file has the same two
+    /// numbers.
     device: u64,
     file: u64,
 }
 
 impl SocketFile {
-    /// Listens at a path. A socket at which no server listens any more is removed, even if another program left it.
-    /// `AddrInUse` if another server has the path, or another file is there.
+    /// Listens at a path. If there is a socket at which no program listens any more, it is removed, even if another program left
+    /// it. Returns `AddrInUse` if another server has the path or another file is there.
     pub fn listen<H: Files<File = File> + Net>(
         rt: &H,
         alloc: Global,
@@ -52,7 +53,7 @@ impl SocketFile {
         }
     }
 
-    /// Removes the socket's file, if it is still this socket's, and frees the path. The socket has to be open.
+    /// Removes the socket's file, if the path still leads to this socket, and frees the path. The socket must still be open.
     pub fn remove<H: Files>(self, rt: &H) {
         if let Ok(found) = fs::symlink_metadata(rt, &self.path) {
             if found.dev() == self.device && found.ino() == self.file {
@@ -73,8 +74,7 @@ fn bind<H: Files + Net>(rt: &H, path: &str) -> io::Result<UnixListener> {
     }
 }
 
-// Returns whether the file is a socket at which no program listens. No server has it, since none
-// has the lock.
+// Returns whether the file is a socket at which no program listens. No other server can have it, because this server has the lock.
 fn is_left_behind<H: Files + Net>(rt: &H, path: &str) -> bool {
     let Ok(found) = fs::symlink_metadata(rt, path) else {
         return false;

@@ -3,15 +3,15 @@ use Rattle.can_session.specs.Lines.{IsInputLine, BeginsTooLong}
 use Rattle.can_session.specs.declared.lines.LineSearch.{LineSearch}
 use Rattle.can_session.specs.declared.lines.LineSearch.TheVariants.{Line, Long, Begun}
 
--- The result of one look at the bytes held (own choice).
+-- The result of one search for a line in the held bytes (own choice).
 
--- a line of this many bytes, and then its LF, is at the front
+-- the held bytes begin with a line of this many bytes and its LF
 pub record LineAt (held : List ℕ) (len : ℕ) : Type 0 where
   pub line : IsInputLine (take len held)
   pub ended : take (len + 1) held ≡ take len held ++ 10 ∷ []
   pub within : len < length held
 
--- the result of a look is there
+-- the held bytes are as the result of the search says
 abbrev pub Shows : List ℕ → LineSearch → Type 0
 Shows held (Line len) = LineAt held len
 Shows held Long = BeginsTooLong held

@@ -3,7 +3,7 @@ use Rattle.std.specs.Io.KnownBytes.{Consumes}
 
 -- The effect of one read on the bytes that a buffer holds (own choice).
 
--- this many bytes, of those that the reader had left, come after the bytes that were held
+-- this many bytes, which the reader still had, are appended to the held bytes
 pub record Gains (old new : List ℕ) (before after : Option (List ℕ)) (count : ℕ) : Type 0 where
   pub bytes : List ℕ
   pub counted : length bytes ≡ count

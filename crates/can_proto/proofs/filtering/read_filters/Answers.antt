@@ -25,7 +25,7 @@ ended front words all n h =
     let none : words ≡ [] = nil_from_length words n in
     sym h ∙ ap (λ (w : List (List ℕ)). with_front front (filters_of w)) none ∙ ap (λ (x : List CanFilter). Ok x) (append-nil front)
 
--- the next two words
+-- the next two words are read as one filter
 two : (front : List CanFilter) (rest after last : List (List ℕ)) (a b : List ℕ) (all : Result (List CanFilter) ProtoFault) → rest ≡ a ∷ after → after ≡ b ∷ last → with_front front (filters_of rest) ≡ all → with_front front (filters_of (a ∷ b ∷ last)) ≡ all
 two front rest after last a b all e k h = sym (ap (λ (w : List (List ℕ)). with_front front (filters_of w)) (e ∙ ap (λ (w : List (List ℕ)). a ∷ w) k)) ∙ h
 

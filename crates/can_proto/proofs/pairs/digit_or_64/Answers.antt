@@ -9,7 +9,7 @@ abbrev or_64 : Option ℕ → ℕ
 or_64 None = 64
 or_64 (Some v) = v
 
--- the table, entry by entry
+-- each entry of the table is correct
 entry : (b : ℕ) → b < 256 → slice_index DIGITS b ≡ or_64 (hex_digit b)
 entry b lt = agree-at (λ k. slice_index DIGITS k) (λ k. or_64 (hex_digit k)) 256 b refl lt
 

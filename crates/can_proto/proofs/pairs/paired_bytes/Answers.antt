@@ -6,7 +6,7 @@ use Rattle.can_proto.specs.Commands.{with_front, bytes_of}
 use Rattle.can_proto.proofs.DataBytes.{more, ended}
 use Rattle.can_proto.proofs.pairs.paired_bytes.Goals as goal
 
--- two bytes that are no blanks, followed by a space
+-- two bytes that are not blanks, followed by a space
 pair-drop : (text : List ℕ) (k : ℕ) → k + 2 < length text → slice_index text (k + 2) ≡ 32 → is_blank (slice_index text k) ≡ false → is_blank (slice_index text (k + 1)) ≡ false
     → words_of (drop k text) ≡ (slice_index text k ∷ slice_index text (k + 1) ∷ []) ∷ words_of (drop (k + 3) text)
 pair-drop text k few space high low =
@@ -17,7 +17,7 @@ pair-drop text k few space high low =
     let third = drop_more text (k + 2) 0 (omega arith) in
     rw (first, second, two, third, three, space, high, low) refl
 
--- one more byte is read, from those left at this place
+-- one more byte is read at this index
 one_more : (text bytes : List ℕ) (i b : ℕ) (words : List (List ℕ)) → i < length bytes → 3 * i + 2 < length text → slice_index text (3 * i + 2) ≡ 32 → is_blank (slice_index text (3 * i)) ≡ false → is_blank (slice_index text (3 * i + 1)) ≡ false
     → Some b ≡ number_in 16 2 (slice_index text (3 * i) ∷ slice_index text (3 * i + 1) ∷ [])
     → with_front (take i bytes) (bytes_of (words_of (drop (3 * i) text))) ≡ bytes_of words
@@ -44,7 +44,7 @@ loop-i-preserved g c =
       left = rw next (omega (arith, count, c.loop-i.invariant.left));
     }
 
--- no byte is left after the last place
+-- no bytes are left after the last index
 no_more : (text : List ℕ) (i : ℕ) → length text ≤ 3 * i → words_of (drop (3 * i) text) ≡ []
 no_more text i le = ap words_of (drop_all (3 * i) text le)
 

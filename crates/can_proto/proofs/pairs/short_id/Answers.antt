@@ -5,11 +5,11 @@ use Rattle.can_proto.specs.declared.fault.ProtoFault.TheVariants.{BadId}
 use Rattle.can_proto.specs.Commands.{id_of, short_id}
 use Rattle.can_proto.proofs.pairs.short_id.Goals as goal
 
--- the table's entry for a byte
+-- the entry of a byte in the table
 abbrev IsEntry : ℕ → Option ℕ → Type 0
 IsEntry r digit = MatchOption digit (r ≡ 64) (λ v. (r ≡ v) × (v < 16))
 
--- a number with one more digit, given the entry of the digit
+-- a number with one more digit, given the table entry of the digit
 longer : (n b r : ℕ) (ds : List ℕ) → IsEntry r (hex_digit b) → number_after 16 (Some n) (b ∷ ds) ≡ if nat_lt r 16 then number_after 16 (Some (n * 16 + r)) ds else None
 longer n b r ds entry = by (hex_digit b) entry
   where
@@ -17,7 +17,7 @@ longer n b r ds entry = by (hex_digit b) entry
     by None e = rw e refl
     by (Some v) e = rw (e.0, lt-ltb v 16 e.1) refl
 
--- the number of three digits, given their entries
+-- the number that three digits spell, given their table entries
 number : (h m l a b c : ℕ) → IsEntry a (hex_digit h) → IsEntry b (hex_digit m) → IsEntry c (hex_digit l)
     → number_in 16 3 (h ∷ m ∷ l ∷ []) ≡ if nat_lt a 16 then if nat_lt b 16 then if nat_lt c 16 then Some (((0 * 16 + a) * 16 + b) * 16 + c) else None else None else None
 number h m l a b c first second third =
@@ -33,7 +33,7 @@ bound b r entry = by (hex_digit b) entry
     by None e = inl e
     by (Some v) e = inr (omega (arith, e))
 
--- if the sum of the entries is at least 64, one of the three bytes is no digit
+-- if the sum of the entries is at least 64, one of the three bytes is not a digit
 none : (a b c : ℕ) (n : Option ℕ) → (a ≡ 64) ⊎ (a < 16) → (b ≡ 64) ⊎ (b < 16) → (c ≡ 64) ⊎ (c < 16) → 64 ≤ a + b + c → (if nat_lt a 16 then if nat_lt b 16 then if nat_lt c 16 then n else None else None else None) ≡ None
 none a b c n (inl x) second third many = rw x refl
 none a b c n (inr x) (inl y) third many = rw (lt-ltb a 16 x, y) refl
@@ -46,7 +46,7 @@ all a b c n (inr x) (inl y) third few = absurd (omega arith)
 all a b c n (inr x) (inr y) (inl z) few = absurd (omega arith)
 all a b c n (inr x) (inr y) (inr z) few = rw (lt-ltb a 16 x, lt-ltb b 16 y, lt-ltb c 16 z) refl
 
--- an identifier of 11 bits must be below 2^11
+-- an 11-bit identifier must be below 2^11
 over : (n : ℕ) → (n < 2 ^ 11 → ⊥) → short_id (Some n) ≡ Err BadId
 over n high = grind arith
 

@@ -4,7 +4,7 @@ use Rattle.can_proto.specs.declared.fault.ProtoFault.TheVariants.{BadId}
 use Rattle.can_proto.specs.Commands.{id_of}
 use Rattle.can_proto.proofs.sending.id_in.Goals as goal
 
--- a word of three bytes is these bytes
+-- a word of three bytes consists of these bytes
 three : (word : List ℕ) (found : Option Identifier) → 3 ≤ length word → length word < 4 → id_of (slice_index_or word 0 0 ∷ slice_index_or word 1 0 ∷ slice_index_or word 2 0 ∷ []) ≡ ok_or found BadId → id_of word ≡ ok_or found BadId
 three [] found low high h = absurd (omega arith)
 three (a ∷ []) found low high h = absurd (omega arith)

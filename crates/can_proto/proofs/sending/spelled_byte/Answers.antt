@@ -11,7 +11,7 @@ bad : (word : List ℕ) (after : List (List ℕ)) → None ≡ number_in 16 2 wo
 unfolding bytes_of
 bad word after e = ap (λ (o : Option ℕ). or_fault BadByte o >>= λ b. bytes_of after >>= λ bs. Ok (b ∷ bs)) (sym e)
 
--- the fault of a word that spells no byte, given the number of words after it
+-- the fault of a word that is not a byte, given the number of words after it
 spoiled : (words after : List (List ℕ)) (word : List ℕ) (left : ℕ) (e : ProtoFault) → words ≡ word ∷ after → None ≡ number_in 16 2 word → e ≡ (if length after == left then BadByte else BadCount) → IsDataFault (left + 1) words e
 spoiled words after word left e whole wrong told =
     let count : length words ≡ length (word ∷ after) = ap (λ (w : List (List ℕ)). length w) whole in

@@ -8,13 +8,13 @@ use Rattle.can_proto.specs.Words.{is_blank, words_of}
 use Rattle.can_proto.specs.Commands.{id_of, length_of, bytes_of, send_of}
 use Rattle.can_proto.proofs.sending.usual_payload.Goals as goal
 
--- a byte that is no blank, followed by a space
+-- a byte that is not a blank, followed by a space
 length-word : (text : List ℕ) → 2 ≤ length text → get_or text 1 0 ≡ 32 → is_blank (get_or text 0 0) ≡ false → words_of text ≡ (get_or text 0 0 ∷ []) ∷ words_of (drop 2 text)
 length-word [] few s a = absurd (omega arith)
 length-word (u ∷ []) few s a = absurd (omega arith)
 length-word (u ∷ v ∷ rest) few s a = rw (s, a) refl
 
--- a digit from 0 to 8
+-- a digit from 0 to 8 is a valid length
 short-length : (d : ℕ) → 48 ≤ d → d ≤ 56 → length_of (d ∷ []) ≡ Ok (d - 48)
 unfolding length_of
 short-length d low high = grind arith
@@ -22,7 +22,7 @@ short-length d low high = grind arith
 firm : (d : ℕ) → 48 ≤ d → is_blank d ≡ false
 firm d low = grind arith
 
--- the words ask to send the frame
+-- the words send the frame
 sends : (words rest : List (List ℕ)) (id_word len_word : List ℕ) (id : Identifier) (len : ℕ) (bytes : List ℕ) → words ≡ id_word ∷ len_word ∷ rest → id_of id_word ≡ Ok id → length_of len_word ≡ Ok len → length rest ≡ len → bytes_of rest ≡ Ok bytes
     → send_of words ≡ Ok (Send (record { id = id; payload = Data bytes }))
 unfolding send_of

@@ -12,7 +12,7 @@ use Rattle.can_session.proofs.laws.one_attempt_comes_after_another.Goals as goal
 pub returns-clause-begins : goal.returns-clause-begins
 returns-clause-begins c = λ s moment. (le-max_left (moment * 1000) s.wire.free, le-max_right (moment * 1000) s.wire.free)
 
--- the wire is free no earlier than the attempt begins, however long that takes
+-- the wire becomes free no earlier than the attempt begins, however long the attempt takes
 no_earlier : (s : Schedule) (nanos : ℕ) → s.since < 10 ^ 16 → s.wire.free < 10 ^ 19 → next_begin s ≤ later (next_begin s) nanos
 no_earlier s nanos early free =
     let within : next_begin s ≤ 10 ^ 19 - 1 = max-le (omega (arith, early)) (omega (arith, free)) in

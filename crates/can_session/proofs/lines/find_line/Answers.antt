@@ -5,7 +5,7 @@ use Rattle.can_session.specs.Lines.{is_lf}
 use Rattle.can_session.proofs.Searches.{found, missed}
 use Rattle.can_session.proofs.lines.find_line.Goals as goal
 
--- the bytes to search, as a slice has them
+-- the bytes to search, as a slice of the held bytes
 rest : (o : Option ℕ) (xs : List ℕ) (n : ℕ) → o ≡ position is_lf (take (length xs - n) (drop n xs)) → o ≡ position is_lf (drop n xs)
 rest o xs n h = h ∙ ap (λ l. position is_lf l) (take_rest xs n)
 

@@ -4,7 +4,7 @@ use Rattle.std.proofs.lemmas.List.{append-nil}
 use Rattle.can_proto.specs.Words.{words_of}
 use Rattle.can_proto.proofs.client_words.ClientWords.joined.Goals as goal
 
--- words with a space before each but the first
+-- joined words: each word except the first has a space before it
 spaced : (w : List ℕ) (ws : List (List ℕ)) → join_with_byte 32 (w ∷ ws) ≡ w ++ flat_map (λ v. 32 ∷ v) ws
 spaced w [] = sym (append-nil w)
 spaced w (v ∷ vs) = ap (λ (text : List ℕ). w ++ 32 ∷ text) (spaced v vs)
