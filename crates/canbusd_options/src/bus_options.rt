@@ -294,7 +294,9 @@ fn ack_option<'a>(alloc: Global) -> Arg<'a>
         .long(ACK)
         .value_name("MODE")
         .default_value(ALWAYS)
-        .help("Frames are acknowledged by a silent node (always), or only by the other interfaces (peers)")
+        .help(
+            "Frames are acknowledged by a silent node (always), or only by the other interfaces (peers)",
+        )
 }
 
 fn report_option<'a>(alloc: Global) -> Arg<'a>
