@@ -19,7 +19,7 @@ ReturnsList result values = IfOk result (λ rs. rs.items ≡ values)
 abbrev pub OnHistory : BusConfig → List Entry → (List Entry → Type 0) → Type 0
 OnHistory c entries P = IsHistory c (reverse entries) → P (reverse entries)
 
--- the statement holds for the history of these entries, if a bus can have it and this entry after it
+-- the statement holds for the history of these entries, if a bus can have this history and then this entry
 abbrev pub BeforeEntry : BusConfig → List Entry → Entry → (List Entry → Type 0) → Type 0
 BeforeEntry c entries e P = IsHistory c (e ∷ reverse entries) → P (reverse entries)
 
