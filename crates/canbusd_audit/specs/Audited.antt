@@ -41,15 +41,15 @@ use Rattle.canbusd_io.specs.Files.{IsOfFaults, IsOfFile, IsOfReading}
 use Rattle.canbusd_audit.specs.declared.buffered.Buffered.{Buffered}
 use Rattle.canbusd_audit.specs.declared.buffered.Buffered.TheVariants as held
 
--- The output of an audit of a text (own choice). An audit is asked only for the number of a record's entries, or for what the
--- entries brought about and what else is wanted of their lines.
+-- The output of an audit of a text (own choice). An audit is asked only for the number of a record's entries, or for
+-- what the entries brought about and what else is wanted of their lines.
 
 -- the line that says how many entries a legal record has
 abbrev pub entries_line : ℕ → List ℕ
 entries_line n = codes "ok " ++ decimal n ++ codes " entries" ++ 10 ∷ []
 
--- the output of an audit of a legal record: the number of entries or, with events, what the entries brought about and what else is
--- wanted of their lines
+-- the output of an audit of a legal record: the number of entries or, with events, what the entries brought about and
+-- what else is wanted of their lines
 abbrev pub audit_text : Option Wanted → BusConfig → List Entry → List ℕ
 audit_text None c entries = entries_line (length entries)
 audit_text (Some w) c entries = events_text w (version_of c entries) c (reverse entries)
@@ -128,7 +128,8 @@ AuditsFiles is_cut output contents old new =
 abbrev pub IsQuiet : {W : Type 0} → ProgramError → W → W → Type 0
 IsQuiet why old new = (why ≡ fault.Write) ⊎ (new ≡ old)
 
--- what the fault says about a record's entries: it names the first wrong entry. A fault of the writer or of memory says nothing
+-- what the fault says about a record's entries: it names the first wrong entry. A fault of the writer or of memory says
+-- nothing
 abbrev pub SaysOf : BusConfig → List Entry → ProgramError → Type 0
 SaysOf c entries (fault.WrongEntry k) = IsFirstWrongEntry c entries k
 SaysOf c entries fault.Write = Unit {0}
@@ -149,8 +150,8 @@ pub record IsBlamedCut (text : List ℕ) (why : ProgramError) : Type 0 where
   pub front : IsFrontOf text config entries
   pub says : SaysOf config entries why
 
--- what the fault says about the text: it is not the text of a record, or the record is wrong. A fault of reading or of memory says
--- nothing
+-- what the fault says about the text: it is not the text of a record, or the record is wrong. A fault of reading or of
+-- memory says nothing
 abbrev pub Faults : List ℕ → ProgramError → Type 0
 Faults text (fault.Record why) = Reads text (Err why)
 Faults text fault.Read = Unit {0}
@@ -260,25 +261,26 @@ IsUnread fault.NoMemory = Unit {0}
 IsUnread (fault.Record read.NoMemory) = Unit {0}
 IsUnread why = ⊥
 
--- the fault of a text that has no events: its first or its second line is wrong, its bus is not the wanted one, or the text was not
--- read that far
+-- the fault of a text that has no events: its first or its second line is wrong, its bus is not the wanted one, or the
+-- text was not read that far
 abbrev pub HasNoEvents : List ℕ → ProgramError → Type 0
 HasNoEvents text (fault.Record read.BadVersion) = LacksFront text
 HasNoEvents text (fault.Record (read.BadLine n)) = (n ≡ 2) × LacksFront text
 HasNoEvents text fault.OtherBus = Unit {0}
 HasNoEvents text why = IsUnread why
 
--- the entry or the line that a fault may name. A wrong entry is the one after the entries with events. A wrong line is the line
--- after all entries, or the line after the entries and the end. A text with another bus than the wanted one has no events
+-- the entry or the line that a fault may name. A wrong entry is the one after the entries with events. A wrong line is
+-- the line after all entries, or the line after the entries and the end. A text with another bus than the wanted one
+-- has no events
 abbrev pub IsFaultAfter : ProgramError → (all count : ℕ) → Type 0
 IsFaultAfter (fault.WrongEntry k) all count = count ≡ k
 IsFaultAfter (fault.Record (read.BadLine n)) all count = (n ≡ all + 3) ⊎ (n ≡ all + 4)
 IsFaultAfter fault.OtherBus all count = ⊥
 IsFaultAfter why all count = Unit {0}
 
--- the text begins as the record of a bus with this many interfaces. All its entries were read, or those before a fault of a file or
--- of memory. The events and the other wanted lines were written: for the entries before the first wrong entry, or for all entries
--- that were read
+-- the text begins as the record of a bus with this many interfaces. All its entries were read, or those before a fault
+-- of a file or of memory. The events and the other wanted lines were written: for the entries before the first wrong
+-- entry, or for all entries that were read
 pub record IsFrontWritten (w : Wanted) (ifaces : Option ℕ) (text : List ℕ) (why : ProgramError)
     (old new : Option (List ℕ)) : Type 0 where
   pub version : Version
@@ -295,9 +297,9 @@ pub record IsFrontWritten (w : Wanted) (ifaces : Option ℕ) (text : List ℕ) (
   pub names : IsFaultAfter why (length entries) count
   pub wrote : Appends old new (events_front w version config (before entries count))
 
--- the output after a fault of the text that the reader had. An audit without events wrote nothing. An audit with events wrote the
--- events of the legal entries before the fault, for a bus with this many interfaces. It wrote none only if the text does not begin
--- as the record of such a bus, or was not read that far
+-- the output after a fault of the text that the reader had. An audit without events wrote nothing. An audit with events
+-- wrote the events of the legal entries before the fault, for a bus with this many interfaces. It wrote none only if
+-- the text does not begin as the record of such a bus, or was not read that far
 abbrev pub LeavesFront : {W : Type 0} → Option Wanted → Option ℕ → Option (List ℕ) → ProgramError
     → (W → Option (List ℕ)) → W → W → Type 0
 LeavesFront None ifaces input why contents old new = new ≡ old
@@ -312,15 +314,16 @@ abbrev pub Leaves : {W : Type 0} → Option Wanted → Option ℕ → Option (Li
 Leaves asked ifaces input why contents old new =
     (why ≡ fault.Write) ⊎ LeavesFront asked ifaces input why contents old new
 
--- the output after a fault of an audit of files. Nothing was written if the fault is in the run's faults that the options name.
--- After any other fault the output is as `Leaves` says, with the names that the options give
+-- the output after a fault of an audit of files. Nothing was written if the fault is in the run's faults that the
+-- options name. After any other fault the output is as `Leaves` says, with the names that the options give
 abbrev pub LeavesFiles : {W : Type 0} → AuditOutput → ProgramError → (W → Option (List ℕ)) → W → W → Type 0
 LeavesFiles output why contents old new =
     (IsOfAsked output why × (new ≡ old))
     ⊎ ((asked : Option Wanted) × IsAskedBy output asked
     × Leaves asked (ifaces_named output) None why contents old new)
 
--- the audit took the lines of the text that the reader had, up to bytes that end no line, and the events of the lines were written
+-- the audit took the lines of the text that the reader had, up to bytes that end no line, and the events of the lines
+-- were written
 pub record IsInputTaken {W : Type 0} (w : Wanted) (input : Option (List ℕ)) (audit : TextAudit) (torn : List ℕ)
     (contents : W → Option (List ℕ)) (old new : W) : Type 0 where
   pub lines : List ℕ
@@ -357,7 +360,8 @@ pub record BeginsWrong (audit : TextAudit) (next : List ℕ) (why : ReadFault) :
 abbrev pub StaysUnknown : TextAudit → TextAudit → Type 0
 StaysUnknown before after = bus_taken before.phase ≡ None → bus_taken after.phase ≡ None
 
--- the audit holds the events of these lines, which do not make the bus known, and found a fault in the bytes after the lines
+-- the audit holds the events of these lines, which do not make the bus known, and found a fault in the bytes after the
+-- lines
 abbrev pub HoldsBefore : TextAudit → (lines next : List ℕ) → ReadFault → TextAudit → Type 0
 HoldsBefore before lines next why after =
     (last : TextAudit) × TakesMore before lines last × StaysUnknown before last
@@ -428,8 +432,8 @@ abbrev pub IsLeft : Option (List ℕ) → Option (List ℕ) → List ℕ → Typ
 IsLeft (Some all) (Some rest) left = rest ≡ left
 IsLeft _ _ left = Unit {0}
 
--- the reader and the audit went on to the lines before a fault; these lines do not make the bus known, and the audit holds their
--- events
+-- the reader and the audit went on to the lines before a fault; these lines do not make the bus known, and the audit
+-- holds their events
 abbrev pub AuditStopsAfter : Option (List ℕ) → Option (List ℕ) → TextAudit → ReadFault → TextAudit → Type 0
 AuditStopsAfter old new before why after =
     (last : TextAudit) × AuditGoesOn old new before last × StaysUnknown before last
@@ -453,7 +457,8 @@ abbrev pub HasNote : TextFault → Type 0
 HasNote (found.Read why) = Unit {0}
 HasNote (found.Wrong w) = FitsLines w
 
--- the last line of the audit of a legal record with this many entries; the first argument says whether the audit has events
+-- the last line of the audit of a legal record with this many entries; the first argument says whether the audit has
+-- events
 abbrev pub last_line : Bool → ℕ → List ℕ
 last_line false count = entries_line count
 last_line true count = end_line count

@@ -92,8 +92,8 @@ plan_line before (plan.Script (script.RepeatedAttempt n)) = n
 plan_line before (plan.Script script.NoMemory) = before
 plan_line before (plan.TooManyRules n) = n
 
--- the text spells no faults for a bus with these names: it is not UTF-8, this is the fault of its first wrong line, or memory was
--- refused
+-- the text spells no faults for a bus with these names: it is not UTF-8, this is the fault of its first wrong line, or
+-- memory was refused
 abbrev pub IsNoPlan : List (List ℕ) → List ℕ → ℕ → ℕ → ℕ → Type 0
 IsNoPlan names faults before code line =
     ((code ≡ 25) × (line ≡ before) × (IsUtf8 faults → ⊥))

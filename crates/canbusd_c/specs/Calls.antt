@@ -149,7 +149,8 @@ IsInjectCall rule old code new =
     × (new ≡ local_with_plan old new.bus.plan)
     × IsTold rule_code outcome code tt
 
--- the counts of an interface or a socket are written if it exists; otherwise the code is `missing`, and nothing is written
+-- the counts of an interface or a socket are written if it exists; otherwise the code is `missing`, and nothing is
+-- written
 abbrev pub IsCountsCall : {A B : Type 0} → ℕ → (A → B) → Option A → B → ℕ → B → Type 0
 IsCountsCall missing out None before code after = (code ≡ missing) × (after ≡ before)
 IsCountsCall missing out (Some a) before code after = (code ≡ 0) × (after ≡ out a)

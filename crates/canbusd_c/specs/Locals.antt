@@ -99,8 +99,8 @@ AreDueMade moment b (Err fault) after =
 abbrev pub can_run_to : ℕ → Local → Bool
 can_run_to moment b = is_some b.bus.schedule && nat_le b.moment moment
 
--- a run to this moment makes attempts as long as one is due, counts them, and then sets the moment. It ends early if a due attempt
--- is refused because the record is full
+-- a run to this moment makes attempts as long as one is due, counts them, and then sets the moment. It ends early if a
+-- due attempt is refused because the record is full
 abbrev pub IsLocalRun : ℕ → Local → Result ℕ RunFault → Local → Type 0
 IsLocalRun moment b (Ok n) after =
     (mid : Local)

@@ -130,8 +130,8 @@ tried_out (attempt.Tried t) = record {
   unused = 0;
 }
 
--- the socket option with this number, set to this value: CAN_RAW_ERR_FILTER 2, CAN_RAW_LOOPBACK 3, CAN_RAW_RECV_OWN_MSGS 4,
--- CAN_RAW_FD_FRAMES 5 and CAN_RAW_JOIN_FILTERS 6 of linux/can/raw.h
+-- the socket option with this number, set to this value: CAN_RAW_ERR_FILTER 2, CAN_RAW_LOOPBACK 3,
+-- CAN_RAW_RECV_OWN_MSGS 4, CAN_RAW_FD_FRAMES 5 and CAN_RAW_JOIN_FILTERS 6 of linux/can/raw.h
 abbrev pub option_of_numbers : ℕ → ℕ → Option Opt
 option_of_numbers option value =
     if option == 2 then Some (opt.ErrMask value)

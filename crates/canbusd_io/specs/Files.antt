@@ -15,7 +15,8 @@ use Rattle.canbusd_options.specs.BusWords.{first_name_of}
 use Rattle.canbusd_io.specs.declared.program_error.ProgramError.{ProgramError}
 use Rattle.canbusd_io.specs.declared.program_error.ProgramError.TheVariants as fault
 
--- The bytes that are written to files, and the faults of names, files and scripts that cannot be read or written (own choice).
+-- The bytes that are written to files, and the faults of names, files and scripts that cannot be read or written (own
+-- choice).
 
 -- a text was written to a writer
 abbrev pub Took : {W : Type 0} → (W → Option (List ℕ)) → W → W → List ℕ → Type 0
@@ -53,8 +54,8 @@ IsOfNames text fault.BadNames = AreNames (names_in text) → ⊥
 IsOfNames text fault.NoMemory = AreNames (names_in text)
 IsOfNames text why = ⊥
 
--- a fault of the log of a bus, whose file has this path: the file cannot be opened, the log cannot be written, or the names are at
--- fault
+-- a fault of the log of a bus, whose file has this path: the file cannot be opened, the log cannot be written, or the
+-- names are at fault
 abbrev pub IsOfLogFile : BusWord → List ℕ → ProgramError → Type 0
 IsOfLogFile bus path (fault.CannotOpen named) = named.now ≡ path
 IsOfLogFile bus path (fault.Log name lines) = name.now ≡ first_name_of bus.names.now

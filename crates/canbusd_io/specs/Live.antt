@@ -5,8 +5,8 @@ use Rattle.std.specs.declared.io.buffered.BufWriter.{BufWriter}
 use Rattle.std.specs.declared.alloc.Global.{Global}
 use Rattle.canbusd_io.specs.declared.whole_lines.WholeLines.{WholeLines}
 
--- Files that are written while a server runs. Contracts see the lines that are written to a file. A file that is over (`None`) gets
--- no more lines.
+-- Files that are written while a server runs. Contracts see the lines that are written to a file. A file that is over
+-- (`None`) gets no more lines.
 
 -- the bytes that a writer that counts whole lines took
 abbrev pub whole_contents : {F : Type 0} → (F → Option (List ℕ)) → BufWriter (WholeLines F) Global → Option (List ℕ)

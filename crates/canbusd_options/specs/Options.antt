@@ -26,8 +26,8 @@ use Rattle.canbusd_options.specs.declared.serve_options.ServeOptions.{ServeOptio
 use Rattle.canbusd_options.specs.BusWords.{names_part, path_of, script_part}
 use Rattle.canbusd_options.specs.RateWords.{GoWithBuses, number_for, number_in_word}
 
--- The options that the values of a command line's arguments mean. A row has the values of one argument: the given values, or the
--- default (own choice).
+-- The options that the values of a command line's arguments mean. A row has the values of one argument: the given
+-- values, or the default (own choice).
 
 -- the rows that a parse found
 abbrev pub rows_in : ArgMatches → List Row
@@ -264,8 +264,8 @@ usual_sessions recording.AtEnd = codes "4000"
 usual_sessions recording.Live = codes "4294967295"
 usual_sessions recording.Never = codes "4294967295"
 
--- the options fit the time at which records are written: --flush and --sync are only for files that are written live, a long run
--- has no --limit, and live records need a folder
+-- the options fit the time at which records are written: --flush and --sync are only for files that are written live, a
+-- long run has no --limit, and live records need a folder
 abbrev pub GoWith : Recording → List Row → Type 0
 GoWith recording.AtEnd rows = (first_of (codes "flush") rows ≡ None) × ¬ (value_of rows (codes "sync") ≡ codes "true")
 GoWith recording.Live rows = (first_of (codes "limit") rows ≡ None) × ¬ (first_of (codes "out") rows ≡ None)
@@ -326,8 +326,8 @@ AreFaults rows faults = HasFaultsOf (first_of (codes "faults") rows) faults
 abbrev pub GiveFaults : List Row → Type 0
 GiveFaults rows = (faults : Option FaultsWord) × AreFaults rows faults
 
--- the bus of an audit has the bit rates that the rows give it, or none if they give none; the names of the bus are those of
--- --faults, if --faults is given
+-- the bus of an audit has the bit rates that the rows give it, or none if they give none; the names of the bus are
+-- those of --faults, if --faults is given
 abbrev pub IsAuditTimed : List Row → Option BusTiming → Type 0
 IsAuditTimed rows timing =
     IsTimed rows
@@ -339,8 +339,9 @@ IsAuditTimed rows timing =
 abbrev pub GiveAuditTiming : List Row → Type 0
 GiveAuditTiming rows = (timing : Option BusTiming) × IsAuditTimed rows timing
 
--- an audit writes the output that the rows ask for. With --events it writes what the entries brought about, by the bit rates and
--- the faults that the rows give, if any. Without --events it writes a count, and the rows give neither bit rates nor faults
+-- an audit writes the output that the rows ask for. With --events it writes what the entries brought about, by the bit
+-- rates and the faults that the rows give, if any. Without --events it writes a count, and the rows give neither bit
+-- rates nor faults
 abbrev pub IsOutput : List Row → AuditOutput → Type 0
 IsOutput rows output.Count =
     ¬ (value_of rows (codes "events") ≡ codes "true") × IsAuditTimed rows None × AreFaults rows None

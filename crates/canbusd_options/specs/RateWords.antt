@@ -6,8 +6,8 @@ use Rattle.std.specs.Str.{bytes_eq}
 use Rattle.can_frame.specs.Names.{names_in}
 use Rattle.canbusd_options.specs.BusWords.{names_part}
 
--- The words of a bit rate option (own choice): `N` is for all buses, and `NAME=N` is for the bus that has an interface with this
--- name. A bus is given by its names, joined by commas. If no names are given, only words for all buses apply.
+-- The words of a bit rate option (own choice): `N` is for all buses, and `NAME=N` is for the bus that has an interface
+-- with this name. A bus is given by its names, joined by commas. If no names are given, only words for all buses apply.
 
 -- the byte that separates the name in a word from the number: =
 abbrev pub is_equals : ℕ → Bool
@@ -29,7 +29,8 @@ number_in_word word = if is_named word then after_first is_equals word else word
 abbrev pub has_name : List ℕ → List ℕ → Bool
 has_name names name = list_any (λ other. bytes_eq other name) (names_in names)
 
--- whether a word with this name is for the bus with these names; a word without a name is for all buses, given by no names
+-- whether a word with this name is for the bus with these names; a word without a name is for all buses, given by no
+-- names
 abbrev pub names_bus : Option (List ℕ) → Option (List ℕ) → Bool
 names_bus None None = true
 names_bus (Some names) (Some name) = has_name names name
@@ -51,8 +52,8 @@ is_once words bus = nat_le (count_by (is_for bus) words) 1
 abbrev pub is_known : List (List ℕ) → List ℕ → Bool
 is_known buses word = is_for None word || list_any (λ bus. is_for (Some (names_part bus)) word) buses
 
--- the words fit the buses: each word is for all buses or for one of them, no bus has two words, and at most one word is for all
--- buses
+-- the words fit the buses: each word is for all buses or for one of them, no bus has two words, and at most one word is
+-- for all buses
 pub record GoWithBuses (buses words : List (List ℕ)) : Type 0 where
   pub known : AllPass (is_known buses) words
   pub once_for_all : is_once words None ≡ true

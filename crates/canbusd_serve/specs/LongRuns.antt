@@ -62,8 +62,8 @@ abbrev pub LogGets : {F : Type 0} → (F → Option (List ℕ)) → Option (Live
     → Option (LiveText F (List (List ℕ))) → Type 0
 LogGets contents old entries new = TextGets contents (λ names. joined (log_lines names (reverse entries))) old new
 
--- the files of a bus have the lines of these entries and no others, if the files are wanted and not over; they are over only if a
--- fault is noted
+-- the files of a bus have the lines of these entries and no others, if the files are wanted and not over; they are over
+-- only if a fault is noted
 pub record HaveLines {F : Type 0} (contents : F → Option (List ℕ)) (entries : List Entry)
     (files : LiveFiles F) : Type 0 where
   pub recorded : IfSome files.record (λ r. RecordHas contents r (entry_lines entries []))
@@ -74,7 +74,8 @@ pub record HaveLines {F : Type 0} (contents : F → Option (List ℕ)) (entries 
 abbrev pub AllGiven : {F : Type 0} → (F → Option (List ℕ)) → List (LiveFiles F) → List ScrollSeen → Type 0
 AllGiven contents files scrolls = AllZip (λ f scroll. HaveLines contents scroll.entries f) files scrolls
 
--- each of these buses has its passes and its scroll, and its files have the lines of the entries handed out to the scroll
+-- each of these buses has its passes and its scroll, and its files have the lines of the entries handed out to the
+-- scroll
 pub record IsRunOf {N : Type 0} (contents : File → Option (List ℕ)) (buses : List BusSeen)
     (run : Run N) : Type 0 where
   pub passes : length run.passes.items ≡ length buses
@@ -94,8 +95,8 @@ AreBegun contents all = All (λ files. HaveLines contents [] files) all
 abbrev pub HasFiles : {F : Type 0} → (F → Option (List ℕ)) → List BusSeen → List (LiveFiles F) → Type 0
 HasFiles contents buses files = AreBegun contents files × (length files ≡ length buses)
 
--- the record of a bus is the text of this history, and the log has the lines of all frames that were tried in the history, if these
--- files are wanted and not over; they are over only if a fault is noted
+-- the record of a bus is the text of this history, and the log has the lines of all frames that were tried in the
+-- history, if these files are wanted and not over; they are over only if a fault is noted
 pub record AreWhole {F : Type 0} (contents : F → Option (List ℕ)) (history : List Entry)
     (files : LiveFiles F) : Type 0 where
   pub recorded : IfSome files.record (λ r.
@@ -108,8 +109,8 @@ abbrev pub AreAllWhole :
     {F : Type 0} → (F → Option (List ℕ)) → List (LiveFiles F) → List (Settled LongJournal) → Type 0
 AreAllWhole contents files settled = AllZip (λ f s. AreWhole contents (reverse s.history.history) f) files settled
 
--- the files of a bus that the options ask for exist, and no fault is noted. With a folder there is a log, and a record if it is to
--- be live
+-- the files of a bus that the options ask for exist, and no fault is noted. With a folder there is a log, and a record
+-- if it is to be live
 pub record AreThere {F : Type 0} (o : ServeOptions) (files : LiveFiles F) : Type 0 where
   pub faultless : files.has_fault ≡ false
   pub logged : IsSome o.folder → IsSome files.log

@@ -71,8 +71,8 @@ IsOfBus bus why =
     IsOfNames bus.names.now why
     ⊎ (AreNames (names_in bus.names.now) × IsOfPlan bus.script (names_in bus.names.now) why)
 
--- a fault of serving: the server cannot listen or write, no file can be opened in its folder, a bus got the pass of another bus, or
--- memory was refused
+-- a fault of serving: the server cannot listen or write, its folder does not accept files, a bus got the pass of
+-- another bus, or memory was refused
 abbrev pub IsOfServing : ProgramError → Type 0
 IsOfServing fault.CannotListen = Unit {0}
 IsOfServing (fault.CannotOpen folder) = Unit {0}
@@ -81,8 +81,8 @@ IsOfServing fault.Write = Unit {0}
 IsOfServing fault.NoMemory = Unit {0}
 IsOfServing why = ⊥
 
--- a fault of a server with these buses: no hub can be made of them within these limits, memory for the hub was refused, or it is a
--- fault of serving
+-- a fault of a server with these buses: no hub can be made of them within these limits, memory for the hub was refused,
+-- or it is a fault of serving
 abbrev pub IsOfHub : (BusConfig → Type 0) → List (Bench Perfect Open) → ProgramError → Type 0
 IsOfHub limits benches (fault.Buses BadConfig) = MakeHubWithin limits benches → ⊥
 IsOfHub limits benches (fault.Buses NoMemory) = Unit {0}
@@ -164,8 +164,8 @@ pub record Serves {W : Type 0} (contents : W → Option (List ℕ)) (o : ServeOp
   pub address : IsHeardAt o.address.now heard
   pub wrote : Appends (contents old) (contents new) (listening_line heard ++ end_lines o.buses.items ends)
 
--- a server reported its address, and at its end the number of entries of each bus; these entries are a legal history of the bus's
--- configuration
+-- a server reported its address, and at its end the number of entries of each bus; these entries are a legal history of
+-- the bus's configuration
 pub record IsServed {W : Type 0} (contents : W → Option (List ℕ)) (o : ServeOptions) (old new : W) : Type 0 where
   pub named : All (λ bus. AreNames (names_in bus.names.now)) o.buses.items
   pub ends : List Journal

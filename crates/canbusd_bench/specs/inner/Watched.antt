@@ -4,8 +4,8 @@ use Rattle.std.specs.List.{fold}
 
 -- The state of a watcher, given the bytes that it wrote.
 
--- how many of the last bytes begin the text `< error `, after one more byte; the number is 9 once a small letter has followed the
--- whole text
+-- how many of the last bytes begin the text `< error `, after one more byte; the number is 9 once a small letter has
+-- followed the whole text
 abbrev pub seen_after : ℕ → ℕ → ℕ
 seen_after seen b =
     if seen == 9 then 9
