@@ -7,11 +7,11 @@ use Rattle.can_replay.specs.Histories.{IsHistory}
 -- The results of the reference. can_bus defines them on histories, which begin with the newest entry. The reference
 -- computes them from a list of entries, which begins with the oldest (own choice).
 
--- the call returned this value, or there was no memory
+-- the call returned this value, or memory was refused
 abbrev pub Yields : {A E : Type 0} → Result A E → A → Type 0
 Yields result value = IfOk result (λ r. r ≡ value)
 
--- the call returned these values, or there was no memory
+-- the call returned these values, or memory was refused
 abbrev pub ReturnsList : {A G E : Type 0} → Result (Vec A G) E → List A → Type 0
 ReturnsList result values = IfOk result (λ rs. rs.items ≡ values)
 

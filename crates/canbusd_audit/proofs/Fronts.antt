@@ -41,7 +41,7 @@ use Rattle.canbusd_audit.proofs.Underway.{follows, puts_more, same_output}
 
 -- ---- the fault
 
--- the fault is one of an audit; if it names a wrong entry, this is the first wrong entry of those that were read
+-- an audit may have this fault; if the fault names a wrong entry, this is the first wrong entry of those that were read
 abbrev pub Names : ProgramError → Phase → Type 0
 Names (fault.WrongEntry k) p = (w : WrongLine) × (wrong_so_far p ≡ Some w) × (w.place ≡ k)
 Names (fault.Record what) p = Unit {0}
@@ -222,14 +222,14 @@ text_with None now text h = ([], tt)
 text_with (Some all) None text h = absurd h
 text_with (Some all) (Some rest) text h = (rest, sym h)
 
--- the text goes on with the next line
+-- the text continues with the next line
 text_read : (first now after : Option (List ℕ)) (text line : List ℕ) → Consumes first now text → Consumes now after line → (rest : List ℕ) × IsTextIn first (text ++ (line ++ rest))
 text_read None now after text line h k = ([], tt)
 text_read (Some all) None after text line h k = absurd h
 text_read (Some all) (Some xs) None text line h k = absurd k
 text_read (Some all) (Some xs) (Some rest) text line h k = (rest, sym (h ∙ ap (λ (x : List ℕ). text ++ x) k))
 
--- the text goes on with the remaining bytes
+-- the text continues with the remaining bytes
 text_left : (first old new : Option (List ℕ)) (before text left : List ℕ) → Consumes first old before → Consumes first new text → IsLeft old new left → IsTextIn first (text ++ left)
 text_left None old new before text left h k is = tt
 text_left (Some all) None new before text left h k is = absurd h
@@ -338,7 +338,7 @@ of_other (Some n) first text rest (phase.Entries b) why is come other =
     subst (IsOfOtherBus (Some n) first) (sym other.0) (text ++ rest, is, b.config, has_bus text rest (phase.Entries b) b.config come refl, other.1)
 of_other (Some n) first text rest (phase.Failed what) why is come other = absurd other
 
--- the fault of the writer or of the bus, if the bus is checked while lines are read
+-- the fault of an audit that stops while lines are read, because the writer failed or the bus is not the wanted one
 pub known_told : {W : Type 0} (v : Wanted) (has asks : Bool) (ifaces : Option ℕ) (first now : Option (List ℕ)) (audit : TextAudit) (events : List ℕ) (why : ProgramError) (out new : W) → has ≡ asks → IsUnderway v first now audit events
     → StopsEvents has why ⊎ (IsOtherBus ifaces (bus_taken audit.phase) why × (new ≡ out)) → StopsEvents asks why ⊎ (IsOfOtherBus ifaces first why ⊎ FaultsLine first why)
 known_told v has asks ifaces first now audit events why out new same u (inl h) = inl (subst (λ (b : Bool). StopsEvents b why) same h)

@@ -41,15 +41,15 @@ use Rattle.canbusd_io.specs.Files.{IsOfFaults, IsOfFile, IsOfReading}
 use Rattle.canbusd_audit.specs.declared.buffered.Buffered.{Buffered}
 use Rattle.canbusd_audit.specs.declared.buffered.Buffered.TheVariants as held
 
--- The output of an audit of a text (own choice). An audit is asked only for the number of a record's entries, or for
--- what the entries brought about and what else is wanted of their lines.
+-- The output of an audit of a text (own choice). An audit is asked either for the number of a record's entries only, or
+-- for events: the effects of the entries and the other wanted parts of their lines.
 
 -- the line that says how many entries a legal record has
 abbrev pub entries_line : ℕ → List ℕ
 entries_line n = codes "ok " ++ decimal n ++ codes " entries" ++ 10 ∷ []
 
--- the output of an audit of a legal record: the number of entries or, with events, what the entries brought about and
--- what else is wanted of their lines
+-- the output of an audit of a legal record: the number of its entries or, with events, the effects of the entries and
+-- the other wanted parts of their lines
 abbrev pub audit_text : Option Wanted → BusConfig → List Entry → List ℕ
 audit_text None c entries = entries_line (length entries)
 audit_text (Some w) c entries = events_text w (version_of c entries) c (reverse entries)
@@ -239,7 +239,7 @@ abbrev pub are_events : AuditOutput → Bool
 are_events writes.Count = false
 are_events (writes.Events asked) = true
 
--- what is wanted of the lines; nothing more is wanted if the audit is not asked for events
+-- the wanted parts of the lines; no parts are added if the audit is not asked for events
 abbrev pub wanted_of : Option Wanted → Wanted
 wanted_of asked = unwrap_or asked nothing_wanted
 

@@ -78,7 +78,7 @@ abbrev pub filter_before : CFilter → Bool → Option (List CanFilter) → Opti
 filter_before f true (Some filters) = Some (record { id = f.id; mask = f.mask } ∷ filters)
 filter_before f _ _ = None
 
--- all filters, or none if one is invalid; bit 29 is in no mask
+-- all filters, or no list if one filter is invalid; a mask with bit 29 is invalid
 unfoldable pub filters_of_structs : List CFilter → Option (List CanFilter)
 filters_of_structs [] = Some []
 filters_of_structs (f ∷ fs) = filter_before f (bit_and f.mask (2 ^ 29) == 0) (filters_of_structs fs)

@@ -74,7 +74,7 @@ log_then contents a b es more has gets =
     let text = λ (entries : List Entry) (names : List (List ℕ)). joined (log_lines names (reverse entries)) in
     text_then contents (text es) (text more) (text (es ++ more)) a b (λ names. sym (log-lines names es more)) has gets
 
--- files that are not over stay open while the record and then the log are written, or a fault is noted
+-- files that are open stay open while the record and then the log are written, or a fault is noted
 going_on : {F : Type 0} (a m b : LiveFiles F) → (a.has_fault ≡ false → IsTextOpen a.record × IsTextOpen a.log) → RecordStays a m → m.log ≡ a.log → LogStays m b → b.record ≡ m.record → b.has_fault ≡ false → IsTextOpen b.record × IsTextOpen b.log
 going_on {F} a m b going record_stays same_log log_stays same_record none =
     let after = log_stays none in

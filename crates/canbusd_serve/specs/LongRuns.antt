@@ -29,7 +29,7 @@ use Rattle.canbusd_serve.specs.declared.serve_job.Run.{Run}
 abbrev pub HasNewScrolls : List BusSeen → List ScrollSeen → Type 0
 HasNewScrolls buses scrolls = AreNewScrolls 0 scrolls × (length scrolls ≡ length buses)
 
--- the text is not over, if it is wanted
+-- the text is still open, if it is wanted
 abbrev pub IsTextOpen : {F B : Type 0} → Option (LiveText F B) → Type 0
 IsTextOpen wanted = IfSome wanted (λ t. IsSome t.file.out)
 
@@ -62,7 +62,7 @@ abbrev pub LogGets : {F : Type 0} → (F → Option (List ℕ)) → Option (Live
     → Option (LiveText F (List (List ℕ))) → Type 0
 LogGets contents old entries new = TextGets contents (λ names. joined (log_lines names (reverse entries))) old new
 
--- the files of a bus have the lines of these entries and no others, if the files are wanted and not over; they are over
+-- the files of a bus have the lines of these entries and no others, if the files are wanted and still open; they end
 -- only if a fault is noted
 pub record HaveLines {F : Type 0} (contents : F → Option (List ℕ)) (entries : List Entry)
     (files : LiveFiles F) : Type 0 where
@@ -96,7 +96,7 @@ abbrev pub HasFiles : {F : Type 0} → (F → Option (List ℕ)) → List BusSee
 HasFiles contents buses files = AreBegun contents files × (length files ≡ length buses)
 
 -- the record of a bus is the text of this history, and the log has the lines of all frames that were tried in the
--- history, if these files are wanted and not over; they are over only if a fault is noted
+-- history, if these files are wanted and still open; they end only if a fault is noted
 pub record AreWhole {F : Type 0} (contents : F → Option (List ℕ)) (history : List Entry)
     (files : LiveFiles F) : Type 0 where
   pub recorded : IfSome files.record (λ r.
