@@ -25,7 +25,7 @@ use Rattle.can_audit.proofs.Counting.{live-kept}
 
 -- The interface that wins arbitration, and the reply to the attempt.
 
--- one more place of a list is filled
+-- one more element of a list is filled in
 pub set_more : (f : ℕ → Option ℕ) (keys new : List (Option ℕ)) (i : ℕ) → i < length keys → ((k : ℕ) → k < i → get_or keys k None ≡ f k) → new ≡ slice_set keys i (f i) → (k : ℕ) → k < i + 1 → get_or new k None ≡ f k
 set_more f keys new i lt so_far is =
     below_more (λ k. get_or new k None ≡ f k) i

@@ -18,9 +18,9 @@ use Rattle.can_replay.proofs.EntriesBefore.{before_more}
 use Rattle.can_audit.proofs.Counting.{earlier}
 use Rattle.can_audit.proofs.Replying.{IsOn}
 
--- The items that reach a socket, after one entry and the next.
+-- The items that reach a socket after each entry.
 
--- an entry, the history before it, and the history with it
+-- an entry was read: the histories before and after it are legal
 pub record Reads (c : BusConfig) (es : List Entry) (k : ℕ) (e : Entry) : Type 0 where
   pub more : before es (k + 1) ≡ e ∷ before es k
   pub now : IsHistory c (e ∷ before es k)

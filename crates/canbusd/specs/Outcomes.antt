@@ -18,9 +18,9 @@ abbrev pub WritesBits : {W : Type 0} → BitsOptions → (W → Option (List ℕ
 WritesBits o contents old new =
     (text : List ℕ) × IsBitsText o.frame o.others.items o.timing text × Appends (contents old) (contents new) text
 
--- the job was done over the rest of an input, and its output was written: a bench with its options, an audit, a server
--- whose records are legal, or the bits of a frame. An audit passes the text of a legal record, or the front of one if
--- it may be cut off. It writes the events and the rules that decided, if asked for.
+-- the job was done with the rest of an input, and its output was written: a bench with its options, an audit, a server
+-- whose records are legal, or the bits of a frame. An audit passes the text of a legal record, or the front of such a
+-- text if it may be cut off. If asked for, it writes the events and the rules that decided.
 abbrev pub IsDone : {W : Type 0} → (W → Option (List ℕ)) → Job → Option (List ℕ) → W → W → Type 0
 IsDone contents (job.Bench o) input old new = IsBenched contents o input old new
 IsDone contents (job.Audit o) input old new = AuditsFiles o.is_cut o.output contents old new

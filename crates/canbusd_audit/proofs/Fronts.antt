@@ -1,4 +1,4 @@
--- What was written of a text's events before a fault.
+-- The events that were written before a fault of the text.
 use Rattle.std.proofs.Common.{◌≡◌, ◌≢◌, ◌+◌, ◌⊎◌, ℕ, inl, inr, Bool, true, false, List, [], ◌∷◌, ◌++◌, Option, Some, None, Result, Ok, Err, arith, append-nil, length, refl, sym, ap, subst, ◌∙◌}
 use Rattle.std.specs.Prelude.{reverse}
 use Rattle.std.proofs.lemmas.List.Elements.{All-nil}
@@ -39,9 +39,9 @@ use Rattle.canbusd_io.specs.Files.{IsOfReading}
 use Rattle.canbusd_audit.specs.Audited.{BeginsWrong, FaultsLine, FitsBus, HasIfaces, HasNoEvents, IsFaultAfter, IsFrontWritten, IsLeft, IsOfLine, IsOfOtherBus, IsOtherBus, IsPut, IsRead, IsTextIn, IsToldFault, IsUnderway, IsUnread, Leaves, LeavesFront, Puts, AuditStopsAfter, StopsEvents, output_of}
 use Rattle.canbusd_audit.proofs.Underway.{follows, puts_more, same_output}
 
--- ---- which fault it is
+-- ---- the fault
 
--- one of an audit; where it names an entry, this is the first wrong one of those that were read
+-- an audit may have this fault; if the fault names a wrong entry, this is the first wrong entry of those that were read
 abbrev pub Names : ProgramError → Phase → Type 0
 Names (fault.WrongEntry k) p = (w : WrongLine) × (wrong_so_far p ≡ Some w) × (w.place ≡ k)
 Names (fault.Record what) p = Unit {0}
@@ -62,14 +62,14 @@ pub names_told : (what : TextFault) (why : ProgramError) (p : Phase) → ((w : W
 names_told (found.Read what) why p wrong is = subst (λ (w : ProgramError). Names w p) (sym is) tt
 names_told (found.Wrong w) why p wrong is = subst (λ (x : ProgramError). Names x p) (sym is) (w, wrong w refl, refl)
 
--- ---- where the lines stop that were taken
+-- ---- the place where the taken lines stop
 
--- what the fault of a line says of a text
+-- what the fault of a line says about a text
 abbrev pub Says : List ℕ → ProgramError → Type 0
 Says text (fault.Record what) = Reads text (Err what)
 Says text why = Unit {0}
 
--- at a fault of a file or of memory, or at what is no more of a record's
+-- the lines stop at a fault of a file or of memory, or at bytes that do not continue a record
 abbrev pub Stops : (text rest : List ℕ) → Phase → ProgramError → Type 0
 Stops text rest p why = IsUnread why ⊎ (((come : HasCome text p) → LacksNext text rest p come) × Says (text ++ rest) why)
 
@@ -90,7 +90,7 @@ line_stops text line rest audit (read.BadLine n) why taken is end fails (inl sam
     subst (Stops text (line ++ rest) audit.phase) (sym same)
     (inr (line_lacks text line rest (read.BadLine n) (λ no. absurd cc) is end (may rest) (λ more. fails text more taken is (may more)) audit.phase, fails text rest taken is (may rest)))
 
--- ---- a text that does not begin as that of a record
+-- ---- a text that does not begin as a record does
 
 pub unread_none : (text : List ℕ) (why : ProgramError) → IsUnread why → HasNoEvents text why
 unread_none text (fault.Record read.NoMemory) h = tt
@@ -122,13 +122,13 @@ none_at_front : (text rest : List ℕ) (version : Version) (why : ProgramError) 
 none_at_front text rest version why come names (inl h) = unread_none (text ++ rest) why h
 none_at_front text rest version why come names (inr h) = no_events (text ++ rest) why (phase.Front version) names refl (h.0 come) h.1
 
--- ---- the entries that were read, as far as they are legal
+-- ---- the entries that were read, up to the first wrong one
 
 part_count : List Entry → Option WrongLine → ℕ
 part_count es None = length es
 part_count es (Some w) = w.place
 
--- what is known of them
+-- the first `count` entries are legal, and the next one, if any, is the first wrong entry
 record Part (c : BusConfig) (es : List Entry) (o : Option WrongLine) (count : ℕ) : Type 0 where
   legal : IsLegal c (before es count)
   last : (count ≡ length es) ⊎ IsFirstWrongEntry c es count
@@ -141,7 +141,7 @@ part_of c es None settled =
     record { legal = subst (IsLegal c) (sym all) settled; last = inl refl; part = sym all }
 part_of c es (Some w) settled = record { legal = settled.told.first.legal_before; last = inr settled.told.first; part = refl }
 
--- what follows them, as it stops
+-- what follows the entries that were read, given where the lines stop
 After : (text rest : List ℕ) (b : EntryAudit) → IsGoing text b → ProgramError → Type 0
 After text rest b g why = IsUnread why ⊎ (LacksEntry b.version b.config (last_of b.is_ended g.read.entries ++ rest) × Says (text ++ rest) why)
 
@@ -167,7 +167,7 @@ counted text rest (fault.Record read.NoMemory) b g o is names after = tt
 counted text rest fault.OtherBus b g o is names after = absurd names
 counted text rest why b g o is names after = tt
 
--- ---- what was written
+-- ---- the output
 
 front_at : (v : Wanted) (ifaces : Option ℕ) (text rest cleared : List ℕ) (p : Phase) (e : EventsText) (why : ProgramError) (old new : Option (List ℕ)) → AreWritten v text cleared p (Some e) → Names why p → Stops text rest p why → FitsBus ifaces (bus_taken p) → Appends old new (cleared ++ e.text.items)
     → (HasNoEvents (text ++ rest) why × Appends old new []) ⊎ IsFrontWritten v ifaces (text ++ rest) why old new
@@ -200,7 +200,7 @@ by_kind : {W : Type 0} (v : Wanted) (ifaces : Option ℕ) (first : Option (List 
 by_kind v ifaces first text rest events p None why contents start out w names is stops fits put = put
 by_kind v ifaces first text rest events p (Some e) why contents start out w names is stops fits put = (text ++ rest, is, front_at v ifaces text rest events p e why (contents start) (contents out) w names stops fits put)
 
--- all events of these lines were put out
+-- the output after a fault, if all events of these lines were written
 pub leaves_front : {W : Type 0} (v : Wanted) (ifaces : Option ℕ) (first : Option (List ℕ)) (text rest events : List ℕ) (audit : TextAudit) (why : ProgramError) (contents : W → Option (List ℕ)) (start out : W) → HasWritten v text events audit
     → Names why audit.phase → IsTextIn first (text ++ rest) → Stops text rest audit.phase why → FitsBus ifaces (bus_taken audit.phase) → Puts (has_events audit.events) contents start out (events ++ held_events audit.events) → LeavesFront (output_of v audit.events) ifaces first why contents start out
 leaves_front v ifaces first text rest events audit why contents start out w names is stops fits put = by_kind v ifaces first text rest events audit.phase audit.events why contents start out w names is stops fits put
@@ -208,28 +208,28 @@ leaves_front v ifaces first text rest events audit why contents start out w name
 pub none_more : {W : Type 0} (has : Bool) (contents : W → Option (List ℕ)) (start out : W) (events held : List ℕ) → held ≡ [] → Puts has contents start out events → Puts has contents start out (events ++ held)
 none_more has contents start out events held none put = subst (Puts has contents start out) (sym (ap (λ (x : List ℕ). events ++ x) none ∙ append-nil events)) put
 
--- the same where nothing is held
+-- the output after a fault, if the audit holds no events
 leaves_put : {W : Type 0} (v : Wanted) (ifaces : Option ℕ) (first : Option (List ℕ)) (text rest events : List ℕ) (begun : Option EventsText) (audit : TextAudit) (why : ProgramError) (contents : W → Option (List ℕ)) (start out : W) → has_events begun ≡ has_events audit.events
     → held_events audit.events ≡ [] → HasWritten v text events audit → Names why audit.phase → IsTextIn first (text ++ rest) → Stops text rest audit.phase why → FitsBus ifaces (bus_taken audit.phase) → Puts (has_events audit.events) contents start out events → LeavesFront (output_of v begun) ifaces first why contents start out
 leaves_put v ifaces first text rest events begun audit why contents start out kind none w names is stops fits put =
     subst (λ (asked : Option Wanted). LeavesFront asked ifaces first why contents start out) (sym (same_output v begun audit.events kind))
     (leaves_front v ifaces first text rest events audit why contents start out w names is stops fits (none_more (has_events audit.events) contents start out events (held_events audit.events) none put))
 
--- ---- the text of which these bytes were read
+-- ---- the text from which these bytes were read
 
 text_with : (first now : Option (List ℕ)) (text : List ℕ) → Consumes first now text → (rest : List ℕ) × IsTextIn first (text ++ rest)
 text_with None now text h = ([], tt)
 text_with (Some all) None text h = absurd h
 text_with (Some all) (Some rest) text h = (rest, sym h)
 
--- the next line of it is known
+-- the text continues with the next line
 text_read : (first now after : Option (List ℕ)) (text line : List ℕ) → Consumes first now text → Consumes now after line → (rest : List ℕ) × IsTextIn first (text ++ (line ++ rest))
 text_read None now after text line h k = ([], tt)
 text_read (Some all) None after text line h k = absurd h
 text_read (Some all) (Some xs) None text line h k = absurd k
 text_read (Some all) (Some xs) (Some rest) text line h k = (rest, sym (h ∙ ap (λ (x : List ℕ). text ++ x) k))
 
--- what is left of it is known
+-- the text continues with the remaining bytes
 text_left : (first old new : Option (List ℕ)) (before text left : List ℕ) → Consumes first old before → Consumes first new text → IsLeft old new left → IsTextIn first (text ++ left)
 text_left None old new before text left h k is = tt
 text_left (Some all) None new before text left h k is = absurd h
@@ -246,7 +246,7 @@ leaves_unread v ifaces first now begun audit why contents start out kind none fi
     let t = text_with first now u.text u.consumed in
     leaves_put v ifaces first u.text t.0 p.events begun audit why contents start out kind none u.written (names_reading why audit.phase reading) t.1 (inl (unread why reading)) fits p.put
 
--- the line is at fault that was read
+-- the line that was read is at fault
 pub leaves_line : {W : Type 0} (v : Wanted) (ifaces : Option ℕ) (first now after : Option (List ℕ)) (line : List ℕ) (begun : Option EventsText) (audit : TextAudit) (what : ReadFault) (why : ProgramError) (contents : W → Option (List ℕ)) (start out : W) → has_events begun ≡ has_events audit.events
     → held_events audit.events ≡ [] → FitsBus ifaces (bus_taken audit.phase) → IsPut v first now audit contents start out → IsRead now after line → FailsNext AreTaken audit line what → IsOfLine what why → LeavesFront (output_of v begun) ifaces first why contents start out
 leaves_line v ifaces first now after line begun audit what why contents start out kind none fits p read fails of =
@@ -259,7 +259,7 @@ left_stops : (text left : List ℕ) (audit : TextAudit) (what : ReadFault) (why 
 left_stops text left audit what why taken w of =
     subst (λ (x : List ℕ). Stops text x audit.phase why) (sym w.begins) (line_stops text w.line w.rest audit what why taken w.is_line w.ended w.wrong of)
 
--- no other bus became known
+-- the bus still has the wanted number of interfaces, because no other bus became known
 fits_still : (ifaces : Option ℕ) (text more : List ℕ) (p q : Phase) → HasCome text p → HasCome (text ++ more) q → (bus_taken p ≡ None → bus_taken q ≡ None) → FitsBus ifaces (bus_taken p) → FitsBus ifaces (bus_taken q)
 fits_still ifaces text more (phase.Entries b) (phase.Entries d) come then unknown fits = subst (HasIfaces ifaces) (same_bus text more (phase.Entries b) (phase.Entries d) b.config d.config come then refl refl) fits
 fits_still ifaces text more phase.Start (phase.Entries d) come then unknown fits = absurd (none-some d.config (sym (unknown refl)))
@@ -269,7 +269,7 @@ fits_still ifaces text more p phase.Start come then unknown fits = tt
 fits_still ifaces text more p (phase.Front version) come then unknown fits = tt
 fits_still ifaces text more p (phase.Failed what) come then unknown fits = tt
 
--- the events of the lines before a fault were put out too
+-- the events of the lines before a fault were written too
 pub leaves_stopped : {W : Type 0} (v : Wanted) (ifaces : Option ℕ) (first old new : Option (List ℕ)) (begun : Option EventsText) (before after : TextAudit) (what : ReadFault) (why : ProgramError) (contents : W → Option (List ℕ)) (start out end : W) → has_events before.events ≡ has_events begun
     → has_events after.events ≡ has_events before.events → FitsBus ifaces (bus_taken before.phase) → IsPut v first old before contents start out → AuditStopsAfter old new before what after → Puts (has_events after.events) contents out end (held_events after.events) → IsOfLine what why
     → LeavesFront (output_of v begun) ifaces first why contents start end
@@ -292,7 +292,7 @@ no_front_of : (xs ys : List ℕ) → xs ++ ys ≡ [] → xs ≡ []
 no_front_of [] ys e = refl
 no_front_of (x ∷ xs) ys e = absurd cc
 
--- before its bus was known nothing was written
+-- nothing was written before the bus was known
 pub nothing_put : (v : Wanted) (ifaces : Option ℕ) (text more events : List ℕ) (p q : Phase) (held : Option EventsText) (why : ProgramError) → AreWritten v text events p held → held_events held ≡ [] → HasCome (text ++ more) q
     → FitsBus ifaces (bus_taken p) → IsOtherBus ifaces (bus_taken q) why → events ≡ []
 nothing_put v ifaces text more events p q None why w none then fits other = w.complete
@@ -318,7 +318,7 @@ is_other None o why h = absurd h
 is_other (Some n) None why h = absurd h
 is_other (Some n) (Some c) why h = h.0
 
--- nothing is left of it
+-- after the fault of another bus, no events are written
 leaves_other : {W : Type 0} (v : Wanted) (ifaces : Option ℕ) (first now after : Option (List ℕ)) (begun : Option EventsText) (audit next : TextAudit) (why : ProgramError) (contents : W → Option (List ℕ)) (start out : W) → has_events begun ≡ has_events audit.events
     → held_events audit.events ≡ [] → (p : IsPut v first now audit contents start out) → (on : IsUnderway v first after next p.events) (more : List ℕ) → on.text ≡ p.underway.text ++ more → FitsBus ifaces (bus_taken audit.phase) → IsOtherBus ifaces (bus_taken next.phase) why
     → LeavesFront (output_of v begun) ifaces first why contents start out
@@ -329,7 +329,7 @@ leaves_other v ifaces first now after begun audit next why contents start out ki
     subst (λ (asked : Option Wanted). LeavesFront asked ifaces first why contents start out) (sym (same_output v begun audit.events kind))
     (none_left v ifaces first u.text t.0 p.events audit.events why contents start out (is_other ifaces (bus_taken next.phase) why other) nothing t.1 p.put)
 
--- and it is another one
+-- the bus of the text does not have the wanted number of interfaces
 pub of_other : (ifaces : Option ℕ) (first : Option (List ℕ)) (text rest : List ℕ) (p : Phase) (why : ProgramError) → IsTextIn first (text ++ rest) → HasCome text p → IsOtherBus ifaces (bus_taken p) why → IsOfOtherBus ifaces first why
 of_other None first text rest p why is come other = absurd other
 of_other (Some n) first text rest phase.Start why is come other = absurd other
@@ -338,7 +338,7 @@ of_other (Some n) first text rest (phase.Entries b) why is come other =
     subst (IsOfOtherBus (Some n) first) (sym other.0) (text ++ rest, is, b.config, has_bus text rest (phase.Entries b) b.config come refl, other.1)
 of_other (Some n) first text rest (phase.Failed what) why is come other = absurd other
 
--- where it is looked at while lines are read
+-- the fault of an audit that stops while lines are read, because the writer failed or the bus is not the wanted one
 pub known_told : {W : Type 0} (v : Wanted) (has asks : Bool) (ifaces : Option ℕ) (first now : Option (List ℕ)) (audit : TextAudit) (events : List ℕ) (why : ProgramError) (out new : W) → has ≡ asks → IsUnderway v first now audit events
     → StopsEvents has why ⊎ (IsOtherBus ifaces (bus_taken audit.phase) why × (new ≡ out)) → StopsEvents asks why ⊎ (IsOfOtherBus ifaces first why ⊎ FaultsLine first why)
 known_told v has asks ifaces first now audit events why out new same u (inl h) = inl (subst (λ (b : Bool). StopsEvents b why) same h)
@@ -357,7 +357,7 @@ known_left v ifaces first now after begun audit next why contents start out new 
 known_left v ifaces first now after begun audit next why contents start out new kind none p on more is fits (inr h) =
     inr (subst (LeavesFront (output_of v begun) ifaces first why contents start) (sym h.1) (leaves_other v ifaces first now after begun audit next why contents start out kind none p on more is fits h.0))
 
--- before any line it is not known
+-- before the first line, the bus is not known
 pub fits_at_start : (ifaces : Option ℕ) (p : Phase) → HasCome [] p → FitsBus ifaces (bus_taken p)
 fits_at_start ifaces phase.Start come = tt
 fits_at_start ifaces (phase.Front version) come = tt

@@ -1,4 +1,4 @@
--- The lines that a reader holds.
+-- The lines that a reader has buffered.
 use Rattle.std.proofs.Common.{◌≡◌, ◌≢◌, ◌+◌, ◌-◌, ◌<◌, ℕ, List, [], ◌∷◌, ◌++◌, All, length, take, drop, Option, Some, None, Result, Ok, Err, IfOk, append-nil, append_assoc, arith, eqb-true, eq-eqb, get_or, get_or-take, length-take-le, refl, sym, ap, subst, ◌∙◌}
 use Rattle.std.proofs.Math.Seq.{take-add}
 use Rattle.std.proofs.Transfers.{StopsAt-take}
@@ -22,7 +22,7 @@ use Rattle.canbusd_audit.specs.declared.buffered.Buffered.{Buffered}
 use Rattle.canbusd_audit.specs.declared.buffered.Buffered.TheVariants as held
 use Rattle.canbusd_audit.proofs.Underway.{more_read}
 
--- ---- a line that is cut behind its LF, which is the first one
+-- ---- a line that ends with the first LF of some bytes
 
 module _ (left : List ℕ) (place : ℕ) (found : IsFirstByte (is_byte 10) left (Some place)) where
   no_end_before : All (λ (x : ℕ). x ≢ 10) (take place left)
@@ -63,13 +63,13 @@ module _ (held : List ℕ) (len place : ℕ) (text : List ℕ) where
   with_more : (after : List ℕ) → (text ++ take len held) ++ (line ++ after) ≡ text ++ (take (len + (place + 1)) held ++ after)
   with_more after = sym (append_assoc (text ++ take len held) line after) ∙ ap (λ (x : List ℕ). x ++ after) one_more ∙ append_assoc text (take (len + (place + 1)) held) after
 
--- a line more was taken
+-- one more line was taken
 pub takes_more : (held : List ℕ) (len place : ℕ) (old now new : TextAudit) → IsFirstByte (is_byte 10) (drop len held) (Some place) → TakesMore old (take len held) now
     → ((w : Wanted) (events text : List ℕ) → HasWritten w text events now → IsLine (take (place + 1) (drop len held)) → HasWritten w (text ++ take (place + 1) (drop len held)) events new) → TakesMore old (take (len + (place + 1)) held) new
 takes_more held len place old now new found taken step w text events start =
     subst (λ (x : List ℕ). HasWritten w x events new) (one_more held len place text) (step w events (text ++ take len held) (taken w text events start) (is_line (drop len held) place found))
 
--- the line is at fault
+-- the next line is at fault
 pub fails_in : (held : List ℕ) (len place : ℕ) (old now : TextAudit) (why : ReadFault) → IsFirstByte (is_byte 10) (drop len held) (Some place) → TakesMore old (take len held) now
     → ((text after : List ℕ) → AreTaken text now → IsLine (take (place + 1) (drop len held)) → MayFollow (take (place + 1) (drop len held)) after → Reads (text ++ (take (place + 1) (drop len held) ++ after)) (Err why))
     → IsWrongNext old held why
@@ -85,7 +85,7 @@ fails_in held len place old now why found taken step =
           subst (λ (x : List ℕ). Reads x (Err why)) (with_more held len place text after) (step (text ++ take len held) after (taken w text events start).taken (is_line left place found) (may_follow left place found after));
     }
 
--- and the next one of what was not taken
+-- the bytes that were not taken begin with the line at fault
 pub begins_wrong : (held : List ℕ) (len place : ℕ) (now : TextAudit) (why : ReadFault) → IsFirstByte (is_byte 10) (drop len held) (Some place)
     → ((text after : List ℕ) → AreTaken text now → IsLine (take (place + 1) (drop len held)) → MayFollow (take (place + 1) (drop len held)) after → Reads (text ++ (take (place + 1) (drop len held) ++ after)) (Err why))
     → BeginsWrong now (drop len held) why
@@ -100,19 +100,19 @@ begins_wrong held len place now why found step =
       wrong = step;
     }
 
--- ---- what a reader shows
+-- ---- the bytes that a reader shows
 
 pub goes_on_by : (old new : Option (List ℕ)) (before after : TextAudit) (bytes : List ℕ) → Consumes old new bytes → TakesMore before bytes after → AuditGoesOn old new before after
 goes_on_by old new before after bytes consumed taken = λ w first events u.
     (record { text = u.text ++ bytes; consumed = more_read first old new u.text bytes u.consumed consumed; written = taken w u.text events u.written }, bytes, refl)
 
--- an interrupted read leaves all as it was
+-- an interrupted read changes nothing
 pub still_there : {E : Type 0} (old new : Option (List ℕ)) (audit : TextAudit) (r : Result Buffered E) → Keeps old new → IfOk r (λ h. h ≡ held.Lines) → IfOk r (λ h. BecomesOf h old new audit audit)
 still_there old new audit (Err e) kept is = tt
 still_there old new audit (Ok b) kept is = subst (λ (h : Buffered). BecomesOf h old new audit audit) (sym is) (λ w first events u.
     (record { text = u.text; consumed = Consumes-kept first old new u.text u.consumed kept; written = u.written }, [], sym (append-nil u.text)))
 
--- it begins with lines that are at fault
+-- the buffered bytes begin with lines that are at fault
 held_fault : (v : Wanted) (text events held after : List ℕ) (audit : TextAudit) (why : ReadFault) → HasWritten v text events audit → IsWrongNext audit held why → FaultsUncut (text ++ (held ++ after)) why
 held_fault v text events held after audit why written w =
     let whole : (text ++ w.lines) ++ (w.rest ++ after) ≡ text ++ (held ++ after) =
@@ -136,7 +136,7 @@ may_be_at_fault old audit (Some w) why held is shows fails =
     let same : w ≡ why = cc in
     at_fault old audit why held shows (subst (λ (x : ReadFault). IsWrongNext audit held x) same fails)
 
--- what it has left after some of that
+-- the remaining bytes of the reader, after some of the buffered bytes were taken
 left_of : (old new : Option (List ℕ)) (held : List ℕ) (len : ℕ) → IfSome old (λ xs. StartsWith xs held) → Consumes old new (take len held) → (more : List ℕ) × IsLeft old new (drop len held ++ more)
 left_of None new held len shows consumed = ([], tt)
 left_of (Some xs) None held len shows consumed = ([], tt)

@@ -1,4 +1,4 @@
--- What is told of a text that has ended.
+-- The result that is reported for a text that has ended.
 use Rattle.std.proofs.Common.{◌≡◌, ◌≢◌, ◌⊎◌, ◌<◌, ℕ, inl, inr, Bool, true, false, nat_le, List, [], ◌∷◌, ◌++◌, Option, Some, None, Result, Ok, Err, IfErr, IfOk, OnOk, ap, append-nil, arith, get_or, if◌then◌else◌, length, map, refl, rules, sym, ◌∙◌, subst}
 use Rattle.std.specs.Result.{IsErrAnd}
 use denote.Ref.{Bor}
@@ -45,12 +45,12 @@ use Rattle.canbusd_audit.specs.Audited.{Audits, AuditsBy, AuditsCut, AuditsFiles
 use Rattle.canbusd_audit.proofs.Fronts.{Names, Says, is_other, leaves_front, names_line, names_told, none_left, none_more, nothing_put, of_other, stops_writing, unread_none}
 use Rattle.canbusd_audit.proofs.Underway.{asked_so, puts_more}
 
--- a reply that is told is the legal one
+-- a legal reply that is reported is the correct one
 told-lawful : (past_limit : Bool) (law r : Reply) → Some r ≡ (if past_limit then None else Some law) → r ≡ law
 told-lawful true law r e = grind rules
 told-lawful false law r e = grind rules
 
--- the lines of a wrong entry
+-- the entry and its legal reply can be written as lines
 fits : (v : Version) (c : BusConfig) (entries : List Entry) (w : WrongLine) → HasLines v c entries → IsWrongIn c entries w → FitsLines w
 fits v c entries w good wrong =
     let t = wrong.told in
@@ -85,11 +85,11 @@ no_rules : (held : Option EventsText) (ws : List ℕ) → has_events held ≡ fa
 no_rules None ws kind is = is
 no_rules (Some e) ws kind is = absurd cc
 
--- what was held, which is nothing, is left out of what was written
+-- the held events are empty, so they do not change what was written
 none_between : (events held last : List ℕ) → held ≡ [] → events ++ last ≡ (events ++ held) ++ last
 none_between events held last none = ap (λ (x : List ℕ). x ++ last) (sym (ap (λ (x : List ℕ). events ++ x) none ∙ append-nil events))
 
--- the last line of a legal record's audit was written, after its events where there are any, and the last rules
+-- the output of the audit of a legal record: its events if it has events, the last rules, and the last line
 whole_written : {W : Type 0} (asked : Option Wanted) (ifaces : Option ℕ) (held : Option EventsText) (ws : List ℕ) (contents : W → Option (List ℕ)) (start out new : W) (text events : List ℕ) (count : ℕ) → has_events held ≡ asks_events asked → held_events held ≡ [] → ws ≡ rules_last held
     → Puts (asks_events asked) contents start out events → EndsEvents (wanted_of asked) held text events count → IsLegalText text count → ((c : BusConfig) → HasBus text c → HasIfaces ifaces c) → Appends (contents out) (contents new) (ws ++ last_line (asks_events asked) count) → IsAudited asked ifaces text (contents start) (contents new)
 whole_written {W = W} None ifaces held ws contents start out new text events count kind none rules put ends h named wrote =
@@ -115,7 +115,7 @@ whole_written (Some w) ifaces (Some e) ws contents start out new text events cou
       wrote = subst (Appends (contents start) (contents new)) (none_between events e.text.items last none ∙ ends.are) (Appends-trans (contents start) (contents out) (contents new) events last put wrote_last);
     }
 
--- the same of a record that is cut off
+-- the output of the audit of a record that is cut off
 off_written : {W : Type 0} (asked : Option Wanted) (ifaces : Option ℕ) (held : Option EventsText) (ws : List ℕ) (contents : W → Option (List ℕ)) (start out new : W) (text events : List ℕ) (count : ℕ) → has_events held ≡ asks_events asked → held_events held ≡ [] → ws ≡ rules_last held
     → Puts (asks_events asked) contents start out events → EndsCutEvents (wanted_of asked) held text events (cut.Off count) → IsCutText text count → ((c : BusConfig) → HasBus text c → HasIfaces ifaces c) → Appends (contents out) (contents new) (ws ++ last_cut_line (asks_events asked) count)
     → IsAuditedCut asked ifaces text (contents start) (contents new)
@@ -147,7 +147,7 @@ told text (Ok count) why h is = subst (Faults text) (sym is) (record { config = 
 told text (Err (found.Read what)) why h is = subst (Faults text) (sym is) h
 told text (Err (found.Wrong w)) why h is = subst (Faults text) (sym is) (record { config = h.config; entries = h.entries; whole = h.whole; says = h.wrong.told.first })
 
--- the same of a text that may be cut off
+-- what a fault says about a text that may be cut off
 told_cut : (text : List ℕ) (r : Result Cut TextFault) (why : ProgramError) → ReportsCut text r → IsTold r why → FaultsBy true text why
 told_cut text (Ok (cut.Whole count)) why h is = inl (subst (FaultsWhole text) (sym is) (record { config = h.config; entries = h.entries; whole = h.whole; says = tt }))
 told_cut text (Ok (cut.Off count)) why h is = inr (subst (IsBlamedCut text) (sym is) (record { config = h.config; entries = h.entries; front = h.front; says = tt }))
@@ -155,20 +155,20 @@ told_cut text (Err (found.Read what)) why h is = inl (subst (FaultsWhole text) (
 told_cut text (Err (found.Wrong w)) why (inl h) is = inl (subst (FaultsWhole text) (sym is) (record { config = h.config; entries = h.entries; whole = h.whole; says = h.wrong.told.first }))
 told_cut text (Err (found.Wrong w)) why (inr h) is = inr (subst (IsBlamedCut text) (sym is) (record { config = h.config; entries = h.entries; front = h.front; says = h.wrong.told.first }))
 
--- of a text that is not cut off it says the same
+-- what `FaultsWhole` says about a text implies what `Faults` says
 plain : (text : List ℕ) (why : ProgramError) → FaultsWhole text why → Faults text why
 plain text (fault.Record read.NoMemory) h = tt
 plain text (fault.Record read.BadVersion) h = h.0
 plain text (fault.Record (read.BadLine n)) h = h.0
 plain text why h = h
 
--- ---- what is told, of the text that a reader had
+-- ---- the result that is reported for the text that a reader had
 
--- a line is at fault
+-- the fault of a line is a fault of the text
 pub line_told : (first : Option (List ℕ)) (why : ProgramError) → FaultsLine first why → FaultsInput first why
 line_told first why h = (h.0, h.1, plain h.0 why h.2)
 
--- all lines of a text were taken, and their events put out
+-- all lines of a text were taken, and their events were written
 pub record IsReady {W : Type 0} (w : Wanted) (first : Option (List ℕ)) (audit : TextAudit) (torn : List ℕ) (contents : W → Option (List ℕ)) (start out : W) : Type 0 where
   pub text : List ℕ
   pub events : List ℕ
@@ -180,7 +180,7 @@ pub record IsReady {W : Type 0} (w : Wanted) (first : Option (List ℕ)) (audit 
 pub ready : {W : Type 0} (w : Wanted) (first : Option (List ℕ)) (audit : TextAudit) (torn : List ℕ) (contents : W → Option (List ℕ)) (start out : W) → IsInputTaken w first audit torn contents start out → IsReady w first audit torn contents start out
 ready w first audit torn contents start out t = record { text = t.lines; events = t.events; is_text = t.is_text; written = t.written; none_held = t.none_held; put = t.put }
 
--- the last line too, if there is one
+-- the last line was taken too, if there is one
 pub ready_last : {W : Type 0} (w : Wanted) (first : Option (List ℕ)) (before after last : TextAudit) (torn : List ℕ) (contents : W → Option (List ℕ)) (start out new : W) → IsInputTaken w first before torn contents start out → TakesLast before torn after
     → has_events after.events ≡ has_events before.events → has_events last.events ≡ has_events after.events → ((w : Wanted) (text events : List ℕ) → HasWritten w text events after → HasWritten w text (events ++ held_events after.events) last)
     → held_events last.events ≡ [] → Puts (has_events after.events) contents out new (held_events after.events) → IsReady w first last [] contents start new
@@ -194,7 +194,7 @@ ready_last w first before after last torn contents start out new t takes kind ki
       (puts_more (has_events after.events) contents start out new t.events (held_events after.events) (subst (λ (b : Bool). Puts b contents start out t.events) (sym kind) t.put) put);
 }
 
--- the bus of a text is the one that was looked at
+-- the bus of the whole text is the bus that was checked
 fitting : (ifaces : Option ℕ) (text torn : List ℕ) (p : Phase) (c : BusConfig) → HasCome text p → EndsNoLine torn → HasBus (text ++ torn) c → FitsBus ifaces (bus_taken p) → HasIfaces ifaces c
 fitting ifaces text torn p c come unended bus fits = subst (FitsBus ifaces) (bus_is text torn p c come unended bus) fits
 
@@ -215,9 +215,9 @@ pub all_told : {W : Type 0} (w : Wanted) (first : Option (List ℕ)) (audit : Te
 all_told w first audit contents start out found (Ok u) t tells h = tt
 all_told w first audit contents start out found (Err failure) t tells h = (t.text, subst (IsTextIn first) (append-nil t.text) t.is_text, told t.text found failure.error (tells t.text t.written.taken) h)
 
--- ---- what was written before the text's fault was found
+-- ---- the output before the fault of the text was found
 
--- what a fault says of a text
+-- what a fault says about a text
 SaysOfText : List ℕ → TextFault → Type 0
 SaysOfText text (found.Read what) = Reads text (Err what)
 SaysOfText text (found.Wrong w) = Unit {0}
@@ -273,7 +273,7 @@ left asked ifaces first audit torn contents start out new (Ok count) (Err failur
 left asked ifaces first audit torn contents start out new (Err what) (Err failure) kind unended t says wrong fits tells quiet =
     all_left asked ifaces first audit torn contents start out new failure.error kind unended t (names_told what failure.error audit.phase (λ w is. wrong w (ap Err is)) tells) (says_so (t.text ++ torn) what failure.error (says what refl) tells) fits quiet
 
--- a call whose fault names no place in the text and wrote nothing
+-- a call that failed because memory was refused, and that wrote nothing
 pub memory_left : {W : Type 0} (asked : Option Wanted) (ifaces : Option ℕ) (first : Option (List ℕ)) (audit : TextAudit) (torn : List ℕ) (contents : W → Option (List ℕ)) (start out : W) (why : ProgramError) → has_events audit.events ≡ asks_events asked → EndsNoLine torn
     → IsReady (wanted_of asked) first audit torn contents start out → FitsBus ifaces (bus_taken audit.phase) → why ≡ fault.NoMemory → Leaves asked ifaces first why contents start out
 memory_left asked ifaces first audit torn contents start out why kind unended t fits is =
@@ -297,7 +297,7 @@ pub last_told : {W : Type 0} (w : Wanted) (first : Option (List ℕ)) (torn : Li
     → FaultsInput first why
 last_told w first torn audit contents start out why t h = (t.lines ++ torn, t.is_text, h t.lines t.written.taken)
 
--- the same of a text that may be cut off
+-- the output of the audit of a text that may be cut off
 pub cut_written : {W : Type 0} (asked : Option Wanted) (ifaces : Option ℕ) (has : Bool) (first : Option (List ℕ)) (audit : TextAudit) (torn ws : List ℕ) (contents : W → Option (List ℕ)) (start out new : W) (found : Result Cut TextFault) (r : Result (Unit {0}) Report)
     → has ≡ asks_events asked → has_events audit.events ≡ asks_events asked → IsReady (wanted_of asked) first audit torn contents start out → ws ≡ rules_last audit.events → EndsNoLine torn → ((text : List ℕ) → AreTaken text audit → EndsNoLine torn → ReportsCut (text ++ torn) found)
     → ((w : Wanted) (text events : List ℕ) (held : Option EventsText) → AreWritten w text events audit.phase held → EndsNoLine torn → IfOk found (EndsCutEvents w held (text ++ torn) events))
@@ -322,14 +322,14 @@ pub all_told_cut : {W : Type 0} (w : Wanted) (first : Option (List ℕ)) (audit 
 all_told_cut w first audit torn contents start out found (Ok u) t unended tells h = tt
 all_told_cut w first audit torn contents start out found (Err failure) t unended tells h = (t.text ++ torn, t.is_text, told_cut (t.text ++ torn) found failure.error (tells t.text t.written.taken unended) h)
 
--- ---- the same of files
+-- ---- the output of an audit of files
 
 pub files_written : {W : Type 0} (is_cut : Bool) (asked : Option Wanted) (ifaces : Option ℕ) {by : Bool} (first : Option (List ℕ)) (contents : W → Option (List ℕ)) (old new : W) (r : Result (Unit {0}) Report) → is_cut ≡ by → OnOk r (AuditsBy by asked ifaces first contents old new)
     → OnOk r (AuditsSome is_cut asked ifaces contents old new)
 files_written is_cut asked ifaces {by} first contents old new (Ok u) is h = (h.0, subst (λ (b : Bool). IsAuditedBy b asked ifaces h.0 (contents old) (contents new)) (sym is) h.2)
 files_written is_cut asked ifaces {by} first contents old new (Err why) is h = tt
 
--- of the text that they hold nothing is known
+-- nothing is known about the text that the files hold
 front_of_some : {W : Type 0} (asked : Option Wanted) (ifaces : Option ℕ) (first : Option (List ℕ)) (why : ProgramError) (contents : W → Option (List ℕ)) (old new : W) → LeavesFront asked ifaces first why contents old new → LeavesFront asked ifaces None why contents old new
 front_of_some None ifaces first why contents old new h = h
 front_of_some (Some w) ifaces first why contents old new h = (h.0, tt, h.2)
@@ -340,7 +340,7 @@ files_left asked ifaces first contents old new (Ok u) h = tt
 files_left asked ifaces first contents old new (Err failure) (inl is) = inl is
 files_left asked ifaces first contents old new (Err failure) (inr h) = inr (front_of_some asked ifaces first failure.error contents old new h)
 
--- before any line was read
+-- the output before any line was read is empty
 pub nothing_left : {W : Type 0} (asked : Option Wanted) (ifaces : Option ℕ) (first : Option (List ℕ)) (why : ProgramError) (contents : W → Option (List ℕ)) (out : W) → IsUnread why → Leaves asked ifaces first why contents out out
 nothing_left None ifaces first why contents out h = inr refl
 nothing_left (Some w) ifaces None why contents out h = inr ([], tt, inl (unread_none [] why h, Appends-nil (contents out)))
@@ -355,12 +355,12 @@ of_file_unread path why h = absurd h
 pub files_unread : (paths : List (List ℕ)) (why : ProgramError) → IsOfFiles paths why → IsUnread why
 files_unread paths why h = of_file_unread h.0 why h.2
 
--- a failure is passed on
+-- a property of a failure holds for the failure that is passed on
 pub passed_on : {A : Type 0} (P : Report → Type 0) (failure : Report) (r : Result A Report) → IsErrAnd r (λ x. x ≡ failure) → P failure → IfErr r P
 passed_on P failure (Ok a) passed h = tt
 passed_on P failure (Err x) passed h = subst P (sym passed) h
 
--- ---- the files with some paths
+-- ---- the files with these paths
 
 abbrev pub paths_of : List (Bor (List ℕ)) → List (List ℕ)
 paths_of named = map (λ (path : Bor (List ℕ)). path.now) named
@@ -379,11 +379,11 @@ of_memory (path ∷ more) i why low is = (path.now, (0, omega arith, refl), subs
 
 -- ---- one of two faults
 
--- a fault of the writer, or what a fault says of a text
+-- the fault is of the writer, or it says this about the text
 abbrev pub Either : Bool → (ProgramError → Type 0) → Report → Type 0
 Either has says failure = StopsEvents has failure.error ⊎ says failure.error
 
--- a bus that is another one than is wanted, or what a fault says of a text
+-- the bus does not have the wanted number of interfaces, or the fault says this about the text
 abbrev pub Or : Option ℕ → Option (List ℕ) → (ProgramError → Type 0) → ProgramError → Type 0
 Or ifaces first says why = IsOfOtherBus ifaces first why ⊎ says why
 
@@ -409,13 +409,13 @@ line_or_cut has ifaces first failure (inl is) = inl is
 line_or_cut has ifaces first failure (inr (inl other)) = inr (inl other)
 line_or_cut has ifaces first failure (inr (inr h)) = inr (inr (cut_line_told first failure.error h))
 
--- events more were put out, unless the writer failed or the bus is another one
+-- more events were to be written, but the writer failed or the bus is not the wanted one
 pub known_or : {W : Type 0} (has asks : Bool) (ifaces : Option ℕ) (first : Option (List ℕ)) (text torn : List ℕ) (p : Phase) (failure : Report) (out new : W) (says : ProgramError → Type 0) → has ≡ asks → IsTextIn first (text ++ torn) → HasCome text p
     → StopsEvents has failure.error ⊎ (IsOtherBus ifaces (bus_taken p) failure.error × (new ≡ out)) → Either asks (Or ifaces first says) failure
 known_or has asks ifaces first text torn p failure out new says same is come (inl h) = inl (subst (λ (b : Bool). StopsEvents b failure.error) same h)
 known_or has asks ifaces first text torn p failure out new says same is come (inr h) = inr (inl (of_other ifaces first text torn p failure.error is come h.0))
 
--- no memory for an audit
+-- memory for an audit was refused
 pub memory_told : (first : Option (List ℕ)) (why : ProgramError) → why ≡ fault.NoMemory → FaultsInput first why
 memory_told None why is = ([], tt, subst (Faults []) (sym is) tt)
 memory_told (Some all) why is = (all, refl, subst (Faults all) (sym is) tt)
@@ -424,7 +424,7 @@ pub memory_told_cut : (first : Option (List ℕ)) (why : ProgramError) → why �
 memory_told_cut None why is = ([], tt, inl (subst (FaultsWhole []) (sym is) tt))
 memory_told_cut (Some all) why is = (all, refl, inl (subst (FaultsWhole all) (sym is) tt))
 
--- the writer, or the bus of the record, of which the last line was taken
+-- the output after the last line was taken, if the writer failed or the bus is not the wanted one
 pub known_left_last : {W : Type 0} (asked : Option Wanted) (ifaces : Option ℕ) (first : Option (List ℕ)) (before after : TextAudit) (torn : List ℕ) (contents : W → Option (List ℕ)) (start out new : W) (why : ProgramError) → has_events before.events ≡ asks_events asked
     → IsInputTaken (wanted_of asked) first before torn contents start out → TakesLast before torn after → FitsBus ifaces (bus_taken before.phase) → StopsEvents (has_events after.events) why ⊎ (IsOtherBus ifaces (bus_taken after.phase) why × (new ≡ out))
     → Leaves asked ifaces first why contents start new
@@ -435,14 +435,14 @@ known_left_last asked ifaces first before after torn contents start out new why 
     inr (subst (LeavesFront asked ifaces first why contents start) (sym h.1) (subst (λ (o : Option Wanted). LeavesFront o ifaces first why contents start out) (sym (asked_so asked before.events kind))
     (none_left w ifaces first t.lines torn t.events before.events why contents start out (is_other ifaces (bus_taken after.phase) why h.0) nothing t.is_text t.put)))
 
--- the last line is at fault, whose events are none
+-- the output if the last line is at fault, so that it has no events
 pub last_left : {W : Type 0} (asked : Option Wanted) (ifaces : Option ℕ) (first : Option (List ℕ)) (audit : TextAudit) (torn : List ℕ) (contents : W → Option (List ℕ)) (start out : W) (why : ProgramError) → has_events audit.events ≡ asks_events asked
     → IsInputTaken (wanted_of asked) first audit torn contents start out → FitsBus ifaces (bus_taken audit.phase) → FaultsLast audit torn why → IsOfSomeLine why → Leaves asked ifaces first why contents start out
 unfolding ready
 last_left asked ifaces first audit torn contents start out why kind t fits faults line =
     all_left asked ifaces first audit torn contents start out out why kind t.unended (ready (wanted_of asked) first audit torn contents start out t) (names_line line.0 why audit.phase line.1) (says_last (t.lines ++ torn) why (faults t.lines t.written.taken)) fits (inr refl)
 
--- ---- the same of files
+-- ---- a record of another bus, in files
 
 other_of_some : (ifaces : Option ℕ) (first : Option (List ℕ)) (why : ProgramError) → IsOfOtherBus ifaces first why → IsOfOtherBus ifaces None why
 other_of_some (Some n) first fault.OtherBus h = (h.0, tt, h.2, h.3, h.4)
@@ -464,7 +464,7 @@ cut_files_told false has ifaces paths first r is h = absurd cc
 cut_files_told true has ifaces paths first r is h =
     or_more has (Or ifaces first (FaultsCut first)) (Or ifaces None (FaultsFiles true paths)) r (of_files ifaces true paths first (FaultsCut first) (λ why k. inr (k.0, k.2))) h
 
--- ---- the same as options say
+-- ---- the result of an audit of files, by the options
 
 kinds : (output : AuditOutput) (asked : Option Wanted) → IsAskedBy output asked → asks_events asked ≡ are_events output
 kinds writes.Count None by = refl

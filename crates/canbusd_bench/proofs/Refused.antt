@@ -8,7 +8,7 @@ use Rattle.canbusd_bench.specs.inner.Watched.{seen_after, seen_in}
 abbrev front : List ℕ
 front = codes "< error "
 
--- the number is 9 after a refusal; otherwise it is the number of last bytes that begin one
+-- the number is 9 after a refusal; otherwise it is the number of last bytes that begin a refusal
 abbrev Saw : ℕ → List ℕ → Type 0
 Saw seen text = ((seen ≡ 9) × HasRefusal text) ⊎ ((seen ≤ 8) × (before : List ℕ) × (text ≡ before ++ take seen front))
 
@@ -48,7 +48,7 @@ longer seen text before b few is text_is =
     ap (λ l. l ++ b ∷ []) text_is ∙ append_assoc before (take seen front) (b ∷ [])
     ∙ ap (λ l. before ++ l) (ap (λ x. take seen front ++ x ∷ []) (sym is) ∙ sym (take_more front seen 60 few))
 
--- the same after one more byte
+-- `Saw` holds after one more byte
 more : (seen : ℕ) (text : List ℕ) (b : ℕ) → Saw seen text → Saw (seen_after seen b) (text ++ b ∷ [])
 more seen text b (inl (is, r)) = subst (λ n. Saw (seen_after n b) (text ++ b ∷ [])) (sym is) (inl (refl, stays text b r))
 more seen text b (inr (few, before, text_is)) =
@@ -72,7 +72,7 @@ more seen text b (inr (few, before, text_is)) =
     by_tests false false false least most true nine-is o e l m n = let s : seen ≢ 8 = λ i. absurd (true≢false (sym (ap (λ k. k == 8) i) ∙ e)) in inr (omega arith, before, longer seen text before b (omega arith) (eqb-true _ _ n) text_is)
     by_tests false false false least most false nine-is o e l m n = none
 
--- the same after several more bytes
+-- `Saw` holds after several more bytes
 all_more : (rest : List ℕ) (seen : ℕ) (text : List ℕ) → Saw seen text → Saw (fold seen_after seen rest) (text ++ rest)
 all_more [] seen text saw = subst (Saw seen) (sym (append-nil text)) saw
 all_more (b ∷ rest) seen text saw = subst (Saw (fold seen_after (seen_after seen b) rest)) (append_assoc text (b ∷ []) rest) (all_more rest (seen_after seen b) (text ++ b ∷ []) (more seen text b saw))

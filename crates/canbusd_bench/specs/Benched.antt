@@ -33,16 +33,16 @@ StopsBy contents o names plan input out (fault.Bench why) new =
     EndsOver contents no_verdicts input (begun plan o names) out (Err why) new
 StopsBy contents o names plan input out _ new = ⊥
 
--- a run of these options ends with a fault of its script, before anything was written; or the script is valid and the
--- run ends with a fault
+-- a run of these options ends with a fault of its script before anything was written; or the script is valid, and the
+-- run itself ends with a fault
 abbrev pub FailsBy : {W : Type 0} → (W → Option (List ℕ)) → BenchOptions → List (List ℕ) → Option (List ℕ) → W
     → ProgramError → W → Type 0
 FailsBy contents o names input out why new =
     (IsOfPlan o.bus.script names why × (new ≡ out))
     ⊎ ((plan : PlanSeen) × IsPlan o.bus.script names plan × StopsBy contents o names plan input out why new)
 
--- a run of these options is complete, with these names. The record is that of the bus of the options, and the bus is
--- within its limits
+-- a run of these options is complete, with these names. The record has the configuration that the options give, and
+-- this configuration is within its limits
 pub record IsRunAsAsked {W : Type 0} (contents : W → Option (List ℕ)) (o : BenchOptions) (names : List (List ℕ))
     (input : Option (List ℕ)) (old : W) (r : Kept) (new : W) : Type 0 where
   pub plan : PlanSeen
@@ -63,8 +63,8 @@ pub record IsBenched {W : Type 0} (contents : W → Option (List ℕ)) (o : Benc
   pub flushed : Keeps (contents written) (contents new)
   pub strict : o.is_strict ≡ true → GrowsQuietly (contents old) (contents written)
 
--- a run of these options is complete and all its output was written; if its bytes are known, the options are strict and
--- the output has a refusal
+-- a run of these options is complete and all its output was written; if the bytes of the output are known, the options
+-- are strict and the output has a refusal
 pub record MeetsRefusal {W : Type 0} (contents : W → Option (List ℕ)) (o : BenchOptions) (input : Option (List ℕ))
     (old new : W) : Type 0 where
   pub named : AreNames (names_in o.bus.names.now)

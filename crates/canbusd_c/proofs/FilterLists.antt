@@ -4,17 +4,17 @@ use Rattle.can_filter.specs.Filters.{CanFilter}
 use Rattle.canbusd_c.specs.Calls.{filter_before, filters_of_structs}
 use Rattle.canbusd_c.specs.declared.shapes.CFilter.{CFilter}
 
--- filters that are read already, before those that are not
+-- the filters that were read, followed by the filters that were not read yet
 abbrev pub before : List CanFilter → Option (List CanFilter) → Option (List CanFilter)
 before front None = None
 before front (Some filters) = Some (front ++ filters)
 
--- nothing is before all
+-- before the first filter is read, all filters follow
 pub none_before : (rest : Option (List CanFilter)) → before [] rest ≡ rest
 none_before None = refl
 none_before (Some filters) = refl
 
--- one more is read
+-- one more filter is read
 regroup : (front : List CanFilter) (f : CFilter) (rest : Option (List CanFilter)) → before front (filter_before f true rest) ≡ before (front ++ record { id = f.id; mask = f.mask } ∷ []) rest
 regroup front f None = refl
 regroup front f (Some filters) = ap (λ (x : List CanFilter). Some x) (sym (append_assoc front (record { id = f.id; mask = f.mask } ∷ []) filters))

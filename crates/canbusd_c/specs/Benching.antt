@@ -19,9 +19,9 @@ use Rattle.canbusd_c.specs.Calls.{IsFront}
 use Rattle.canbusd_c.specs.Making.{HasRates, IsConfigIn, IsNoConfig, IsNoNames, IsNoTiming, timing_of_numbers}
 use Rattle.canbusd_c.specs.declared.shapes.CConfig.{CConfig}
 
--- The bench of a process of its own: that of can_session, line by line (own choice).
+-- A bench inside the calling process: it does what that of can_session does, line by line (own choice).
 
--- a bench, and the output of the last call's lines
+-- a bench, and the output of the lines of the last call
 pub record KeptBench : Type 0 where
   pub bench : BenchState
   pub output : List ℕ
@@ -31,7 +31,7 @@ abbrev pub kept_at_start : Bool → PlanSeen → Option BusTiming → List (List
 kept_at_start shows plan timing names config capacity =
     record { bench = at_start_with shows plan timing names config capacity; output = [] }
 
--- lines are carried out, and their output is kept
+-- the lines are carried out, and their output is kept
 abbrev pub KeepsLines : List ℕ → KeptBench → Result (Unit {0}) BenchFault → KeptBench → Type 0
 KeepsLines lines old outcome new = TakesLines no_verdicts lines old.bench [] outcome new.bench new.output
 
@@ -44,21 +44,21 @@ fault_code fault.Read = 27
 fault_code fault.Write = 10
 fault_code fault.NoMemory = 10
 
--- the number of the line of a fault, if it has one
+-- the line number of a fault, or `before` if the fault has no line
 abbrev pub fault_line : ℕ → BenchFault → ℕ
 fault_line before (fault.BadLine n) = n
 fault_line before _ = before
 
--- the result of lines: the code of a fault, and the number of its line
+-- the result of the lines: the code of a fault and its line number, or code 0
 abbrev pub IsLineTold : Result (Unit {0}) BenchFault → ℕ → ℕ → ℕ → Type 0
 IsLineTold (Ok done) before code line = (code ≡ 0) × (line ≡ before)
 IsLineTold (Err why) before code line = (code ≡ fault_code why) × (line ≡ fault_line before why)
 
--- a text is written, as much of it as there is room for, with its length
+-- the text is written as far as there is room, and its full length is written too
 abbrev pub IsTextOut : List ℕ → List ℕ → ℕ → List ℕ → Type 0
 IsTextOut text before len after = (len ≡ length text) × IsFront text before after
 
--- lines are carried out, and their output is written
+-- the lines are carried out, and their output is written
 abbrev pub IsTakeCall : List ℕ → KeptBench → List ℕ → ℕ → ℕ → ℕ → ℕ → List ℕ → KeptBench → Type 0
 IsTakeCall lines old before line_before code len line after new =
     (outcome : Result (Unit {0}) BenchFault)
@@ -73,11 +73,11 @@ bench_record b = text_of (record_of b.bench.bus.journal.config b.bench.bus.journ
 abbrev pub bench_log : KeptBench → List ℕ
 bench_log b = joined (log_lines b.bench.bus.names b.bench.bus.journal.history)
 
--- a text is written; or memory was refused
+-- the text is written, or memory was refused
 abbrev pub IsTextCall : List ℕ → List ℕ → ℕ → ℕ → List ℕ → Type 0
 IsTextCall text before code len after = MatchBool (code == 0) (IsTextOut text before len after) (code ≡ 10)
 
--- the code of why a text spells no faults, and the number of the line
+-- the code for why a text spells no faults, and the number of the wrong line
 abbrev pub plan_code : PlanError → ℕ
 plan_code (plan.Script (script.BadLine n)) = 25
 plan_code (plan.Script (script.UnknownInterface n)) = 2
@@ -92,14 +92,14 @@ plan_line before (plan.Script (script.RepeatedAttempt n)) = n
 plan_line before (plan.Script script.NoMemory) = before
 plan_line before (plan.TooManyRules n) = n
 
--- a text spells no faults of a bus with these names: it is no UTF-8, or this is the fault of its first wrong line; or
+-- the text spells no faults for a bus with these names: it is not UTF-8, this is the fault of its first wrong line, or
 -- memory was refused
 abbrev pub IsNoPlan : List (List ℕ) → List ℕ → ℕ → ℕ → ℕ → Type 0
 IsNoPlan names faults before code line =
     ((code ≡ 25) × (line ≡ before) × (IsUtf8 faults → ⊥))
     ⊎ ((why : PlanError) × ReadsPlan names faults (Err why) × (code ≡ plan_code why) × (line ≡ plan_line before why))
 
--- a bench is made of the names in a text, of a struct, and of the faults in another text: before its first line
+-- the bench is made from the names in one text, a struct, and the faults in another text; no line was carried out yet
 pub record IsBenchOf (text : List ℕ) (c : CConfig) (capacity : ℕ) (shows : Bool) (faults : List ℕ)
     (b : KeptBench) : Type 0 where
   pub config : BusConfig
@@ -111,7 +111,7 @@ pub record IsBenchOf (text : List ℕ) (c : CConfig) (capacity : ℕ) (shows : B
   pub rates : HasRates c
   pub made : b ≡ kept_at_start shows plan (timing_of_numbers c.bitrate c.data_bitrate) (names_in text) config capacity
 
--- why there is no such bench
+-- the reason why no such bench is made
 abbrev pub IsNoBench : List ℕ → CConfig → ℕ → List ℕ → ℕ → ℕ → ℕ → Type 0
 IsNoBench text c capacity faults before code line =
     ((IsNoNames text code ⊎ IsNoTiming c code ⊎ IsNoConfig c code) × (line ≡ before))
@@ -120,7 +120,7 @@ IsNoBench text c capacity faults before code line =
     × (IsBench (names_in text) config capacity → ⊥))
     ⊎ ((code ≡ 10) × (line ≡ before))
 
--- a bench is made, or the code is why there is none
+-- a bench is made, or the code says why not
 abbrev pub IsBenchCall : List ℕ → CConfig → ℕ → ℕ → List ℕ → ℕ → ℕ → ℕ → Type 0
 IsBenchCall text c capacity shows faults before code line =
     MatchBool (code == 0)

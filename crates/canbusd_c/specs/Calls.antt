@@ -36,28 +36,28 @@ use Rattle.canbusd_c.specs.declared.shapes.CStatus.{CStatus}
 use Rattle.canbusd_c.specs.declared.shapes.CStats.{CStats}
 use Rattle.canbusd_c.specs.declared.shapes.CLoad.{CLoad}
 
--- The effect of each call of C, and its code.
+-- The effect of each C function, and the code that it returns.
 
--- the socket of a number
+-- the socket with this number
 abbrev pub socket : ℕ → SocketId
 socket s = record { 0 = s }
 
--- a call is refused before the bus has it, with this code
+-- the call is refused with this code before it reaches the bus
 abbrev pub IsBadCall : ℕ → Local → ℕ → Local → Type 0
 IsBadCall bad old code new = (code ≡ bad) × (new ≡ old)
 
--- one event of the bus; its code is returned, and its value written
+-- one event of the bus; the call returns its code and writes its value
 abbrev pub IsToldEvent : {A : Type 0} → (A → Reply) → Local → Event → ℕ → A → Local → Type 0
 IsToldEvent {A} reply_of old event code value new =
     (outcome : Result A Refusal)
     × IsLocalEvent reply_of old event outcome new
     × IsTold refusal_code outcome code value
 
--- the interface of a number: there are 16
+-- the interface with this number; there are 16 interfaces
 abbrev pub iface_of_number : ℕ → Option ℕ
 iface_of_number number = if nat_lt number 16 then Some number else None
 
--- the moment of a number of microseconds: 10^16 are none
+-- the moment at this number of microseconds, which is below 10^16
 abbrev pub moment_of_micros : ℕ → Option ℕ
 moment_of_micros micros = if nat_lt micros (10 ^ 16) then Some micros else None
 
@@ -73,22 +73,22 @@ IsCloseCall s old code left new =
     IsToldEvent reply.Closed old (event.Close (socket s)) code
     (record { unread = left.unread; dropped = left.dropped }) new
 
--- one filter more, if it is valid
+-- the list with one more filter, if the filter is valid
 abbrev pub filter_before : CFilter → Bool → Option (List CanFilter) → Option (List CanFilter)
 filter_before f true (Some filters) = Some (record { id = f.id; mask = f.mask } ∷ filters)
 filter_before f _ _ = None
 
--- each filter, or none if one is invalid: bit 29 is in no mask
+-- all filters, or no list if one filter is invalid; a mask with bit 29 is invalid
 unfoldable pub filters_of_structs : List CFilter → Option (List CanFilter)
 filters_of_structs [] = Some []
 filters_of_structs (f ∷ fs) = filter_before f (bit_and f.mask (2 ^ 29) == 0) (filters_of_structs fs)
 
--- the filters, or the code of why there are none: one is invalid, or memory was refused
+-- the filters, or the code for why there are none: one is invalid, or memory was refused
 abbrev pub AreFilters : {A : Type 0} → Option (List CanFilter) → Result (Vec CanFilter A) ℕ → Type 0
 AreFilters all (Ok filters) = all ≡ Some filters.items
 AreFilters all (Err code) = (code ≡ 10) ⊎ ((code ≡ 16) × (all ≡ None))
 
--- a frame is put into a transmit queue, and has this number there
+-- a frame is put into a transmit queue and gets this number
 abbrev pub IsSendCall : ℕ → Option CanFrame → Local → ℕ → ℕ → Local → Type 0
 IsSendCall s None old code number new = IsBadCall 13 old code new
 IsSendCall s (Some frame) old code number new =
@@ -100,20 +100,20 @@ IsOptionCall s None old code new = IsBadCall 15 old code new
 IsOptionCall s (Some option) old code new =
     IsToldEvent done_reply old (event.SetOption (socket s) option) code tt new
 
--- an item that was taken into this room is written; 12 is that nothing waits
+-- the item that was taken is written; code 12 means that no item waits
 abbrev pub IsItemTold : Received → Result Bool Refusal → ℕ → CItem → Type 0
 IsItemTold room (Ok true) code item = (code ≡ 0) × (item ≡ item_out room)
 IsItemTold room (Ok false) code item = code ≡ 12
 IsItemTold room (Err why) code item = code ≡ refusal_code why
 
--- the oldest item of a socket is taken, or none
+-- the oldest item of a socket is taken, if there is one
 abbrev pub IsReceiveCall : ℕ → Local → ℕ → CItem → Local → Type 0
 IsReceiveCall s old code item new =
     (room : Received) × (outcome : Result Bool Refusal)
     × IsLocalEvent (taken_reply room) old (event.Receive (socket s)) outcome new
     × IsItemTold room outcome code item
 
--- the result of an attempt is written, or the code is that of its refusal
+-- the result of an attempt is written, or the code is that of the refusal
 abbrev pub IsAttemptTold : Result Attempt Refusal → ℕ → CTried → Type 0
 IsAttemptTold (Ok attempt) code tried = (code ≡ 0) × (tried ≡ tried_out attempt)
 IsAttemptTold (Err why) code tried = code ≡ refusal_code why
@@ -126,7 +126,7 @@ IsAttemptCall (Some moment) old code tried new =
     × IsLocalTry (local_at_moment moment old) outcome new
     × IsAttemptTold outcome code tried
 
--- a run to a moment, and how many attempts it made
+-- a run to a moment, and the number of attempts that it made
 abbrev pub IsRunCall : Option ℕ → Local → ℕ → ℕ → Local → Type 0
 IsRunCall None old code made new = IsBadCall 14 old code new
 IsRunCall (Some moment) old code made new =
@@ -141,7 +141,7 @@ IsChangeCall event_of (Some iface) None old code new = IsBadCall 14 old code new
 IsChangeCall event_of (Some iface) (Some moment) old code new =
     IsToldEvent done_reply old (event_of iface moment) code tt new
 
--- a rule is given, or refused
+-- a rule is added, or refused
 abbrev pub IsInjectCall : List ℕ → Local → ℕ → Local → Type 0
 IsInjectCall rule old code new =
     (outcome : Result (Unit {0}) RuleRefusal)
@@ -149,7 +149,8 @@ IsInjectCall rule old code new =
     × (new ≡ local_with_plan old new.bus.plan)
     × IsTold rule_code outcome code tt
 
--- the counts of an interface or a socket are written, if there is one; else the code is this, and nothing is written
+-- the counts of an interface or a socket are written if it exists; otherwise the code is `missing`, and nothing is
+-- written
 abbrev pub IsCountsCall : {A B : Type 0} → ℕ → (A → B) → Option A → B → ℕ → B → Type 0
 IsCountsCall missing out None before code after = (code ≡ missing) × (after ≡ before)
 IsCountsCall missing out (Some a) before code after = (code ≡ 0) × (after ≡ out a)
@@ -163,7 +164,7 @@ iface_counts b (Some iface) = iface_stats_of b.bus.journal.config b.bus.journal.
 abbrev pub socket_counts : Local → ℕ → Option SocketStats
 socket_counts b s = socket_stats_of b.bus.journal.config b.bus.journal.history s
 
--- as much of a text as there is room for; the room after it is as before
+-- as much of the text as there is room for; the room after the text is unchanged
 abbrev pub IsFront : List ℕ → List ℕ → List ℕ → Type 0
 IsFront text before after = after ≡ take (length before) text ++ drop (length text) before
 
@@ -176,12 +177,12 @@ IsLoadCall (Some moment) b code load = (code ≡ 0) × (load ≡ load_out (load_
 abbrev pub record_text_at : Local → List ℕ
 record_text_at b = text_of (record_of b.bus.journal.config b.bus.journal.history)
 
--- the text of the record is written, as much of it as there is room for, with its length; or memory was refused
+-- the text of the record is written as far as there is room, and so is its full length; or memory was refused
 abbrev pub IsRecordCall : Local → List ℕ → ℕ → ℕ → List ℕ → Type 0
 IsRecordCall b before code len after =
     MatchBool (code == 0) ((len ≡ length (record_text_at b)) × IsFront (record_text_at b) before after) (code ≡ 10)
 
--- the filters of a socket are set; or one is invalid, memory was refused, or there are more than 512
+-- the filters of a socket are set; or a filter is invalid, memory was refused, or there are more than 512 filters
 abbrev pub IsFiltersCall : ℕ → Option (List CanFilter) → Local → ℕ → Local → Type 0
 IsFiltersCall s None old code new = ((code ≡ 16) ⊎ (code ≡ 10)) × (new ≡ old)
 IsFiltersCall s (Some set) old code new =

@@ -22,23 +22,23 @@ refusal_code refusal.NotBusOff = 9
 refusal_code refusal.NoMemory = 10
 refusal_code refusal.Down = 11
 
--- the code of why a rule is refused
+-- the code for why a rule is refused
 abbrev pub rule_code : RuleRefusal → ℕ
 rule_code rule.UnknownInterface = 2
 rule_code rule.NoMemory = 10
 rule_code rule.BadRule = 18
 rule_code rule.TooManyRules = 19
 
--- the code of why a bus did not run
+-- the code for why a run failed
 abbrev pub run_code : RunFault → ℕ
 run_code run.RecordFull = 1
 run_code run.BadRun = 23
 
--- the result of a call: it was done, and its value written; or the code is that of its refusal
+-- the result of a call: it was done and its value was written, or the code is that of the refusal
 abbrev pub IsTold : {A E : Type 0} → (E → ℕ) → Result A E → ℕ → A → Type 0
 IsTold code_of (Ok a) code value = (code ≡ 0) × (value ≡ a)
 IsTold code_of (Err why) code value = code ≡ code_of why
 
--- a result of a call that is refused is as before
+-- a call that is refused does not change its result
 abbrev pub IsUntouched : {A : Type 0} → ℕ → A → A → Type 0
 IsUntouched code before after = code ≢ 0 → after ≡ before

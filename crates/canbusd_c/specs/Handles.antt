@@ -20,7 +20,7 @@ with_value h b = record { at = h.at; value = b }
 abbrev pub handle_follows : MutBor Handle → MutBor Local → Fml
 handle_follows h r = follows handle_row bus_row h.ghost_name r.ghost_name (with_value h.now)
 
--- the same of a bench
+-- the handle with this bench
 abbrev pub with_bench : BenchHandle → KeptBench → BenchHandle
 with_bench h b = record { at = h.at; value = b }
 

@@ -19,14 +19,14 @@ use Rattle.can_session.specs.Wires.{nothing_yet, attempt_moment, schedule_left, 
 use Rattle.canbusd_c.specs.declared.local_bus.RunFault.{RunFault}
 use Rattle.canbusd_c.specs.declared.local_bus.RunFault.TheVariants.{BadRun, RecordFull}
 
--- The bus of a process of its own: events of can_bus, and attempts as those of a bench (own choice).
+-- A bus inside the calling process: it takes the events of can_bus, and makes attempts as a bench does (own choice).
 
--- a bus with names, a plan and a schedule, and the moment that is set
+-- a bus with names, a plan and a schedule, and the moment that is set on it
 pub record Local : Type 0 where
   pub bus : NamedBus
   pub moment : ℕ
 
--- before the first call: no event, no rule, and the moment 0
+-- the bus before the first call: no event, no rule, and the moment 0
 abbrev pub local_at_start : List (List ℕ) → BusConfig → Option BusTiming → Local
 local_at_start names config timing = record {
   bus = record {
@@ -38,15 +38,15 @@ local_at_start names config timing = record {
   moment = 0;
 }
 
--- with this history
+-- the bus with this history
 abbrev pub local_with_journal : Local → Journal → Local
 local_with_journal b journal = record b { bus = record b.bus { journal = journal } }
 
--- with this plan
+-- the bus with this plan
 abbrev pub local_with_plan : Local → PlanSeen → Local
 local_with_plan b plan = record b { bus = record b.bus { plan = plan } }
 
--- with this moment set
+-- the bus with this moment set
 abbrev pub local_at_moment : ℕ → Local → Local
 local_at_moment moment b = record b { moment = moment }
 
@@ -55,11 +55,11 @@ abbrev pub IsLocalEvent : {A : Type 0} → (A → Reply) → Local → Event →
 IsLocalEvent {A} told old event outcome new =
     Answers told old.bus.journal event outcome new.bus.journal × (new ≡ local_with_journal old new.bus.journal)
 
--- the moment of the next attempt, if an interface waits for its restart or none does
+-- the moment of the next attempt; `waits` says whether an interface waits for its restart
 abbrev pub next_local_moment : Bool → Local → ℕ
 next_local_moment waits b = attempt_moment b.moment waits (head_on b.bus) b.bus.schedule
 
--- the bus when the time of an attempt has passed that had this verdict and came to this; one that is refused takes none
+-- the bus after the time of an attempt with this verdict and this result; a refused attempt takes no time
 abbrev pub local_passed : Bool → Verdict → Result Attempt Refusal → Local → Local
 local_passed waits v (Ok a) b = record b {
   moment = moment_left b.moment (schedule_left b.moment waits v a b.bus.schedule);
@@ -67,7 +67,7 @@ local_passed waits v (Ok a) b = record b {
 }
 local_passed waits v (Err why) b = b
 
--- an attempt at the moment that is set, with the verdict that the plan has for it
+-- an attempt at the moment that is set, with the verdict that the plan gives it
 pub record IsLocalTry (b : Local) (outcome : Result Attempt Refusal) (after : Local) : Type 0 where
   pub journal : Journal
   pub answers : Answers reply.Attempted b.bus.journal
@@ -75,11 +75,11 @@ pub record IsLocalTry (b : Local) (outcome : Result Attempt Refusal) (after : Lo
   pub after_is : after ≡ local_passed (waits_in_time b.bus) (verdict_on b.bus Good) outcome
       (local_with_journal (local_with_plan b (plan_left b.bus Good)) journal)
 
--- an attempt would begin before this moment, and there is a frame for it to try, or an interface waits for its restart
+-- an attempt would begin before this moment, and it has a frame to try, or an interface waits for its restart
 abbrev pub is_local_due : ℕ → Local → Bool
 is_local_due moment b = begins_before b.moment moment b.bus.schedule && (is_some (head_on b.bus) || waits_in_time b.bus)
 
--- this many attempts, each of which was due and is made; the last one is the last step
+-- this many attempts are made one after another, and each of them is due
 abbrev pub AreLocalTries : ℕ → ℕ → Local → Local → Type 0
 AreLocalTries moment zero b after = after ≡ b
 AreLocalTries moment (suc n) b after =
@@ -88,19 +88,19 @@ AreLocalTries moment (suc n) b after =
     × (is_local_due moment mid ≡ true)
     × IsLocalTry mid (Ok one) after
 
--- attempts are made as long as one is due before this moment; or one that is due is refused
+-- attempts are made as long as one is due before this moment, or until a due attempt is refused
 abbrev pub AreDueMade : ℕ → Local → Result (Unit {0}) RunFault → Local → Type 0
 AreDueMade moment b (Ok done) after = (n : ℕ) × AreLocalTries moment n b after × (is_local_due moment after ≡ false)
 AreDueMade moment b (Err fault) after =
     (n : ℕ) × (mid : Local) × (why : Refusal)
     × AreLocalTries moment n b mid × (is_local_due moment mid ≡ true) × IsLocalTry mid (Err why) after
 
--- a bus can run to this moment: it has bit rates, and no later moment is set
+-- the bus can run to this moment: it has bit rates, and the moment that is set is not later
 abbrev pub can_run_to : ℕ → Local → Bool
 can_run_to moment b = is_some b.bus.schedule && nat_le b.moment moment
 
--- a run to this moment: attempts as long as one is due, their number, then the moment is set. It ends early if one that
--- is due is refused, since the record is full
+-- a run to this moment makes attempts as long as one is due, counts them, and then sets the moment. It ends early if a
+-- due attempt is refused because the record is full
 abbrev pub IsLocalRun : ℕ → Local → Result ℕ RunFault → Local → Type 0
 IsLocalRun moment b (Ok n) after =
     (mid : Local)

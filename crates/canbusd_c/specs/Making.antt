@@ -10,27 +10,27 @@ use Rattle.can_wire.specs.Times.{AreBitRates}
 use Rattle.canbusd_c.specs.Locals.{Local, local_at_start}
 use Rattle.canbusd_c.specs.declared.shapes.CConfig.{CConfig}
 
--- The parts that a bus is made with.
+-- The parts from which a bus is made.
 
--- whether frames are always acknowledged, or only by receivers
+-- the acknowledge mode with this number: frames are always acknowledged, or only by receivers
 abbrev pub ack_of_number : ℕ → Option AckMode
 ack_of_number n = if n == 0 then Some ack.Always else if n == 1 then Some ack.Peers else None
 
--- the bit rates of two numbers, of which 0 is none
+-- the bit rates that two numbers give; 0 means no bit rate
 abbrev pub timing_of_numbers : ℕ → ℕ → Option BusTiming
 timing_of_numbers nominal fast =
     if nominal == 0 then None else Some (timing_of nominal (if fast == 0 then None else Some fast))
 
--- the bit rates of two numbers are those that a bus may have; without a nominal one there is none for data
+-- a bus may have these bit rates; without a nominal bit rate there is no data bit rate
 abbrev pub AreRatesIn : Option BusTiming → ℕ → Type 0
 AreRatesIn None fast = fast ≡ 0
 AreRatesIn (Some timing) fast = AreBitRates timing.rates
 
--- the same, of a struct
+-- a bus may have the bit rates of this struct
 abbrev pub HasRates : CConfig → Type 0
 HasRates c = AreRatesIn (timing_of_numbers c.bitrate c.data_bitrate) c.data_bitrate
 
--- the configuration of a struct, of a bus with n interfaces
+-- the struct gives this configuration to a bus with n interfaces
 pub record IsConfigIn (n : ℕ) (c : CConfig) (config : BusConfig) : Type 0 where
   pub ack : ack_of_number c.ack ≡ Some config.ack
   pub few_reporting : c.reporting < 2 ^ 16
@@ -43,7 +43,7 @@ pub record IsConfigIn (n : ℕ) (c : CConfig) (config : BusConfig) : Type 0 wher
     auto_restart = c.auto_restart;
   }
 
--- a bus is made of the names in a text and of a struct: nothing was done on it
+-- the bus is made from the names in a text and from a struct; nothing was done on it
 pub record IsMadeOf (text : List ℕ) (c : CConfig) (b : Local) : Type 0 where
   pub config : BusConfig
   pub config_is : IsConfigIn (length (names_in text)) c config
@@ -52,19 +52,19 @@ pub record IsMadeOf (text : List ℕ) (c : CConfig) (b : Local) : Type 0 where
   pub rates : HasRates c
   pub made : b ≡ local_at_start (names_in text) config (timing_of_numbers c.bitrate c.data_bitrate)
 
--- why a text has no names for a bus: it is no UTF-8, or its names are none that a bus may have; or memory was refused
+-- the reason why a text has no names for a bus: it is not UTF-8, a bus may not have these names, or memory was refused
 abbrev pub IsNoNames : List ℕ → ℕ → Type 0
 IsNoNames text code = (code ≡ 10) ⊎ ((code ≡ 20) × (IsUtf8 text → AreNames (names_in text) → ⊥))
 
--- the bit rates of a struct are not those
+-- a bus may not have the bit rates of this struct
 abbrev pub IsNoTiming : CConfig → ℕ → Type 0
 IsNoTiming c code = (code ≡ 22) × (HasRates c → ⊥)
 
--- a struct is of no configuration: nobody acknowledges so, or an interface reports that none is
+-- the struct gives no configuration: the acknowledge mode is unknown, or an interface that cannot exist reports faults
 abbrev pub IsNoConfig : CConfig → ℕ → Type 0
 IsNoConfig c code = (code ≡ 21) × ((ack_of_number c.ack ≡ None) ⊎ (2 ^ 16 ≤ c.reporting))
 
--- why there is no bus of a text and of a struct
+-- the reason why no bus is made from a text and a struct
 abbrev pub IsNoBus : List ℕ → CConfig → ℕ → Type 0
 IsNoBus text c code =
     IsNoNames text code
@@ -72,6 +72,6 @@ IsNoBus text c code =
     ⊎ IsNoConfig c code
     ⊎ ((code ≡ 21) × (config : BusConfig) × IsConfigIn (length (names_in text)) c config × (IsConfig config → ⊥))
 
--- a bus is made of a text and of a struct, or the code is why there is none
+-- a bus is made from a text and a struct, or the code says why not
 abbrev pub IsNewCall : List ℕ → CConfig → ℕ → Type 0
 IsNewCall text c code = MatchBool (code == 0) ((b : Local) × IsMadeOf text c b) (IsNoBus text c code)

@@ -26,13 +26,13 @@ use Rattle.canbusd_c.specs.declared.shapes.CStatus.{CStatus}
 use Rattle.canbusd_c.specs.declared.shapes.CStats.{CStats}
 use Rattle.canbusd_c.specs.declared.shapes.CLoad.{CLoad}
 
--- The structs of canbusd.h: frames as those of linux/can.h, the others own choice.
+-- The structs of canbusd.h: frames are those of linux/can.h, the others are own choice.
 
--- a bit of a number is set
+-- whether a bit of a number is set
 abbrev pub has_bit : ℕ → ℕ → Bool
 has_bit n bit = not (bit_and n bit == 0)
 
--- the identifier of an identifier word: CAN_EFF_FLAG marks 29 bits; a number that its kind has no room for is none
+-- the identifier in an identifier word: CAN_EFF_FLAG marks 29 bits; a number that is too large for its kind gives none
 abbrev pub id_of_word : ℕ → Option Identifier
 id_of_word word =
     if has_bit word (2 ^ 31) then Some (record { extended = true; number = bit_and word (2 ^ 29 - 1) })
@@ -55,7 +55,7 @@ fd_of_struct id f (Some flags) =
     else if is_fd_length f.len then Some (record { id = id; payload = Fd flags (take f.len f.bytes) })
     else None
 
--- the frame with this identifier: CANFD_FDF is 4, and classic frames have no flags
+-- the frame of a struct with this identifier: CANFD_FDF is 4, and classic frames have no flags
 abbrev pub frame_of_struct_with : CFrame → Option Identifier → Option CanFrame
 frame_of_struct_with f None = None
 frame_of_struct_with f (Some id) =
@@ -63,11 +63,11 @@ frame_of_struct_with f (Some id) =
     else if nat_lt f.flags 4 then None
     else fd_of_struct id f (flags_of (f.flags - 4))
 
--- the frame of a struct, if it is one: CAN_ERR_FLAG is in none
+-- the frame of a struct, if it is valid; no frame has CAN_ERR_FLAG
 abbrev pub frame_of_struct : CFrame → Option CanFrame
 frame_of_struct f = if has_bit f.id (2 ^ 29) then None else frame_of_struct_with f (id_of_word f.id)
 
--- bytes, and then zeros up to 64
+-- the bytes, padded with zeros to 64
 abbrev pub padded_to_64 : List ℕ → List ℕ
 padded_to_64 bytes = bytes ++ replicate (64 - length bytes) 0
 
@@ -90,7 +90,7 @@ abbrev pub item_frame : Item → CFrame
 item_frame (item.Data f) = frame_out f
 item_frame (item.Error e) = error_out e
 
--- the same with its origin
+-- a received item with its origin, as a struct
 abbrev pub item_out : Received → CItem
 item_out r = record { frame = item_frame r.item; iface = r.from; number = r.number; moment = r.moment }
 
@@ -98,7 +98,7 @@ item_out r = record { frame = item_frame r.item; iface = r.from; number = r.numb
 abbrev pub no_frame_struct : CFrame
 no_frame_struct = record { id = 0; len = 0; flags = 0; unused = 0; bytes = replicate 64 0 }
 
--- the number of a class
+-- the number of a class of attempts
 abbrev pub class_out : Class → ℕ
 class_out class.Done = 1
 class_out class.LastBit = 2
@@ -130,8 +130,8 @@ tried_out (attempt.Tried t) = record {
   unused = 0;
 }
 
--- the option of a number, set to another: CAN_RAW_ERR_FILTER 2, CAN_RAW_LOOPBACK 3, CAN_RAW_RECV_OWN_MSGS 4,
--- CAN_RAW_FD_FRAMES 5 and CAN_RAW_JOIN_FILTERS 6 of linux/can/raw.h
+-- the socket option with this number, set to this value: CAN_RAW_ERR_FILTER 2, CAN_RAW_LOOPBACK 3,
+-- CAN_RAW_RECV_OWN_MSGS 4, CAN_RAW_FD_FRAMES 5 and CAN_RAW_JOIN_FILTERS 6 of linux/can/raw.h
 abbrev pub option_of_numbers : ℕ → ℕ → Option Opt
 option_of_numbers option value =
     if option == 2 then Some (opt.ErrMask value)
@@ -141,7 +141,7 @@ option_of_numbers option value =
     else if option == 6 then Some (opt.Join (not (value == 0)))
     else None
 
--- the number of a state
+-- the number of an interface's state
 abbrev pub state_out : State → ℕ
 state_out state.Active = 0
 state_out state.Warning = 1

@@ -15,9 +15,10 @@ use Rattle.canbusd_options.specs.BusWords.{first_name_of}
 use Rattle.canbusd_io.specs.declared.program_error.ProgramError.{ProgramError}
 use Rattle.canbusd_io.specs.declared.program_error.ProgramError.TheVariants as fault
 
--- The bytes that files get, and the faults of names, files and scripts that cannot be read or written (own choice).
+-- The bytes that are written to files, and the faults of names, files and scripts that cannot be read or written (own
+-- choice).
 
--- a writer took a text
+-- a text was written to a writer
 abbrev pub Took : {W : Type 0} → (W → Option (List ℕ)) → W → W → List ℕ → Type 0
 Took contents old new text = Appends (contents old) (contents new) text
 
@@ -47,13 +48,14 @@ abbrev pub IsOfRecordFile : List ℕ → ProgramError → Type 0
 IsOfRecordFile path (fault.CannotOpen named) = named.now ≡ path
 IsOfRecordFile path why = IsOfWriting why
 
--- a fault of names: a bus may not have them, or it may, and memory was refused
+-- a fault of names: a bus may not have these names; or it may have them, but memory was refused
 abbrev pub IsOfNames : List ℕ → ProgramError → Type 0
 IsOfNames text fault.BadNames = AreNames (names_in text) → ⊥
 IsOfNames text fault.NoMemory = AreNames (names_in text)
 IsOfNames text why = ⊥
 
--- a fault of the log of a bus, whose file has this path: it cannot be opened or written, or it is one of the names
+-- a fault of the log of a bus, whose file has this path: the file cannot be opened, the log cannot be written, or the
+-- names are at fault
 abbrev pub IsOfLogFile : BusWord → List ℕ → ProgramError → Type 0
 IsOfLogFile bus path (fault.CannotOpen named) = named.now ≡ path
 IsOfLogFile bus path (fault.Log name lines) = name.now ≡ first_name_of bus.names.now
@@ -68,25 +70,25 @@ script_fault_of why = fault.Script why
 abbrev pub IsOfScript : List (List ℕ) → List ℕ → ProgramError → Type 0
 IsOfScript names text why = (error : PlanError) × (why ≡ script_fault_of error) × ReadsPlan names text (Err error)
 
--- a fault of a script: of the file with this path, or of a text that it may hold
+-- a fault of a script: of the file with this path, or of a text that the file may hold
 abbrev pub IsOfScriptFile : List ℕ → List (List ℕ) → ProgramError → Type 0
 IsOfScriptFile path names why = IsOfFile path why ⊎ ((text : List ℕ) × IsOfScript names text why)
 
--- a fault of the script of a bus: there is none if no script is named
+-- a fault of the script of a bus; there is no fault if no script is named
 abbrev pub IsOfPlan : Option (Bor (List ℕ)) → List (List ℕ) → ProgramError → Type 0
 IsOfPlan None names why = ⊥
 IsOfPlan (Some path) names why = IsOfScriptFile path.now names why
 
--- the fault of a text that spells no faults of a run for a bus with these names
+-- the fault of a text that spells no run faults for a bus with these names
 abbrev pub IsOfRunText : List (List ℕ) → List ℕ → ProgramError → Type 0
 IsOfRunText names text why =
     (error : PlanError) × (why ≡ script_fault_of error) × ReadsRunFaults names text (Err error)
 
--- a fault of the file with this path, which has the faults of a run, or of a text that it may hold
+-- a fault of the file with this path, which has a run's faults, or of a text that the file may hold
 abbrev pub IsOfRunFile : List ℕ → List (List ℕ) → ProgramError → Type 0
 IsOfRunFile path names why = IsOfFile path why ⊎ ((text : List ℕ) × IsOfRunText names text why)
 
--- a fault of the faults of a run, as a word names them: of its names, or else of its file
+-- an error in the faults of a run that a word names: in the names of the word, or else in its file
 abbrev pub IsOfFaults : FaultsWord → ProgramError → Type 0
 IsOfFaults word why =
     IsOfNames word.names.now why

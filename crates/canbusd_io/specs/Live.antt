@@ -5,35 +5,36 @@ use Rattle.std.specs.declared.io.buffered.BufWriter.{BufWriter}
 use Rattle.std.specs.declared.alloc.Global.{Global}
 use Rattle.canbusd_io.specs.declared.whole_lines.WholeLines.{WholeLines}
 
--- Files that are written while a server runs. Contracts see the lines that a file gets, which are none once it is over.
+-- Files that are written while a server runs. Contracts see the lines that are written to a file. A file that has ended
+-- (`None`) gets no more lines.
 
--- the bytes that a writer that counts whole lines took
+-- the bytes that were written to a writer that counts whole lines
 abbrev pub whole_contents : {F : Type 0} → (F → Option (List ℕ)) → BufWriter (WholeLines F) Global → Option (List ℕ)
 whole_contents contents w = writer_contents (λ (lines : WholeLines _). contents lines.inner) w
 
--- a file has nothing but the bytes that were there before
+-- a file was opened, and nothing was written to it yet
 abbrev pub Begins : {W : Type 0} → (W → Option (List ℕ)) → Option (List ℕ) → Option W → Type 0
 Begins contents before None = ⊥
 Begins contents before (Some new) = contents new ≡ before
 
--- a file that is over stays so, and any other keeps its bytes
+-- a file that has ended stays so, and any other file keeps its bytes
 abbrev pub Stays : {W : Type 0} → (W → Option (List ℕ)) → Option W → Option W → Type 0
 Stays contents None new = new ≡ None
 Stays contents (Some old) None = ⊥
 Stays contents (Some old) (Some new) = Keeps (contents old) (contents new)
 
--- a file that is not over has this text after its old one
+-- this text was appended to the file, unless the file had ended before
 abbrev pub Gets : {W : Type 0} → (W → Option (List ℕ)) → Option W → Option W → List ℕ → Type 0
 Gets contents None new text = new ≡ None
 Gets contents (Some old) None text = ⊥
 Gets contents (Some old) (Some new) text = Appends (contents old) (contents new) text
 
--- a file gets a text, or there is a fault and it is over
+-- the text was appended to the file; or there is a fault, and the file has ended
 abbrev pub TakesText : {W A E : Type 0} → (W → Option (List ℕ)) → Option W → Option W → List ℕ → Result A E → Type 0
 TakesText contents old new text (Ok u) = Gets contents old new text
 TakesText contents old new text (Err why) = new ≡ None
 
--- a file that is over gets nothing, and one that is not has this text after its old one
+-- the text was appended to the file, or the file has ended
 abbrev pub MayGet : {W : Type 0} → (W → Option (List ℕ)) → Option W → Option W → List ℕ → Type 0
 MayGet contents old None text = Unit {0}
 MayGet contents None (Some new) text = ⊥

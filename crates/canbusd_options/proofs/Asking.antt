@@ -10,9 +10,9 @@ use Rattle.canbusd_options.specs.BitsOptions.{GiveBitsOptions}
 use Rattle.canbusd_options.specs.Options.{GiveAuditOptions, GiveBenchOptions, GiveServeOptions}
 use Rattle.canbusd_options.specs.Program.{AskJob, Asks, IsAsked, program}
 
--- The job that words ask for, by the matches of their parse.
+-- The job that words ask for, from the matches of their parse.
 
--- clap says what the matches of the program are
+-- the program is simple, so clap's contract says what its matches are
 simple : is_simple program ≡ true
 unfolding clap_on_literals
 simple = refl
@@ -21,7 +21,7 @@ first_parts : {A : Type 0} (f : A → Text) (g : A → List Row) (o : Option A) 
 first_parts f g None = refl
 first_parts f g (Some a) = refl
 
--- the name of the subcommand is that of its rows
+-- the name of the subcommand is the name that its rows come with
 named : (m : ArgMatches) → option_map (λ (p : Text × List Row). p.0) (subcommand_rows_of m) ≡ subcommand_name_of m
 named m = first_parts _ _ _
 
@@ -32,11 +32,11 @@ both_parts (Some (n, r)) name rows first second =
     ap₂ (λ x y. Some (x, y)) same_name same_rows
 both_parts None name rows first second = absurd (search rules)
 
--- the matches of the program have the command that its words name
+-- the matches of the program have the subcommand that the words name
 pub named_by : (c : Command) (words : List Text) (m : ArgMatches) → app_of c ≡ program → HasMatchesOf (app_of c) words m → subcommand_rows_of m ≡ subcommand_of program words
 named_by c words m is has = (has (ap is_simple is ∙ simple)).1 ∙ ap (λ (a : App). subcommand_of a words) is
 
--- a command was met, with these rows
+-- a subcommand was given, with these rows
 pub met_by : (c : Command) (words : List Text) (m : ArgMatches) (name : Text) (rows : List Row) → app_of c ≡ program → HasMatchesOf (app_of c) words m
     → subcommand_name_of m ≡ Some name → option_map (λ (p : Text × List Row). p.1) (subcommand_rows_of m) ≡ Some rows → subcommand_of program words ≡ Some (name, rows)
 met_by c words m name rows is has met found = sym (named_by c words m is has) ∙ both_parts _ name rows (named m ∙ met) found
@@ -82,7 +82,7 @@ gives_audit words rows met (j, (none, asks)) = audit_given j rows (subst (λ o. 
 pub gives_bits : (words : List Text) (rows : List Row) → subcommand_of program words ≡ Some (codes "bits", rows) → AskJob words → GiveBitsOptions rows
 gives_bits words rows met (j, (none, asks)) = bits_given j rows (subst (λ o. Asks o j) met asks)
 
--- words that name no command ask for no job
+-- words that ask for a job name one of the four commands
 names_one : (o : Option (Text × List Row)) (j : Job) → Asks o j
     → (option_map (λ (p : Text × List Row). p.0) o ≡ Some (codes "bench")) ⊎ ((option_map (λ (p : Text × List Row). p.0) o ≡ Some (codes "serve"))
     ⊎ ((option_map (λ (p : Text × List Row). p.0) o ≡ Some (codes "audit")) ⊎ (option_map (λ (p : Text × List Row). p.0) o ≡ Some (codes "bits"))))

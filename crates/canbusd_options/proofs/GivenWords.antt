@@ -4,7 +4,7 @@ use Rattle.std.proofs.lemmas.List.{get_or-map, length-map}
 use Rattle.std.proofs.lemmas.List.Elements.{All-cons, All-nil, All-tail}
 use denote.Ref.{Bor}
 
--- Words that an option was given, of which one fails a test, or none.
+-- The words of an option: one of them fails a test, or all of them pass.
 
 passes : {A : Type 0} (x : A) (b : Bool) (rest : Option A) → cond (not b) (Some x) rest ≡ None → b ≡ true
 passes x true rest none = refl
@@ -26,6 +26,6 @@ pub none_fails : {A : Type 0} (p : A → Bool) (xs : List A) → AllPass p xs �
 none_fails p [] all = refl
 none_fails p (x ∷ xs) all = goes_on x (p x) (find (λ y. not (p y)) xs) (all 0 x (omega arith)) ∙ none_fails p xs (All-tail (λ y. p y ≡ true) x xs all)
 
--- a property of all words is one of the word at a place
+-- a property of all words holds for the word at each place
 pub at_word : (P : List ℕ → Type 0) (words : List (Bor (List ℕ))) (none : Bor (List ℕ)) (i : ℕ) → i < length words → All P (map (λ word. word.now) words) → P (get_or words i none).now
 at_word P words none i below all = subst P (get_or-map (λ word. word.now) words i none [] below) (all i [] (rw length-map below))

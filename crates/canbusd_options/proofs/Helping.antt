@@ -9,7 +9,7 @@ use Rattle.canbusd_options.specs.Program.{AskJob, program}
 
 -- An error that shows help, and the words that ask for it.
 
--- clap says how the words of the program fail
+-- the program is simple and free, so clap's contract says how a parse of its words fails
 free : is_simple_and_free program ≡ true
 unfolding clap_on_literals
 free = refl
@@ -37,28 +37,28 @@ of_kind [] e (inl memory) = inl memory
 of_kind [] e (inr among) = absurd among
 of_kind (k ∷ ks) e has = has
 
--- want of memory is no fault of the words
+-- an error because memory was refused may come with any words
 pub is_of_memory : (words : List Text) (e : Error) → kind_of e ≡ OutOfMemory → IsOfKinds (fault_of program words) e
 is_of_memory words e memory = of_memory (fault_of program words) e memory
 
--- the error of the parse of the program's words has the kind of a fault
+-- the error of a parse of the program's words has the kind of a fault in the words
 pub is_of_parse : (a : App) (words : List Text) (e : Error) → a ≡ program → (is_simple_and_free a ≡ true → HasKind (fault_of a words) e) → IsOfKinds (fault_of program words) e
 is_of_parse a words e is kinds = of_kind (fault_of program words) e (subst (λ p. is_simple_and_free p ≡ true → HasKind (fault_of p words) e) is kinds free)
 
--- a parse of the program's words finds no fault in them
+-- the words have no fault, if the parse of the program finds none
 pub no_fault : (a : App) (words : List Text) → a ≡ program → (is_simple_and_free a ≡ true → fault_of a words ≡ []) → fault_of program words ≡ []
 no_fault a words is none = subst (λ p. is_simple_and_free p ≡ true → fault_of p words ≡ []) is none free
 
--- and then a value is refused
+-- if the words have no fault, the error refuses a value or reports that memory was refused
 pub is_of_value : (words : List Text) (e : Error) → fault_of program words ≡ [] → RefusesValue e → IsOfKinds (fault_of program words) e
 is_of_value words e none refused = subst (λ kinds. IsOfKinds kinds e) (sym none) refused
 
--- a property of an error is one of the error that is passed on
+-- a property of an error holds for the error that is passed on
 pub passed_on : {T : Type 0} (P : Error → Type 0) (e : Error) (r : Result T Error) → IsErrAnd r (λ x. x ≡ e) → P e → IfErr r P
 passed_on P e (Ok t) same holds = tt
 passed_on P e (Err x) same holds = subst P (sym same) holds
 
--- the parse of words that ask for a job fails only for want of memory
+-- the parse of words that ask for a job fails only if memory was refused
 pub parse_takes : (a : App) (words : List Text) (e : Error) → a ≡ program → (is_simple_and_free a ≡ true → HasKind (fault_of a words) e) → AskJob words → kind_of e ≡ OutOfMemory
 parse_takes a words e is kinds (j, (none, asks)) =
     for_none (fault_of program words) none (subst (λ p. is_simple_and_free p ≡ true → HasKind (fault_of p words) e) is kinds free)

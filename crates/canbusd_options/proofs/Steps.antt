@@ -11,7 +11,7 @@ decide : (b : Bool) → (b ≡ true) ⊎ (b ≡ false)
 decide true = inl refl
 decide false = inr refl
 
--- the first that a filter keeps passes it
+-- the first element that a filter keeps passes the filter
 first_passes : {A : Type 0} (f : A → Bool) (xs rest : List A) (y : A) → filter f xs ≡ y ∷ rest → f y ≡ true
 first_passes f [] rest y e = absurd (search (rules, e))
 first_passes f (x ∷ xs) rest y e = elim (decide (f x)) [
@@ -47,21 +47,21 @@ without_dot true is_dotted names never = refl
 without_dot false true names never = absurd (never names refl)
 without_dot false false names never = refl
 
--- the part after the `.` that a path begins with has its steps
+-- the part after a leading `.` has the steps of the path as its components
 pub after_dot : (path rest : List ℕ) → StripsPrefix path cur_dir rest → path_components rest ≡ path_steps path
 after_dot path rest strips = with_dot (slice_index path 0 == slash) (is_dot_at path 0) (path_names path) (path_components rest) (no_dot_name path _) (sym (whole path) ∙ strips ∙ ap (λ l. l ++ path_components rest) dot_steps)
 
--- a path that does not begin with `.` has its components as steps
+-- a path without a leading `.` has its components as steps
 pub no_dot : (path : List ℕ) → (PathStartsWith path cur_dir → ⊥) → path_components path ≡ path_steps path
 no_dot path never = whole path ∙ without_dot (slice_index path 0 == slash) (is_dot_at path 0) (path_names path) (λ rest e. never (rest, whole path ∙ e ∙ sym (ap (λ l. l ++ rest) dot_steps)))
 
--- the rest of a path after the `.` that it may begin with
+-- the components of a path without its leading `.`, if it has one, are the steps of the path
 pub off_dot : {E : Type 0} (path : List ℕ) (p : Path) (r : Result Path E) → path_bytes p ≡ path → (IsOk r ↔ PathStartsWith (path_bytes p) cur_dir)
     → IfOk r (λ rest. StripsPrefix (path_bytes p) cur_dir (path_bytes rest)) → path_components (path_bytes (result_unwrap_or r p)) ≡ path_steps path
 off_dot path p (Ok rest) is begins strips = after_dot (path_bytes p) (path_bytes rest) strips ∙ ap path_steps is
 off_dot path p (Err e) is begins strips = no_dot (path_bytes p) (λ starts. absurd (search (rules, begins.1 starts))) ∙ ap path_steps is
 
--- two lists are one if each begins with the other
+-- two lists are equal if each begins with the other
 one_list : {A : Type 0} (xs ys more others : List A) → xs ≡ ys ++ more → ys ≡ xs ++ others → xs ≡ ys
 one_list xs ys more others e f =
     let none : length more ≡ 0 = omega (arith, simp length-append at (ap length e), simp length-append at (ap length f)) in

@@ -28,21 +28,21 @@ each R (x ∷ xs) [] zip = absurd zip
 abbrev are_timed : List (List ℕ) → List (Option BusTiming) → (bitrates dbitrates : List (List ℕ)) → Type 0
 are_timed buses timings bitrates dbitrates = AllZip (λ bus timing. HasRates bitrates dbitrates (Some (names_part bus)) timing) buses timings
 
--- bit rates by the options are those by the rows that give these their words
+-- the bit rates that the options give are those that the rows give, because both have the same words
 pub timed_all : (rows : List Row) (rates : GivenRates) (buses : List (List ℕ)) (timings : List (Option BusTiming)) → AreRateWords rows rates → AllZip (HasRatesFor rates) buses timings
     → AllZip (λ bus timing. IsBusTimed rows (Some (names_part bus)) timing) buses timings
 timed_all rows rates buses timings words zip =
     subst (λ bs. are_timed buses timings bs (words_given rows (codes "dbitrate"))) words.bitrates
     (subst (λ ds. are_timed buses timings (map (λ word. word.now) rates.bitrate.words.now) ds) words.dbitrates zip)
 
--- rows that give buses bit rates, or none, give them to each
+-- rows that give a list of buses bit rates, or none, give them to each bus
 pub give_each : (rows : List Row) (rates : GivenRates) (buses : List (List ℕ)) → AreRateWords rows rates → GiveTimings rows buses → All (λ bus. GiveRatesOf rates (Some (names_part bus))) buses
 give_each rows rates buses words (timings, timed) =
     each (HasRatesFor rates) buses timings
     (subst (λ bs. are_timed buses timings bs (map (λ word. word.now) rates.dbitrate.words.now)) (sym words.bitrates)
     (subst (λ ds. are_timed buses timings (words_given rows (codes "bitrate")) ds) (sym words.dbitrates) timed.each))
 
--- numbers of the options are those of the rows
+-- the numbers of the options are the numbers of the rows
 pub numbers_in : (rows : List Row) (rates : GivenRates) → AreRateWords rows rates → AreNumbersOf rates → AreNumbers (words_given rows (codes "bitrate")) (words_given rows (codes "dbitrate"))
 numbers_in rows rates words are =
     subst (λ bs. AreNumbers bs (words_given rows (codes "dbitrate"))) words.bitrates

@@ -3,13 +3,13 @@ use denote.Ref.{Bor}
 use Rattle.std.specs.Option.{option_map}
 use Rattle.std.specs.List.{after_first, before_first, position_or_len}
 
--- The parts of a word BUS: names, and the script of faults after the first @ (own choice).
+-- The parts of a BUS argument: the names, and the path of the fault script after the first @ (own choice).
 
--- the text of a path, if one is given
+-- the bytes of a path, if a path is given
 abbrev pub path_of : Option (Bor (List ℕ)) → Option (List ℕ)
 path_of path = option_map (λ text. text.now) path
 
--- the byte that parts the names of a bus from its script: @
+-- the byte that separates the names of a bus from its script: @
 abbrev pub is_at : ℕ → Bool
 is_at b = b == 64
 
@@ -17,7 +17,7 @@ is_at b = b == 64
 abbrev pub names_part : List ℕ → List ℕ
 names_part bus = before_first is_at bus
 
--- the first of names that are joined by commas
+-- the first name in a comma-separated list of names
 abbrev pub first_name_of : List ℕ → List ℕ
 first_name_of names = before_first (λ b. b == 44) names
 

@@ -8,14 +8,14 @@ use Rattle.canbusd_options.specs.declared.command_line.Job.TheVariants as job
 use Rattle.canbusd_options.specs.BitsOptions.{AreBitsOptions}
 use Rattle.canbusd_options.specs.Options.{AreAuditOptions, AreBenchOptions, AreServeOptions}
 
--- The command line of canbusd: its commands, and the arguments and defaults of each (own choice). How words are read by
--- them is clap's definition `subcommand_of`.
+-- The command line of canbusd: its commands, with the arguments and defaults of each (own choice). clap's definition
+-- `subcommand_of` says how the words of a command line are read.
 
 -- an option --NAME VALUE without a default
 abbrev pub option_rule : Text → Rule
 option_rule name = record (new_rule name) { long = Some name; value_names = 1 }
 
--- the same, which may be there several times
+-- an option --NAME VALUE that may be given several times
 abbrev pub several_rule : Text → Rule
 several_rule name = record (option_rule name) { action = Some Append }
 
@@ -27,24 +27,24 @@ default_rule name value = record (option_rule name) { defaults = value ∷ [] }
 abbrev pub flag_rule : Text → Rule
 flag_rule name = record (new_rule name) { long = Some name; action = Some SetTrue }
 
--- a word that has to be there
+-- a required argument
 abbrev pub word_rule : Text → Rule
 word_rule name = record (new_rule name) { required = true }
 
--- words, one or more: BUS.. of serve, FILE.. of audit
+-- one or more arguments: BUS.. of `serve`, FILE.. of `audit`
 abbrev pub words_rule : Text → Rule
 words_rule name = record (word_rule name) { range = Some (record { start_inclusive = 1; end_inclusive = usize_max }) }
 
--- words that may be there: OTHER.. of bits
+-- any number of arguments: OTHER.. of `bits`
 abbrev pub some_words_rule : Text → Rule
 some_words_rule name =
     record (new_rule name) { range = Some (record { start_inclusive = 0; end_inclusive = usize_max }) }
 
--- a command with the options for bit rates
+-- the command with the bit rate options added
 abbrev pub with_rate_rules : App → App
 with_rate_rules a = with_rule (with_rule a (several_rule (codes "bitrate"))) (several_rule (codes "dbitrate"))
 
--- a command with the options of a bus
+-- the command with the options of a bus added
 abbrev pub with_bus_rules : App → App
 with_bus_rules a =
     with_rate_rules (with_rule (with_rule (with_rule (with_rule (with_rule (with_rule a
@@ -101,7 +101,7 @@ bits_app =
     (word_rule (codes "FRAME")))
     (some_words_rule (codes "OTHER"))
 
--- a command that has a version, and needs a command below it
+-- the command with a version and a required subcommand
 abbrev pub with_commands : App → App
 with_commands a = record a { top = record a.top { has_version = true; subcommand_required = true } }
 
@@ -111,7 +111,7 @@ program =
     with_subcommand (with_subcommand (with_subcommand (with_subcommand (with_commands (new_app (codes "canbusd")))
     bench_app.top) serve_app.top) audit_app.top) bits_app.top
 
--- a job is the one that a command asks for, whose name and rows the words give
+-- the name of a command and its rows ask for this job
 abbrev pub Asks : Option (Text × List Row) → Job → Type 0
 Asks None j = ⊥
 Asks (Some p) (job.Bench o) = (p.0 ≡ codes "bench") × AreBenchOptions p.1 o
@@ -119,10 +119,10 @@ Asks (Some p) (job.Serve o) = (p.0 ≡ codes "serve") × AreServeOptions p.1 o
 Asks (Some p) (job.Audit o) = (p.0 ≡ codes "audit") × AreAuditOptions p.1 o
 Asks (Some p) (job.Bits o) = (p.0 ≡ codes "bits") × AreBitsOptions p.1 o
 
--- a job is the one that words ask for, in which clap finds no fault
+-- the words ask for this job, and clap finds no fault in them
 abbrev pub IsAsked : List Text → Job → Type 0
 IsAsked words j = (fault_of program words ≡ []) × Asks (subcommand_of program words) j
 
--- words ask for a job
+-- the words ask for a job
 abbrev pub AskJob : List Text → Type 0
 AskJob words = (j : Job) × IsAsked words j

@@ -1,5 +1,5 @@
--- Values that go to a thread of their own. The parts of a keeper and its files that only contracts see are not covered
--- by the rules of the language.
+-- Values that are sent to another thread. The rules of the language do not cover the parts of a keeper and of its files
+-- that only contracts see.
 use denote.RattleType.{RattleType}
 use denote.Ref.{NamedLft}
 use denote.Param.Send.{IsSend, IsSync, sendable, view_send}
@@ -25,7 +25,7 @@ use Rattle.canbusd_serve.specs.contracts.file_keeper.FileKeeper as keeper
 use Rattle.canbusd_serve.specs.contracts.file_keeper.KeptFiles as kept
 use Rattle.canbusd_serve.specs.contracts.file_keeper.KeptFiles.TheInside as kept_inside
 
--- a text of a bus, with what its lines are written with
+-- the text of a bus, with the values from which its lines are written
 text_send : (F B : RattleType) → IsSend F → IsSend B → IsSend (text_of.the_row F B)
 text_send F B s b = declared_send (text_of.the_type F B) (draft.the_send, (as_row_send (row_field B) b, (file.the_send F s, (search (sendable, as_row_send) depth 20, tt))))
 
@@ -36,13 +36,13 @@ live_send F s =
     let log : IsSend (text_of.the_row F names_of.the_row) = text_send F names_of.the_row s names.the_send in
     declared_send (live.the_type F) (search (sendable, as_row_send, one) depth 20, (search (sendable, as_row_send, log) depth 20, (search (sendable, as_row_send) depth 20, tt)))
 
--- the files of a bus, with what they were given
+-- the files of a bus, with the record of what was given to them
 pub kept_send : (F : RattleType) (g : write.Ghosts F.Denot) → IsSend F → IsSend (kept.the_row F g)
 kept_send F g s =
     let inside : IsSend (kept_inside.the_row F g) = declared_send (kept_inside.the_type F g) (live_send F s, (given_send, tt)) in
     view_send _ _ _ _ _ inside
 
--- the keeper of a bus, which reports to the host that all share
+-- the keeper of a bus, which reports to the host that all keepers share
 pub keeper_send : (o h a l : NamedLft) (F H E : RattleType) (g : write.Ghosts F.Denot) → IsSend F → IsSync H → IsSend E → IsSend (keeper.the_row o h a l F H E g)
 keeper_send o h a l F H E g s r e =
     let hosts : IsSync (host.the_row h a l H E) = host_sync.the_sync h a l H E e r in

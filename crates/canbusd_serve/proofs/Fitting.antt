@@ -20,7 +20,7 @@ reversed [] all = all
 reversed (e ∷ entries) all =
     subst (All HasFittingReply) (sym (reverse-append (e ∷ []) entries)) (All-push HasFittingReply (reverse entries) e (reversed entries (λ k d low. all (suc k) d (omega (arith, low)))) (all 0 e (omega arith)))
 
--- so have its last ones
+-- the last entries of a legal history have lines too
 pub rest_fit : (c : BusConfig) (past : List Entry) (start : ℕ) → IsLegal c past → All HasFittingReply (drop start (reverse past))
 rest_fit c past start legal = All-drop HasFittingReply start (reverse past) (reversed past (legal_fit c past legal))
 

@@ -23,7 +23,7 @@ use Rattle.canbusd_serve.specs.declared.live_files.LiveFiles.{LiveFiles}
 
 -- The lines in the files of a bus, one block after another.
 
--- the lines of entries, and of more
+-- the lines of some entries, followed by the lines of more entries
 lines-then : (es more : List Entry) → entry_lines (es ++ more) [] ≡ entry_lines es (entry_lines more [])
 unfolding entry_lines
 lines-then [] more = refl
@@ -40,7 +40,7 @@ log-lines names es more =
     ∙ ap (λ (x : List (List ℕ)). log_lines names (reverse es) ++ x) (append-nil (log_lines names (reverse more))) in
     ap joined both ∙ flat_map-append (λ (line : List ℕ). line) (log_lines names (reverse es)) (log_lines names (reverse more))
 
--- the first two lines and a text, and more
+-- the first two lines and a text, followed by more text
 front-then : (c : BusConfig) (text more : List ℕ) → front_lines version.Four c text ++ more ≡ front_lines version.Four c (text ++ more)
 front-then c text more =
     ap (λ (x : List ℕ). (first_line version.Four ++ x) ++ more) (sym (spell-rest (bus_words version.Four c) text))
@@ -74,7 +74,7 @@ log_then contents a b es more has gets =
     let text = λ (entries : List Entry) (names : List (List ℕ)). joined (log_lines names (reverse entries)) in
     text_then contents (text es) (text more) (text (es ++ more)) a b (λ names. sym (log-lines names es more)) has gets
 
--- files that are not over stay so, the record first and then the log, or a fault is noted
+-- files that are open stay open while the record and then the log are written, or a fault is noted
 going_on : {F : Type 0} (a m b : LiveFiles F) → (a.has_fault ≡ false → IsTextOpen a.record × IsTextOpen a.log) → RecordStays a m → m.log ≡ a.log → LogStays m b → b.record ≡ m.record → b.has_fault ≡ false → IsTextOpen b.record × IsTextOpen b.log
 going_on {F} a m b going record_stays same_log log_stays same_record none =
     let after = log_stays none in
@@ -82,7 +82,7 @@ going_on {F} a m b going record_stays same_log log_stays same_record none =
     let was = going before.0 in
     (subst (λ (r : Option (LiveText F BusConfig)). IsTextOpen r) (sym same_record) (before.1 was.0), after.1 (subst (λ (l : Option (LiveText F (List (List ℕ)))). IsTextOpen l) (sym same_log) was.1))
 
--- files that have the lines of entries, and get those of more, have those of all of them
+-- files that have the lines of some entries, and get the lines of more entries, have the lines of all of them
 have_then : {F : Type 0} (contents : F → Option (List ℕ)) (a b : LiveFiles F) (es more : List Entry) → HaveLines contents es a → RecordGets contents a.record (entry_lines more []) b.record → LogGets contents a.log more b.log
     → (b.has_fault ≡ false → IsTextOpen b.record × IsTextOpen b.log) → HaveLines contents (es ++ more) b
 have_then contents a b es more have record_gets log_gets going = record {
@@ -91,7 +91,7 @@ have_then contents a b es more have record_gets log_gets going = record {
   going = going;
 }
 
--- the record first, and then the log
+-- the record is written first, and then the log
 pub have_after : {F : Type 0} (contents : F → Option (List ℕ)) (a m b : LiveFiles F) (es more given : List Entry) → HaveLines contents es a → RecordGets contents a.record (entry_lines more []) m.record → RecordStays a m → m.log ≡ a.log
     → LogGets contents m.log more b.log → LogStays m b → b.record ≡ m.record → given ≡ es ++ more → HaveLines contents given b
 have_after {F} contents a m b es more given have record_gets record_stays same_log log_gets log_stays same_record is =
@@ -105,7 +105,7 @@ have_after {F} contents a m b es more given have record_gets record_stays same_l
 whole_history : (j : LongJournal) → handed_entries j ++ held_back j ≡ reverse j.history
 whole_history j = take-append-drop j.handed (reverse j.history)
 
--- so are the lines of both, and the last one
+-- the lines of these entries, with the last line, are those of the whole history
 end-lines : (es more whole : List Entry) (count : ℕ) → es ++ more ≡ whole → count ≡ length whole
     → entry_lines es [] ++ (entry_lines more [] ++ spell (end_words count) []) ≡ entry_lines whole (spell (end_words (length whole)) [])
 end-lines es more whole count is counted =
@@ -114,8 +114,8 @@ end-lines es more whole count is counted =
     ∙ lines-rest whole (spell (end_words count) [])
     ∙ ap (λ (n : ℕ). entry_lines whole (spell (end_words n) [])) counted
 
--- files that got the entries a bus handed out, and get those it held back and the last line, are those of its whole
--- history
+-- files that have the entries that a bus handed out, and get the entries that it held back and the last line, have its
+-- whole history
 whole_then : {F : Type 0} (contents : F → Option (List ℕ)) (j : LongJournal) (a b : LiveFiles F) (count : ℕ) → HaveLines contents (handed_entries j) a → count ≡ length j.history
     → RecordGets contents a.record (entry_lines (held_back j) [] ++ spell (end_words count) []) b.record → LogGets contents a.log (held_back j) b.log
     → (b.has_fault ≡ false → IsTextOpen b.record × IsTextOpen b.log) → AreWhole contents (reverse j.history) b
@@ -127,7 +127,7 @@ whole_then contents j a b count have counted record_gets log_gets going = record
   going = going;
 }
 
--- the record first, and then the log
+-- the record is written first, and then the log
 pub whole_after : {F : Type 0} (contents : F → Option (List ℕ)) (j : LongJournal) (a m b : LiveFiles F) (rest : List Entry) (count : ℕ) → HaveLines contents (handed_entries j) a → rest ≡ held_back j → count ≡ length j.history
     → RecordGets contents a.record (entry_lines rest [] ++ spell (end_words count) []) m.record → RecordStays a m → m.log ≡ a.log → LogGets contents m.log rest b.log → LogStays m b → b.record ≡ m.record
     → AreWhole contents (reverse j.history) b
@@ -152,7 +152,7 @@ given_first contents handed [] (s ∷ scrolls) settled given same = absurd given
 given_first contents handed (f ∷ files) [] settled given same = absurd given
 given_first contents handed (f ∷ files) (s ∷ scrolls) [] given same = absurd same
 
--- one file more, which was given what was handed out to one scroll more
+-- one more file was given the entries that were handed out to one more scroll
 pub given_push : {F : Type 0} (contents : F → Option (List ℕ)) (files : List (LiveFiles F)) (scrolls : List ScrollSeen) (f : LiveFiles F) (s : ScrollSeen) → AllGiven contents files scrolls → HaveLines contents s.entries f
     → AllGiven contents (files ++ f ∷ []) (scrolls ++ s ∷ [])
 given_push contents [] [] f s all have = (have, tt)

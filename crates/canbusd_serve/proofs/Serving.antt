@@ -33,25 +33,25 @@ benches-push o (x ∷ xs) (y ∷ ys) bus b are is = (are.0, benches-push o xs ys
 benches-push o [] (y ∷ ys) bus b are is = absurd are
 benches-push o (x ∷ xs) [] bus b are is = absurd are
 
--- the bus of the next word
+-- the bus of the next BUS argument is added
 pub benches-more : (o : ServeOptions) (buses : List BusWord) (bs : List (Bench Perfect Open)) (i : ℕ) (bus : BusWord) (b : Bench Perfect Open) → i < length buses → bus ≡ get_or buses i bus → AreBenches o (take i buses) bs → IsBenchOf o bus b → AreBenches o (take (i + 1) buses) (bs ++ b ∷ [])
 benches-more o buses bs i bus b below here are is =
     subst (λ l. AreBenches o l (bs ++ b ∷ [])) (ap (λ z. take i buses ++ z ∷ []) here ∙ sym (take_more buses i bus below)) (benches-push o (take i buses) bs bus b are is)
 
--- the bus of the next word is at fault
+-- the bus of the next BUS argument is at fault
 of-next : (o : ServeOptions) (buses : List BusWord) (bs : List (Bench Perfect Open)) (i : ℕ) (d : BusWord) (why : ProgramError) → buses ≡ o.buses.items → i < length buses → AreBenches o (take i buses) bs → IsOfBus (get_or buses i d) why → IsOfBuses o why
 of-next o buses bs i d why same below are is =
     subst (λ (l : List BusWord). (k : ℕ) × MakeBenches o (take k l) × IsSomeAnd (slice_get l k) (λ bus. IsOfBus bus why)) same
     (i, (bs, are), subst (λ (b : Option BusWord). IsSomeAnd b (λ bus. IsOfBus bus why)) (sym (slice_get-get_or buses i d below)) is)
 
--- its fault is passed on
+-- the fault of the next bus is passed on
 pub next-fails : {T : Type 0} (o : ServeOptions) (buses : List BusWord) (bs : List (Bench Perfect Open)) (i : ℕ) (d : BusWord) (failure : Report) (r : Result T Report) → buses ≡ o.buses.items → i < length buses → AreBenches o (take i buses) bs
     → IsOfBus (get_or buses i d) failure.error → IsErrAnd r (λ x. x ≡ failure) → IfErr r (λ x. IsOfServer o x.error)
 next-fails o buses bs i d failure (Ok t) same below are is passed = tt
 next-fails o buses bs i d failure (Err x) same below are is passed =
     inl (of-next o buses bs i d x.error same below are (subst (λ (f : Report). IsOfBus (get_or buses i d) f.error) (sym passed) is))
 
--- there is a bus for each word
+-- there is one bus for each BUS argument
 pub benches-length : (o : ServeOptions) (buses : List BusWord) (bs : List (Bench Perfect Open)) → AreBenches o buses bs → length bs ≡ length buses
 benches-length o [] [] are = refl
 benches-length o (x ∷ xs) (y ∷ ys) are = ap suc (benches-length o xs ys are.1)
@@ -67,25 +67,25 @@ timed-push o bs b are here k d low =
     (λ e. ap (λ (x : Bench Perfect Open). x.timing) (get_or-append_seam bs b [] e) ∙ here)
     k (omega (arith, low, longer)) d
 
--- so has the bus of the next word
+-- the bus of the next BUS argument has its bit rates
 pub timed-more : (o : ServeOptions) (buses : List BusWord) (bs : List (Bench Perfect Open)) (i : ℕ) (b : Bench Perfect Open) → i < length buses → AreBenches o (take i buses) bs → AreBusesTimed o bs → b.timing ≡ timing_at o.timings.items i → AreBusesTimed o (bs ++ b ∷ [])
 timed-more o buses bs i b below are timed here =
     let place : length bs ≡ i = benches-length o (take i buses) bs are ∙ length-take-le i buses (omega arith) in
     timed-push o bs b timed (subst (λ n. b.timing ≡ timing_at o.timings.items n) (sym place) here)
 
--- their names are good
+-- the names of all buses are valid
 pub benches-named : (o : ServeOptions) (buses : List BusWord) (bs : List (Bench Perfect Open)) → AreBenches o buses bs → All (λ bus. AreNames (names_in bus.names.now)) buses
 benches-named o [] [] are = λ k d low. absurd (omega arith)
 benches-named o (x ∷ xs) (y ∷ ys) are = All-cons (λ bus. AreNames (names_in bus.names.now)) x xs (subst AreNames are.0.names are.0.good) (benches-named o xs ys are.1)
 benches-named o [] (y ∷ ys) are = absurd are
 benches-named o (x ∷ xs) [] are = absurd are
 
--- a hub has a bus for each
+-- a hub has one bus for each bench
 pub buses-length : {F G : Type 0} (n : ℕ) (bs : List (Bench F G)) → length (buses_from n bs) ≡ length bs
 buses-length n [] = refl
 buses-length n (b ∷ more) = ap suc (buses-length (suc n) more)
 
--- a hub of the buses that options describe has one for each word
+-- a hub of the buses that the options describe has one bus for each BUS argument
 pub described_length : (o : ServeOptions) (hub : List BusSeen) → IsDescribedHub o hub → length hub ≡ length o.buses.items
 described_length o hub (benches, described, made) = ap length made ∙ buses-length 0 benches ∙ benches-length o o.buses.items benches described.0
 
@@ -103,14 +103,14 @@ settles-legal left (p ∷ ps) (s ∷ ss) all = All-cons (λ j. IsLegalEnd j) (le
 settles-legal left [] (s ∷ ss) all = absurd all
 settles-legal left (p ∷ ps) [] all = absurd all
 
--- they have the configurations of the benches
+-- settled buses have the configurations of their benches
 settles-configured : {F G L : Type 0} (left : L → Journal) (n : ℕ) (benches : List (Bench F G)) (ends : List (Settled L)) → AllConfigured left (buses_from n benches) ends → AllZip (λ b j. j.config ≡ b.config) benches (journals left ends)
 settles-configured left n [] [] all = tt
 settles-configured left n (b ∷ bs) (s ∷ ss) all = (all.0, settles-configured left (suc n) bs ss all.1)
 settles-configured left n [] (s ∷ ss) all = absurd all
 settles-configured left n (b ∷ bs) [] all = absurd all
 
--- so they are the ends of a hub's buses
+-- settled buses leave the ends of the buses of a hub
 pub settles-ends : {A L : Type 0} (left : L → Journal) (benches : List (Bench Perfect Open)) (hub : List BusSeen) (passes : List (Vec PassSeen A)) (ends : List (Settled L)) → hub ≡ buses_from 0 benches → length passes ≡ length hub → AllSettleIn left passes ends → AllConfigured left hub ends → AreEnds benches (journals left ends)
 settles-ends left benches hub passes ends made each settled configured = record {
   each = settles-length left passes ends settled ∙ each ∙ ap length made ∙ buses-length 0 benches;
@@ -118,14 +118,14 @@ settles-ends left benches hub passes ends made each settled configured = record 
   configured = settles-configured left 0 benches ends (subst (λ (buses : List BusSeen). AllConfigured left buses ends) made configured);
 }
 
--- the lines that were put out, if no fault was reported
+-- the lines that were written, if no fault was reported
 pub put-lines : {W L T E : Type 0} (contents : W → Option (List ℕ)) (left : L → Journal) (old new : W) (r : Result T E) (a b : Bool) (lent buses : List BusWord) (own ends : List (Settled L)) → IfErr r (λ _. IsTrue a) → (IsTrue a → IsTrue b) → b ≡ false
     → lent ≡ buses → own ≡ ends → OnOk r (Took contents old new (end_lines lent (journals left own))) → Took contents old new (end_lines buses (journals left ends))
 put-lines {L = L} contents left old new (Ok t) a b lent buses own ends told kept quiet same_buses same_ends put =
     subst (λ (s : List (Settled L)). Took contents old new (end_lines buses (journals left s))) same_ends (subst (λ (w : List BusWord). Took contents old new (end_lines w (journals left own))) same_buses put)
 put-lines contents left old new (Err e) a b lent buses own ends told kept quiet same_buses same_ends put = let yes : IsTrue b = kept told in cc
 
--- the ends have the configurations that the words and the options give
+-- the ends have the configurations that the BUS arguments and the options give
 served-configured : (o : ServeOptions) (buses : List BusWord) (benches : List (Bench Perfect Open)) (ends : List Journal) → AreBenches o buses benches → AllZip (λ b j. j.config ≡ b.config) benches ends → AreConfigured o buses ends
 served-configured o [] [] [] are all = tt
 served-configured o (x ∷ xs) (b ∷ bs) (j ∷ js) are all =

@@ -33,7 +33,7 @@ judged_nodes nodes i v ack = record nodes { counters = (judged (attempt_between 
 abbrev pub CountsTried : BusConfig → Tried → Verdict → Nodes → Nodes → Type 0
 CountsTried c t v old new = IsLive old t.winner → new ≡ begun_anew t.restarted (judged_nodes old t.winner v c.ack)
 
--- the effect of an entry
+-- the effect of an entry on the error counts
 abbrev pub Counts : BusConfig → Event → Reply → Nodes → Nodes → Type 0
 Counts c (Attempt m v) (reply.Attempted (attempt.Tried t)) old new = CountsTried c t v old new
 Counts c (Attempt m v) (reply.Attempted (attempt.Idle restarted)) old new = new ≡ begun_anew restarted old

@@ -4,7 +4,8 @@ use Rattle.std.specs.List.{fold}
 
 -- The state of a watcher, given the bytes that it wrote.
 
--- the number of last bytes that begin `< error `, after one more byte; it is 9 after a small letter has followed them
+-- how many of the last bytes begin the text `< error `, after one more byte; the number is 9 once a small letter has
+-- followed the whole text
 abbrev pub seen_after : ℕ → ℕ → ℕ
 seen_after seen b =
     if seen == 9 then 9
@@ -13,7 +14,7 @@ seen_after seen b =
     else if get_or (codes "< error ") seen 60 == b then seen + 1
     else 0
 
--- the same number after several more bytes
+-- the number of `seen_after` after several more bytes
 abbrev pub seen_in : ℕ → List ℕ → ℕ
 seen_in seen text = fold seen_after seen text
 

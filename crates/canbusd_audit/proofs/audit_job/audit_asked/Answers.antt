@@ -39,7 +39,7 @@ returns-in_default-clause-written g c = nothing_left c.args.asked c.args.ifaces 
 pub returns-in_default-new-clause-written : goal.returns-in_default-new-clause-written
 returns-in_default-new-clause-written g c = nothing_left c.args.asked c.args.ifaces None _ g.W.Write.contents c.args.output.now (subst IsUnread (sym c.new-in_default-new.ensures) tt)
 
--- no memory for the files
+-- memory for the files was refused
 memory_of_files : (is_cut : Bool) (paths : List (List ℕ)) (why : ProgramError) → why ≡ fault.NoMemory → FaultsFiles is_cut paths why
 memory_of_files false paths why is = inr ([], subst (Faults []) (sym is) tt)
 memory_of_files true paths why is = inr ([], inl (subst (FaultsWhole []) (sym is) tt))

@@ -17,7 +17,7 @@ returns-then-eq-2-clause-given c =
     let same : c.unwrap_or-text.result.now ≡ codes "peers" = search rules in
     ap (λ o. unwrap_or o []) (sym (text_in_rows c.args.matches.now (codes "ack"))) ∙ sym given ∙ same
 
--- a text that is neither is that of no mode
+-- a text other than these two is the word of no mode
 neither : (text : List ℕ) → (text ≡ codes "always" → ⊥) → (text ≡ codes "peers" → ⊥) → IsMode text → ⊥
 neither text always peers (ack.Always, is) = always is
 neither text always peers (ack.Peers, is) = peers is

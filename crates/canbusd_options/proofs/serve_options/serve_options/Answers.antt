@@ -41,7 +41,7 @@ returns-clause-given c =
 differ : (x y : List ℕ) → x ≡ y → get_or x 0 0 < get_or y 0 0 → ⊥
 differ x y same low = let first : get_or x 0 0 ≡ get_or y 0 0 = ap (λ (text : List ℕ). get_or text 0 0) same in omega arith
 
--- words differ if they mean different times
+-- two words for when records are written are equal only if they mean the same time
 same_recording : (a b : Recording) → recording_text a ≡ recording_text b → a ≡ b
 same_recording AtEnd AtEnd same = refl
 same_recording Live Live same = refl
@@ -53,13 +53,13 @@ same_recording Live Never same = absurd (differ (codes "live") (codes "none") sa
 same_recording Never AtEnd same = cc
 same_recording Never Live same = absurd (differ (codes "live") (codes "none") (sym same) (lit< tt))
 
--- the options of a server have a number of sessions within the limits of these records
+-- the options of a server have a number of sessions within the limits for these records
 sessions_within : (rows : List Row) (r : Recording) → value_of rows (codes "record") ≡ recording_text r → GiveServeOptions rows → IsNumberWithin 1 (most_sessions r) (given_or (usual_sessions r) rows (codes "sessions"))
 sessions_within rows r here (o, are) =
     subst (λ (x : Recording). IsNumberWithin 1 (most_sessions x) (given_or (usual_sessions x) rows (codes "sessions"))) (same_recording o.recording r (sym are.recording ∙ here))
     (o.sessions, are.sessions, are.some, are.few)
 
--- an error is passed on
+-- a property of an error holds for the error that is passed on
 passed : {T : Type 0} (P : Error → Type 0) (e : Error) (r : Result T Error) → P e → IsErrAnd r (λ x. x ≡ e) → IfErr r P
 passed P e (Ok t) holds is = tt
 passed P e (Err x) holds is = subst P (sym is) holds

@@ -41,7 +41,7 @@ abbrev stayed : Stays f.ended.signature.params f.ended.kept
 stayed = (stay_dropped (mut_ref_to (0 ∷ []) tt (plain (λ _. R))) no, tt)
 
 module _ (h : Handle) (us : List Val) (rb ro b o : ℕ) where
-  -- all of the handle but its bus
+  -- everything in the handle except its bus
   abbrev Rest : Fml
   Rest = fsep (fsep (chunk (bare (lone N.mir)) (block_ptr b o)) ((Struct (shape the_type)).own_val (to the_type h) us)) (cell_at full_share R.mir us rb ro)
 
