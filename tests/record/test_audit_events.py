@@ -73,7 +73,7 @@ end 38
 
 
 def audited(record, folder, *options):
-    """Returns the status, the output and the errors of an audit with events."""
+    """Audits this record with events; returns the status, the output and the errors."""
     (folder / "run.rec").write_text(record)
     return run_line(" ".join(["audit", "--events", *options, "run.rec"]), cwd=folder)
 
@@ -138,18 +138,18 @@ def test_a_record_that_is_cut_off(tmp_path):
     [
         ("done 0002 0000", "done 0000 0000", 9),  # a wrong entry
         ("open 1 1 = socket 1", "open 1 1 = socket 2", 3),
-        ("100\n", "7\n", 9),  # past the limit
+        ("100\n", "7\n", 9),  # more entries than the limit
         ("receive 2 = data", "receive 2 = date", 10),  # an unknown line
         ("bus 2", "bus 17", 0),
         ("record 1", "record 9", 0),
         ("end 10\n", "end 9\n", 12),
-        ("end 10\n", "", 12),  # nothing in place of the end
+        ("end 10\n", "", 12),  # no end line
         ("end 10\n", "end 10\nend 10\n", 12),
         (
             "record 1\nbus 2 always 0003 10 100\n",
             "record 3\nbus 2 always 0003 10 100 0\n",
             12,
-        ),  # version 3 without need
+        ),  # a version that this record does not need
     ],
 )
 def test_before_a_fault(old, new, lines, tmp_path):

@@ -66,7 +66,7 @@ RECORD = FRONT + "".join(f"{line.partition(';')[0]}\n" for line in ATTEMPTS.spli
 
 
 def audited(folder, faults, *options, names=NAMES, record=RECORD):
-    """Returns the status, the output and the errors of an audit with these faults."""
+    """Audits a record with these faults; returns the status, the output and the errors."""
     (folder / "run.rec").write_text(record)
     (folder / "run.faults").write_text(faults)
     return run_line(" ".join(["audit", "--events", *options, "--faults", f"{names}@run.faults", "run.rec"]), cwd=folder)

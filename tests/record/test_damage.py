@@ -42,7 +42,7 @@ class Tried:
         self.library, self.started = library, {}
 
     def audited(self, program, data, *options):
-        """Returns the status, the output and the errors of an audit of this record."""
+        """Audits this record; returns the status, the output and the errors."""
         words = [program, "audit", *options, "/dev/stdin"]
         if program != self.program or self.library is None:
             done = subprocess.run(words, input=data, capture_output=True, timeout=WAIT, check=False)
@@ -52,7 +52,7 @@ class Tried:
         return self.started[options].run(data)
 
     def one(self, data):
-        """Checks that canbusd and the replay give the same verdict on a record."""
+        """Checks that each program gives the verdict of the model on a record."""
         wanted = audit(data)
         # The other program may know more versions.
         beside = self.beside if wanted != "canbusd: bad version" else []

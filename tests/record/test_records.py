@@ -1,10 +1,10 @@
-"""Records and logs of a bench, and the exact reports of the audit on a damaged record."""
+"""Tests records and logs of a bench, and the exact reports of the audit on a damaged record."""
 
 import pytest
 
 from commands import TWO_SESSIONS, TWO_STARTED, run_line
 
-# Two sockets with room for an item, a frame between them, and the close of the second socket.
+# Two sockets with room for one item each, a frame from one to the other, and the close of the second socket.
 RECORD = """canbus record 1
 bus 2 always 0000 10 100
 open 0 1 = socket 0

@@ -17,7 +17,7 @@ import pytest
 from serving import WAIT, Pair, Plain, come_true, join, plain, serving_alone, turns
 
 FAST = ("--pace", "0", "--txqueue", "1024")
-# A client's messages to enter raw mode, and its messages in raw mode.
+# The messages with which a client enters raw mode, and further messages in raw mode.
 DIALOGUE = b"< open can1 >< rawmode >< filter 1 123 7FF >< send 124 2 1 2 >< stats >< errmask FF >< send 7FF 0 >"
 WORDS = [
     b"open",

@@ -34,7 +34,7 @@ pytestmark = pytest.mark.skipif("not writes_live()", reason="the program is olde
 LIVE = ("--record", "live")
 FAST = ("--pace", "0", "--txqueue", "1024", "--rxqueue", "65536", "--write", "16384")
 FLUSH = 0.2
-# How many ending sessions there are at once. A server has places for 64 sessions.
+# The most sessions that end at the same time. A server has places for 64 sessions.
 AT_ONCE = 40
 MOMENT = re.compile(r"\b\d+\.\d{6}\b")
 

@@ -115,7 +115,7 @@ def test_a_run(when, tmp_path):
     with serving_alone(*words, f"ecu,tester@{tmp_path}/my.script", "car0,car1", "body0") as server:
 
         def grows(name, text):
-            """Returns whether this file gets this text, if the server writes the file while it runs."""
+            """Returns whether this file gets this text; always true for a server that writes its files at its end."""
             path = server.path(f"{name}.rec.faults.new")
             return when == "end" or come_true(lambda: whole_lines(path) == text)
 

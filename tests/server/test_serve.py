@@ -1,4 +1,4 @@
-"""`canbusd serve` with plain sockets: records that fill, clients that disconnect, and the end of a server."""
+"""Tests `canbusd serve` with plain sockets: records that fill, clients that disconnect, and the end of a server."""
 
 import contextlib
 import os

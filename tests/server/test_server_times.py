@@ -1,4 +1,4 @@
-"""`canbusd serve --bitrate`: the times of frames on the bus of a server, and the times when clients get them."""
+"""Tests `canbusd serve --bitrate`: the times of frames on the bus of a server, and the times when clients get them."""
 
 from __future__ import annotations
 
