@@ -30,7 +30,7 @@ needs_live = pytest.mark.skipif("not writes_live()", reason="the program is olde
 FOREVER = 2**64 - 1
 # No tested run asks for memory more often than this or needs more bytes than this.
 MOST_PLACES, MOST_BYTES = 5000, 1 << 34
-# A program that makes the calls of the libraries that take memory.
+# A program that calls each library function that needs memory.
 CALLS = os.path.join(ROOT, "crates", "can_memory_tests", "out", "can_memory_tests")
 NO_MEMORY = "canbusd: no memory\n"
 # The standard error of a program that was refused memory: the fault, and perhaps a remedy.

@@ -297,8 +297,8 @@ def test_bytes_of_a_live_record_with_fd_frames(tried):
 
 
 def change_bytes(tried, data, skip_from=0, skip_to=0, part=None):
-    """Changes and removes each byte of a record, cuts the record there, and appends text. The bytes from `skip_from` to `skip_to`
-    are left out, and so are those of other parts."""
+    """Changes and removes each byte of a record, cuts the record there, and appends text. Leaves out the bytes from `skip_from` to
+    `skip_to`, and the bytes of other parts."""
     tried.one(data)
     for place, byte in enumerate(data):
         if skip_from <= place < skip_to or part not in (None, place % PARTS):
