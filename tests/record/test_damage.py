@@ -37,8 +37,8 @@ class Tried:
         self.program, *self.beside = programs
         self.changes_all, self.rng, self.folder = changes_all, rng, folder
         self.said = {}
-        # Programs that are started once, by their options, and repeat their audit. Without a compiler the program is started for
-        # each audit.
+        # The running program for each set of options, which repeats its audit. Without a compiler the program is started for each
+        # audit.
         self.library, self.started = library, {}
 
     def audited(self, program, data, *options):
